@@ -1,0 +1,10 @@
+pub mod Cuts
+pub mod Ids
+pub mod Injective
+pub mod Reading
+pub mod ReadingNames
+pub mod ReadingParts
+pub mod Splits
+pub mod Prefixes
+pub mod Equal
+pub mod LabelText

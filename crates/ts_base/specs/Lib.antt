@@ -1,0 +1,11 @@
+pub mod Exact
+pub mod Held
+pub mod Keys
+pub mod Names
+pub mod Spelling
+pub mod formers
+pub mod Buffers
+pub mod Coords
+pub mod Labels
+pub mod LabelBuffer
+pub mod Values

@@ -1,0 +1,191 @@
+//! Heads of fragments, the versions of cells that fragments keep, and where a job may be stopped.
+use crate::coords::Coords;
+use crate::keys::{FragKey, Key, KeyList};
+use crate::lists::{Duplicate, OutOfMemory, Sequence};
+use crate::values::Row;
+use std::alloc::Global;
+
+/// What a fragment's metadata says of the fragment as a whole.
+#[derive(Debug, Drop, PartialEq, Eq)]
+pub struct Head {
+    /// The key of the fragment.
+    pub frag: FragKey,
+    /// The key of the schema that the cells are written in.
+    pub schema: Key,
+    /// Whether the array is dense.
+    pub dense: bool,
+    /// Whether the fragment was made of others by a consolidation.
+    pub consolidated: bool,
+    /// The least coordinate of the fragment's box, along each dimension.
+    pub low: Coords,
+    /// The greatest coordinate of the fragment's box, along each dimension.
+    pub high: Coords,
+    /// The number of cells.
+    pub cells: u64,
+    /// The keys of the writes whose cells went into the fragment, ascending.
+    pub origins: KeyList,
+}
+
+/// A list of heads.
+pub type HeadList = Sequence<Head>;
+
+impl Duplicate for Head {
+    fn copy(&self, alloc: Global) -> Result<Head, OutOfMemory> {
+        Ok(Head {
+            frag: self.frag,
+            schema: self.schema,
+            dense: self.dense,
+            consolidated: self.consolidated,
+            low: self.low,
+            high: self.high,
+            cells: self.cells,
+            origins: self.origins.copy(alloc)?,
+        })
+    }
+}
+
+/// A cell as one write laid it.
+#[derive(Debug, Drop, PartialEq, Eq)]
+pub struct Version {
+    /// The key of the write.
+    pub key: Key,
+    /// The key of the schema that the row is written in.
+    pub schema: Key,
+    /// The coordinates of the cell.
+    pub coords: Coords,
+    /// The values of the cell, one for each attribute of that schema.
+    pub row: Row,
+}
+
+/// A list of versions.
+pub type VersionList = Sequence<Version>;
+
+/// A list of lists of versions, one for each fragment.
+pub type VersionLists = Sequence<VersionList>;
+
+impl Duplicate for Version {
+    fn copy(&self, alloc: Global) -> Result<Version, OutOfMemory> {
+        Ok(Version {
+            key: self.key,
+            schema: self.schema,
+            coords: self.coords,
+            row: self.row.copy(alloc)?,
+        })
+    }
+}
+
+/// A fragment as its readers see it: the head, and each version of a cell that it keeps.
+#[derive(Debug, Drop, PartialEq, Eq)]
+pub struct Piece {
+    /// The head of the fragment.
+    pub head: Head,
+    /// The versions.
+    pub versions: VersionList,
+}
+
+impl Duplicate for Piece {
+    fn copy(&self, alloc: Global) -> Result<Piece, OutOfMemory> {
+        Ok(Piece {
+            head: self.head.copy(alloc)?,
+            versions: self.versions.copy(alloc)?,
+        })
+    }
+}
+
+/// A cell and the values that a write gives it.
+#[derive(Debug, Drop, PartialEq, Eq)]
+pub struct Cell {
+    /// The coordinates of the cell.
+    pub coords: Coords,
+    /// The values, one for each attribute of the write's schema.
+    pub row: Row,
+}
+
+/// A list of cells.
+pub type CellList = Sequence<Cell>;
+
+impl Duplicate for Cell {
+    fn copy(&self, alloc: Global) -> Result<Cell, OutOfMemory> {
+        Ok(Cell {
+            coords: self.coords,
+            row: self.row.copy(alloc)?,
+        })
+    }
+}
+
+/// A kind of call that a job may be stopped before.
+#[derive(Clone, Copy, Debug, PartialEq, Eq)]
+pub enum Point {
+    /// The first put of the list of a consolidation's sources, the `.vac` object.
+    Vac,
+    /// The first put of a commit of a fragment, the `.wrt` object.
+    Wrt,
+    /// The first removal of a part of a fragment.
+    PartGone,
+}
+
+/// Where a job is stopped, as by a crash of its process.
+#[derive(Clone, Copy, Debug, PartialEq, Eq)]
+pub enum Stop {
+    /// Nowhere: the job goes on to its end.
+    Never,
+    /// After so many calls, where it would make the next.
+    Calls(u64),
+    /// Where its next call would be the first of that kind.
+    Before(Point),
+}
+
+#[cfg(test)]
+mod tests {
+    use super::*;
+    use std::test::Fail;
+
+    fn made_piece(alloc: Global, cells: u64) -> Result<Piece, OutOfMemory> {
+        let key = Key { t: 7, id: 1 };
+        let at = Coords::new(&[3]);
+        let mut origins = KeyList::new(alloc);
+        origins.push(key)?;
+        let mut versions = VersionList::new(alloc);
+        versions.push(Version {
+            key,
+            schema: key,
+            coords: at,
+            row: Row::new(alloc),
+        })?;
+        let frag = FragKey {
+            t1: 7,
+            t2: 7,
+            id: 1,
+            v: 1,
+        };
+        Ok(Piece {
+            head: Head {
+                frag,
+                schema: key,
+                dense: false,
+                consolidated: false,
+                low: at,
+                high: at,
+                cells,
+                origins,
+            },
+            versions,
+        })
+    }
+
+    #[test]
+    fn copies_equal_their_sources(rt: HostRuntime) -> Result<(), Fail> {
+        let alloc = rt.alloc();
+        let piece = made_piece(alloc, 1)?;
+        let twin = piece.copy(alloc)?;
+        assert_eq!(rt; twin, piece);
+        let other = made_piece(alloc, 2)?;
+        assert!(rt; other != piece);
+        let coords = Coords::new(&[3]);
+        let row = Row::new(alloc);
+        let cell = Cell { coords, row };
+        let twin = cell.copy(alloc)?;
+        assert_eq!(rt; twin, cell);
+        Ok(())
+    }
+}
