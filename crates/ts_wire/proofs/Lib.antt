@@ -1,0 +1,6 @@
+pub mod FieldLaws
+pub mod First
+pub mod Laws
+pub mod Loop
+pub mod Numbers
+pub mod Objects

@@ -1,0 +1,20 @@
+//! Fields and envelopes: how the objects of an array spell numbers, labels, keys and values as
+//! bytes, and how they are read back with the place of the first broken field.
+#![tactic(auto)]
+
+mod cursor;
+mod envelopes;
+mod faults;
+mod kinds;
+mod rules;
+mod scribe;
+mod spelling;
+#[cfg(test)]
+mod tests;
+
+pub use cursor::Cursor;
+pub use envelopes::{unwrap_body, wrap};
+pub use faults::{Damaged, ReadFault};
+pub use kinds::Kind;
+pub use rules::{fields_are_exact, fields_break_where_they_begin};
+pub use scribe::Scribe;
