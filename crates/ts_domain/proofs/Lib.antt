@@ -1,0 +1,6 @@
+pub mod Between
+pub mod BoundsLemmas
+pub mod Steps
+pub mod BoxLemmas
+pub mod TileLemmas
+pub mod DomainLemmas

@@ -1,0 +1,16 @@
+//! Dimensions, domains and boxes of cells.
+#![tactic(auto)]
+
+mod boxes;
+mod dims;
+mod domain;
+mod orders;
+mod outside;
+#[cfg(test)]
+mod tests;
+
+pub use boxes::{BoxList, SubBox};
+pub use dims::{Dim, DimList, DomainFault};
+pub use domain::Domain;
+pub use orders::{Layout, Order};
+pub use outside::Outside;
