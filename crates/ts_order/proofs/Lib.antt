@@ -1,0 +1,10 @@
+pub mod PlaceLaws
+pub mod OrderLemmas
+pub mod TileOrder
+pub mod TurnedLemmas
+pub mod PlaceInvariants
+pub mod PlaceSteps
+pub mod OrderedCoords
+pub mod TileLaws
+pub mod TilesLemmas
+pub mod TileSteps

@@ -1,0 +1,14 @@
+//! The orders of cells: comparisons, the place of a cell in a box, and the space tiles of a box.
+#![tactic(auto)]
+
+mod compare;
+mod places;
+#[cfg(test)]
+mod tests;
+mod tile_order;
+mod tiles;
+
+pub use compare::{cmp_global, cmp_plain};
+pub use places::{coords_at, position_of};
+pub use tiles::tiles_of;
+pub use ts_domain::{Layout, Order};
