@@ -1,0 +1,4 @@
+pub mod Writes
+pub mod JournalLemmas
+pub mod RangeLemmas
+pub mod Trees

@@ -1,0 +1,9 @@
+pub mod Calls
+pub mod Counts
+pub mod Faults
+pub mod Journals
+pub mod Memory
+pub mod MemoryStreams
+pub mod Ranges
+pub mod Stores
+pub mod Streams

@@ -1,0 +1,24 @@
+//! What lies outside the program: the store that holds the objects of an array, and the streams
+//! that are read and written, each with an implementation in memory.
+#![tactic(auto)]
+
+mod call;
+mod enter;
+mod fate;
+mod journal;
+mod memory;
+mod objects;
+mod store;
+mod streams;
+#[cfg(test)]
+mod tests;
+
+pub use call::{Call, Made, Reply, StoreError};
+pub use enter::enter_call;
+pub use fate::{Fate, Fault, FaultList};
+pub use journal::{Entry, Journal};
+pub use memory::MemStore;
+pub use store::{Store, apply};
+pub use streams::{
+    Failed, InputFault, MemSink, MemSource, READ_LIMIT, Sink, Source, read_input, write_all,
+};
