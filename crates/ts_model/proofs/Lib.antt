@@ -1,0 +1,25 @@
+pub mod Segments
+pub mod ListLemmas
+pub mod KeyLemmas
+pub mod HeldLemmas
+pub mod HistoryLaws
+pub mod PlainExact
+pub mod PlainPieces
+pub mod Traces
+pub mod Effects
+pub mod ReadingLaw
+pub mod Fetches
+pub mod Frames
+pub mod StandsLaws
+pub mod Moves
+pub mod WriteSteps
+pub mod ReadSteps
+pub mod KeptLaws
+pub mod Spawns
+pub mod Journals
+pub mod TrueRuns
+pub mod Newest
+pub mod Driving
+pub mod FirstStands
+mod WorkedRows
+pub mod Performed

@@ -1,0 +1,189 @@
+-- The jobs of one lane, each driven by its automaton over a store that stands for a history, make a true run.
+use Rattle.std.proofs.Common.{◌≡◌, ℕ, ◌+◌, ◌*◌, ◌/◌, ◌^◌, ◌<◌, ◌≤◌, suc, zero, ◌⊎◌, inl, inr, List, [], ◌∷◌, ◌++◌, Some, length, refl, sym, ◌∙◌, ap, subst, append_assoc, arith}
+use Rattle.std.specs.Prelude.{All, slice_get}
+use Rattle.std.specs.List.{cons_option}
+use Rattle.std.proofs.lemmas.Option.{same_Some, none-some}
+use Rattle.std.proofs.lemmas.List.{append-nil}
+use Rattle.std.proofs.lemmas.List.Elements.{All-nil, All-cons, All-head, All-tail}
+use Rattle.ts_base.specs.Held.{Held}
+use Rattle.ts_store.specs.declared.journal.Entry.{Entry}
+use Rattle.ts_store.specs.Journals.{held_after}
+use Rattle.ts_model.specs.declared.commands.Job.{Job}
+use Rattle.ts_model.specs.declared.commands.Line.{Line}
+use Rattle.ts_model.specs.declared.answers.Outcome.{Outcome}
+use Rattle.ts_model.specs.declared.answers.Outcome.TheVariants as outcome
+use Rattle.ts_model.specs.declared.states.State.TheVariants.{Over}
+use Rattle.ts_model.specs.Deeds.{History}
+use Rattle.ts_model.specs.Jobs.{IsFit, AreFit, IsFitLine, AreApart}
+use Rattle.ts_model.specs.Histories.{history_of}
+use Rattle.ts_model.specs.PlainLaws.{PlainLaws}
+use Rattle.ts_model.specs.Stands.{Stands}
+use Rattle.ts_model.specs.States.{state_of}
+use Rattle.ts_model.specs.Fresh.{IsFreshSeed, id_of, jobs_from, jobs_of}
+use Rattle.ts_model.specs.Told.{Told, trace_of, held_told, Replied, entries_of}
+use Rattle.ts_model.specs.Ends.{IsTrueEnd}
+use Rattle.ts_model.specs.Driven.{AskedFrom, AreDriven}
+use Rattle.ts_model.specs.Runs.{IsTrueRun}
+use Rattle.ts_model.specs.Kept.{Kept, AreAllowed}
+use Rattle.ts_model.proofs.ListLemmas.{Contains-nil}
+use Rattle.ts_model.proofs.Traces.{trace_of-append, exchange_of_own, exchange_of_other, state_of-own}
+use Rattle.ts_model.proofs.KeptLaws.{end_is_true, Replied-front, all_kept, every_prefix}
+use Rattle.ts_model.proofs.Spawns.{starts_kept}
+use Rattle.ts_model.proofs.Journals.{journal_held, journal_history, journal-front}
+
+-- ---- the jobs of a script
+
+-- the identifier of the job at a place
+id_at : (seed lane number : ℕ) (lines : List Line) (i : ℕ) (job : Job) → slice_get (jobs_from seed lane number lines) i ≡ Some job → job.id ≡ id_of seed lane (number + i)
+id_at seed lane number [] i job at = absurd (none-some job at)
+id_at seed lane number (line ∷ lines) zero job at = ap (λ j. j.id) (sym (same_Some _ job at)) ∙ ap (id_of seed lane) (omega arith)
+id_at seed lane number (line ∷ lines) (suc i) job at = id_at seed lane (number + 1) lines i job at ∙ ap (id_of seed lane) (omega arith)
+
+pub ids_apart : (seed : ℕ) (lines : List Line) → AreApart (jobs_of seed lines)
+ids_apart seed lines i k a b at_i at_k same =
+    let ids : id_of seed 0 (1 + i) ≡ id_of seed 0 (1 + k) = sym (id_at seed 0 1 lines i a at_i) ∙ same ∙ id_at seed 0 1 lines k b at_k in
+    omega arith
+
+at_within : (seed lane number : ℕ) (lines : List Line) (i : ℕ) (job : Job) → slice_get (jobs_from seed lane number lines) i ≡ Some job → i < length lines
+at_within seed lane number [] i job at = absurd (none-some job at)
+at_within seed lane number (line ∷ lines) zero job at = omega arith
+at_within seed lane number (line ∷ lines) (suc i) job at = let less = at_within seed lane (number + 1) lines i job at in omega arith
+
+-- the upper 64 bits of an identifier are the seed
+pub id_has_seed : (seed : ℕ) (lines : List Line) (i : ℕ) (job : Job) → length lines < 2 ^ 32 → slice_get (jobs_of seed lines) i ≡ Some job → job.id / 2 ^ 64 ≡ seed
+id_has_seed seed lines i job few at =
+    let less = at_within seed 0 1 lines i job at in
+    ap (λ n. n / 2 ^ 64) (id_at seed 0 1 lines i job at) ∙ divided seed (1 + i) (omega arith)
+  where
+    divided : (s n : ℕ) → n < 2 ^ 64 → (s * 2 ^ 64 + 0 * 2 ^ 32 + n) / 2 ^ 64 ≡ s
+    divided s n small = omega arith
+
+-- the numbers of the jobs have their widths, where those of the lines, of the seed and of the lane have
+pub jobs_fit : (seed lane number : ℕ) (lines : List Line) → seed < 2 ^ 64 → lane < 2 ^ 32 → number + length lines ≤ 2 ^ 32 → All IsFitLine lines → AreFit (jobs_from seed lane number lines)
+jobs_fit seed lane number [] seed_fits lane_fits few fit = All-nil IsFit
+jobs_fit seed lane number (line ∷ lines) seed_fits lane_fits few fit =
+    let here = All-head IsFitLine line lines fit in
+    All-cons IsFit _ (jobs_from seed lane (number + 1) lines) (record { stamp = here.stamp; id = omega arith; value = here.value })
+    (jobs_fit seed lane (number + 1) lines seed_fits lane_fits (omega arith) (All-tail IsFitLine line lines fit))
+
+-- ---- calls of one job, and of the jobs after it
+
+abbrev AreBy : ℕ → List Told → Type 0
+AreBy number own = All (λ e. e.job ≡ Some number) own
+
+-- another job made none of these calls
+none_by : (number other : ℕ) (own : List Told) → AreBy number own → (number ≡ other → ⊥) → trace_of other own ≡ []
+none_by number other [] by_it apart = refl
+none_by number other (e ∷ own) by_it apart =
+    ap (λ o. cons_option o (trace_of other own)) (exchange_of_other other number e (All-head (λ x. x.job ≡ Some number) e own by_it) apart)
+    ∙ none_by number other own (All-tail (λ x. x.job ≡ Some number) e own by_it) apart
+
+-- the jobs from a number on made none of the calls of those before
+none_before : (start : ℕ) (jobs : List Job) (ends : List Outcome) (told : List Told) (other : ℕ) → AreDriven start jobs ends told → other < start → trace_of other told ≡ []
+none_before start [] [] told other driven below = ap (trace_of other) driven
+none_before start (job ∷ jobs) [] told other driven below = absurd driven
+none_before start [] (end ∷ ends) told other driven below = absurd driven
+none_before start (job ∷ jobs) (end ∷ ends) told other (own, rest, parts, by_it, is, more) below =
+    ap (trace_of other) parts ∙ trace_of-append other own rest
+    ∙ ap (λ t. t ++ trace_of other rest) (none_by start other own by_it (λ same. omega arith))
+    ∙ none_before (start + 1) jobs ends rest other more (omega arith)
+
+-- the trace of a job is that of its own calls
+trace_is_own : (number : ℕ) (jobs : List Job) (ends : List Outcome) (own rest : List Told) → AreDriven (number + 1) jobs ends rest → trace_of number (own ++ rest) ≡ trace_of number own
+trace_is_own number jobs ends own rest more =
+    trace_of-append number own rest ∙ ap (λ t. trace_of number own ++ t) (none_before (number + 1) jobs ends rest number more (omega arith)) ∙ append-nil (trace_of number own)
+
+-- ---- the calls are allowed
+
+allowed_append : (jobs : List Job) (dead : List ℕ) (seen a b : List Told) → AreAllowed jobs dead seen a → AreAllowed jobs dead (seen ++ a) b → AreAllowed jobs dead seen (a ++ b)
+allowed_append jobs dead seen [] b front back = subst (λ t. AreAllowed jobs dead t b) (append-nil seen) back
+allowed_append jobs dead seen (e ∷ a) b front back =
+    (front.0, allowed_append jobs dead (seen ++ e ∷ []) a b front.1 (subst (λ t. AreAllowed jobs dead t b) (sym (append_assoc seen (e ∷ []) a)) back))
+
+-- the calls of one job, where it asks for each
+own_allowed : (jobs : List Job) (number : ℕ) (job : Job) (seen own : List Told) → slice_get jobs number ≡ Some job → AreBy number own
+    → AskedFrom job (state_of job (trace_of number seen)) (trace_of number own) → AreAllowed jobs [] seen own
+own_allowed jobs number job seen [] at by_it asked = tt
+own_allowed jobs number job seen (e ∷ own) at by_it asked =
+    let mine = All-head (λ x. x.job ≡ Some number) e own by_it in
+    let here : AskedFrom job (state_of job (trace_of number seen)) (record { call = e.call; reply = e.reply } ∷ trace_of number own) =
+    subst (λ o. AskedFrom job (state_of job (trace_of number seen)) (cons_option o (trace_of number own))) (exchange_of_own number e mine) asked in (
+      record { number = number; job = job; own = mine; is_job = at; alive = Contains-nil number; asked = here.0 },
+      own_allowed jobs number job (seen ++ e ∷ []) own at (All-tail (λ x. x.job ≡ Some number) e own by_it)
+          (subst (λ s. AskedFrom job s (trace_of number own)) (sym (state_of-own job number seen e mine)) here.1),
+    )
+
+-- the calls of the jobs from a number on, where none of them made a call before
+driven_allowed : (all : List Job) (start : ℕ) (jobs : List Job) (ends : List Outcome) (seen told : List Told)
+    → ((k : ℕ) (job : Job) → slice_get jobs k ≡ Some job → slice_get all (start + k) ≡ Some job)
+    → ((other : ℕ) → start ≤ other → trace_of other seen ≡ []) → AreDriven start jobs ends told → AreAllowed all [] seen told
+driven_allowed all start [] [] seen told among fresh driven = subst (AreAllowed all [] seen) (sym driven) tt
+driven_allowed all start (job ∷ jobs) [] seen told among fresh driven = absurd driven
+driven_allowed all start [] (end ∷ ends) seen told among fresh driven = absurd driven
+driven_allowed all start (job ∷ jobs) (end ∷ ends) seen told among fresh (own, rest, parts, by_it, is, more) =
+    subst (AreAllowed all [] seen) (sym parts) (allowed_append all [] seen own rest
+    (own_allowed all start job seen own (ap (slice_get all) (omega arith) ∙ among 0 job refl) by_it
+    (subst (λ t. AskedFrom job (state_of job t) (trace_of start own)) (sym (fresh start (omega arith))) is.asked))
+    (driven_allowed all (start + 1) jobs ends (seen ++ own) rest
+    (λ k j at. ap (slice_get all) (omega arith) ∙ among (suc k) j at)
+    (λ other above. trace_of-append other seen own ∙ ap (λ t. t ++ trace_of other own) (fresh other (omega arith)) ∙ none_by start other own by_it (λ same. omega arith))
+    more))
+
+-- ---- the ends
+
+-- each job ended by its own calls
+ended_by_own : (start : ℕ) (jobs : List Job) (ends : List Outcome) (told : List Told) → AreDriven start jobs ends told
+    → (k : ℕ) (job : Job) (end : Outcome) → slice_get jobs k ≡ Some job → slice_get ends k ≡ Some end
+    → (state_of job (trace_of (start + k) told) ≡ Over end) ⊎ (end ≡ outcome.OutOfMemory)
+ended_by_own start [] [] told driven k job end at end_at = absurd (none-some job at)
+ended_by_own start (j ∷ jobs) [] told driven k job end at end_at = absurd driven
+ended_by_own start [] (o ∷ ends) told driven k job end at end_at = absurd driven
+ended_by_own start (j ∷ jobs) (o ∷ ends) told (own, rest, parts, by_it, is, more) zero job end at end_at = elim is.ends [
+  | inl over ↦ inl (ap (λ i. state_of i (trace_of (start + zero) told)) (sym (same_Some j job at))
+      ∙ ap (state_of j) (ap (λ n. trace_of n told) (omega arith) ∙ ap (trace_of start) parts ∙ trace_is_own start jobs ends own rest more)
+      ∙ over ∙ ap Over (same_Some o end end_at))
+  | inr none ↦ inr (sym (same_Some o end end_at) ∙ none)
+]
+ended_by_own start (j ∷ jobs) (o ∷ ends) told (own, rest, parts, by_it, is, more) (suc k) job end at end_at =
+    elim (ended_by_own (start + 1) jobs ends rest more k job end at end_at) [
+      | inl over ↦ inl (ap (state_of job) (ap (trace_of (start + suc k)) parts ∙ trace_of-append (start + suc k) own rest
+          ∙ ap (λ t. t ++ trace_of (start + suc k) rest) (none_by start (start + suc k) own by_it (λ same. omega arith)) ∙ ap (λ n. trace_of n rest) (omega arith)) ∙ over)
+      | inr none ↦ inr none
+    ]
+
+-- ---- the run
+
+module _ (laws : PlainLaws) (jobs : List Job) (h : History) (m : Held) (told : List Told) (ends : List Outcome)
+    (begins : Kept h jobs [] [] m) (replied : Replied m told) (driven : AreDriven 0 jobs ends told) where
+  may : AreAllowed jobs [] [] told
+  may = driven_allowed jobs 0 jobs ends [] told (λ k job at. ap (slice_get jobs) (omega arith) ∙ at) (λ other above. refl) driven
+
+  prefix_stands : (journal front back : List Entry) → entries_of 0 told ≡ journal → journal ≡ front ++ back → Stands (held_after m front) (history_of jobs h m front)
+  prefix_stands journal front back entries parts =
+      let first = journal-front 0 told front back (entries ∙ parts) in
+      let kept = every_prefix laws h jobs [] [] m told first.0 first.1 begins may replied first.2 in
+      let front_replied = Replied-front m first.0 first.1 (subst (Replied m) first.2 replied) in
+      subst (λ j. Stands (held_after m j) (history_of jobs h m j)) first.3
+      (subst (λ n. Stands n (history_of jobs h m (entries_of 0 first.0))) (sym (journal_held 0 m first.0))
+      (subst (Stands (held_told m first.0)) (sym (journal_history 0 jobs h m first.0 front_replied)) kept.stands))
+
+  true_end : (number : ℕ) (job : Job) (end : Outcome) → slice_get jobs number ≡ Some job → slice_get ends number ≡ Some end → IsTrueEnd jobs h told number job end
+  true_end number job end at end_at =
+      let kept = all_kept laws h jobs [] [] m told begins may replied in
+      elim (ended_by_own 0 jobs ends told driven number job end at end_at) [
+        | inl over ↦ end_is_true h jobs [] told (held_told m told) kept number job end at (Contains-nil number) (ap (λ n. state_of job (trace_of n told)) (omega arith) ∙ over)
+        | inr none ↦ subst (IsTrueEnd jobs h told number job) (sym none) tt
+      ]
+
+-- the jobs of a lane that are driven one after the other, over objects that stand for a history which the seed is fresh over, make a true run
+pub true_run : PlainLaws → (seed : ℕ) (lines : List Line) (h : History) (m : Held) (journal : List Entry) (told : List Told) (ends : List Outcome)
+    → Stands m h → IsFreshSeed m h seed → seed < 2 ^ 64 → length lines < 2 ^ 32 → All IsFitLine lines
+    → Replied m told → entries_of 0 told ≡ journal → AreDriven 0 (jobs_of seed lines) ends told
+    → IsTrueRun (jobs_of seed lines) h m journal told ends
+true_run laws seed lines h m journal told ends stands fresh seed_fits few fit replied entries driven =
+    let begins = starts_kept h (jobs_of seed lines) [] m stands (ids_apart seed lines) (jobs_fit seed 0 1 lines seed_fits (omega arith) (omega arith) fit)
+    (λ number job at carried. fresh job.id (id_has_seed seed lines number job few at) carried) in
+    record {
+      stands = λ front back parts. prefix_stands laws (jobs_of seed lines) h m told ends begins replied driven journal front back entries parts;
+      answers = true_end laws (jobs_of seed lines) h m told ends begins replied driven;
+    }

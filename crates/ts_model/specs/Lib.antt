@@ -1,0 +1,17 @@
+pub mod Deeds
+pub mod Answers
+pub mod Jobs
+pub mod Histories
+pub mod Pieces
+pub mod Plain
+pub mod PlainLaws
+pub mod Stands
+pub mod States
+pub mod Told
+pub mod Rows
+pub mod Fresh
+pub mod Ends
+pub mod Runs
+pub mod Driven
+pub mod Kept
+pub mod Driving
