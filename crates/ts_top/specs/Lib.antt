@@ -1,0 +1,8 @@
+pub mod Ends
+pub mod Forms
+pub mod Lines
+pub mod Notices
+pub mod Script
+pub mod Seen
+pub mod Steps
+pub mod Words

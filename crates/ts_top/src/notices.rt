@@ -1,0 +1,65 @@
+//! The lines that are printed in place of answers. They take no memory.
+ghost use Rattle.std.specs.Prelude.{◌≡◌, ◌++◌, ◌≤◌, length, codes, decimal};
+ghost use Rattle.ts_top.specs.Notices.{usage_text, bad_script_text, not_built_text};
+
+use arrayvec::ArrayString;
+use itoa::Buffer;
+
+/// One line of text, with its line feed.
+pub(crate) type Notice = ArrayString<64>;
+
+/// How the program is called.
+pub(crate) fn usage_notice() -> Notice
+    ensures { result.bytes ≡ usage_text }
+{
+    let mut notice = Notice::new();
+    notice.push_str("usage: tilestore STORE COMMAND [OPTIONS]\n");
+    notice
+}
+
+/// The line of a script that is none, counted from 1.
+pub(crate) fn bad_script_notice(line: u64) -> Notice
+    ensures { result.bytes ≡ bad_script_text line }
+{
+    numbered("bad script\t", line)
+}
+
+/// The line of a script that names a command which is not built yet, counted from 1.
+pub(crate) fn not_built_notice(line: u64) -> Notice
+    ensures { result.bytes ≡ not_built_text line }
+{
+    numbered("not built\t", line)
+}
+
+/// A line that ends in a number.
+fn numbered(start: &str, number: u64) -> Notice
+    requires { length start.now ≤ 20 }
+    ensures { result.bytes ≡ start.now ++ decimal number ++ codes "\n" }
+{
+    let mut digits = Buffer::new();
+    let mut notice = Notice::new();
+    notice.push_str(start);
+    notice.push_str(digits.format(number));
+    notice.push_str("\n");
+    notice
+}
+
+#[cfg(test)]
+mod tests {
+    use super::{bad_script_notice, not_built_notice, usage_notice};
+
+    #[test]
+    fn prints_one_line(rt: HostRuntime) {
+        assert_eq!(rt;
+            usage_notice().as_str(),
+            "usage: tilestore STORE COMMAND [OPTIONS]\n"
+        );
+        assert_eq!(rt; bad_script_notice(2).as_str(), "bad script\t2\n");
+        assert_eq!(rt;
+            bad_script_notice(u64::MAX).as_str(),
+            "bad script\t18446744073709551615\n"
+        );
+        assert_eq!(rt; not_built_notice(2).as_str(), "not built\t2\n");
+        assert_eq!(rt; not_built_notice(4096).as_str(), "not built\t4096\n");
+    }
+}

@@ -1,0 +1,228 @@
+//! The top call: from words and a script to printed text and a status.
+ghost use Rattle.std.specs.Prelude.{◌≡◌, ◌⊎◌, ◌↔◌, ◌^◌, ◌≤◌, ℕ, List, [], false, true, map, length, Err, IfOk, IfErr, IsSomeAnd};
+ghost use Rattle.ts_store.specs.Counts.{Rose};
+ghost use Rattle.ts_top.specs.Words.{job};
+ghost use Rattle.ts_top.specs.Script.{Bad, NotBuilt, AreLimited, script_of};
+ghost use Rattle.ts_top.specs.Ends.{ends_text};
+ghost use Rattle.ts_top.specs.Seen.{Stream, HasReason, IsRead, Means, Plays, Prints, PrintsEnds, IsRunOf, status_of, stop_text};
+
+use crate::ends::print_ends;
+use crate::notices::{bad_script_notice, not_built_notice, usage_notice};
+use crate::runner::run_lines;
+use crate::script::{ScriptFault, read_script};
+use crate::words::is_job;
+use std::alloc::Global;
+use std::thread::Threads;
+use ts_model::{Line, LineList, Outcome};
+use ts_store::{InputFault, Journal, Sink, Source, Store, read_input, write_all};
+
+#[cfg(test)]
+mod tests;
+
+/// What a run leaves: its status, the store, and every call that was made of it, in order.
+pub struct Ran<S> {
+    /// 0: the commands were done and their ends printed. 2: the words are no job. 3: a line of the
+    /// script is bad. 4: the input could not be read. 5: the text could not be written. 7: out of
+    /// memory. 8: a line of the script names a command that is not built yet.
+    pub status: u8,
+    /// The store that was handed over.
+    pub store: S,
+    /// The calls that were made of the store, in order.
+    pub journal: Journal,
+}
+
+/// Why a run stops before its first command.
+#[derive(Clone, Copy, Debug, PartialEq, Eq)]
+pub(crate) enum Stop {
+    /// The words are no job.
+    Usage,
+    /// The line of the script with this number, counted from 1, is bad.
+    BadScript(u64),
+    /// The line of the script with this number, counted from 1, names a command that is not built
+    /// yet.
+    NoForm(u64),
+    /// The source failed.
+    ReadFault,
+    /// There was no memory.
+    OutOfMemory,
+}
+
+impl Stop {
+    // The status that a run ends with.
+    fn status(self) -> u8
+        ensures { result ≡ status_of self }
+    {
+        match self {
+            Stop::Usage => 2,
+            Stop::BadScript(_) => 3,
+            Stop::NoForm(_) => 8,
+            Stop::ReadFault => 4,
+            Stop::OutOfMemory => 7,
+        }
+    }
+}
+
+// Prints why a run stopped. Where the sink fails a front of the line was appended.
+fn print_stop<O: Sink>(out: &mut O, stop: Stop)
+    ensures { Prints (record { old = O.contents out.old; new = O.contents out.new; before = O.faults out.old; now = O.faults out.new }) (stop_text stop) }
+{
+    match stop {
+        Stop::Usage => print_line(out, usage_notice().as_str().as_bytes()),
+        Stop::BadScript(line) => print_line(out, bad_script_notice(line).as_str().as_bytes()),
+        Stop::NoForm(line) => print_line(out, not_built_notice(line).as_str().as_bytes()),
+        Stop::ReadFault => print_line(out, &[]),
+        Stop::OutOfMemory => print_line(out, &[]),
+    }
+}
+
+// Appends a text to a sink, or a front of it where the sink fails.
+fn print_line<O: Sink>(out: &mut O, text: &[u8])
+    ensures { Prints (record { old = O.contents out.old; new = O.contents out.new; before = O.faults out.old; now = O.faults out.new }) text.now }
+{
+    let _ = write_all(out, text);
+}
+
+// Reads the words, and the script that they ask for.
+fn prepare<I: Source>(alloc: Global, words: &[&str], input: &mut I) -> Result<LineList, Stop>
+    ensures read { IfOk result (IsRead (map (λ word. word.now) words.entry.now) (record { old = I.left input.old; new = I.left input.new; before = I.faults input.old; now = I.faults input.new })) }
+    ensures limited { IfOk result AreLimited }
+    ensures reason { IfErr result (HasReason (map (λ word. word.now) words.entry.now) (record { old = I.left input.old; new = I.left input.new; before = I.faults input.old; now = I.faults input.new })) }
+{
+    if !is_job(words) {
+        return Err(Stop::Usage);
+    }
+    let bytes = match read_input(alloc, input) {
+        Ok(bytes) => bytes,
+        Err(InputFault::Failed) => return Err(Stop::ReadFault),
+        Err(InputFault::OutOfMemory) => return Err(Stop::OutOfMemory),
+    };
+    match read_script(alloc, bytes.as_slice()) {
+        Ok(lines) => Ok(lines),
+        Err(ScriptFault::Bad { line }) => Err(Stop::BadScript(line)),
+        Err(ScriptFault::NotBuilt { line }) => Err(Stop::NoForm(line)),
+        Err(ScriptFault::OutOfMemory) => Err(Stop::OutOfMemory),
+    }
+}
+
+// Prints the ends of the commands, and gives the status: 0, or 5 where the sink fails, or 7 for
+// want of memory.
+fn print_all<O: Sink>(alloc: Global, out: &mut O, lines: &[Line], ends: &[Outcome]) -> u8
+    requires { length lines.now ≡ length ends.now }
+    ensures { PrintsEnds (record { old = O.contents out.old; new = O.contents out.new; before = O.faults out.old; now = O.faults out.new }) (ends_text lines.now ends.now) result }
+{
+    let Ok(text) = print_ends(alloc, lines, ends) else {
+        return 7;
+    };
+    match write_all(out, text.as_bytes()) {
+        Ok(()) => 0,
+        Err(_) => 5,
+    }
+}
+
+// Does the commands of a script over a store, and prints their ends.
+fn play<S: Store, O: Sink>(
+    alloc: Global,
+    seed: u64,
+    store: S,
+    out: &mut O,
+    lines: &[Line],
+) -> Ran<S>
+    requires { AreLimited lines.now }
+    ensures { (words : List (List ℕ)) (input : Stream) → Plays (record { words = words; seed = seed; input = input; out = record { old = O.contents out.old; new = O.contents out.new; before = O.faults out.old; now = O.faults out.new }; held = S.held store; later = S.held result.store; status = result.status; journal = result.journal }) lines.now }
+{
+    let mut store = store;
+    let mut journal = Journal::new(alloc);
+    let Ok(ends) = run_lines(alloc, &mut store, &mut journal, seed, lines) else {
+        return Ran {
+            status: 7,
+            store,
+            journal,
+        };
+    };
+    let status = print_all(alloc, out, lines, ends.as_slice());
+    Ran {
+        status,
+        store,
+        journal,
+    }
+}
+
+// The run, with all that is seen of it.
+fn run_seen<S: Store, I: Source, O: Sink>(
+    alloc: Global,
+    words: &[&str],
+    seed: u64,
+    store: S,
+    input: &mut I,
+    out: &mut O,
+) -> Ran<S>
+    ensures { IsRunOf (record {
+      words = map (λ word. word.now) words.entry.now;
+      seed = seed;
+      input = record { old = I.left input.old; new = I.left input.new; before = I.faults input.old; now = I.faults input.new };
+      out = record { old = O.contents out.old; new = O.contents out.new; before = O.faults out.old; now = O.faults out.new };
+      held = S.held store;
+      later = S.held result.store;
+      status = result.status;
+      journal = result.journal;
+    }) }
+{
+    match prepare(alloc, words, input) {
+        Ok(lines) => play(alloc, seed, store, out, lines.as_slice()),
+        Err(stop) => {
+            print_stop(out, stop);
+            Ran {
+                status: stop.status(),
+                store,
+                journal: Journal::new(alloc),
+            }
+        }
+    }
+}
+
+/// Reads the words, reads the script where they ask for one, does its commands one after the other,
+/// and prints how each ended.
+///
+/// The words are a job exactly where they are the one word `play`. Everything that is printed goes
+/// to `out`. `seed` stands in the upper 64 bits of each identifier that the run makes: over a store
+/// that holds something it has to be one that no identifier there has, for what is said of answers.
+///
+/// `Ran::status` says how the run ended. Over a store that tells what it holds the clause `run` says
+/// of every command which calls it made, how it ended, and that a read shows of each cell the last
+/// write, in the order of timestamp and identifier, among those stamped up to its own end.
+pub fn run<R: Threads + Sync, S: Store, I: Source, O: Sink>(
+    _rt: &R,
+    alloc: Global,
+    words: &[&str],
+    seed: u64,
+    store: S,
+    input: &mut I,
+    out: &mut O,
+) -> Ran<S>
+    ensures run { IsRunOf (record {
+      words = map (λ word. word.now) words.entry.now;
+      seed = seed;
+      input = record { old = I.left input.old; new = I.left input.new; before = I.faults input.old; now = I.faults input.new };
+      out = record { old = O.contents out.old; new = O.contents out.new; before = O.faults out.old; now = O.faults out.new };
+      held = S.held store;
+      later = S.held result.store;
+      status = result.status;
+      journal = result.journal;
+    }) }
+
+    // Each status, with where it comes.
+    ensures usage { (result.status ≡ 2) ↔ (job (map (λ word. word.now) words.entry.now) ≡ false) }
+    ensures bad_script { result.status ≡ 3 → (n : ℕ) × Means (I.left input.old) (Err (Bad n)) }
+    ensures bad_script_there { job (map (λ word. word.now) words.entry.now) ≡ true → (n : ℕ) → IsSomeAnd (I.left input.old) (λ all. script_of all ≡ Err (Bad n))
+        → (result.status ≡ 3) ⊎ (result.status ≡ 4) ⊎ (result.status ≡ 7) }
+    ensures not_built { result.status ≡ 8 → (n : ℕ) × Means (I.left input.old) (Err (NotBuilt n)) }
+    ensures not_built_there { job (map (λ word. word.now) words.entry.now) ≡ true → (n : ℕ) → IsSomeAnd (I.left input.old) (λ all. script_of all ≡ Err (NotBuilt n))
+        → (result.status ≡ 8) ⊎ (result.status ≡ 4) ⊎ (result.status ≡ 7) }
+    ensures read_fault { result.status ≡ 4 → Rose (I.faults input.old) (I.faults input.new) }
+    ensures write_fault { result.status ≡ 5 → Rose (O.faults out.old) (O.faults out.new) }
+
+    // Without a command no call is made of the store.
+    ensures untouched { (result.status ≡ 2) ⊎ (result.status ≡ 3) ⊎ (result.status ≡ 4) ⊎ (result.status ≡ 8) → (result.journal ≡ []) × (S.held result.store ≡ S.held store) }
+{
+    run_seen(alloc, words, seed, store, input, out)
+}
