@@ -1,0 +1,9 @@
+pub mod Counts
+pub mod DimLemmas
+pub mod DimLoop
+pub mod FirstAttr
+pub mod FrameLaws
+pub mod NoneYet
+pub mod SchemaLaws
+pub mod Shown
+mod WorkedRows

@@ -1,0 +1,6 @@
+pub mod Attrs
+pub mod BrokenSchemas
+pub mod Evolutions
+pub mod Faults
+pub mod FrameTexts
+pub mod SchemaTexts

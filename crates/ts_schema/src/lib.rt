@@ -1,0 +1,29 @@
+//! Frames and schemas: what an array is made of, how its schemas evolve, and the objects that spell
+//! them.
+#![tactic(auto)]
+
+mod attrs;
+mod checking;
+mod evolution;
+mod faults;
+mod frame_reading;
+mod frame_writing;
+mod frames;
+mod schema_reading;
+mod schema_writing;
+mod schemas;
+mod showing;
+#[cfg(test)]
+mod tests;
+mod there;
+mod types;
+
+pub use attrs::{Attr, AttrList};
+pub use evolution::Evolution;
+pub use faults::SchemaFault;
+pub use frames::Frame;
+pub use schemas::{Schema, SchemaList};
+pub use showing::show_row;
+pub use there::schema_at;
+pub use ts_base::LabelList;
+pub use ts_domain::Order;
