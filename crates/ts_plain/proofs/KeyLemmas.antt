@@ -1,0 +1,30 @@
+-- Keys: one key where two tie, and none is both below and above another.
+use Rattle.std.proofs.Common.{◌≡◌, true, false, refl, sym, ◌∙◌, ap}
+use Rattle.std.specs.declared.cmp.Ordering.{Ordering}
+use Rattle.std.specs.declared.cmp.Ordering.TheVariants.{Less, Equal, Greater}
+use Rattle.std.specs.Ordering.{is_lt, is_eq, is_gt, ordering_reverse}
+use Rattle.std.specs.Cmp.{Equal-is}
+use Rattle.std.proofs.lemmas.Cmp.{tied_itself}
+use Rattle.std.proofs.lemmas.Bool.{true≢false}
+use Rattle.ts_base.specs.declared.keys.Key.{Key}
+use Rattle.ts_base.specs.Keys.{key_cmp, key_eq, key_lt}
+use Rattle.ts_base.specs.Exact.{key_total, key_exact}
+
+pub key_same : (k l : Key) → key_eq k l ≡ true → k ≡ l
+key_same k l tie = key_exact k l ((Equal-is (key_cmp k l)).0 tie)
+
+pub key_itself : (k : Key) → key_eq k k ≡ true
+key_itself k = ap is_eq (tied_itself key_total k)
+
+is_lt-reverse : (o : Ordering) → is_lt (ordering_reverse o) ≡ is_gt o
+is_lt-reverse Less = refl
+is_lt-reverse Equal = refl
+is_lt-reverse Greater = refl
+
+is_lt-not_gt : (o : Ordering) → is_lt o ≡ true → is_gt o ≡ false
+is_lt-not_gt Less e = refl
+is_lt-not_gt Equal e = absurd (true≢false (sym e))
+is_lt-not_gt Greater e = absurd (true≢false (sym e))
+
+pub not_below_back : (k l : Key) → key_lt k l ≡ true → key_lt l k ≡ false
+not_below_back k l below = ap is_lt (key_total.antisymm l k) ∙ is_lt-reverse (key_cmp k l) ∙ is_lt-not_gt (key_cmp k l) below

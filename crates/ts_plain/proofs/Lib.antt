@@ -1,0 +1,10 @@
+pub mod Corners
+pub mod Insides
+pub mod KeyLemmas
+pub mod MergeLaws
+pub mod MergeSteps
+pub mod Places
+pub mod PlainExact
+pub mod PlainPieces
+pub mod WrittenPieces
+pub mod Volumes

@@ -1,0 +1,7 @@
+pub mod Insides
+pub mod Merges
+pub mod Pieces
+pub mod Plain
+pub mod Rules
+pub mod Wants
+pub mod Writes

@@ -1,0 +1,18 @@
+//! Plain fragments: a whole fragment in one object, over any frame and schema.
+#![tactic(auto)]
+
+mod merging;
+mod pieces;
+mod reading;
+mod rules;
+mod stored;
+#[cfg(test)]
+mod tests;
+mod wants;
+mod writing;
+
+pub use merging::merge_two;
+pub use reading::{read_head, read_plain};
+pub use stored::{Side, SideList, StoredCell, StoredCellList, StoredHead, StoredPiece};
+pub use wants::{Want, taken};
+pub use writing::{parts_spell_one_piece, spelled_pieces_can_be_written, write_plain};

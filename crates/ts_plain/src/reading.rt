@@ -1,0 +1,454 @@
+//! Reading plain objects.
+ghost use Rattle.std.specs.Prelude.{◌≡◌, ◌≤◌, ◌<◌, ℕ, List, [], ◌∷◌, length, IfOk, IsTrue};
+ghost use Rattle.std.specs.List.{All};
+ghost use Rattle.ts_base.specs.declared.heads.Piece.{Piece as AnyPiece};
+ghost use Rattle.ts_schema.specs.declared.attrs.Attr.{Attr as AnyAttr};
+ghost use Rattle.ts_domain.specs.Dims.{IsSoundDim};
+ghost use Rattle.ts_domain.specs.Domains.{is_in_domain};
+ghost use Rattle.ts_wire.specs.Reading.{Reads, ReadsOr, DecodesOr, IsRead};
+ghost use Rattle.ts_wire.specs.Place.{items_at, each_at};
+ghost use Rattle.ts_plain.specs.Rules.{side_of, from_on, last_of};
+ghost use Rattle.ts_plain.specs.Plain.{dense_at, consolidated_at, coord_at, side_at, hull_at, cells_at, origin_count_at, origin_at, origins_at, head_at, coords_at, index_at, value_at, row_at, cell_at, plain_at, plain_stored, head_stored};
+ghost use Rattle.ts_plain.specs.Pieces.{plain_piece, plain_head, IsPlainObject, BreaksSo};
+ghost use Rattle.ts_plain.specs.Writes.{NamesWrites};
+ghost use Rattle.ts_plain.specs.Insides.{IsSide, IsHull, IsInside};
+
+use crate::pieces::{head_of, piece_of};
+use crate::rules::{
+    coords_rise, is_full, is_on_side, may_be_origin, may_count, may_hold, may_span, origin_rises,
+};
+use crate::stored::{Side, SideList, StoredCell, StoredCellList, StoredHead, StoredPiece};
+use arrayvec::ArrayVec;
+use std::alloc::Global;
+use ts_base::{Coords, FragKey, Head, Key, KeyList, Piece, Row, Val};
+use ts_domain::Dim;
+use ts_schema::{Attr, Frame, Schema};
+use ts_value::fits;
+use ts_wire::{Cursor, Damaged, Kind, ReadFault, unwrap_body};
+
+#[tactic(auto, unfolding(crate::specs::Plain::dense_at))]
+fn read_dense(dense: bool, cursor: &mut Cursor) -> Result<bool, Damaged>
+    ensures { Reads (λ stored. stored) (dense_at dense) cursor.old cursor.new result }
+{
+    let at = cursor.at();
+    let stored = cursor.bool()?;
+    if dense == stored {
+        Ok(stored)
+    } else {
+        Err(Damaged { at })
+    }
+}
+
+#[tactic(auto, unfolding(crate::specs::Plain::consolidated_at))]
+fn read_consolidated(frag: FragKey, cursor: &mut Cursor) -> Result<bool, Damaged>
+    ensures { Reads (λ consolidated. consolidated) (consolidated_at frag) cursor.old cursor.new result }
+{
+    let at = cursor.at();
+    let consolidated = cursor.bool()?;
+    if may_span(frag, consolidated) {
+        Ok(consolidated)
+    } else {
+        Err(Damaged { at })
+    }
+}
+
+#[tactic(auto, unfolding(crate::specs::Plain::coord_at))]
+fn read_coord(side: &Side, cursor: &mut Cursor) -> Result<i128, Damaged>
+    ensures { Reads (λ x. x) (coord_at side.now) cursor.old cursor.new result }
+{
+    let at = cursor.at();
+    let x = cursor.int(16, true)?;
+    if is_on_side(*side, x) {
+        Ok(x)
+    } else {
+        Err(Damaged { at })
+    }
+}
+
+#[tactic(auto, unfolding(crate::specs::Plain::side_at))]
+fn read_side(dim: &Dim, cursor: &mut Cursor) -> Result<Side, Damaged>
+    ensures { Reads (λ side. side) (side_at dim.now) cursor.old cursor.new result }
+{
+    let whole = Side {
+        low: dim.low,
+        high: dim.high,
+    };
+    let low = read_coord(&whole, cursor)?;
+    let rest = Side {
+        low,
+        high: dim.high,
+    };
+    let high = read_coord(&rest, cursor)?;
+    Ok(Side { low, high })
+}
+
+#[tactic(auto, using(ts_wire::proofs::Loop::each_loop), unfolding(crate::specs::Plain::hull_at))]
+fn read_sides(alloc: Global, dims: &[Dim], cursor: &mut Cursor) -> Result<SideList, ReadFault>
+    ensures { ReadsOr (λ hull. hull) (hull_at dims.now) cursor.old cursor.new result }
+{
+    let mut hull = SideList::new(alloc);
+    for dim in dims {
+        let side = read_side(dim, cursor)?;
+        hull.push(side)?;
+    }
+    Ok(hull)
+}
+
+#[tactic(auto, using(crate::proofs::Insides::hull_in))]
+fn read_hull(alloc: Global, dims: &[Dim], cursor: &mut Cursor) -> Result<SideList, ReadFault>
+    requires { All IsSoundDim dims.now }
+    ensures reads { ReadsOr (λ hull. hull) (hull_at dims.now) cursor.old cursor.new result }
+    ensures inside { IfOk result (IsHull dims.now) }
+{
+    let hull = read_sides(alloc, dims, cursor)?;
+    Ok(hull)
+}
+
+#[tactic(auto, unfolding(crate::specs::Plain::cells_at))]
+fn read_cell_count(full: bool, hull: &[Side], cursor: &mut Cursor) -> Result<u64, Damaged>
+    requires { All IsSide hull.now }
+    ensures { Reads (λ cells. cells) (cells_at full hull.now) cursor.old cursor.new result }
+{
+    let at = cursor.at();
+    let cells = cursor.u64()?;
+    if may_hold(full, hull, cells) {
+        Ok(cells)
+    } else {
+        Err(Damaged { at })
+    }
+}
+
+#[tactic(auto, unfolding(crate::specs::Plain::origin_count_at))]
+fn read_origin_count(consolidated: bool, cursor: &mut Cursor) -> Result<u32, Damaged>
+    ensures { Reads (λ count. count) (origin_count_at consolidated) cursor.old cursor.new result }
+{
+    let at = cursor.at();
+    let count = cursor.u32()?;
+    if may_count(consolidated, count) {
+        Ok(count)
+    } else {
+        Err(Damaged { at })
+    }
+}
+
+#[tactic(auto, unfolding(crate::specs::Plain::origin_at))]
+fn read_origin(
+    frag: FragKey,
+    consolidated: bool,
+    count: u32,
+    front: &KeyList,
+    cursor: &mut Cursor,
+) -> Result<Key, Damaged>
+    requires { length front.now < count }
+    ensures { Reads (λ key. key) (origin_at frag consolidated count front.now) cursor.old cursor.new result }
+{
+    let at = cursor.at();
+    let key = cursor.key()?;
+    if may_be_origin(frag, consolidated, count, front, key) {
+        Ok(key)
+    } else {
+        Err(Damaged { at })
+    }
+}
+
+#[tactic(auto, using(ts_wire::proofs::Loop::items_loop))]
+fn read_counted_origins(
+    alloc: Global,
+    frag: FragKey,
+    consolidated: bool,
+    count: u32,
+    cursor: &mut Cursor,
+) -> Result<KeyList, ReadFault>
+    ensures { ReadsOr (λ origins. origins) (items_at (origin_at frag consolidated count) count []) cursor.old cursor.new result }
+{
+    let mut origins = KeyList::new(alloc);
+    for place in 0..count {
+        let origin = read_origin(frag, consolidated, count, &origins, cursor)?;
+        origins.push(origin)?;
+    }
+    Ok(origins)
+}
+
+#[tactic(auto, unfolding(crate::specs::Plain::origins_at))]
+fn read_origins(
+    alloc: Global,
+    frag: FragKey,
+    consolidated: bool,
+    cursor: &mut Cursor,
+) -> Result<KeyList, ReadFault>
+    ensures { ReadsOr (λ origins. origins) (origins_at frag consolidated) cursor.old cursor.new result }
+{
+    let count = read_origin_count(consolidated, cursor)?;
+    read_counted_origins(alloc, frag, consolidated, count, cursor)
+}
+
+// What stands before the cells.
+#[tactic(auto, using(crate::proofs::Insides::hull_sides), unfolding(crate::specs::Plain::head_at))]
+fn read_fields(
+    alloc: Global,
+    frame: &Frame,
+    frag: FragKey,
+    cursor: &mut Cursor,
+) -> Result<StoredHead, ReadFault>
+    ensures reads { ReadsOr (λ head. head) (head_at frame.now frag) cursor.old cursor.new result }
+    ensures inside { IfOk result (λ head. IsHull frame.now.domain head.hull) }
+{
+    let schema = cursor.key()?;
+    let dense = read_dense(frame.dense, cursor)?;
+    let consolidated = read_consolidated(frag, cursor)?;
+    let hull = read_hull(alloc, frame.domain.as_slice(), cursor)?;
+    let full = is_full(frame.dense, consolidated);
+    let cells = read_cell_count(full, hull.as_slice(), cursor)?;
+    let origins = read_origins(alloc, frag, consolidated, cursor)?;
+    Ok(StoredHead {
+        schema,
+        dense,
+        consolidated,
+        hull,
+        cells,
+        origins,
+    })
+}
+
+#[tactic(auto, using(ts_wire::proofs::Loop::each_number_loop))]
+fn read_each_coord(hull: &[Side], cursor: &mut Cursor) -> Result<Coords, Damaged>
+    requires some { 1 ≤ length hull.now }
+    requires few { length hull.now ≤ 8 }
+    ensures { Reads (λ coords. coords) (each_at coord_at hull.now) cursor.old cursor.new result }
+{
+    let mut numbers: ArrayVec<i128, 8> = ArrayVec::new();
+    for side in hull {
+        let x = read_coord(side, cursor)?;
+        numbers.push(x);
+    }
+    Ok(Coords::new(numbers.as_slice()))
+}
+
+#[tactic(auto, using(crate::proofs::Insides::coords_in, crate::proofs::Insides::hull_length), unfolding(crate::specs::Plain::coords_at))]
+fn read_coords(
+    frame: &Frame,
+    hull: &SideList,
+    front: &StoredCellList,
+    cursor: &mut Cursor,
+) -> Result<Coords, Damaged>
+    requires hull { IsHull frame.now.domain hull.now }
+    requires inside { All (IsInside frame.now) front.now }
+    ensures reads { Reads (λ coords. coords) (coords_at frame.now hull.now (last_of front.now)) cursor.old cursor.new result }
+    ensures inside { IfOk result (λ coords. IsTrue (is_in_domain frame.now.domain coords)) }
+{
+    let at = cursor.at();
+    let _count = frame.domain.count();
+    let coords = read_each_coord(hull.as_slice(), cursor)?;
+    if coords_rise(frame, front, &coords) {
+        Ok(coords)
+    } else {
+        Err(Damaged { at })
+    }
+}
+
+#[tactic(auto, unfolding(crate::specs::Plain::index_at))]
+fn read_origin_index(
+    dense: bool,
+    count: u64,
+    front: &StoredCellList,
+    coords: &Coords,
+    cursor: &mut Cursor,
+) -> Result<u32, Damaged>
+    ensures { Reads (λ origin. origin) (index_at dense count (last_of front.now) coords.now) cursor.old cursor.new result }
+{
+    let at = cursor.at();
+    let origin = cursor.u32()?;
+    if (origin as u64) < count && origin_rises(dense, front, coords, origin) {
+        Ok(origin)
+    } else {
+        Err(Damaged { at })
+    }
+}
+
+#[tactic(auto, unfolding(crate::specs::Plain::value_at, ts_schema::specs::SchemaTexts::fill_at))]
+fn read_value(alloc: Global, attr: &Attr, cursor: &mut Cursor) -> Result<Val, ReadFault>
+    ensures { ReadsOr (λ val. val) (value_at attr.now) cursor.old cursor.new result }
+{
+    let at = cursor.at();
+    let val = cursor.val(alloc)?;
+    if fits(attr.ty, attr.nullable, &val) {
+        Ok(val)
+    } else {
+        Err(ReadFault::Damaged(Damaged { at }))
+    }
+}
+
+#[tactic(auto, using(ts_wire::proofs::Loop::each_loop), unfolding(crate::specs::Plain::row_at))]
+fn read_row(alloc: Global, attrs: &[Attr], cursor: &mut Cursor) -> Result<Row, ReadFault>
+    ensures { ReadsOr (λ row. row) (row_at attrs.now) cursor.old cursor.new result }
+{
+    let mut row = Row::new(alloc);
+    for attr in attrs {
+        let val = read_value(alloc, attr, cursor)?;
+        row.push(val)?;
+    }
+    Ok(row)
+}
+
+#[tactic(auto, unfolding(crate::specs::Plain::cell_at))]
+fn read_cell(
+    alloc: Global,
+    frame: &Frame,
+    attrs: &[Attr],
+    head: &StoredHead,
+    front: &StoredCellList,
+    cursor: &mut Cursor,
+) -> Result<StoredCell, ReadFault>
+    requires hull { IsHull frame.now.domain head.now.hull }
+    requires inside { All (IsInside frame.now) front.now }
+    ensures reads { ReadsOr (λ cell. cell) (cell_at frame.now attrs.now head.now front.now) cursor.old cursor.new result }
+    ensures inside { IfOk result (IsInside frame.now) }
+{
+    let coords = read_coords(frame, &head.hull, front, cursor)?;
+    let origin = read_origin_index(frame.dense, head.origins.len(), front, &coords, cursor)?;
+    let row = read_row(alloc, attrs, cursor)?;
+    Ok(StoredCell {
+        coords,
+        origin,
+        row,
+    })
+}
+
+#[tactic(auto, using(ts_wire::proofs::Loop::items_loop))]
+fn read_cells(
+    alloc: Global,
+    frame: &Frame,
+    attrs: &[Attr],
+    head: &StoredHead,
+    cursor: &mut Cursor,
+) -> Result<StoredCellList, ReadFault>
+    requires hull { IsHull frame.now.domain head.now.hull }
+    ensures { ReadsOr (λ cells. cells) (items_at (cell_at frame.now attrs.now head.now) head.now.cells []) cursor.old cursor.new result }
+{
+    let mut cells = StoredCellList::new(alloc);
+    let count = head.cells;
+    for place in 0..count {
+        let cell = read_cell(alloc, frame, attrs, head, &cells, cursor)?;
+        cells.push(cell)?;
+    }
+    Ok(cells)
+}
+
+#[tactic(auto, unfolding(crate::specs::Plain::plain_at))]
+fn read_body(
+    alloc: Global,
+    frame: &Frame,
+    attrs: &[Attr],
+    frag: FragKey,
+    cursor: &mut Cursor,
+) -> Result<StoredPiece, ReadFault>
+    ensures reads { ReadsOr (λ stored. stored) (plain_at frame.now attrs.now frag) cursor.old cursor.new result }
+    ensures inside { IfOk result (λ stored. IsHull frame.now.domain stored.head.hull) }
+{
+    let head = read_fields(alloc, frame, frag, cursor)?;
+    let cells = read_cells(alloc, frame, attrs, &head, cursor)?;
+    Ok(StoredPiece { head, cells })
+}
+
+#[tactic(auto, unfolding(crate::specs::Plain::plain_stored, ts_wire::specs::Envelope::object_at))]
+fn read_stored(
+    alloc: Global,
+    frame: &Frame,
+    attrs: &[Attr],
+    frag: FragKey,
+    object: &[u8],
+) -> Result<StoredPiece, ReadFault>
+    ensures reads { DecodesOr (λ stored. stored) (plain_stored frame.now attrs.now frag object.now) result }
+    ensures inside { IfOk result (λ stored. IsHull frame.now.domain stored.head.hull) }
+{
+    let body = unwrap_body(Kind::Plain, object)?;
+    let mut cursor = Cursor::new(body, 14);
+    let stored = read_body(alloc, frame, attrs, frag, &mut cursor)?;
+    cursor.end()?;
+    Ok(stored)
+}
+
+#[tactic(auto, unfolding(crate::specs::Plain::head_stored))]
+fn read_stored_head(
+    alloc: Global,
+    frame: &Frame,
+    frag: FragKey,
+    object: &[u8],
+) -> Result<StoredHead, ReadFault>
+    ensures reads { DecodesOr (λ head. head) (head_stored frame.now frag object.now) result }
+    ensures inside { IfOk result (λ head. IsHull frame.now.domain head.hull) }
+{
+    let body = unwrap_body(Kind::Plain, object)?;
+    let mut cursor = Cursor::new(body, 14);
+    read_fields(alloc, frame, frag, &mut cursor)
+}
+
+#[tactic(auto, unfolding(crate::specs::Pieces::plain_piece))]
+fn read_piece(
+    alloc: Global,
+    frame: &Frame,
+    attrs: &[Attr],
+    frag: FragKey,
+    object: &[u8],
+) -> Result<Piece, ReadFault>
+    ensures { DecodesOr (λ piece. piece) (plain_piece frame.now attrs.now frag object.now) result }
+{
+    let stored = read_stored(alloc, frame, attrs, frag, object)?;
+    let piece = piece_of(alloc, frame, frag, stored)?;
+    Ok(piece)
+}
+
+#[tactic(auto, unfolding(crate::specs::Pieces::plain_head))]
+fn read_piece_head(
+    alloc: Global,
+    frame: &Frame,
+    frag: FragKey,
+    object: &[u8],
+) -> Result<Head, ReadFault>
+    ensures { DecodesOr (λ head. head) (plain_head frame.now frag object.now) result }
+{
+    let stored = read_stored_head(alloc, frame, frag, object)?;
+    Ok(head_of(frame, frag, stored))
+}
+
+/// The piece that a plain object holds, under the name of its fragment, in an array of this frame.
+/// The cells are in this schema.
+///
+/// The layout is that of the file FORMATS.md, "The plain fragment". The answer is a piece exactly
+/// where the object is one that spells a piece of this fragment. Else the offset in bytes, from the
+/// object's start, is that of the first field in the order of the layout that the object ends within
+/// or that breaks its rule. A body that goes on after its layout is broken at the first byte too
+/// many; an object that is cut behind its first 14 bytes is broken at 6, where its length stands.
+pub fn read_plain(
+    alloc: Global,
+    frame: &Frame,
+    schema: &Schema,
+    frag: FragKey,
+    object: &[u8],
+) -> Result<Piece, ReadFault>
+    ensures exact { DecodesOr (λ piece. piece) (plain_piece frame.now schema.now.attrs frag object.now) result }
+    ensures found { IfOk result (λ piece. IsPlainObject frame.now schema.now.attrs piece object.now × (piece.head.frag ≡ frag)) }
+    ensures only { (piece : AnyPiece) → piece.head.frag ≡ frag → IsPlainObject frame.now schema.now.attrs piece object.now → IsRead (λ found. found) piece result }
+    ensures names { IfOk result NamesWrites }
+{
+    read_piece(alloc, frame, schema.attrs.as_slice(), frag, object)
+}
+
+/// The head of the piece that a plain object holds, under the name of its fragment, in an array of
+/// this frame. No schema is needed, and the cells are not read.
+///
+/// Where the object spells a piece, whatever its schema is, the answer is that piece's head. Where
+/// the answer is an offset, the object is broken there first, as [`read_plain`] says; what comes
+/// behind the origins is not looked at.
+pub fn read_head(
+    alloc: Global,
+    frame: &Frame,
+    frag: FragKey,
+    object: &[u8],
+) -> Result<Head, ReadFault>
+    ensures exact { DecodesOr (λ head. head) (plain_head frame.now frag object.now) result }
+    ensures only { (attrs : List AnyAttr) (piece : AnyPiece) → piece.head.frag ≡ frag → IsPlainObject frame.now attrs piece object.now → IsRead (λ found. found) piece.head result }
+    ensures broken { (attrs : List AnyAttr) → BreaksSo (plain_piece frame.now attrs frag object.now) result }
+{
+    read_piece_head(alloc, frame, frag, object)
+}
