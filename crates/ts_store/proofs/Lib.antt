@@ -2,3 +2,4 @@ pub mod Writes
 pub mod JournalLemmas
 pub mod RangeLemmas
 pub mod Trees
+pub mod RecorderLemmas

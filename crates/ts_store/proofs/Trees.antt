@@ -1,5 +1,5 @@
 -- A map from keys in order, kept in a tree, seen as a finite map. Only equal keys tie.
-use Rattle.std.proofs.Common.{◌≡◌, List, [], ◌∷◌, Option, None, Some, cond, length, arith, refl, sym, ap, ◌∙◌, map}
+use Rattle.std.proofs.Common.{◌≡◌, List, [], ◌∷◌, Option, None, Some, cond, length, arith, refl, sym, ap, ◌∙◌}
 use Rattle.std.specs.declared.cmp.Ordering.{Ordering}
 use Rattle.std.specs.declared.cmp.Ordering.TheVariants.{Less}
 use Rattle.std.specs.Ordering.{is_eq, eq_by_cmp}
@@ -8,7 +8,7 @@ use Rattle.std.specs.Map.{lookup, keys_of}
 use Rattle.std.specs.BTreeMap as tree
 use Rattle.std.specs.List.{AllByRecursion}
 use Rattle.std.specs.List.Sorted.{IsStrictlySortedBy}
-use Rattle.std.specs.FinMap.{FinMap, IsAntisymmetric, get, insert, remove, entries, from_entries, empty, find, put, get-from_entries, get-insert, get-remove, entries-insert, same_map, len-entries, len-empty}
+use Rattle.std.specs.FinMap.{IsAntisymmetric, get, insert, remove, entries, from_entries, empty, find, put, get-from_entries, get-insert, get-remove, entries-insert, same_map, len-entries, len-empty}
 
 module _ {K X : Type 0} {R : K → K → Ordering} (total : IsTotalOrder R) where
   -- the two ways to look a key up in a list of entries

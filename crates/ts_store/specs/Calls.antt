@@ -1,5 +1,5 @@
 -- Calls to a store, their replies, and what each call does to what is held.
-use Rattle.std.specs.Prelude.{◌≡◌, ℕ, ◌<◌, Bool, true, false, ◌&&◌, not, if◌then◌else◌, List, length, take, drop, filter, Option, Some, None, Result, Ok, Err, All}
+use Rattle.std.specs.Prelude.{ℕ, Bool, true, false, ◌&&◌, not, if◌then◌else◌, List, length, take, drop, filter, Option, Some, None, Result, Ok, Err, All}
 use Rattle.std.specs.Option.{option_map}
 use Rattle.std.specs.FinMap as map
 use Rattle.ts_base.specs.declared.names.Name.{Name}

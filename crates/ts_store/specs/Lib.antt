@@ -5,5 +5,6 @@ pub mod Journals
 pub mod Memory
 pub mod MemoryStreams
 pub mod Ranges
+pub mod Recorders
 pub mod Stores
 pub mod Streams

@@ -1,10 +1,9 @@
 -- The store in memory: its plan of faults, and a fresh one.
-use Rattle.std.specs.Prelude.{◌≡◌, ℕ, Bool, true, false, List, [], Option, if◌then◌else◌}
+use Rattle.std.specs.Prelude.{◌≡◌, false, [], if◌then◌else◌}
 use Rattle.std.specs.FinMap as map
 use Rattle.ts_base.specs.Held.{Held}
 use Rattle.ts_store.specs.declared.fate.Fate.{Fate}
 use Rattle.ts_store.specs.declared.fate.Fate.TheVariants as fate
-use Rattle.ts_store.specs.declared.fate.Fault.{Fault}
 use Rattle.ts_store.specs.declared.memory.MemStore.{MemStore}
 use Rattle.ts_store.specs.declared.memory.Next.{Next}
 use Rattle.ts_store.specs.declared.memory.Next.TheVariants.{AsPlanned, Works, Fails}

@@ -8,6 +8,7 @@ mod fate;
 mod journal;
 mod memory;
 mod objects;
+mod recorder;
 mod store;
 mod streams;
 #[cfg(test)]
@@ -18,6 +19,7 @@ pub use enter::enter_call;
 pub use fate::{Fate, Fault, FaultList};
 pub use journal::{Entry, Journal};
 pub use memory::MemStore;
+pub use recorder::Recorder;
 pub use store::{Store, apply};
 pub use streams::{
     Failed, InputFault, MemSink, MemSource, READ_LIMIT, Sink, Source, read_input, write_all,

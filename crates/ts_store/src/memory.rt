@@ -88,6 +88,20 @@ impl MemStore {
         self.objects.insert(name, bytes)
     }
 
+    /// Whether an object of this name is held. It is no call.
+    pub fn holds(&self, name: Name) -> bool
+        ensures { result ≡ map.contains_key (held_in self.now) name }
+    {
+        self.objects.contains(name)
+    }
+
+    /// The names that are held, ascending. It is no call.
+    pub fn names(&self, alloc: Global) -> Result<NameList, OutOfMemory>
+        ensures { IfOk result (λ names. names ≡ map.keys (held_in self.now)) }
+    {
+        self.objects.names(alloc)
+    }
+
     /// How many gets it was asked for. The count stays at 2^64 - 1 once it is there.
     pub fn asked(&self) -> u64
         ensures { result ≡ self.now.asked }

@@ -135,6 +135,13 @@ impl Objects {
         let _ = self.by_name.remove(&name);
     }
 
+    /// The names that are held, ascending.
+    pub(crate) fn names(&self, alloc: Global) -> Result<NameList, OutOfMemory>
+        ensures { IfOk result (λ names. names ≡ finite.keys self.now) }
+    {
+        Ok(NameList::from_vec(all_keys(alloc, &self.by_name)?))
+    }
+
     /// The names that are held under a prefix, ascending.
     pub(crate) fn under(&self, alloc: Global, prefix: Prefix) -> Result<NameList, OutOfMemory>
         ensures names { IfOk result (λ names. names ≡ names_under prefix self.now) }
@@ -142,6 +149,14 @@ impl Objects {
     {
         Ok(NameList::from_vec(keys_under(alloc, &self.by_name, prefix)?))
     }
+}
+
+// All keys, ascending.
+fn all_keys(alloc: Global, objects: &BTreeMap<Name, ByteList>) -> Result<Vec<Name>, AllocError>
+    ensures found { IfOk result (λ names. names.items ≡ keys objects.now) }
+    ensures ordered { IsOrdered name_cmp objects.now }
+{
+    objects.keys().copied().collect(alloc)
 }
 
 // The keys under a prefix, ascending.

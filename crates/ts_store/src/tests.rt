@@ -250,3 +250,48 @@ fn a_reply_is_copied(rt: HostRuntime) -> Result<(), Fail> {
     }
     Ok(())
 }
+
+#[test]
+fn a_recorder_enters_each_call_with_its_lane_and_fate(rt: HostRuntime) -> Result<(), Fail> {
+    let alloc = rt.alloc();
+    let fault = Fault {
+        call: 3,
+        whole: true,
+    };
+    let store = MemStore::new(alloc, plan_of(alloc, &[fault])?);
+    let mut recorder = Recorder::new(store, Journal::new(alloc), 4);
+    assert_eq!(rt; recorder.put(alloc, plain(1), b"ab")?, Made::New);
+    assert_eq!(rt; recorder.put(alloc, plain(1), b"cd")?, Made::Taken);
+    assert_eq!(rt;
+        recorder
+            .list(alloc, Prefix::Fragment(frag(1, 7)))?
+            .as_slice(),
+        [plain(1)].as_slice()
+    );
+    assert!(rt; recorder.get(alloc, plain(1), 0, 1) == Err(StoreError::Failed));
+    assert_eq!(rt; recorder.fate(), Fate::FailedDone);
+    assert_eq!(rt; recorder.size(alloc, plain(1))?, Some(2));
+    recorder.remove(alloc, plain(1))?;
+    assert_eq!(rt; recorder.fate(), Fate::Done);
+    let (store, journal) = recorder.into_parts();
+    assert_eq!(rt; (store.asked(), store.faults()), (1, 1));
+    let calls = [
+        Call::Put(plain(1), ByteList::of_bytes(alloc, b"ab")?),
+        Call::Put(plain(1), ByteList::of_bytes(alloc, b"cd")?),
+        Call::List(Prefix::Fragment(frag(1, 7))),
+        Call::Get(plain(1), 0, 1),
+        Call::Size(plain(1)),
+        Call::Remove(plain(1)),
+    ];
+    assert_eq!(rt; journal.len(), 6);
+    for ((place, call), entry) in calls.iter().enumerate().zip(journal.as_slice()) {
+        let fate = if place == 3 {
+            Fate::FailedDone
+        } else {
+            Fate::Done
+        };
+        assert!(rt; entry.call == *call, "at {place}");
+        assert_eq!(rt; (entry.lane, entry.fate), (4, fate), "at {place}");
+    }
+    Ok(())
+}

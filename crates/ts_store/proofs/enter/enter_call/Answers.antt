@@ -1,4 +1,4 @@
-use Rattle.std.proofs.Common.{◌≡◌, sym, ap, ◌∙◌, false, List, [], ◌∷◌, ◌++◌, slice_set, rules}
+use Rattle.std.proofs.Common.{◌≡◌, sym, ap, ◌∙◌, false, [], ◌∷◌, ◌++◌, slice_set, rules}
 use Rattle.std.proofs.lemmas.List.{set_at}
 use Rattle.ts_store.specs.Calls.{is_no_memory}
 use Rattle.ts_store.specs.Journals.{entry}
