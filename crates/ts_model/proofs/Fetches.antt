@@ -9,7 +9,8 @@ use Rattle.ts_base.specs.declared.keys.FragKey.{FragKey}
 use Rattle.ts_base.specs.declared.heads.Version.{Version}
 use Rattle.ts_base.specs.Keys.{key_eq, frag_of}
 use Rattle.ts_base.specs.Held.{Held}
-use Rattle.ts_model.specs.Deeds.{Written, History, IsHistory, writes}
+use Rattle.ts_model.specs.declared.deeds.Written.{Written}
+use Rattle.ts_model.specs.Deeds.{History, IsHistory, writes}
 use Rattle.ts_model.specs.Pieces.{version_at, version_of}
 use Rattle.ts_model.specs.Stands.{HoldsOne}
 use Rattle.ts_model.specs.Kept.{AreGot}

@@ -9,13 +9,14 @@ use Rattle.ts_base.specs.Names.{name_cmp, wrt_of}
 use Rattle.ts_base.specs.Held.{Held}
 use Rattle.ts_store.specs.declared.journal.Entry.{Entry}
 use Rattle.ts_model.specs.declared.commands.Line.{Line}
+use Rattle.ts_model.specs.declared.answers.Driven.{Driven}
 use Rattle.ts_model.specs.declared.answers.Outcome.{Outcome}
 use Rattle.ts_model.specs.Deeds.{IsHistory, first_schema, first_deeds}
 use Rattle.ts_model.specs.Jobs.{IsFitLine}
 use Rattle.ts_model.specs.PlainLaws.{PlainLaws}
 use Rattle.ts_model.specs.Stands.{Stands}
 use Rattle.ts_model.specs.Fresh.{IsFreshSeed, jobs_of}
-use Rattle.ts_model.specs.Told.{Told, Replied, entries_of}
+use Rattle.ts_model.specs.Told.{Told, Replied, only_lane, entries_of}
 use Rattle.ts_model.specs.Driven.{AreDriven}
 use Rattle.ts_model.specs.Runs.{IsTrueRun}
 use Rattle.ts_model.proofs.ListLemmas.{Contains-nil, Contains-only}
@@ -48,9 +49,9 @@ fresh_over_nothing seed below id upper (inl (k, at, is)) =
 fresh_over_nothing seed below id upper (inr (n, held, is)) = none_held n held
 
 -- a run over nothing is true of the history that begins with the first deeds
-pub true_from_nothing : PlainLaws → (seed : ℕ) (lines : List Line) (journal : List Entry) (told : List Told) (ends : List Outcome)
+pub true_from_nothing : PlainLaws → (seed : ℕ) (lines : List Line) (journal : List Entry) (told : List Told) (results : List (Driven Outcome))
     → seed < 2 ^ 64 - 1 → length lines < 2 ^ 32 → All IsFitLine lines
-    → Replied nothing told → entries_of 0 told ≡ journal → AreDriven 0 (jobs_of seed lines) ends told
-    → IsTrueRun (jobs_of seed lines) first_deeds nothing journal told ends
-true_from_nothing laws seed lines journal told ends below few fit replied entries driven =
-    true_run laws seed lines first_deeds nothing journal told ends nothing_stands (fresh_over_nothing seed below) (omega arith) few fit replied entries driven
+    → Replied nothing told → entries_of (only_lane 0) told ≡ journal → AreDriven 0 (jobs_of seed lines) results told
+    → IsTrueRun (jobs_of seed lines) first_deeds nothing journal told results
+true_from_nothing laws seed lines journal told results below few fit replied entries driven =
+    true_run laws seed lines first_deeds nothing journal told results nothing_stands (fresh_over_nothing seed below) (omega arith) few fit replied entries driven

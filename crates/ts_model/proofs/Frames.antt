@@ -20,7 +20,8 @@ use Rattle.ts_model.specs.declared.answers.Refusal.{Refusal}
 use Rattle.ts_model.specs.declared.answers.Refusal.TheVariants as refusal
 use Rattle.ts_model.specs.declared.states.State.{State}
 use Rattle.ts_model.specs.declared.states.State.TheVariants.{PutsPart, PutsCommit, ListsCommits, Fetches, Over}
-use Rattle.ts_model.specs.Deeds.{Written, History, writes, keys, IsNewKey}
+use Rattle.ts_model.specs.declared.deeds.Written.{Written}
+use Rattle.ts_model.specs.Deeds.{History, writes, keys, IsNewKey}
 use Rattle.ts_model.specs.Jobs.{key_of, written_under}
 use Rattle.ts_model.specs.Plain.{part_text}
 use Rattle.ts_model.specs.Stands.{HoldsOne}
@@ -116,10 +117,8 @@ module _ (past : History) (jobs : List Job) (seen : List Told) (e : Told) (m m' 
   }
 
   end_stays : (number : ℕ) (job : Job) (end : Outcome) → (job.id ≡ id → ⊥) → IsTrueEnd jobs past seen number job end → IsTrueEnd jobs past (seen ++ e ∷ []) number job end
-  end_stays number job (outcome.Written f) other is = λ w written. frame.stay w (is w written)
-  end_stays number job (outcome.Read answer) other is = λ to reads.
-      let at = is to reads in
-      record { listed = listed_stays number at.listed; rows = at.rows }
+  end_stays number job (outcome.Written f) other (w, written, there) = (w, written, frame.stay w there)
+  end_stays number job (outcome.Read answer) other (to, reads, at) = (to, reads, record { listed = listed_stays number at.listed; rows = at.rows })
   end_stays number job (outcome.Refused r) other is = refusal_stays m m' (history_told jobs past seen) (history_told jobs past (seen ++ e ∷ [])) id frame job r other is
   end_stays number job outcome.OutOfMemory other is = is
 

@@ -17,7 +17,10 @@ use Rattle.ts_base.specs.declared.values.Val.TheVariants.{Int}
 use Rattle.ts_model.specs.declared.commands.Command.{Command}
 use Rattle.ts_model.specs.declared.commands.Command.TheVariants.{Write, Read}
 use Rattle.ts_model.specs.declared.commands.Job.{Job}
-use Rattle.ts_model.specs.Deeds.{Deed, Framed, Declared, Wrote, Written, History, write_in, key_in, writes, schemas, keys, has_key, first_schema, is_in_domain, row_fits, IsNewKey, WriteFollows, MayFollow, Follow, IsHistory}
+use Rattle.ts_model.specs.declared.deeds.Written.{Written}
+use Rattle.ts_model.specs.declared.deeds.Deed.{Deed}
+use Rattle.ts_model.specs.declared.deeds.Deed.TheVariants.{Framed, Declared, Wrote}
+use Rattle.ts_model.specs.Deeds.{History, write_in, key_in, writes, schemas, keys, has_key, first_schema, is_in_domain, row_fits, IsNewKey, WriteFollows, MayFollow, Follow, IsHistory}
 use Rattle.ts_model.specs.Histories.{deed_of}
 use Rattle.ts_model.specs.Jobs.{written_under, written_of, refused_before, fits, job_with, AreApart}
 use Rattle.ts_model.specs.States.{commit_of}

@@ -21,9 +21,10 @@ use Rattle.ts_model.specs.Told.{Told, changes, after_told, held_told, IsReplied,
 
 -- ---- what a journal leaves
 
-pub journal_held : (lane : ℕ) (m : Held) (told : List Told) → held_after m (entries_of lane told) ≡ held_told m told
+-- the calls leave what their entries leave, in whatever lanes they were made
+pub journal_held : (lane : Option ℕ → ℕ) (m : Held) (told : List Told) → held_told m told ≡ held_after m (entries_of lane told)
 journal_held lane m [] = refl
-journal_held lane m (e ∷ told) = elim (is_no_memory e.reply) as (λ b. held_after m (cons_option (cond b None (Some (record { lane = lane; call = e.call; fate = e.fate }))) (entries_of lane told)) ≡ held_told (cond b m (after m e.call e.fate)) told) [
+journal_held lane m (e ∷ told) = elim (is_no_memory e.reply) as (λ b. held_told (cond b m (after m e.call e.fate)) told ≡ held_after m (cons_option (cond b None (Some (record { lane = lane e.job; call = e.call; fate = e.fate }))) (entries_of lane told))) [
   | true ↦ journal_held lane m told
   | false ↦ journal_held lane (after m e.call e.fate) told
 ]
@@ -37,16 +38,12 @@ deeds_are_grown jobs m (call.Put n bytes) f = elim (took_effect f) as (λ t. con
 deeds_are_grown jobs m (call.Remove n) f = cond_same (took_effect f) [] ∙ sym (cond_same (took_effect f && map.contains_key m n) [])
 deeds_are_grown jobs m _ f = cond_same (took_effect f) []
 
--- the entry of a call that found memory
-abbrev entry_made : ℕ → Told → Entry
-entry_made lane e = record { lane = lane; call = e.call; fate = e.fate }
-
 -- what is told of a call that found no memory: it left no entry and no deed
-no_entry : (lane : ℕ) (jobs : List Job) (h : History) (m : Held) (e : Told) (rest : List Entry) → is_no_memory e.reply ≡ true → e.changed ≡ false
+no_entry : (lane : Option ℕ → ℕ) (jobs : List Job) (h : History) (m : Held) (e : Told) (rest : List Entry) → is_no_memory e.reply ≡ true → e.changed ≡ false
     → history_of jobs h m (cons_option (entry_of lane e) rest) ≡ history_of jobs (h ++ grown jobs e) (after_told m e) rest
 no_entry lane jobs h m e rest none still = rw (none, still, append-nil h) refl
 
-one_entry : (lane : ℕ) (jobs : List Job) (h : History) (m : Held) (e : Told) (rest : List Entry) → is_no_memory e.reply ≡ false → e.changed ≡ changes m e.call e.fate
+one_entry : (lane : Option ℕ → ℕ) (jobs : List Job) (h : History) (m : Held) (e : Told) (rest : List Entry) → is_no_memory e.reply ≡ false → e.changed ≡ changes m e.call e.fate
     → history_of jobs h m (cons_option (entry_of lane e) rest) ≡ history_of jobs (h ++ grown jobs e) (after_told m e) rest
 one_entry lane jobs h m e rest memory changed = rw (memory, changed) (ap (λ d. history_of jobs (h ++ d) (after m e.call e.fate) rest) (deeds_are_grown jobs m e.call e.fate))
 
@@ -64,10 +61,11 @@ answered m c fate.FailedDone = refl
 answered m c fate.FailedSkipped = refl
 answered m c fate.Unknown = refl
 
-pub journal_history : (lane : ℕ) (jobs : List Job) (h : History) (m : Held) (told : List Told) → Replied m told → history_of jobs h m (entries_of lane told) ≡ history_told jobs h told
+-- the calls of jobs leave the history that their entries leave, in whatever lanes they were made
+pub journal_history : (lane : Option ℕ → ℕ) (jobs : List Job) (h : History) (m : Held) (told : List Told) → Replied m told → history_told jobs h told ≡ history_of jobs h m (entries_of lane told)
 journal_history lane jobs h m [] replied = refl
 journal_history lane jobs h m (e ∷ told) replied =
-    one_call replied.0 ∙ journal_history lane jobs (h ++ grown jobs e) (after_told m e) told replied.1
+    journal_history lane jobs (h ++ grown jobs e) (after_told m e) told replied.1 ∙ sym (one_call replied.0)
   where
     one_call : IsReplied m e → history_of jobs h m (cons_option (entry_of lane e) (entries_of lane told)) ≡ history_of jobs (h ++ grown jobs e) (after_told m e) (entries_of lane told)
     one_call (inl none) = no_entry lane jobs h m e (entries_of lane told) none.0 none.1
@@ -95,5 +93,5 @@ filter_map-front f (x ∷ xs) (y ∷ front) back parts =
           (x ∷ rest.0, rest.1, ap (λ t. x ∷ t) rest.2, ap (λ o. cons_option o (filter_map f rest.0)) is ∙ ap (λ w. w ∷ filter_map f rest.0) (head_is z y (filter_map f xs) (front ++ back) e) ∙ ap (λ t. y ∷ t) rest.3)
     ] refl parts
 
-pub journal-front : (lane : ℕ) (told : List Told) (front back : List Entry) → entries_of lane told ≡ front ++ back → (a : List Told) × (b : List Told) × (told ≡ a ++ b) × (entries_of lane a ≡ front)
+pub journal-front : (lane : Option ℕ → ℕ) (told : List Told) (front back : List Entry) → entries_of lane told ≡ front ++ back → (a : List Told) × (b : List Told) × (told ≡ a ++ b) × (entries_of lane a ≡ front)
 journal-front lane told front back parts = filter_map-front (entry_of lane) told front back parts

@@ -1,3 +1,4 @@
+pub mod Asked
 pub mod Segments
 pub mod ListLemmas
 pub mod KeyLemmas
@@ -17,8 +18,10 @@ pub mod ReadSteps
 pub mod KeptLaws
 pub mod Spawns
 pub mod Journals
+pub mod Causes
 pub mod TrueRuns
 pub mod Newest
+pub mod Scans
 pub mod Driving
 pub mod FirstStands
 mod WorkedRows

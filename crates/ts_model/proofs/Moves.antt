@@ -11,7 +11,10 @@ use Rattle.ts_base.specs.Keys.{frag_of}
 use Rattle.ts_base.specs.Names.{wrt_of}
 use Rattle.ts_base.specs.Held.{Held}
 use Rattle.ts_model.specs.declared.commands.Job.{Job}
-use Rattle.ts_model.specs.Deeds.{Deed, Written, History, Wrote, WriteFollows}
+use Rattle.ts_model.specs.declared.deeds.Written.{Written}
+use Rattle.ts_model.specs.declared.deeds.Deed.{Deed}
+use Rattle.ts_model.specs.declared.deeds.Deed.TheVariants.{Wrote}
+use Rattle.ts_model.specs.Deeds.{History, WriteFollows}
 use Rattle.ts_model.specs.Pieces.{HoldsWrite}
 use Rattle.ts_model.specs.Stands.{Spells, Stands}
 use Rattle.ts_model.specs.Fresh.{id_in}

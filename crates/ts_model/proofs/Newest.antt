@@ -43,6 +43,10 @@ module _ {X : Type 0} (key : X → Key) where
   greater_assoc (Some x) (Some y) None = refl
   greater_assoc (Some x) (Some y) (Some z) = three x y z
 
+  pub greatest-append : (xs ys : List X) → greatest key (xs ++ ys) ≡ greater key (greatest key xs) (greatest key ys)
+  greatest-append [] ys = refl
+  greatest-append (x ∷ xs) ys = ap (greater key (Some x)) (greatest-append xs ys) ∙ sym (greater_assoc (Some x) (greatest key xs) (greatest key ys))
+
   pub greatest-push : (xs : List X) (y : X) → greatest key (xs ++ y ∷ []) ≡ greater key (greatest key xs) (Some y)
   greatest-push [] y = refl
   greatest-push (x ∷ xs) y = ap (greater key (Some x)) (greatest-push xs y) ∙ sym (greater_assoc (Some x) (greatest key xs) (Some y))

@@ -8,6 +8,7 @@ use Rattle.ts_base.specs.declared.keys.Key.{Key}
 use Rattle.ts_base.specs.declared.keys.FragKey.{FragKey}
 use Rattle.ts_base.specs.declared.heads.Piece.{Piece}
 use Rattle.ts_base.specs.declared.heads.Version.{Version}
+use Rattle.ts_base.specs.declared.heads.Stop.TheVariants.{Never}
 use Rattle.ts_base.specs.declared.values.Val.TheVariants.{Int}
 use Rattle.ts_base.specs.Keys.{key_eq, frag_of}
 use Rattle.ts_base.specs.Coords.{coords_eq}
@@ -21,7 +22,8 @@ use Rattle.ts_model.specs.declared.commands.Command.{Command}
 use Rattle.ts_model.specs.declared.commands.Command.TheVariants.{Write, Read}
 use Rattle.ts_model.specs.declared.answers.Refusal.TheVariants as refusal
 use Rattle.ts_model.specs.declared.plain.StoredPiece.{StoredPiece}
-use Rattle.ts_model.specs.Deeds.{Written, first_schema, is_in_domain, row_fits}
+use Rattle.ts_model.specs.declared.deeds.Written.{Written}
+use Rattle.ts_model.specs.Deeds.{first_schema, is_in_domain, row_fits}
 use Rattle.ts_model.specs.Jobs.{key_of, one_cell, written_under, refused_before, fits}
 use Rattle.ts_model.specs.Pieces.{version_at, version_of, HoldsWrite}
 use Rattle.ts_model.specs.Plain.{plain_stored, plain_piece, piece_of, plain_bytes, head_bytes, side_bytes, origins_bytes, cell_bytes, FitsPlain, IsPlain, one_stored, one_piece, one_text, text_under, part_text}
@@ -181,6 +183,6 @@ plain_laws = record {
 }
 
 -- the object of a write has 145 bytes
-pub part_text-length : length (part_text (record { command = Write (pos 5) (pos 10); at = 1; id = 1 })) ≡ 145
+pub part_text-length : length (part_text (record { command = Write (pos 5) (pos 10); at = 1; id = 1; stop = Never })) ≡ 145
 unfolding part_text one_text wrapped envelope_bytes plain_bytes head_bytes side_bytes origins_bytes cell_bytes key_bytes bool_bytes val_bytes number_bytes int_bytes
 part_text-length = refl

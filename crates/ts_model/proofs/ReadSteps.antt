@@ -86,14 +86,8 @@ module _ (past : History) (jobs : List Job) (seen : List Told) (m : Held) (numbe
   claims_on : FetchingAt past jobs seen m number job listed next got → Claims past jobs seen m number job (fetching listed next got)
   claims_on at = elim (nat_lt next (length listed)) as (λ b. nat_lt next (length listed) ≡ b → Claims past jobs seen m number job (cond b (Fetches listed next got) (Over (outcome.Read (record { rows = pairs_in got }))))) [
     | true ↦ λ _. at
-    | false ↦ λ end to reads. record {
-      listed = at.at;
-      rows = answered at end ∙ ap (shown (history_told jobs past (at.at).before) 0) (one_stamp at.to to (sym at.reads ∙ reads));
-    }
+    | false ↦ λ end. (at.to, at.reads, record { listed = at.at; rows = answered at end })
   ] refl
-    where
-      one_stamp : (a b : ℕ) → Read a ≡ Read b → a ≡ b
-      one_stamp a b same = cc
 
 -- ---- the calls
 

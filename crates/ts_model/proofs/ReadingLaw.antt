@@ -9,7 +9,8 @@ use Rattle.ts_base.specs.declared.values.Val.{Val}
 use Rattle.ts_base.specs.declared.heads.Version.{Version}
 use Rattle.ts_base.specs.Keys.{key_eq, key_lt, frag_of, is_within}
 use Rattle.ts_base.specs.Coords.{coords_eq}
-use Rattle.ts_model.specs.Deeds.{Written, History, IsHistory, writes, row_at, has_cell, last_write}
+use Rattle.ts_model.specs.declared.deeds.Written.{Written}
+use Rattle.ts_model.specs.Deeds.{History, IsHistory, writes, row_at, has_cell, last_write}
 use Rattle.ts_model.specs.Answers.{domain_numbers, number_of, pair, pair_in, shown}
 use Rattle.ts_model.specs.Pieces.{version_at, newest_at, version_of}
 use Rattle.ts_model.specs.States.{lies_in, pair_of, pairs_in}

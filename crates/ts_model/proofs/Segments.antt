@@ -1,5 +1,5 @@
 -- A job that makes the calls which its automaton asks goes along its row, and ends by it.
-use Rattle.std.proofs.Common.{append_assoc, append-nil, length, ◌≡◌, ℕ, ◌+◌, Bool, true, false, cond, ◌⊎◌, List, [], ◌∷◌, ◌++◌, Option, Some, None, Result, Ok, Err, IsTrue, refl, sym, ap, inl, inr, subst, slice_get}
+use Rattle.std.proofs.Common.{append_assoc, append-nil, length, ◌≡◌, ℕ, ◌+◌, Bool, true, false, cond, ◌⊎◌, List, [], ◌∷◌, ◌++◌, Option, Some, None, Result, Ok, Err, IsTrue, refl, sym, ◌∙◌, ap, inl, inr, subst, slice_get}
 use Rattle.std.specs.Prelude.{⊤, Contains, option_map, nat_lt}
 use Rattle.std.proofs.lemmas.List.Elements.{Contains-append_left, Contains-push}
 use Rattle.std.proofs.lemmas.Option.{slice_get_within, get_or_from_slice_get}
@@ -17,6 +17,8 @@ use Rattle.ts_store.specs.declared.call.Reply.TheVariants as reply
 use Rattle.ts_model.specs.declared.commands.Command.{Command}
 use Rattle.ts_model.specs.declared.commands.Command.TheVariants.{Write, Read}
 use Rattle.ts_model.specs.declared.commands.Job.{Job}
+use Rattle.ts_model.specs.declared.answers.Driven.{Driven}
+use Rattle.ts_model.specs.declared.answers.Driven.TheVariants as driven
 use Rattle.ts_model.specs.declared.answers.Outcome.{Outcome}
 use Rattle.ts_model.specs.declared.answers.Outcome.TheVariants as outcome
 use Rattle.ts_model.specs.declared.answers.Pair.{Pair}
@@ -24,13 +26,16 @@ use Rattle.ts_model.specs.declared.answers.Refusal.{Refusal}
 use Rattle.ts_model.specs.declared.answers.Refusal.TheVariants as refusal
 use Rattle.ts_model.specs.declared.states.State.{State}
 use Rattle.ts_model.specs.declared.states.State.TheVariants.{PutsPart, PutsCommit, ListsCommits, Fetches, Over}
-use Rattle.ts_model.specs.States.{Exchange, asks, goes, begun, part_of, commit_of, get_part, looked_into, put_end, list_end, get_end, pairs_in, after_part, after_get, after_get_of, over_or}
-use Rattle.ts_model.specs.Jobs.{frag_of_job, refused_before}
+use Rattle.ts_model.specs.States.{Exchange, asks, goes, begun, part_of, commit_of, get_part, looked_into, put_end, list_end, get_end, pairs_in, after_part, after_get, after_get_of, over_or, state_of}
+use Rattle.ts_model.specs.Deeds.{first_schema}
+use Rattle.ts_model.specs.Jobs.{key_of, frag_of_job, one_cell, written_under, refused_before}
 use Rattle.ts_model.specs.Plain.{part_text, plain_piece}
-use Rattle.ts_model.specs.Driven.{AskedFrom, EndsFrom, IsDriven, AreDriven}
+use Rattle.ts_model.specs.Driven.{AskedFrom, EndsFrom, ComesOut, IsDriven, AreDriven}
+use Rattle.ts_model.specs.Stops.{cuts}
 use Rattle.ts_model.specs.Told.{Told}
+use Rattle.ts_model.proofs.Asked.{asked-push}
 use Rattle.ts_model.specs.Runs.{AreSegments}
-use Rattle.ts_model.specs.Rows.{row_by, IsNext, LetsOn, EndsAt, EndsAlong, MayEndAs, IsSegment, LooksRight, damaged_by, is_look}
+use Rattle.ts_model.specs.Rows.{Writes, row_by, row_of, IsNext, Along, LetsOn, EndsAt, EndsAlong, MayEndAs, IsCutOff, MayComeOut, IsSegment, LooksRight, damaged_by, is_look}
 
 -- ---- putting a call before others
 
@@ -46,7 +51,7 @@ at_cons row rest x xs last on next h = record {
 
 -- a call that lets the job go on, before calls along the rest of the row
 ends_cons : (job : Job) (row rest : List Call) (x : Exchange) (xs : List Exchange) (end : Outcome) → LetsOn x → IsNext row x.call rest → EndsAlong job rest xs end → EndsAlong job row (x ∷ xs) end
-ends_cons job row rest x xs (outcome.Written f) on next h = ((on, (rest, next, h.0)), h.1)
+ends_cons job row rest x xs (outcome.Written f) on next h = ((on, (rest, next, h.0)), h.1, h.2)
 ends_cons job row rest x xs (outcome.Read answer) on next h = ((on, (rest, next, h.0)), h.1)
 ends_cons job row rest x xs (outcome.Refused r) on next h = (h.0, at_cons row rest x xs h.0 on next h.1, h.2)
 ends_cons job row rest x xs outcome.OutOfMemory on next (inl h) = inl (h.0, (on, (rest, next, h.1)))
@@ -96,9 +101,9 @@ get_ends job row f r = inr (record { call = get_part f; reply = r }, at_last row
 
 -- ---- a write
 
-commit_by : (job : Job) (r : Reply) (xs : List Exchange) (end : Outcome) → AskedFrom job (goes job PutsCommit r) xs → EndsFrom job (goes job PutsCommit r) xs end → EndsAlong job (call.Put (commit_of job) [] ∷ []) (record { call = call.Put (commit_of job) []; reply = r } ∷ xs) end
-commit_by job reply.Made xs end a e = over_at job (call.Put (commit_of job) [] ∷ []) [] (record { call = call.Put (commit_of job) []; reply = reply.Made }) xs (outcome.Written (frag_of_job job)) end (inr refl) (((refl, refl), ([], inr refl, refl)), refl) a e
-commit_by job r xs end a e = over_at job (call.Put (commit_of job) [] ∷ []) [] (record { call = call.Put (commit_of job) []; reply = r }) xs (put_end (commit_of job) r) end (inr refl) (put_ends job (call.Put (commit_of job) [] ∷ []) [] (commit_of job) [] r (inr refl)) a e
+commit_by : (job : Job) → Writes job → (r : Reply) (xs : List Exchange) (end : Outcome) → AskedFrom job (goes job PutsCommit r) xs → EndsFrom job (goes job PutsCommit r) xs end → EndsAlong job (call.Put (commit_of job) [] ∷ []) (record { call = call.Put (commit_of job) []; reply = r } ∷ xs) end
+commit_by job writes reply.Made xs end a e = over_at job (call.Put (commit_of job) [] ∷ []) [] (record { call = call.Put (commit_of job) []; reply = reply.Made }) xs (outcome.Written (frag_of_job job)) end (inr refl) (((refl, refl), ([], inr refl, refl)), writes, refl) a e
+commit_by job writes r xs end a e = over_at job (call.Put (commit_of job) [] ∷ []) [] (record { call = call.Put (commit_of job) []; reply = r }) xs (put_end (commit_of job) r) end (inr refl) (put_ends job (call.Put (commit_of job) [] ∷ []) [] (commit_of job) [] r (inr refl)) a e
 
 -- a job that makes no call, and is not over, ends for want of memory
 ends_none : (job : Job) (row : List Call) (s : State) (end : Outcome) → ((o : Outcome) → s ≡ Over o → ⊥) → EndsFrom job s [] end → EndsAlong job row [] end
@@ -108,21 +113,21 @@ ends_none job row s end not_over (inr e) = let P : Outcome → Type 0 = λ w. En
 call_is : (c d : Call) → Some c ≡ Some d → d ≡ c
 call_is c d e = cc
 
-commit_ends : (job : Job) (xs : List Exchange) (end : Outcome) → AskedFrom job PutsCommit xs → EndsFrom job PutsCommit xs end → EndsAlong job (call.Put (commit_of job) [] ∷ []) xs end
-commit_ends job [] end a e = ends_none job (call.Put (commit_of job) [] ∷ []) PutsCommit end (λ o q. cc) e
-commit_ends job (x ∷ xs) end a e =
+commit_ends : (job : Job) → Writes job → (xs : List Exchange) (end : Outcome) → AskedFrom job PutsCommit xs → EndsFrom job PutsCommit xs end → EndsAlong job (call.Put (commit_of job) [] ∷ []) xs end
+commit_ends job writes [] end a e = ends_none job (call.Put (commit_of job) [] ∷ []) PutsCommit end (λ o q. cc) e
+commit_ends job writes (x ∷ xs) end a e =
     let P : Call → Type 0 = λ c. EndsAlong job (call.Put (commit_of job) [] ∷ []) (record { call = c; reply = x.reply } ∷ xs) end in
-    subst P (sym (call_is (call.Put (commit_of job) []) x.call a.0)) (commit_by job x.reply xs end a.1 e)
+    subst P (sym (call_is (call.Put (commit_of job) []) x.call a.0)) (commit_by job writes x.reply xs end a.1 e)
 
-part_by : (job : Job) (r : Reply) (xs : List Exchange) (end : Outcome) → AskedFrom job (goes job PutsPart r) xs → EndsFrom job (goes job PutsPart r) xs end → EndsAlong job (call.Put (part_of job) (part_text job) ∷ call.Put (commit_of job) [] ∷ []) (record { call = call.Put (part_of job) (part_text job); reply = r } ∷ xs) end
-part_by job reply.Made xs end a e = ends_cons job (call.Put (part_of job) (part_text job) ∷ call.Put (commit_of job) [] ∷ []) (call.Put (commit_of job) [] ∷ []) (record { call = call.Put (part_of job) (part_text job); reply = reply.Made }) xs end (refl, refl) (inr refl) (commit_ends job xs end a e)
-part_by job r xs end a e = over_at job (call.Put (part_of job) (part_text job) ∷ call.Put (commit_of job) [] ∷ []) (call.Put (commit_of job) [] ∷ []) (record { call = call.Put (part_of job) (part_text job); reply = r }) xs (put_end (part_of job) r) end (inr refl) (put_ends job (call.Put (part_of job) (part_text job) ∷ call.Put (commit_of job) [] ∷ []) (call.Put (commit_of job) [] ∷ []) (part_of job) (part_text job) r (inr refl)) a e
+part_by : (job : Job) → Writes job → (r : Reply) (xs : List Exchange) (end : Outcome) → AskedFrom job (goes job PutsPart r) xs → EndsFrom job (goes job PutsPart r) xs end → EndsAlong job (call.Put (part_of job) (part_text job) ∷ call.Put (commit_of job) [] ∷ []) (record { call = call.Put (part_of job) (part_text job); reply = r } ∷ xs) end
+part_by job writes reply.Made xs end a e = ends_cons job (call.Put (part_of job) (part_text job) ∷ call.Put (commit_of job) [] ∷ []) (call.Put (commit_of job) [] ∷ []) (record { call = call.Put (part_of job) (part_text job); reply = reply.Made }) xs end (refl, refl) (inr refl) (commit_ends job writes xs end a e)
+part_by job writes r xs end a e = over_at job (call.Put (part_of job) (part_text job) ∷ call.Put (commit_of job) [] ∷ []) (call.Put (commit_of job) [] ∷ []) (record { call = call.Put (part_of job) (part_text job); reply = r }) xs (put_end (part_of job) r) end (inr refl) (put_ends job (call.Put (part_of job) (part_text job) ∷ call.Put (commit_of job) [] ∷ []) (call.Put (commit_of job) [] ∷ []) (part_of job) (part_text job) r (inr refl)) a e
 
-part_ends : (job : Job) (xs : List Exchange) (end : Outcome) → AskedFrom job PutsPart xs → EndsFrom job PutsPart xs end → EndsAlong job (call.Put (part_of job) (part_text job) ∷ call.Put (commit_of job) [] ∷ []) xs end
-part_ends job [] end a e = ends_none job (call.Put (part_of job) (part_text job) ∷ call.Put (commit_of job) [] ∷ []) PutsPart end (λ o q. cc) e
-part_ends job (x ∷ xs) end a e =
+part_ends : (job : Job) → Writes job → (xs : List Exchange) (end : Outcome) → AskedFrom job PutsPart xs → EndsFrom job PutsPart xs end → EndsAlong job (call.Put (part_of job) (part_text job) ∷ call.Put (commit_of job) [] ∷ []) xs end
+part_ends job writes [] end a e = ends_none job (call.Put (part_of job) (part_text job) ∷ call.Put (commit_of job) [] ∷ []) PutsPart end (λ o q. cc) e
+part_ends job writes (x ∷ xs) end a e =
     let P : Call → Type 0 = λ c. EndsAlong job (call.Put (part_of job) (part_text job) ∷ call.Put (commit_of job) [] ∷ []) (record { call = c; reply = x.reply } ∷ xs) end in
-    subst P (sym (call_is (call.Put (part_of job) (part_text job)) x.call a.0)) (part_by job x.reply xs end a.1 e)
+    subst P (sym (call_is (call.Put (part_of job) (part_text job)) x.call a.0)) (part_by job writes x.reply xs end a.1 e)
 
 -- ---- a read
 
@@ -253,7 +258,8 @@ begun_ends job (Write x v) trace end is a e = by_refusal (refused_before (Write 
     by_refusal : (r : Option Refusal) → AskedFrom job (over_or PutsPart r) trace → EndsFrom job (over_or PutsPart r) trace end → MayEndAs job trace end r
     by_refusal None a' e' =
         let P : Command → Type 0 = λ c. EndsAlong job (row_by job c) trace end in
-        subst P (sym is) (part_ends job trace end a' e')
+        let writes : Writes job = (record { key = key_of job; schema = first_schema; cells = one_cell x v }, ap (written_under (key_of job)) is) in
+        subst P (sym is) (part_ends job writes trace end a' e')
     by_refusal (Some r) a' e' = over_ends job (outcome.Refused r) trace end a' e'
 begun_ends job (Read to) trace end is a e =
     let P : Command → Type 0 = λ c. EndsAlong job (row_by job c) trace end in
@@ -267,16 +273,78 @@ begun_listed job (Write x v) = by_refusal (refused_before (Write x v))
     by_refusal None = tt
     by_refusal (Some r) = tt
 
--- a job that made the calls which it asks has the calls of its row, with its end
-pub segment_of : (job : Job) (trace : List Exchange) (end : Outcome) → IsDriven job trace end → IsSegment job trace end
-segment_of job trace end h = record {
-  ends = begun_ends job job.command trace end refl h.asked h.ends;
+-- ---- a job that is cut off
+
+-- the calls up to one more along a row, and that one
+along_last : (row : List Call) (trace : List Exchange) (x : Exchange) (left : List Call) → Along row (trace ++ x ∷ []) left → (here : List Call) × (rest : List Call) × Along row trace here × IsNext here x.call rest
+along_last row [] x left (on, (rest, next, more)) = (row, rest, refl, next)
+along_last row (y ∷ trace) x left (on, (rest, next, more)) =
+    let last = along_last rest trace x left more in
+    (last.0, last.1, (on, (rest, next, last.2)), last.3)
+
+-- lists with one last item are one
+last_same : (a b : List Exchange) (x y : Exchange) → a ++ x ∷ [] ≡ b ++ y ∷ [] → (a ≡ b) × (x ≡ y)
+last_same [] [] x y e = (refl, cc)
+last_same [] (z ∷ []) x y e = cc
+last_same [] (z ∷ w ∷ b) x y e = cc
+last_same (z ∷ []) [] x y e = cc
+last_same (z ∷ w ∷ a) [] x y e = cc
+last_same (z ∷ a) (w ∷ b) x y e =
+    let tails : a ++ x ∷ [] ≡ b ++ y ∷ [] = cc in
+    let heads : z ≡ w = cc in
+    let rest = last_same a b x y tails in
+    (ap (λ h. h ∷ a) heads ∙ ap (λ t. w ∷ t) rest.0, rest.1)
+
+-- the call that was not made, as if there had been no memory for it
+abbrev as_if : Call → Exchange
+as_if c = record { call = c; reply = reply.NoMemory }
+
+-- where one more call would have come along the row
+abbrev Unmade : List Call → List Exchange → Call → Type 0
+Unmade row trace c = (left : List Call) × (rest : List Call) × Along row trace left × IsNext left c rest
+
+unmade_of : (row : List Call) (trace : List Exchange) (c : Call) → ((left : List Call) × Along row (trace ++ as_if c ∷ []) left) ⊎ ((last : Exchange) × EndsAt row (trace ++ as_if c ∷ []) last) → Unmade row trace c
+unmade_of row trace c (inl h) = along_last row trace (as_if c) h.0 h.1
+unmade_of row trace c (inr (last, at)) =
+    let same = last_same trace at.before (as_if c) last at.parts in
+    let P : List Exchange → Type 0 = λ t. Along row t at.left in
+    let Q : Exchange → Type 0 = λ x. IsNext at.left x.call at.rest in
+    (at.left, at.rest, subst P (sym same.0) at.along, subst Q (sym same.1) at.next)
+
+no_calls : (trace : List Exchange) (x : Exchange) → trace ++ x ∷ [] ≡ [] → ⊥
+no_calls [] x e = cc
+no_calls (y ∷ trace) x e = cc
+
+-- a job that would make one more call is cut off along its row
+cut_off : (job : Job) (trace : List Exchange) (c : Call) → AskedFrom job (begun job.command) trace → asks job (state_of job trace) ≡ Some c → cuts job.stop (length trace) c ≡ true → IsCutOff job trace
+cut_off job trace c a q cut =
+    let more = asked-push job (begun job.command) trace (as_if c) a q in
+    by_refusal (refused_before job.command) refl (begun_ends job job.command (trace ++ as_if c ∷ []) outcome.OutOfMemory refl more (inr refl))
+  where
+    looks : IsTrue (is_look c) → LooksRight job trace c
+    looks look = looks_from job [] (begun job.command) (trace ++ as_if c ∷ []) trace [] (as_if c) (asked-push job (begun job.command) trace (as_if c) a q) (begun_listed job job.command) refl look
+
+    by_refusal : (r : Option Refusal) → refused_before job.command ≡ r → MayEndAs job (trace ++ as_if c ∷ []) outcome.OutOfMemory r → IsCutOff job trace
+    by_refusal None is h =
+        let u = unmade_of (row_of job) trace c h in
+        record { begins = is; left = u.0; along = u.2; unmade = c; rest = u.1; next = u.3; looks = looks; cut = cut }
+    by_refusal (Some r) is h = absurd (no_calls trace (as_if c) h.0)
+
+-- a job that made the calls which it asks has the calls of its row, with its end or its stop
+pub segment_of : (job : Job) (trace : List Exchange) (result : Driven Outcome) → IsDriven job trace result → IsSegment job trace result
+segment_of job trace result h = record {
+  uncut = h.uncut;
+  ends = comes_out result h.ends;
   looks = λ before after x q look. looks_from job [] (begun job.command) trace before after x h.asked (begun_listed job job.command) q look;
 }
+  where
+    comes_out : (r : Driven Outcome) → ComesOut job trace r → MayComeOut job trace r
+    comes_out (driven.Done end) ends = begun_ends job job.command trace end refl h.asked ends
+    comes_out driven.Stopped (c, asks_it, cut) = cut_off job trace c h.asked asks_it cut
 
 -- so have all jobs of a lane
-pub segments_of : (number : ℕ) (jobs : List Job) (ends : List Outcome) (told : List Told) → AreDriven number jobs ends told → AreSegments number jobs ends told
+pub segments_of : (number : ℕ) (jobs : List Job) (results : List (Driven Outcome)) (told : List Told) → AreDriven number jobs results told → AreSegments number jobs results told
 segments_of number [] [] told h = h
-segments_of number [] (end ∷ ends) told h = h
+segments_of number [] (result ∷ results) told h = h
 segments_of number (job ∷ jobs) [] told h = h
-segments_of number (job ∷ jobs) (end ∷ ends) told h = (h.0, h.1, h.2, h.3, segment_of job _ end h.4, segments_of (number + 1) jobs ends h.1 h.5)
+segments_of number (job ∷ jobs) (result ∷ results) told h = (h.0, h.1, h.2, h.3, segment_of job _ result h.4, segments_of (number + 1) jobs results h.1 h.5)

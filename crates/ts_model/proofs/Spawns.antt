@@ -20,7 +20,10 @@ use Rattle.ts_model.specs.declared.answers.Outcome.TheVariants as outcome
 use Rattle.ts_model.specs.declared.answers.Refusal.TheVariants as refusal
 use Rattle.ts_model.specs.declared.states.State.{State}
 use Rattle.ts_model.specs.declared.states.State.TheVariants.{PutsPart, PutsCommit, ListsCommits, Fetches, Over}
-use Rattle.ts_model.specs.Deeds.{Deed, Wrote, Written, History, key_in, keys, first_schema, is_in_domain, IsNewKey}
+use Rattle.ts_model.specs.declared.deeds.Written.{Written}
+use Rattle.ts_model.specs.declared.deeds.Deed.{Deed}
+use Rattle.ts_model.specs.declared.deeds.Deed.TheVariants.{Wrote}
+use Rattle.ts_model.specs.Deeds.{History, key_in, keys, first_schema, is_in_domain, IsNewKey}
 use Rattle.ts_model.specs.Histories.{deed_of}
 use Rattle.ts_model.specs.Jobs.{one_cell, key_of, frag_of_job, written_under, refused_before, job_with, IsFit, AreFit, AreApart}
 use Rattle.ts_model.specs.Stands.{IsCommitted, Stands}
@@ -184,9 +187,8 @@ module _ (jobs : List Job) (job : Job) where
 
   end_more : (past : History) (seen : List Told) (number : ℕ) (j : Job) (end : Outcome) → All (IsOfJobs jobs) seen → IsTrueEnd jobs past seen number j end → IsTrueEnd all past seen number j end
   end_more past seen number j (outcome.Written f) known is = subst (λ g. IsWritten g j) (sym (history_more past seen known)) is
-  end_more past seen number j (outcome.Read answer) known is = λ to reads.
-      let at = is to reads in
-      record { listed = at.listed; rows = at.rows ∙ ap (λ g. shown g 0 to) (sym (listed_more past seen number known at.listed)) }
+  end_more past seen number j (outcome.Read answer) known (to, reads, at) =
+      (to, reads, record { listed = at.listed; rows = at.rows ∙ ap (λ g. shown g 0 to) (sym (listed_more past seen number known at.listed)) })
   end_more past seen number j (outcome.Refused r) known is = subst (λ g. IsTrueRefusal g j r) (sym (history_more past seen known)) is
   end_more past seen number j outcome.OutOfMemory known is = is
 

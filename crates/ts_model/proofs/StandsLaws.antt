@@ -9,7 +9,9 @@ use Rattle.ts_base.specs.declared.heads.Piece.{Piece}
 use Rattle.ts_base.specs.Keys.{frag_of}
 use Rattle.ts_base.specs.Names.{wrt_of}
 use Rattle.ts_base.specs.Held.{Held}
-use Rattle.ts_model.specs.Deeds.{Written, History, Wrote, writes, keys, WriteFollows}
+use Rattle.ts_model.specs.declared.deeds.Written.{Written}
+use Rattle.ts_model.specs.declared.deeds.Deed.TheVariants.{Wrote}
+use Rattle.ts_model.specs.Deeds.{History, writes, keys, WriteFollows}
 use Rattle.ts_model.specs.Pieces.{HoldsWrite}
 use Rattle.ts_model.specs.Stands.{IsCommitted, Spells, HoldsOne, Stands}
 use Rattle.ts_model.specs.Fresh.{id_in}

@@ -10,6 +10,8 @@ use Rattle.ts_store.specs.declared.journal.Entry.{Entry}
 use Rattle.ts_store.specs.Journals.{held_after}
 use Rattle.ts_model.specs.declared.commands.Job.{Job}
 use Rattle.ts_model.specs.declared.commands.Line.{Line}
+use Rattle.ts_model.specs.declared.answers.Driven.{Driven}
+use Rattle.ts_model.specs.declared.answers.Driven.TheVariants.{Done}
 use Rattle.ts_model.specs.declared.answers.Outcome.{Outcome}
 use Rattle.ts_model.specs.declared.answers.Outcome.TheVariants as outcome
 use Rattle.ts_model.specs.declared.states.State.TheVariants.{Over}
@@ -20,9 +22,9 @@ use Rattle.ts_model.specs.PlainLaws.{PlainLaws}
 use Rattle.ts_model.specs.Stands.{Stands}
 use Rattle.ts_model.specs.States.{state_of}
 use Rattle.ts_model.specs.Fresh.{IsFreshSeed, id_of, jobs_from, jobs_of}
-use Rattle.ts_model.specs.Told.{Told, trace_of, held_told, Replied, entries_of}
+use Rattle.ts_model.specs.Told.{Told, trace_of, held_told, Replied, only_lane, entries_of}
 use Rattle.ts_model.specs.Ends.{IsTrueEnd}
-use Rattle.ts_model.specs.Driven.{AskedFrom, AreDriven}
+use Rattle.ts_model.specs.Driven.{AskedFrom, ComesOut, AreDriven}
 use Rattle.ts_model.specs.Runs.{IsTrueRun}
 use Rattle.ts_model.specs.Kept.{Kept, AreAllowed}
 use Rattle.ts_model.proofs.ListLemmas.{Contains-nil}
@@ -79,19 +81,19 @@ none_by number other (e ∷ own) by_it apart =
     ∙ none_by number other own (All-tail (λ x. x.job ≡ Some number) e own by_it) apart
 
 -- the jobs from a number on made none of the calls of those before
-none_before : (start : ℕ) (jobs : List Job) (ends : List Outcome) (told : List Told) (other : ℕ) → AreDriven start jobs ends told → other < start → trace_of other told ≡ []
+none_before : (start : ℕ) (jobs : List Job) (results : List (Driven Outcome)) (told : List Told) (other : ℕ) → AreDriven start jobs results told → other < start → trace_of other told ≡ []
 none_before start [] [] told other driven below = ap (trace_of other) driven
 none_before start (job ∷ jobs) [] told other driven below = absurd driven
-none_before start [] (end ∷ ends) told other driven below = absurd driven
-none_before start (job ∷ jobs) (end ∷ ends) told other (own, rest, parts, by_it, is, more) below =
+none_before start [] (result ∷ results) told other driven below = absurd driven
+none_before start (job ∷ jobs) (result ∷ results) told other (own, rest, parts, by_it, is, more) below =
     ap (trace_of other) parts ∙ trace_of-append other own rest
     ∙ ap (λ t. t ++ trace_of other rest) (none_by start other own by_it (λ same. omega arith))
-    ∙ none_before (start + 1) jobs ends rest other more (omega arith)
+    ∙ none_before (start + 1) jobs results rest other more (omega arith)
 
 -- the trace of a job is that of its own calls
-trace_is_own : (number : ℕ) (jobs : List Job) (ends : List Outcome) (own rest : List Told) → AreDriven (number + 1) jobs ends rest → trace_of number (own ++ rest) ≡ trace_of number own
-trace_is_own number jobs ends own rest more =
-    trace_of-append number own rest ∙ ap (λ t. trace_of number own ++ t) (none_before (number + 1) jobs ends rest number more (omega arith)) ∙ append-nil (trace_of number own)
+trace_is_own : (number : ℕ) (jobs : List Job) (results : List (Driven Outcome)) (own rest : List Told) → AreDriven (number + 1) jobs results rest → trace_of number (own ++ rest) ≡ trace_of number own
+trace_is_own number jobs results own rest more =
+    trace_of-append number own rest ∙ ap (λ t. trace_of number own ++ t) (none_before (number + 1) jobs results rest number more (omega arith)) ∙ append-nil (trace_of number own)
 
 -- ---- the calls are allowed
 
@@ -114,38 +116,39 @@ own_allowed jobs number job seen (e ∷ own) at by_it asked =
     )
 
 -- the calls of the jobs from a number on, where none of them made a call before
-driven_allowed : (all : List Job) (start : ℕ) (jobs : List Job) (ends : List Outcome) (seen told : List Told)
+driven_allowed : (all : List Job) (start : ℕ) (jobs : List Job) (results : List (Driven Outcome)) (seen told : List Told)
     → ((k : ℕ) (job : Job) → slice_get jobs k ≡ Some job → slice_get all (start + k) ≡ Some job)
-    → ((other : ℕ) → start ≤ other → trace_of other seen ≡ []) → AreDriven start jobs ends told → AreAllowed all [] seen told
+    → ((other : ℕ) → start ≤ other → trace_of other seen ≡ []) → AreDriven start jobs results told → AreAllowed all [] seen told
 driven_allowed all start [] [] seen told among fresh driven = subst (AreAllowed all [] seen) (sym driven) tt
 driven_allowed all start (job ∷ jobs) [] seen told among fresh driven = absurd driven
-driven_allowed all start [] (end ∷ ends) seen told among fresh driven = absurd driven
-driven_allowed all start (job ∷ jobs) (end ∷ ends) seen told among fresh (own, rest, parts, by_it, is, more) =
+driven_allowed all start [] (result ∷ results) seen told among fresh driven = absurd driven
+driven_allowed all start (job ∷ jobs) (result ∷ results) seen told among fresh (own, rest, parts, by_it, is, more) =
     subst (AreAllowed all [] seen) (sym parts) (allowed_append all [] seen own rest
     (own_allowed all start job seen own (ap (slice_get all) (omega arith) ∙ among 0 job refl) by_it
     (subst (λ t. AskedFrom job (state_of job t) (trace_of start own)) (sym (fresh start (omega arith))) is.asked))
-    (driven_allowed all (start + 1) jobs ends (seen ++ own) rest
+    (driven_allowed all (start + 1) jobs results (seen ++ own) rest
     (λ k j at. ap (slice_get all) (omega arith) ∙ among (suc k) j at)
     (λ other above. trace_of-append other seen own ∙ ap (λ t. t ++ trace_of other own) (fresh other (omega arith)) ∙ none_by start other own by_it (λ same. omega arith))
     more))
 
 -- ---- the ends
 
--- each job ended by its own calls
-ended_by_own : (start : ℕ) (jobs : List Job) (ends : List Outcome) (told : List Told) → AreDriven start jobs ends told
-    → (k : ℕ) (job : Job) (end : Outcome) → slice_get jobs k ≡ Some job → slice_get ends k ≡ Some end
+-- each job that came to its end ended by its own calls
+ended_by_own : (start : ℕ) (jobs : List Job) (results : List (Driven Outcome)) (told : List Told) → AreDriven start jobs results told
+    → (k : ℕ) (job : Job) (end : Outcome) → slice_get jobs k ≡ Some job → slice_get results k ≡ Some (Done end)
     → (state_of job (trace_of (start + k) told) ≡ Over end) ⊎ (end ≡ outcome.OutOfMemory)
 ended_by_own start [] [] told driven k job end at end_at = absurd (none-some job at)
 ended_by_own start (j ∷ jobs) [] told driven k job end at end_at = absurd driven
-ended_by_own start [] (o ∷ ends) told driven k job end at end_at = absurd driven
-ended_by_own start (j ∷ jobs) (o ∷ ends) told (own, rest, parts, by_it, is, more) zero job end at end_at = elim is.ends [
-  | inl over ↦ inl (ap (λ i. state_of i (trace_of (start + zero) told)) (sym (same_Some j job at))
-      ∙ ap (state_of j) (ap (λ n. trace_of n told) (omega arith) ∙ ap (trace_of start) parts ∙ trace_is_own start jobs ends own rest more)
-      ∙ over ∙ ap Over (same_Some o end end_at))
-  | inr none ↦ inr (sym (same_Some o end end_at) ∙ none)
-]
-ended_by_own start (j ∷ jobs) (o ∷ ends) told (own, rest, parts, by_it, is, more) (suc k) job end at end_at =
-    elim (ended_by_own (start + 1) jobs ends rest more k job end at end_at) [
+ended_by_own start [] (o ∷ results) told driven k job end at end_at = absurd driven
+ended_by_own start (j ∷ jobs) (o ∷ results) told (own, rest, parts, by_it, is, more) zero job end at end_at =
+    elim (subst (ComesOut j (trace_of start own)) (same_Some o (Done end) end_at) is.ends) [
+      | inl over ↦ inl (ap (λ i. state_of i (trace_of (start + zero) told)) (sym (same_Some j job at))
+          ∙ ap (state_of j) (ap (λ n. trace_of n told) (omega arith) ∙ ap (trace_of start) parts ∙ trace_is_own start jobs results own rest more)
+          ∙ over)
+      | inr none ↦ inr none
+    ]
+ended_by_own start (j ∷ jobs) (o ∷ results) told (own, rest, parts, by_it, is, more) (suc k) job end at end_at =
+    elim (ended_by_own (start + 1) jobs results rest more k job end at end_at) [
       | inl over ↦ inl (ap (state_of job) (ap (trace_of (start + suc k)) parts ∙ trace_of-append (start + suc k) own rest
           ∙ ap (λ t. t ++ trace_of (start + suc k) rest) (none_by start (start + suc k) own by_it (λ same. omega arith)) ∙ ap (λ n. trace_of n rest) (omega arith)) ∙ over)
       | inr none ↦ inr none
@@ -153,37 +156,38 @@ ended_by_own start (j ∷ jobs) (o ∷ ends) told (own, rest, parts, by_it, is, 
 
 -- ---- the run
 
-module _ (laws : PlainLaws) (jobs : List Job) (h : History) (m : Held) (told : List Told) (ends : List Outcome)
-    (begins : Kept h jobs [] [] m) (replied : Replied m told) (driven : AreDriven 0 jobs ends told) where
+module _ (laws : PlainLaws) (jobs : List Job) (h : History) (m : Held) (told : List Told) (results : List (Driven Outcome))
+    (begins : Kept h jobs [] [] m) (replied : Replied m told) (driven : AreDriven 0 jobs results told) where
   may : AreAllowed jobs [] [] told
-  may = driven_allowed jobs 0 jobs ends [] told (λ k job at. ap (slice_get jobs) (omega arith) ∙ at) (λ other above. refl) driven
+  may = driven_allowed jobs 0 jobs results [] told (λ k job at. ap (slice_get jobs) (omega arith) ∙ at) (λ other above. refl) driven
 
-  prefix_stands : (journal front back : List Entry) → entries_of 0 told ≡ journal → journal ≡ front ++ back → Stands (held_after m front) (history_of jobs h m front)
+  prefix_stands : (journal front back : List Entry) → entries_of (only_lane 0) told ≡ journal → journal ≡ front ++ back → Stands (held_after m front) (history_of jobs h m front)
   prefix_stands journal front back entries parts =
-      let first = journal-front 0 told front back (entries ∙ parts) in
+      let first = journal-front (only_lane 0) told front back (entries ∙ parts) in
       let kept = every_prefix laws h jobs [] [] m told first.0 first.1 begins may replied first.2 in
       let front_replied = Replied-front m first.0 first.1 (subst (Replied m) first.2 replied) in
       subst (λ j. Stands (held_after m j) (history_of jobs h m j)) first.3
-      (subst (λ n. Stands n (history_of jobs h m (entries_of 0 first.0))) (sym (journal_held 0 m first.0))
-      (subst (Stands (held_told m first.0)) (sym (journal_history 0 jobs h m first.0 front_replied)) kept.stands))
+      (subst (λ n. Stands n (history_of jobs h m (entries_of (only_lane 0) first.0))) (journal_held (only_lane 0) m first.0)
+      (subst (Stands (held_told m first.0)) (journal_history (only_lane 0) jobs h m first.0 front_replied) kept.stands))
 
-  true_end : (number : ℕ) (job : Job) (end : Outcome) → slice_get jobs number ≡ Some job → slice_get ends number ≡ Some end → IsTrueEnd jobs h told number job end
+  true_end : (number : ℕ) (job : Job) (end : Outcome) → slice_get jobs number ≡ Some job → slice_get results number ≡ Some (Done end) → IsTrueEnd jobs h told number job end
   true_end number job end at end_at =
       let kept = all_kept laws h jobs [] [] m told begins may replied in
-      elim (ended_by_own 0 jobs ends told driven number job end at end_at) [
+      elim (ended_by_own 0 jobs results told driven number job end at end_at) [
         | inl over ↦ end_is_true h jobs [] told (held_told m told) kept number job end at (Contains-nil number) (ap (λ n. state_of job (trace_of n told)) (omega arith) ∙ over)
         | inr none ↦ subst (IsTrueEnd jobs h told number job) (sym none) tt
       ]
 
+  -- jobs that are driven one after the other, from where what is kept holds, make a true run
+  pub jobs_true_run : (journal : List Entry) → entries_of (only_lane 0) told ≡ journal → IsTrueRun jobs h m journal told results
+  jobs_true_run journal entries = record { stands = λ front back parts. prefix_stands journal front back entries parts; answers = true_end }
+
 -- the jobs of a lane that are driven one after the other, over objects that stand for a history which the seed is fresh over, make a true run
-pub true_run : PlainLaws → (seed : ℕ) (lines : List Line) (h : History) (m : Held) (journal : List Entry) (told : List Told) (ends : List Outcome)
+pub true_run : PlainLaws → (seed : ℕ) (lines : List Line) (h : History) (m : Held) (journal : List Entry) (told : List Told) (results : List (Driven Outcome))
     → Stands m h → IsFreshSeed m h seed → seed < 2 ^ 64 → length lines < 2 ^ 32 → All IsFitLine lines
-    → Replied m told → entries_of 0 told ≡ journal → AreDriven 0 (jobs_of seed lines) ends told
-    → IsTrueRun (jobs_of seed lines) h m journal told ends
-true_run laws seed lines h m journal told ends stands fresh seed_fits few fit replied entries driven =
+    → Replied m told → entries_of (only_lane 0) told ≡ journal → AreDriven 0 (jobs_of seed lines) results told
+    → IsTrueRun (jobs_of seed lines) h m journal told results
+true_run laws seed lines h m journal told results stands fresh seed_fits few fit replied entries driven =
     let begins = starts_kept h (jobs_of seed lines) [] m stands (ids_apart seed lines) (jobs_fit seed 0 1 lines seed_fits (omega arith) (omega arith) fit)
     (λ number job at carried. fresh job.id (id_has_seed seed lines number job few at) carried) in
-    record {
-      stands = λ front back parts. prefix_stands laws (jobs_of seed lines) h m told ends begins replied driven journal front back entries parts;
-      answers = true_end laws (jobs_of seed lines) h m told ends begins replied driven;
-    }
+    jobs_true_run laws (jobs_of seed lines) h m told results begins replied driven journal entries

@@ -1,11 +1,15 @@
 -- The definitions on worked rows: each row computes, so that a reader can see what a definition says.
-use Rattle.std.proofs.Common.{◌≡◌, ℕ, ℤ, ◌+◌, ◌*◌, ◌^◌, Bool, true, false, List, [], ◌∷◌, ◌++◌, Some, None, refl}
+use Rattle.std.proofs.Common.{◌≡◌, ℕ, ℤ, ◌+◌, ◌*◌, ◌^◌, Bool, true, false, List, [], ◌∷◌, ◌++◌, Some, None, inl, inr, refl, sym}
 use Rattle.std.specs.Prelude.{pos, negsuc, map}
 use Rattle.std.specs.FinMap as finmap
+use Rattle.std.proofs.lemmas.Bool.{true≢false}
 use Rattle.ts_base.specs.declared.values.Val.TheVariants.{Int}
 use Rattle.ts_base.specs.declared.heads.Version.{Version}
 use Rattle.ts_base.specs.declared.names.Place.TheVariants as place
 use Rattle.ts_base.specs.declared.names.Prefix.TheVariants.{Commits}
+use Rattle.ts_base.specs.declared.heads.Point.TheVariants.{Vac, Wrt}
+use Rattle.ts_base.specs.declared.heads.Stop.{Stop}
+use Rattle.ts_base.specs.declared.heads.Stop.TheVariants.{Never, Calls, Before}
 use Rattle.ts_base.specs.Names.{name_cmp}
 use Rattle.ts_store.specs.declared.fate.Fate.{Fate}
 use Rattle.ts_store.specs.declared.fate.Fate.TheVariants as fate
@@ -14,24 +18,30 @@ use Rattle.ts_store.specs.declared.call.Reply.{Reply}
 use Rattle.ts_store.specs.declared.call.Reply.TheVariants as reply
 use Rattle.ts_model.specs.declared.commands.Command.TheVariants.{Write, Read}
 use Rattle.ts_model.specs.declared.commands.Job.{Job}
+use Rattle.ts_model.specs.declared.answers.Driven.TheVariants.{Done, Stopped}
 use Rattle.ts_model.specs.declared.answers.Outcome.TheVariants as outcome
 use Rattle.ts_model.specs.declared.answers.Refusal.TheVariants as refusal
 use Rattle.ts_model.specs.declared.states.State.TheVariants.{PutsPart, PutsCommit, Over}
-use Rattle.ts_model.specs.Deeds.{Deed, Wrote, History, first_schema, first_deeds, IsHistory}
+use Rattle.ts_model.specs.declared.deeds.Deed.{Deed}
+use Rattle.ts_model.specs.declared.deeds.Deed.TheVariants.{Wrote}
+use Rattle.ts_model.specs.Deeds.{History, first_schema, first_deeds, IsHistory}
 use Rattle.ts_model.specs.Answers.{pair, shown}
 use Rattle.ts_model.specs.Jobs.{frag_of_job, one_cell, fits, refused_before}
 use Rattle.ts_model.specs.Histories.{history_of}
 use Rattle.ts_model.specs.States.{Exchange, part_of, commit_of, asks, pairs_in, state_of}
 use Rattle.ts_model.specs.Plain.{part_text}
-use Rattle.ts_model.specs.Told.{Told, trace_of, entries_of, history_told}
+use Rattle.ts_model.specs.Told.{Told, trace_of, only_lane, entries_of, history_told}
 use Rattle.ts_model.specs.Fresh.{jobs_of}
+use Rattle.ts_model.specs.Stops.{Uncut}
+use Rattle.ts_model.specs.Driven.{IsDriven}
+use Rattle.ts_model.specs.Rows.{IsCutOff}
 
 -- the write of a value at the coordinate x, with a stamp and an identifier
 abbrev write_job : ℕ → ℕ → ℤ → ℤ → Job
-write_job at id x v = record { command = Write x v; at = at; id = id }
+write_job at id x v = record { command = Write x v; at = at; id = id; stop = Never }
 
 abbrev read_job : ℕ → ℕ → ℕ → Job
-read_job at id to = record { command = Read to; at = at; id = id }
+read_job at id to = record { command = Read to; at = at; id = id; stop = Never }
 
 abbrev wrote : ℕ → ℕ → ℤ → ℤ → Deed
 wrote at id x v = Wrote (record { key = record { t = at; id = id }; schema = first_schema; cells = one_cell x v })
@@ -125,9 +135,12 @@ above_greatest = refl
 abbrev a_write : Job
 a_write = write_job 1 1 (pos 5) (pos 10)
 
--- a call of the write and its reply
+-- a call of a write and its reply
+abbrev put_part_of : Job → Reply → Exchange
+put_part_of job r = record { call = call.Put (part_of job) (part_text job); reply = r }
+
 abbrev put_part : Reply → Exchange
-put_part r = record { call = call.Put (part_of a_write) (part_text a_write); reply = r }
+put_part r = put_part_of a_write r
 
 abbrev put_commit : Reply → Exchange
 put_commit r = record { call = call.Put (commit_of a_write) []; reply = r }
@@ -158,6 +171,41 @@ asks_nothing = refl
 nothing_listed : state_of (read_job 9 2 9) (record { call = call.List Commits; reply = reply.Names [] } ∷ []) ≡ Over (outcome.Read (record { rows = [] }))
 nothing_listed = refl
 
+-- ---- where a job is stopped
+
+-- the same write, stopped somewhere
+abbrev stopped_write : Stop → Job
+stopped_write stop = record { command = Write (pos 5) (pos 10); at = 1; id = 1; stop = stop }
+
+-- stopped before its `.wrt`, it has put its part, and nothing more
+cut_before_wrt : IsDriven (stopped_write (Before Wrt)) (put_part_of (stopped_write (Before Wrt)) reply.Made ∷ []) Stopped
+cut_before_wrt = record { asked = (refl, tt); uncut = (refl, tt); ends = (call.Put (commit_of a_write) [], refl, refl) }
+
+-- the same along its row: the put of the `.wrt` would have come next
+cut_along_row : IsCutOff (stopped_write (Before Wrt)) (put_part_of (stopped_write (Before Wrt)) reply.Made ∷ [])
+cut_along_row = record {
+  begins = refl;
+  left = call.Put (commit_of a_write) [] ∷ [];
+  along = ((refl, refl), (call.Put (commit_of a_write) [] ∷ [], inr refl, refl));
+  unmade = call.Put (commit_of a_write) [];
+  rest = [];
+  next = inr refl;
+  looks = λ look. absurd (true≢false (sym look));
+  cut = refl;
+}
+
+-- stopped after no call, it makes none
+cut_at_once : IsDriven (stopped_write (Calls 0)) [] Stopped
+cut_at_once = record { asked = tt; uncut = tt; ends = (call.Put (part_of a_write) (part_text (stopped_write (Calls 0))), refl, refl) }
+
+-- stopped after two calls, it comes to its end by them
+end_first : IsDriven (stopped_write (Calls 2)) (put_part_of (stopped_write (Calls 2)) reply.Made ∷ put_commit reply.Made ∷ []) (Done (outcome.Written (frag_of_job a_write)))
+end_first = record { asked = (refl, (refl, tt)); uncut = (refl, (refl, tt)); ends = inl refl }
+
+-- a stop that a job never comes to changes nothing
+never_there : Uncut (Before Vac) 0 (put_part reply.Made ∷ put_commit reply.Made ∷ [])
+never_there = (refl, (refl, tt))
+
 -- ---- what calls leave
 
 -- a call of the write: the put of its part or of its `.wrt`, with its fate, its reply and whether it changed what is held
@@ -186,7 +234,7 @@ by_journal : history_of (a_write ∷ []) first_deeds finmap.empty (record { lane
 by_journal = rw (finmap.get-empty name_cmp (commit_of a_write)) refl
 
 -- want of memory leaves no entry
-no_entry : entries_of 0 (told_part fate.Done reply.NoMemory false ∷ []) ≡ []
+no_entry : entries_of (only_lane 0) (told_part fate.Done reply.NoMemory false ∷ []) ≡ []
 no_entry = refl
 
 -- a trace has the calls of its own job alone

@@ -16,7 +16,9 @@ use Rattle.ts_store.specs.declared.call.Reply.TheVariants as reply
 use Rattle.ts_model.specs.declared.commands.Job.{Job}
 use Rattle.ts_model.specs.declared.states.State.{State}
 use Rattle.ts_model.specs.declared.states.State.TheVariants.{PutsPart, PutsCommit}
-use Rattle.ts_model.specs.Deeds.{Written, History, Wrote, writes, IsNewKey}
+use Rattle.ts_model.specs.declared.deeds.Written.{Written}
+use Rattle.ts_model.specs.declared.deeds.Deed.TheVariants.{Wrote}
+use Rattle.ts_model.specs.Deeds.{History, writes, IsNewKey}
 use Rattle.ts_model.specs.Jobs.{key_of, frag_of_job, written_of, IsFit, AreApart}
 use Rattle.ts_model.specs.Plain.{part_text}
 use Rattle.ts_model.specs.PlainLaws.{PlainLaws}
@@ -104,8 +106,8 @@ module _ (past : History) (jobs : List Job) (seen : List Told) (e : Told) (m : H
 
   -- the last deed is the job's write
   last_is_written : (w : Written) → written_of job ≡ Some w → h' ≡ h ++ Wrote w ∷ [] → IsWritten h' job
-  last_is_written w written same_history v is =
-      rw (same_history, writes-append h (Wrote w ∷ [])) (Contains-append_right (writes h) (w ∷ []) v (rw (same_Some w v (sym written ∙ is)) (Contains-here v [])))
+  last_is_written w written same_history =
+      (w, written, rw (same_history, writes-append h (Wrote w ∷ [])) (Contains-append_right (writes h) (w ∷ []) w (Contains-here w [])))
 
   pub commit_steps : PlainLaws → AreApart jobs → slice_get jobs number ≡ Some job → IsFit job
       → e.call ≡ call.Put (commit_of job) [] → Writing m h job → HasPart m job → Advances past jobs seen e m number job PutsCommit

@@ -3,7 +3,8 @@ use Rattle.std.specs.Prelude.{ℕ, ℤ, pos, List, [], ◌∷◌, Option, option
 use Rattle.ts_base.specs.declared.values.Val.{Val}
 use Rattle.ts_base.specs.declared.values.Val.TheVariants.{Int}
 use Rattle.ts_model.specs.declared.answers.Pair.{Pair}
-use Rattle.ts_model.specs.Deeds.{Written, History, row_at, last_write}
+use Rattle.ts_model.specs.declared.deeds.Written.{Written}
+use Rattle.ts_model.specs.Deeds.{History, row_at, last_write}
 
 -- the coordinates of the domain, ascending
 abbrev pub domain_numbers : List ℤ

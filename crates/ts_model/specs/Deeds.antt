@@ -2,6 +2,9 @@
 use Rattle.std.specs.Prelude.{◌≡◌, ℕ, ℤ, pos, ◌-◌, ◌^◌, Bool, true, false, cond, not, ◌&&◌, List, [], ◌∷◌, ◌++◌, Option, Some, None, filter, filter_map, is_some, length, nat_le, nat_lt, int_le, IsTrue, ⊤}
 use Rattle.std.specs.List.{list_any, list_all}
 use Rattle.ts_base.specs.declared.keys.Key.{Key}
+use Rattle.ts_model.specs.declared.deeds.Written.{Written}
+use Rattle.ts_model.specs.declared.deeds.Deed.{Deed}
+use Rattle.ts_model.specs.declared.deeds.Deed.TheVariants.{Framed, Declared, Wrote}
 use Rattle.ts_base.specs.declared.heads.Cell.{Cell}
 use Rattle.ts_base.specs.declared.values.Val.{Val}
 use Rattle.ts_base.specs.declared.values.Val.TheVariants.{Int}
@@ -9,18 +12,6 @@ use Rattle.ts_base.specs.declared.values.ValType.TheVariants.{I64}
 use Rattle.ts_base.specs.Keys.{key_eq, is_within, greatest}
 use Rattle.ts_base.specs.Coords.{coords_eq}
 use Rattle.ts_base.specs.Values.{least_of, greatest_of}
-
--- what a write did: its key, the schema that its rows follow, and its cells
-pub record Written : Type 0 where
-  pub key : Key
-  pub schema : Key
-  pub cells : List Cell
-
--- a deed: the frame of the array, a schema, or a write
-pub data Deed : Type 0 where
-  Framed : Deed
-  Declared : Key → Deed
-  Wrote : Written → Deed
 
 -- a history: deeds in the order of their commits
 abbrev pub History : Type 0

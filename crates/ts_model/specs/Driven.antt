@@ -1,11 +1,15 @@
 -- Jobs that make exactly the calls which their automaton asks.
-use Rattle.std.specs.Prelude.{◌≡◌, ℕ, ◌+◌, ◌⊎◌, List, [], ◌∷◌, ◌++◌, Some, ⊤, All}
+use Rattle.std.specs.Prelude.{◌≡◌, ℕ, ◌+◌, ◌⊎◌, true, List, [], ◌∷◌, ◌++◌, Some, length, ⊤, All}
+use Rattle.ts_store.specs.declared.call.Call.{Call}
 use Rattle.ts_model.specs.declared.commands.Job.{Job}
+use Rattle.ts_model.specs.declared.answers.Driven.{Driven}
+use Rattle.ts_model.specs.declared.answers.Driven.TheVariants as driven
 use Rattle.ts_model.specs.declared.answers.Outcome.{Outcome}
 use Rattle.ts_model.specs.declared.answers.Outcome.TheVariants as outcome
 use Rattle.ts_model.specs.declared.states.State.{State}
 use Rattle.ts_model.specs.declared.states.State.TheVariants.{Over}
-use Rattle.ts_model.specs.States.{Exchange, asks, goes, begun, state_from}
+use Rattle.ts_model.specs.States.{Exchange, asks, goes, begun, state_from, state_of}
+use Rattle.ts_model.specs.Stops.{cuts, Uncut}
 use Rattle.ts_model.specs.Told.{Told, trace_of}
 
 -- each call is the one that the job asks where the replies before it have led, from a state on
@@ -17,15 +21,21 @@ AskedFrom job s (x ∷ xs) = (asks job s ≡ Some x.call) × AskedFrom job (goes
 abbrev pub EndsFrom : Job → State → List Exchange → Outcome → Type 0
 EndsFrom job s trace end = (state_from job s trace ≡ Over end) ⊎ (end ≡ outcome.OutOfMemory)
 
--- the job made the calls that it asks, and ended by their replies
-pub record IsDriven (job : Job) (trace : List Exchange) (end : Outcome) : Type 0 where
-  pub asked : AskedFrom job (begun job.command) trace
-  pub ends : EndsFrom job (begun job.command) trace end
+-- by these calls the job came to its end; or its stop cut it off where it would have made one more call
+abbrev pub ComesOut : Job → List Exchange → Driven Outcome → Type 0
+ComesOut job trace (driven.Done end) = EndsFrom job (begun job.command) trace end
+ComesOut job trace driven.Stopped = (c : Call) × (asks job (state_of job trace) ≡ Some c) × (cuts job.stop (length trace) c ≡ true)
 
--- the calls are those of the jobs from number `number` on, job after job, and each job was driven to its end
-abbrev pub AreDriven : ℕ → List Job → List Outcome → List Told → Type 0
+-- the job made the calls that it asks, none of which its stop cut off, and came out so by their replies
+pub record IsDriven (job : Job) (trace : List Exchange) (result : Driven Outcome) : Type 0 where
+  pub asked : AskedFrom job (begun job.command) trace
+  pub uncut : Uncut job.stop 0 trace
+  pub ends : ComesOut job trace result
+
+-- the calls are those of the jobs from number `number` on, job after job, and each job was driven to its end or to its stop
+abbrev pub AreDriven : ℕ → List Job → List (Driven Outcome) → List Told → Type 0
 AreDriven number [] [] told = told ≡ []
-AreDriven number (job ∷ jobs) (end ∷ ends) told =
+AreDriven number (job ∷ jobs) (result ∷ results) told =
     (own : List Told) × (rest : List Told) × (told ≡ own ++ rest) × All (λ e. e.job ≡ Some number) own
-    × IsDriven job (trace_of number own) end × AreDriven (number + 1) jobs ends rest
+    × IsDriven job (trace_of number own) result × AreDriven (number + 1) jobs results rest
 AreDriven number _ _ told = ⊥

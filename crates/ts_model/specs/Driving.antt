@@ -1,38 +1,43 @@
 -- A job on its way: the calls that it has made, and what they did.
-use Rattle.std.specs.Prelude.{◌≡◌, ℕ, List, ◌++◌, Option, Some, All}
+use Rattle.std.specs.Prelude.{◌≡◌, ℕ, List, ◌++◌, Option, Some, IfSome, All}
 use Rattle.ts_base.specs.Held.{Held}
 use Rattle.ts_store.specs.declared.journal.Entry.{Entry}
 use Rattle.ts_model.specs.declared.commands.Job.{Job}
+use Rattle.ts_model.specs.declared.answers.Driven.{Driven}
 use Rattle.ts_model.specs.declared.answers.Outcome.{Outcome}
-use Rattle.ts_model.specs.declared.states.State.{State}
-use Rattle.ts_model.specs.States.{begun, state_from}
-use Rattle.ts_model.specs.Told.{Told, trace_of, Replied, held_told, entries_of}
+use Rattle.ts_model.specs.States.{Exchange, begun}
+use Rattle.ts_model.specs.Told.{Told, trace_of, Suits, Replied, held_told, only_lane, entries_of}
 use Rattle.ts_model.specs.Driven.{AskedFrom, IsDriven, AreDriven}
 
--- calls of one job over a store that held m: each is replied to as by a store of one thread, the store holds what they leave, and the journal has their entries
-pub record Calls (number lane : ℕ) (m : Held) (now : Option Held) (before after : List Entry) (told : List Told) : Type 0 where
+-- over a store that held m each call is replied to as by a store of one thread, and the store now holds what the calls leave
+pub record Leaves (m : Held) (now : Option Held) (told : List Told) : Type 0 where
+  pub replied : Replied m told
+  pub held : now ≡ Some (held_told m told)
+
+-- calls of one job over a store: each reply suits its call, the journal has their entries, and over a store that told what it held they leave what it holds now
+pub record Calls (number lane : ℕ) (held now : Option Held) (before after : List Entry) (told : List Told) : Type 0 where
   pub own : All (λ e. e.job ≡ Some number) told
-  pub replied : Replied m told
-  pub held : now ≡ Some (held_told m told)
-  pub entries : after ≡ before ++ entries_of lane told
+  pub suit : All Suits told
+  pub entries : after ≡ before ++ entries_of (only_lane lane) told
+  pub over : IfSome held (λ m. Leaves m now told)
 
--- the job made the calls that it asks, and has come to the state
-pub record RanTo (number lane : ℕ) (job : Job) (m : Held) (now : Option Held) (before after : List Entry) (s : State) : Type 0 where
+-- the job made the calls that it asks, and these are they
+pub record RanTo (number lane : ℕ) (job : Job) (held now : Option Held) (before after : List Entry) (trace : List Exchange) : Type 0 where
   pub told : List Told
-  pub calls : Calls number lane m now before after told
-  pub asked : AskedFrom job (begun job.command) (trace_of number told)
-  pub came : state_from job (begun job.command) (trace_of number told) ≡ s
+  pub calls : Calls number lane held now before after told
+  pub same : trace_of number told ≡ trace
+  pub asked : AskedFrom job (begun job.command) trace
 
--- the job made the calls that it asks, and ended by their replies
-pub record Ran (number lane : ℕ) (job : Job) (m : Held) (now : Option Held) (before after : List Entry) (end : Outcome) : Type 0 where
+-- the job made the calls that it asks, and came out so by their replies
+pub record Ran (number lane : ℕ) (job : Job) (held now : Option Held) (before after : List Entry) (result : Driven Outcome) : Type 0 where
   pub told : List Told
-  pub calls : Calls number lane m now before after told
-  pub driven : IsDriven job (trace_of number told) end
+  pub calls : Calls number lane held now before after told
+  pub driven : IsDriven job (trace_of number told) result
 
--- the jobs were done one after the other, each to its end, from a store that held m
-pub record AllRan (lane : ℕ) (jobs : List Job) (m : Held) (now : Option Held) (before after : List Entry) (ends : List Outcome) : Type 0 where
+-- the jobs were done one after the other, each to its end or to its stop
+pub record AllRan (lane : ℕ) (jobs : List Job) (held now : Option Held) (before after : List Entry) (results : List (Driven Outcome)) : Type 0 where
   pub told : List Told
-  pub replied : Replied m told
-  pub held : now ≡ Some (held_told m told)
-  pub entries : after ≡ before ++ entries_of lane told
-  pub driven : AreDriven 0 jobs ends told
+  pub suit : All Suits told
+  pub entries : after ≡ before ++ entries_of (only_lane lane) told
+  pub driven : AreDriven 0 jobs results told
+  pub over : IfSome held (λ m. Leaves m now told)

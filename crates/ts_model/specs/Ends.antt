@@ -11,7 +11,8 @@ use Rattle.ts_model.specs.declared.answers.Outcome.{Outcome}
 use Rattle.ts_model.specs.declared.answers.Outcome.TheVariants as outcome
 use Rattle.ts_model.specs.declared.answers.Refusal.{Refusal}
 use Rattle.ts_model.specs.declared.answers.Refusal.TheVariants as refusal
-use Rattle.ts_model.specs.Deeds.{Written, History, writes, IsNewKey}
+use Rattle.ts_model.specs.declared.deeds.Written.{Written}
+use Rattle.ts_model.specs.Deeds.{History, writes, IsNewKey}
 use Rattle.ts_model.specs.Answers.{shown}
 use Rattle.ts_model.specs.Jobs.{written_of}
 use Rattle.ts_model.specs.Told.{Told, history_told}
@@ -30,9 +31,9 @@ pub record AnswersAt (jobs : List Job) (h : History) (told : List Told) (number 
   pub listed : ListedAt told number
   pub rows : answer.rows ≡ shown (history_told jobs h listed.before) 0 to
 
--- the write of a job is a deed of the history
+-- the job writes, and its write is a deed of the history
 abbrev pub IsWritten : History → Job → Type 0
-IsWritten h job = (w : Written) → written_of job ≡ Some w → Contains (writes h) w
+IsWritten h job = (w : Written) × (written_of job ≡ Some w) × Contains (writes h) w
 
 -- no deed of the history has the key of a job that writes
 abbrev pub IsUnwritten : History → Job → Type 0
@@ -48,6 +49,6 @@ IsTrueRefusal h job r = IsUnwritten h job
 -- what an end tells of the history
 abbrev pub IsTrueEnd : List Job → History → List Told → ℕ → Job → Outcome → Type 0
 IsTrueEnd jobs h told number job (outcome.Written f) = IsWritten (history_told jobs h told) job
-IsTrueEnd jobs h told number job (outcome.Read answer) = (to : ℕ) → job.command ≡ Read to → AnswersAt jobs h told number to answer
+IsTrueEnd jobs h told number job (outcome.Read answer) = (to : ℕ) × (job.command ≡ Read to) × AnswersAt jobs h told number to answer
 IsTrueEnd jobs h told number job (outcome.Refused r) = IsTrueRefusal (history_told jobs h told) job r
 IsTrueEnd jobs h told number job outcome.OutOfMemory = ⊤

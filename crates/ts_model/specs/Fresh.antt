@@ -4,6 +4,7 @@ use Rattle.std.specs.FinMap as map
 use Rattle.ts_base.specs.declared.keys.Key.{Key}
 use Rattle.ts_base.specs.declared.names.Name.{Name}
 use Rattle.ts_base.specs.declared.names.Name.TheVariants as name
+use Rattle.ts_base.specs.declared.heads.Stop.TheVariants.{Never}
 use Rattle.ts_base.specs.Held.{Held}
 use Rattle.ts_model.specs.declared.commands.Job.{Job}
 use Rattle.ts_model.specs.declared.commands.Line.{Line}
@@ -34,10 +35,14 @@ IsFreshSeed m h seed = (id : ℕ) → id / 2 ^ 64 ≡ seed → IsCarried m h id 
 abbrev pub id_of : ℕ → ℕ → ℕ → ℕ
 id_of seed lane number = seed * 2 ^ 64 + lane * 2 ^ 32 + number
 
+-- the job of a line, with an identifier; it is stopped nowhere
+abbrev pub job_from : ℕ → Line → Job
+job_from id line = record { command = line.command; at = line.at; id = id; stop = Never }
+
 -- the jobs of the lines of a lane, whose commands are numbered from 1
 abbrev pub jobs_from : ℕ → ℕ → ℕ → List Line → List Job
 jobs_from seed lane number [] = []
-jobs_from seed lane number (line ∷ lines) = record { command = line.command; at = line.at; id = id_of seed lane number } ∷ jobs_from seed lane (number + 1) lines
+jobs_from seed lane number (line ∷ lines) = job_from (id_of seed lane number) line ∷ jobs_from seed lane (number + 1) lines
 
 -- the jobs of the lines of the one lane
 abbrev pub jobs_of : ℕ → List Line → List Job

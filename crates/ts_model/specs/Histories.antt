@@ -10,7 +10,9 @@ use Rattle.ts_store.specs.declared.call.Call.TheVariants as call
 use Rattle.ts_store.specs.declared.journal.Entry.{Entry}
 use Rattle.ts_store.specs.Calls.{after, took_effect}
 use Rattle.ts_model.specs.declared.commands.Job.{Job}
-use Rattle.ts_model.specs.Deeds.{Deed, Wrote, History}
+use Rattle.ts_model.specs.declared.deeds.Deed.{Deed}
+use Rattle.ts_model.specs.declared.deeds.Deed.TheVariants.{Wrote}
+use Rattle.ts_model.specs.Deeds.{History}
 use Rattle.ts_model.specs.Jobs.{job_with, written_under}
 
 -- the deed of an object that is new: that of a `.wrt` is the write of the job whose identifier it carries

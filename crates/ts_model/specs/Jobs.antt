@@ -11,7 +11,8 @@ use Rattle.ts_model.specs.declared.commands.Job.{Job}
 use Rattle.ts_model.specs.declared.commands.Line.{Line}
 use Rattle.ts_model.specs.declared.answers.Refusal.{Refusal}
 use Rattle.ts_model.specs.declared.answers.Refusal.TheVariants as refusal
-use Rattle.ts_model.specs.Deeds.{Written, first_schema, is_in_domain, row_fits}
+use Rattle.ts_model.specs.declared.deeds.Written.{Written}
+use Rattle.ts_model.specs.Deeds.{first_schema, is_in_domain, row_fits}
 
 -- the key of what a job makes
 abbrev pub key_of : Job → Key

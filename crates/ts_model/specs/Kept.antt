@@ -12,7 +12,8 @@ use Rattle.ts_model.specs.declared.commands.Command.TheVariants.{Read}
 use Rattle.ts_model.specs.declared.commands.Job.{Job}
 use Rattle.ts_model.specs.declared.states.State.{State}
 use Rattle.ts_model.specs.declared.states.State.TheVariants.{PutsPart, PutsCommit, ListsCommits, Fetches, Over}
-use Rattle.ts_model.specs.Deeds.{Written, History, IsHistory, writes, IsNewKey}
+use Rattle.ts_model.specs.declared.deeds.Written.{Written}
+use Rattle.ts_model.specs.Deeds.{History, IsHistory, writes, IsNewKey}
 use Rattle.ts_model.specs.Jobs.{frag_of_job, written_of, refused_before, job_with, AreFit, AreApart}
 use Rattle.ts_model.specs.Pieces.{version_at, version_of}
 use Rattle.ts_model.specs.Plain.{part_text}

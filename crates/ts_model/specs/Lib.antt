@@ -7,6 +7,7 @@ pub mod Plain
 pub mod PlainLaws
 pub mod Stands
 pub mod States
+pub mod Stops
 pub mod Told
 pub mod Rows
 pub mod Fresh

@@ -5,7 +5,8 @@ use Rattle.ts_base.specs.declared.heads.Version.{Version}
 use Rattle.ts_base.specs.declared.heads.Piece.{Piece}
 use Rattle.ts_base.specs.Keys.{key_eq, frag_of, greatest}
 use Rattle.ts_base.specs.Coords.{coords_eq}
-use Rattle.ts_model.specs.Deeds.{Written, row_at}
+use Rattle.ts_model.specs.declared.deeds.Written.{Written}
+use Rattle.ts_model.specs.Deeds.{row_at}
 
 -- the version of a key and a coordinate in a list
 abbrev pub version_at : List Version → Key → List ℤ → Option Version

@@ -2,7 +2,7 @@
 use Rattle.std.specs.Prelude.{◌≡◌, ℕ, ◌^◌, ◌<◌, List, length, Some, None, Ok}
 use Rattle.ts_base.specs.declared.heads.Piece.{Piece}
 use Rattle.ts_model.specs.declared.commands.Job.{Job}
-use Rattle.ts_model.specs.Deeds.{Written}
+use Rattle.ts_model.specs.declared.deeds.Written.{Written}
 use Rattle.ts_model.specs.Jobs.{written_of, refused_before, IsFit}
 use Rattle.ts_model.specs.Pieces.{HoldsWrite}
 use Rattle.ts_model.specs.Plain.{plain_piece, IsPlain, part_text}

@@ -1,5 +1,5 @@
 -- The row of each job: the puts and listings that it makes, in order, and how it may end.
-use Rattle.std.specs.Prelude.{◌≡◌, ℕ, Bool, true, false, ◌⊎◌, List, [], ◌∷◌, ◌++◌, Option, Some, None, Result, Ok, Err, IsTrue, Contains}
+use Rattle.std.specs.Prelude.{◌≡◌, ℕ, Bool, true, false, ◌⊎◌, List, [], ◌∷◌, ◌++◌, length, Option, Some, None, Result, Ok, Err, IsTrue, Contains}
 use Rattle.ts_base.specs.declared.keys.FragKey.{FragKey}
 use Rattle.ts_base.specs.declared.names.Name.{Name}
 use Rattle.ts_base.specs.declared.names.Name.TheVariants as name
@@ -16,13 +16,17 @@ use Rattle.ts_store.specs.Calls.{is_no_memory}
 use Rattle.ts_model.specs.declared.commands.Command.{Command}
 use Rattle.ts_model.specs.declared.commands.Command.TheVariants.{Write, Read}
 use Rattle.ts_model.specs.declared.commands.Job.{Job}
+use Rattle.ts_model.specs.declared.answers.Driven.{Driven}
+use Rattle.ts_model.specs.declared.answers.Driven.TheVariants as driven
 use Rattle.ts_model.specs.declared.answers.Outcome.{Outcome}
 use Rattle.ts_model.specs.declared.answers.Outcome.TheVariants as outcome
 use Rattle.ts_model.specs.declared.answers.Refusal.{Refusal}
 use Rattle.ts_model.specs.declared.answers.Refusal.TheVariants as refusal
-use Rattle.ts_model.specs.Jobs.{frag_of_job, refused_before}
+use Rattle.ts_model.specs.declared.deeds.Written.{Written}
+use Rattle.ts_model.specs.Jobs.{frag_of_job, written_of, refused_before}
 use Rattle.ts_model.specs.Plain.{plain_piece, part_text}
 use Rattle.ts_model.specs.States.{Exchange, part_of, commit_of, get_part, looked_into}
+use Rattle.ts_model.specs.Stops.{cuts, Uncut}
 
 -- the puts and listings of a job, in order: a write puts the part of its fragment and then the `.wrt`, a read lists the commits
 abbrev pub row_by : Job → Command → List Call
@@ -86,9 +90,13 @@ pub record EndsAt (row : List Call) (trace : List Exchange) (last : Exchange) : 
 
 -- ---- ends
 
+-- the job is one that writes
+abbrev pub Writes : Job → Type 0
+Writes job = (w : Written) × (written_of job ≡ Some w)
+
 -- how the calls may end where `row` is left of a job's row: well, at the end of the row; refused by the reply to the last call; or out of memory, which may come anywhere
 abbrev pub EndsAlong : Job → List Call → List Exchange → Outcome → Type 0
-EndsAlong job row trace (outcome.Written f) = Along row trace [] × (f ≡ frag_of_job job)
+EndsAlong job row trace (outcome.Written f) = Along row trace [] × Writes job × (f ≡ frag_of_job job)
 EndsAlong job row trace (outcome.Read answer) = Along row trace [] × ((to : ℕ) × (job.command ≡ Read to))
 EndsAlong job row trace (outcome.Refused r) = (last : Exchange) × EndsAt row trace last × (refused_by last.call last.reply ≡ Some r)
 EndsAlong job row trace outcome.OutOfMemory = ((left : List Call) × Along row trace left) ⊎ ((last : Exchange) × EndsAt row trace last)
@@ -109,7 +117,24 @@ pub record LooksRight (job : Job) (before : List Exchange) (c : Call) : Type 0 w
   pub looked : Contains (looked_into job.command names) frag
   pub whole : c ≡ get_part frag
 
--- the calls of a job, in order, with its end
-pub record IsSegment (job : Job) (trace : List Exchange) (end : Outcome) : Type 0 where
-  pub ends : MayEnd job trace end
+-- the calls went along the row, and the stop cut the job off where it would have made one more call, which may come next there
+pub record IsCutOff (job : Job) (trace : List Exchange) : Type 0 where
+  pub begins : refused_before job.command ≡ None
+  pub left : List Call
+  pub along : Along (row_of job) trace left
+  pub unmade : Call
+  pub rest : List Call
+  pub next : IsNext left unmade rest
+  pub looks : IsTrue (is_look unmade) → LooksRight job trace unmade
+  pub cut : cuts job.stop (length trace) unmade ≡ true
+
+-- how a job may come out: with an end, or cut off by its stop
+abbrev pub MayComeOut : Job → List Exchange → Driven Outcome → Type 0
+MayComeOut job trace (driven.Done end) = MayEnd job trace end
+MayComeOut job trace driven.Stopped = IsCutOff job trace
+
+-- the calls of a job, in order, none of which its stop cut off, and how it came out
+pub record IsSegment (job : Job) (trace : List Exchange) (result : Driven Outcome) : Type 0 where
+  pub uncut : Uncut job.stop 0 trace
+  pub ends : MayComeOut job trace result
   pub looks : (before after : List Exchange) (x : Exchange) → trace ≡ before ++ x ∷ after → IsTrue (is_look x.call) → LooksRight job before x.call

@@ -8,7 +8,8 @@ use Rattle.ts_base.specs.declared.heads.Piece.{Piece}
 use Rattle.ts_base.specs.Keys.{frag_of}
 use Rattle.ts_base.specs.Names.{wrt_of}
 use Rattle.ts_base.specs.Held.{Held}
-use Rattle.ts_model.specs.Deeds.{Written, History, IsHistory, writes}
+use Rattle.ts_model.specs.declared.deeds.Written.{Written}
+use Rattle.ts_model.specs.Deeds.{History, IsHistory, writes}
 use Rattle.ts_model.specs.Pieces.{HoldsWrite}
 use Rattle.ts_model.specs.Plain.{IsPlain}
 

@@ -1,15 +1,18 @@
 -- The calls of jobs, with all that is known of each, and what they leave.
-use Rattle.std.specs.Prelude.{◌≡◌, ℕ, Bool, true, false, cond, not, ◌&&◌, ◌⊎◌, List, [], ◌∷◌, ◌++◌, Option, Some, None, option_to_list, filter_map, nat_eq, ⊤}
+use Rattle.std.specs.Prelude.{◌≡◌, ◌≢◌, ℕ, Bool, true, false, cond, not, ◌&&◌, ◌⊎◌, List, [], ◌∷◌, ◌++◌, Option, Some, None, option_to_list, filter_map, nat_eq, ⊤}
 use Rattle.std.specs.FinMap as map
 use Rattle.ts_base.specs.Held.{Held}
 use Rattle.ts_store.specs.declared.call.Call.{Call}
 use Rattle.ts_store.specs.declared.call.Call.TheVariants as call
 use Rattle.ts_store.specs.declared.call.Reply.{Reply}
+use Rattle.ts_store.specs.declared.call.Reply.TheVariants as reply
 use Rattle.ts_store.specs.declared.fate.Fate.{Fate}
+use Rattle.ts_store.specs.declared.fate.Fate.TheVariants as fate
 use Rattle.ts_store.specs.declared.journal.Entry.{Entry}
-use Rattle.ts_store.specs.Calls.{after, took_effect, reply_of, is_no_memory}
+use Rattle.ts_store.specs.Calls.{after, took_effect, reply_of, is_no_memory, FitsCall}
 use Rattle.ts_model.specs.declared.commands.Job.{Job}
-use Rattle.ts_model.specs.Deeds.{Deed, History}
+use Rattle.ts_model.specs.declared.deeds.Deed.{Deed}
+use Rattle.ts_model.specs.Deeds.{History}
 use Rattle.ts_model.specs.Histories.{deed_of}
 use Rattle.ts_model.specs.States.{Exchange}
 
@@ -49,6 +52,12 @@ abbrev pub held_told : Held → List Told → Held
 held_told m [] = m
 held_told m (e ∷ es) = held_told (after_told m e) es
 
+-- the reply fits the call, and is Failed where the fate of the call is not Done, and only there
+pub record Suits (e : Told) : Type 0 where
+  pub fits : FitsCall e.call e.reply
+  pub failed : e.reply ≡ reply.Failed → e.fate ≢ fate.Done
+  pub served : e.reply ≢ reply.Failed → e.fate ≡ fate.Done
+
 -- the call found no memory, or its reply is that of a store of one thread which holds m
 abbrev pub IsReplied : Held → Told → Type 0
 IsReplied m e = (is_no_memory e.reply ≡ true) × (e.changed ≡ false) ⊎ (e.reply ≡ reply_of m e.call e.fate) × (e.changed ≡ changes m e.call e.fate)
@@ -58,12 +67,16 @@ abbrev pub Replied : Held → List Told → Type 0
 Replied m [] = ⊤
 Replied m (e ∷ es) = IsReplied m e × Replied (after_told m e) es
 
--- the entry of a call in lane `lane`; want of memory leaves none
-abbrev pub entry_of : ℕ → Told → Option Entry
-entry_of lane e = cond (is_no_memory e.reply) None (Some (record { lane = lane; call = e.call; fate = e.fate }))
+-- each call is made in this lane, whoever makes it
+abbrev pub only_lane : ℕ → Option ℕ → ℕ
+only_lane lane job = lane
 
--- the entries of calls that were all made in one lane
-abbrev pub entries_of : ℕ → List Told → List Entry
+-- the entry of a call, in the lane of who made it; want of memory leaves none
+abbrev pub entry_of : (Option ℕ → ℕ) → Told → Option Entry
+entry_of lane e = cond (is_no_memory e.reply) None (Some (record { lane = lane e.job; call = e.call; fate = e.fate }))
+
+-- the entries of calls, each in the lane of who made it
+abbrev pub entries_of : (Option ℕ → ℕ) → List Told → List Entry
 entries_of lane told = filter_map (entry_of lane) told
 
 -- the deed of what a call puts

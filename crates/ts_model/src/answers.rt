@@ -48,3 +48,12 @@ pub enum Refusal {
     /// An object that a committed fragment must have is not there.
     Missing(Name),
 }
+
+/// How a job that was driven came out.
+#[derive(Debug, Drop, PartialEq, Eq)]
+pub enum Driven<O> {
+    /// It came to its end, which was this.
+    Done(O),
+    /// It was stopped before its end: it asks for nothing more, and nobody learns how it went.
+    Stopped,
+}

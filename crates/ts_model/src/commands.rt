@@ -1,6 +1,6 @@
 //! What a lane is asked to do.
 
-use ts_base::Sequence;
+use ts_base::{Sequence, Stop};
 
 /// A command on the array.
 #[derive(Clone, Copy, Debug, PartialEq, Eq)]
@@ -12,14 +12,18 @@ pub enum Command {
     Read { to: u64 },
 }
 
-/// A command with its stamp and the identifier that everything which it makes will carry.
+/// A command with its stamp, the identifier that everything which it makes will carry, and where it
+/// is stopped.
 #[derive(Clone, Copy, Debug, PartialEq, Eq)]
 pub struct Job {
+    /// The command.
     pub command: Command,
     /// The stamp, in milliseconds since 1970-01-01.
     pub at: u64,
     /// The identifier: no other job of the array has it.
     pub id: u128,
+    /// Where it is stopped before its end, as by a crash of its process.
+    pub stop: Stop,
 }
 
 /// Jobs in the order in which a lane does them.

@@ -6,10 +6,14 @@
 
 mod answers;
 mod commands;
+mod deeds;
 mod plain;
+mod scan;
 mod states;
 
-pub use answers::{Answer, Outcome, Pair, PairList, Refusal};
+pub use answers::{Answer, Driven, Outcome, Pair, PairList, Refusal};
 pub use commands::{Command, Job, JobList, Line, LineList};
+pub use deeds::{Deed, History, Written};
 pub use plain::{Side, StoredCell, StoredCellList, StoredHead, StoredPiece};
+pub use scan::reference;
 pub use states::State;
