@@ -1,2 +1,5 @@
+pub mod MachineLaws
+pub mod OnWay
 pub mod Places
 pub mod Stored
+pub mod JobRuns

@@ -1,2 +1,5 @@
+pub mod Traces
+pub mod Drives
+pub mod Machines
 pub mod PlainReads
 pub mod PlainWrites

@@ -10,7 +10,7 @@ use Rattle.ts_model.specs.declared.plain.StoredHead.{StoredHead}
 use Rattle.ts_model.specs.declared.plain.StoredCell.{StoredCell}
 use Rattle.ts_model.specs.declared.plain.StoredPiece.{StoredPiece}
 use Rattle.ts_model.specs.declared.commands.Job.{Job}
-use Rattle.ts_model.specs.Deeds.{Written}
+use Rattle.ts_model.specs.declared.deeds.Written.{Written}
 use Rattle.ts_model.specs.Jobs.{written_of, refused_before, IsFit}
 use Rattle.ts_model.specs.Pieces.{HoldsWrite}
 use Rattle.ts_model.specs.Plain.{IsPlain}

@@ -2,7 +2,7 @@
 use super::{PlainFault, read_plain, write_cell, write_plain};
 use std::alloc::Global;
 use std::test::Fail;
-use ts_base::{ByteList, FragKey, Key, OutOfMemory, Val};
+use ts_base::{ByteList, FragKey, Key, OutOfMemory, Stop, Val};
 use ts_model::{Command, Job};
 
 // The object of the write of 10 at the coordinate 5, with the timestamp 1 and the identifier 1.
@@ -174,6 +174,7 @@ fn a_write_has_its_145_bytes(rt: HostRuntime) -> Result<(), Fail> {
         command: Command::Write { x: 5, v: 10 },
         at: 1,
         id: 1,
+        stop: Stop::Never,
     };
     let bytes = write_cell(rt.alloc(), &job)?;
     assert_eq!(rt; bytes.as_slice(), ROW.as_slice());
@@ -181,6 +182,7 @@ fn a_write_has_its_145_bytes(rt: HostRuntime) -> Result<(), Fail> {
         command: Command::Read { to: 1 },
         at: 1,
         id: 1,
+        stop: Stop::Never,
     };
     assert!(rt; write_cell(rt.alloc(), &read)?.is_empty());
     Ok(())

@@ -1,0 +1,150 @@
+//! A machine that does the jobs of one kind.
+ghost use Rattle.std.specs.Prelude.{◌≡◌, ◌≢◌, ◌<◌, ◌⊎◌, ℕ, IfOk, IfSome, None};
+ghost use Rattle.ts_store.specs.Calls.{IsSpelledCall, IsSpelledReply};
+ghost use Rattle.ts_model.specs.declared.commands.Command.{Command};
+ghost use Rattle.ts_model.specs.declared.states.State.{State};
+ghost use Rattle.ts_model.specs.declared.states.State.TheVariants.{Over};
+ghost use Rattle.ts_model.specs.States.{asks, begun, goes, state_from};
+ghost use Rattle.ts_model.specs.Driven.{EndsFrom};
+ghost use Rattle.ts_actor.specs.Machines.{Follows, calls_left};
+ghost use Rattle.ts_actor.specs.Traces.{CanCome, Expects, Trace, filled, start};
+
+use crate::actor::{Actor, Step};
+use std::alloc::Global;
+use std::marker::PhantomData;
+use std::mem;
+use std::thread::Threads;
+use ts_base::OutOfMemory;
+use ts_model::{Command, Job, Outcome, State};
+use ts_store::{Call, Reply};
+
+/// The code for one kind of commands: where a job begins, the call that it makes next, and where the
+/// reply leads it.
+///
+/// Each function computes what the model says of any job. Only memory can be wanting.
+pub trait Automaton {
+    /// The commands that it is for.
+    ghost serves: { Command → Type 0 };
+
+    /// The states that jobs with these commands can be in.
+    ghost may: { State → Type 0 };
+
+    /// The most calls that a job makes from a state on.
+    ghost left: { State → ℕ };
+
+    /// Where a command begins.
+    fn begin(command: Command) -> State
+        requires { serves command }
+        ensures is { result ≡ begun command }
+        ensures may { may result };
+
+    /// The next call of a job, or None where it is over.
+    fn ask(alloc: Global, job: &Job, state: &State) -> Result<Option<Call>, OutOfMemory>
+        requires command { serves job.now.command }
+        requires state { may state.now }
+        ensures is { IfOk result (λ call. call ≡ asks job.now state.now) }
+        ensures spelled { IfOk result (λ call. IfSome call IsSpelledCall) };
+
+    /// Where a reply leads a job. A job that makes a call has fewer of them left afterwards.
+    fn go(alloc: Global, job: &Job, state: State, reply: Reply) -> Result<State, OutOfMemory>
+        requires command { serves job.now.command }
+        requires state { may state }
+        requires reply { IsSpelledReply reply }
+        ensures is { IfOk result (λ next. next ≡ goes job.now state reply) }
+        ensures may { IfOk result may }
+        ensures fewer { IfOk result (λ next. asks job.now state ≢ None → left next < left state) };
+}
+
+/// How far a machine has come.
+#[derive(Debug, Drop, PartialEq, Eq)]
+pub enum Phase {
+    /// It waits for its first reply, `Start`.
+    New,
+    /// It waits for the reply to the call that the job asks for in this state.
+    Going(State),
+    /// It is done.
+    Ended,
+}
+
+/// A machine that does one job by the automaton of its kind.
+#[derive(Drop)]
+pub struct Machine<K: Automaton> {
+    job: Job,
+    phase: Phase,
+    of: PhantomData<K>,
+}
+
+impl<K: Automaton> Machine<K> {
+    /// A machine that has made no call of the job yet. It takes no memory.
+    pub fn of(job: Job) -> Machine<K>
+        requires { K.serves job.command }
+        ensures new { Follows K.serves K.may result.job result.phase start }
+        ensures task { result.job ≡ job }
+    {
+        Machine {
+            job,
+            phase: Phase::New,
+            of: PhantomData,
+        }
+    }
+}
+
+impl<K: Automaton> Actor for Machine<K> {
+    type Out = Outcome;
+
+    type Task = Job;
+
+    ghost task = { λ m. m.job };
+
+    ghost follows = { λ m t. Follows K.serves K.may m.job m.phase t };
+
+    ghost ends = { λ job past end. EndsFrom job (begun job.command) past end };
+
+    ghost measure = { λ m. calls_left K.left m.job m.phase };
+
+    fn next<R: Threads + Sync>(&mut self, _rt: &R, alloc: Global, reply: Reply) -> Step<Outcome> {
+        let phase = mem::replace(&mut self.phase, Phase::Ended);
+        let Ok(state) = led::<K>(alloc, &self.job, phase, reply) else {
+            return Step::Done(Outcome::OutOfMemory);
+        };
+        let Ok(asked) = K::ask(alloc, &self.job, &state) else {
+            return Step::Done(Outcome::OutOfMemory);
+        };
+        let Some(call) = asked else {
+            return Step::Done(end_of(state));
+        };
+        self.phase = Phase::Going(state);
+        Step::Ask(call)
+    }
+}
+
+// Where a reply leads a job that has come so far.
+fn led<K: Automaton>(
+    alloc: Global,
+    job: &Job,
+    phase: Phase,
+    reply: Reply,
+) -> Result<State, OutOfMemory>
+    requires due { Expects (Follows K.serves K.may job.now phase) reply }
+    requires reply_spelled { IsSpelledReply reply }
+    ensures serves { K.serves job.now.command }
+    ensures is { IfOk result (λ state. (t : Trace) → Follows K.serves K.may job.now phase t → CanCome t.asked reply → state_from job.now (begun job.now.command) (filled t reply) ≡ state) }
+    ensures may { IfOk result K.may }
+    ensures fewer { IfOk result (λ state. K.left state < calls_left K.left job.now phase) }
+{
+    match phase {
+        Phase::New => Ok(K::begin(job.command)),
+        Phase::Going(state) => K::go(alloc, job, state, reply),
+        Phase::Ended => Err(OutOfMemory),
+    }
+}
+
+// How a job that asks nothing more has ended.
+fn end_of(state: State) -> Outcome
+    ensures { (state ≡ Over result) ⊎ (result ≡ Outcome.OutOfMemory) }
+{
+    match state {
+        State::Over(end) => end,
+        _other => Outcome::OutOfMemory,
+    }
+}
