@@ -1,0 +1,7 @@
+pub mod Lists
+pub mod Laws
+pub mod Ids
+pub mod Views
+pub mod Calls
+pub mod Sounds
+pub mod Began

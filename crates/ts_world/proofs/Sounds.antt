@@ -1,0 +1,67 @@
+-- What a world keeps says what holds of it at any time.
+use Rattle.std.proofs.Common.{◌≡◌, ℕ, ◌+◌, inl, inr, List, [], ◌∷◌, Some, refl, sym, ◌∙◌, subst}
+use Rattle.std.specs.Prelude.{slice_get}
+use Rattle.std.proofs.lemmas.List.{length-map}
+use Rattle.std.proofs.lemmas.Option.{slice_get_within}
+use Rattle.ts_base.specs.declared.heads.Stop.{Stop}
+use Rattle.ts_base.specs.declared.heads.Stop.TheVariants.{Never}
+use Rattle.ts_base.specs.Held.{Held}
+use Rattle.ts_store.specs.declared.journal.Entry.{Entry}
+use Rattle.ts_model.specs.declared.commands.Job.{Job}
+use Rattle.ts_model.specs.declared.answers.Outcome.{Outcome}
+use Rattle.ts_model.specs.declared.answers.Driven.TheVariants.{Done}
+use Rattle.ts_model.specs.Deeds.{History}
+use Rattle.ts_model.specs.States.{Exchange}
+use Rattle.ts_model.specs.Stops.{Uncut}
+use Rattle.ts_model.specs.Told.{Told, trace_of}
+use Rattle.ts_model.specs.Ends.{IsTrueEnd}
+use Rattle.ts_model.specs.Driven.{EndsFrom, IsDriven}
+use Rattle.ts_model.specs.States.{begun}
+use Rattle.ts_model.proofs.ListLemmas.{Contains-nil}
+use Rattle.ts_model.proofs.KeptLaws.{end_is_true}
+use Rattle.ts_model.proofs.Segments.{segment_of}
+use Rattle.ts_world.specs.declared.slots.Slot.{Slot}
+use Rattle.ts_world.specs.declared.slots.Slot.TheVariants as slot
+use Rattle.ts_world.specs.Views.{WorldView, Ended}
+use Rattle.ts_world.specs.Slots.{standing_of, standings, IsKept}
+use Rattle.ts_world.specs.Clauses.{EndsTruly, IsSound}
+use Rattle.ts_world.proofs.Lists.{item_at}
+use Rattle.ts_world.proofs.Views.{up_at, ended_at}
+use Rattle.ts_world.proofs.Laws.{running_asks}
+
+-- a job without a stop is never cut off
+never_cut : (stop : Stop) (made : ℕ) (xs : List Exchange) → stop ≡ Never → Uncut stop made xs
+never_cut stop made xs free = subst (λ s. Uncut s made xs) (sym free) (uncut made xs)
+  where
+    uncut : (made : ℕ) (xs : List Exchange) → Uncut Never made xs
+    uncut made [] = tt
+    uncut made (x ∷ xs) = (refl, uncut (made + 1) xs)
+
+module _ (past : History) (jobs : List Job) (told : List Told) (held : Held) (journal : List Entry) (slots : List Slot) (is : IsKept past jobs told held journal slots) where
+  abbrev seen : WorldView
+  seen = record { past = past; jobs = jobs; told = told; held = held; journal = journal; actors = standings slots }
+
+  true_end : (number : ℕ) (job : Job) (end : Outcome) → slice_get jobs number ≡ Some job → EndsFrom job (begun job.command) (trace_of number told) end → IsTrueEnd jobs past told number job end
+  true_end number job end at (inl over) = end_is_true past jobs [] told held is.kept number job end at (Contains-nil number) over
+  true_end number job end at (inr none) = subst (IsTrueEnd jobs past told number job) (sym none) tt
+
+  ends_truly : (number : ℕ) (job : Job) (end : Outcome) → slice_get jobs number ≡ Some job → slice_get (standings slots) number ≡ Some (Ended end) → EndsTruly seen number job end
+  ends_truly number job end at stands =
+      let actor = is.actors number job (slot.Ended end) at (ended_at slots number end stands) in
+      let driven : IsDriven job (trace_of number told) (Done end) = record { asked = actor.asked; uncut = never_cut job.stop 0 (trace_of number told) actor.free; ends = actor.slot_is } in
+      record {
+        driven = driven;
+        segment = segment_of job (trace_of number told) (Done end) driven;
+        is_true = true_end number job end at actor.slot_is;
+      }
+
+  pub is_sound : IsSound seen
+  is_sound = record {
+    stands = is.kept.stands;
+    entries = is.entries;
+    apart = is.kept.apart;
+    one_each = length-map slots standing_of ∙ is.one_each;
+    asked = λ number job at. let there = item_at jobs slots number (sym is.one_each) (slice_get_within jobs number job at) in (is.actors number job there.0 at there.1).asked;
+    runs = λ number job at stands. let up = up_at slots number stands in (up.0.asked, running_asks past jobs told held journal slots is number up.0 job up.1 at);
+    ends = ends_truly;
+  }

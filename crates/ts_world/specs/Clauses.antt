@@ -1,0 +1,166 @@
+-- What the contract of a world's step says.
+use Rattle.std.specs.Prelude.{◌≡◌, ◌≢◌, ℕ, ◌-◌, ◌^◌, ◌<◌, Bool, false, ◌⊎◌, [], ◌∷◌, ◌++◌, Some, Result, Ok, Err, map, length, slice_get, slice_set, Contains, IsTrue, ⊤}
+use Rattle.std.specs.FinMap as finite
+use Rattle.ts_base.specs.declared.keys.Key.{Key}
+use Rattle.ts_base.specs.declared.names.Name.{Name}
+use Rattle.ts_base.specs.declared.heads.Stop.TheVariants.{Never}
+use Rattle.ts_base.specs.Held.{Held}
+use Rattle.ts_store.specs.declared.call.Call.{Call}
+use Rattle.ts_store.specs.declared.call.Reply.{Reply}
+use Rattle.ts_store.specs.declared.fate.Fate.{Fate}
+use Rattle.ts_store.specs.declared.fate.Fate.TheVariants.{Unknown}
+use Rattle.ts_store.specs.Calls.{is_no_memory}
+use Rattle.ts_store.specs.Journals.{entry, held_after}
+use Rattle.ts_model.specs.declared.commands.Command.{Command}
+use Rattle.ts_model.specs.declared.commands.Job.{Job}
+use Rattle.ts_model.specs.declared.answers.Outcome.{Outcome}
+use Rattle.ts_model.specs.declared.answers.Driven.TheVariants.{Done}
+use Rattle.ts_model.specs.Deeds.{History, keys}
+use Rattle.ts_model.specs.Histories.{history_of}
+use Rattle.ts_model.specs.Jobs.{fits, AreApart}
+use Rattle.ts_model.specs.Stands.{Stands}
+use Rattle.ts_model.specs.States.{begun, asks, state_of}
+use Rattle.ts_model.specs.Fresh.{id_in}
+use Rattle.ts_model.specs.Told.{trace_of, entries_of, IsReplied, Replied, after_told, held_told, history_told}
+use Rattle.ts_model.specs.Rows.{IsSegment}
+use Rattle.ts_model.specs.Ends.{IsTrueEnd}
+use Rattle.ts_model.specs.Driven.{AskedFrom, IsDriven}
+use Rattle.ts_world.specs.declared.events.Event.{Event}
+use Rattle.ts_world.specs.declared.events.Event.TheVariants.{Spawn, Step, Stop, Restart}
+use Rattle.ts_world.specs.declared.events.WorldFault.{WorldFault}
+use Rattle.ts_world.specs.declared.events.WorldFault.TheVariants.{IdTaken, NoActor, OutOfMemory}
+use Rattle.ts_world.specs.Views.{Standing, Runs, Ended, Dropped, WorldView, dropped, lane_of}
+
+-- ---- at any time
+
+-- the end of an actor: its job made the calls that it asks and ended by them, they go along the job's row, and what the end tells of the history is true
+pub record EndsTruly (w : WorldView) (number : ℕ) (job : Job) (end : Outcome) : Type 0 where
+  pub driven : IsDriven job (trace_of number w.told) (Done end)
+  pub segment : IsSegment job (trace_of number w.told) (Done end)
+  pub is_true : IsTrueEnd w.jobs w.past w.told number job end
+
+-- what holds of a world at any time
+pub record IsSound (w : WorldView) : Type 0 where
+  -- the objects that are held stand for the past and the deeds of the calls
+  pub stands : Stands w.held (history_told w.jobs w.past w.told)
+  -- the journal has each call that found memory, in the lane of its actor
+  pub entries : w.journal ≡ entries_of lane_of w.told
+  -- no two jobs have one identifier
+  pub apart : AreApart w.jobs
+  -- each job has its actor
+  pub one_each : length w.actors ≡ length w.jobs
+  -- an actor makes the calls that its job asks, whatever became of it
+  pub asked : (number : ℕ) (job : Job) → slice_get w.jobs number ≡ Some job → AskedFrom job (begun job.command) (trace_of number w.told)
+  -- an actor that runs has one more call to make
+  pub runs : (number : ℕ) (job : Job) → slice_get w.jobs number ≡ Some job → slice_get w.actors number ≡ Some Runs → (c : Call) × (asks job (state_of job (trace_of number w.told)) ≡ Some c)
+  -- an actor that ended did so by its own calls, and told the truth
+  pub ends : (number : ℕ) (job : Job) (end : Outcome) → slice_get w.jobs number ≡ Some job → slice_get w.actors number ≡ Some (Ended end) → EndsTruly w number job end
+
+-- the world began with a store that held m: each call was replied to as by a store of one thread, and the objects and the history are those that the journal leaves
+pub record BeganWith (m : Held) (w : WorldView) : Type 0 where
+  pub replied : Replied m w.told
+  pub held_told_is : w.held ≡ held_told m w.told
+  pub held_is : w.held ≡ held_after m w.journal
+  pub history_is : history_told w.jobs w.past w.told ≡ history_of w.jobs w.past m w.journal
+
+-- ---- before an event
+
+-- the job of a Spawn: nothing stops it but events
+abbrev pub job_spawned : Command → ℕ → ℕ → Job
+job_spawned command at id = record { command = command; at = at; id = id; stop = Never }
+
+-- an earlier job or a held name carries the identifier
+abbrev pub IsTaken : WorldView → ℕ → Type 0
+IsTaken w id = ((number : ℕ) × (job : Job) × (slice_get w.jobs number ≡ Some job) × (job.id ≡ id)) ⊎ ((n : Name) × IsTrue (finite.contains_key w.held n) × (id_in n ≡ Some id))
+
+-- a job may come: fewer than 2^32 - 1 came before, its value has 64 bits, and no deed of the past has its identifier, unless an earlier job or a held name carries it too
+pub record MaySpawn (w : WorldView) (command : Command) (id : ℕ) : Type 0 where
+  pub fewer : length w.jobs < 2 ^ 32 - 1
+  pub value : IsTrue (fits command)
+  pub new : (k : Key) → Contains (keys w.past) k → k.id ≡ id → IsTaken w id
+
+-- what the caller of a step owes; a call's fate is a known one
+abbrev pub MayCome : WorldView → Event → Type 0
+MayCome w (Spawn command at id) = MaySpawn w command id
+MayCome w (Step number fate) = fate ≢ Unknown
+MayCome w (Stop number fate) = fate ≢ Unknown
+MayCome w Restart = ⊤
+
+-- ---- what an event does
+
+-- an actor came: it runs, or it asks for nothing and has ended
+pub record Spawned (job : Job) (w later : WorldView) : Type 0 where
+  pub standing : Standing
+  pub up : standing ≢ Dropped
+  pub is : later ≡ record w { jobs = w.jobs ++ job ∷ []; actors = w.actors ++ standing ∷ [] }
+
+-- a running actor made the call that its job asks, with this fate: one call more was told and entered in the lane of the actor, and nothing else changed but where this actor stands
+pub record Called (number : ℕ) (fate : Fate) (may : Standing → Type 0) (w later : WorldView) : Type 0 where
+  pub job : Job
+  pub is_job : slice_get w.jobs number ≡ Some job
+  pub ran : slice_get w.actors number ≡ Some Runs
+  pub call : Call
+  pub asked : asks job (state_of job (trace_of number w.told)) ≡ Some call
+  pub reply : Reply
+  pub memory : is_no_memory reply ≡ false
+  pub changed : Bool
+  pub standing : Standing
+  pub stands : may standing
+  pub replied : IsReplied w.held (record { job = Some number; call = call; fate = fate; reply = reply; changed = changed })
+  pub is : later ≡ record w {
+    told = w.told ++ record { job = Some number; call = call; fate = fate; reply = reply; changed = changed } ∷ [];
+    held = after_told w.held (record { job = Some number; call = call; fate = fate; reply = reply; changed = changed });
+    journal = w.journal ++ entry number call fate ∷ [];
+    actors = slice_set w.actors number standing;
+  }
+
+-- what an event does to a world
+abbrev pub Happens : Event → WorldView → WorldView → Type 0
+Happens (Spawn command at id) w later = Spawned (job_spawned command at id) w later
+Happens (Step number fate) w later = Called number fate (λ s. s ≢ Dropped) w later
+Happens (Stop number fate) w later = Called number fate (λ s. s ≡ Dropped) w later
+Happens Restart w later = later ≡ record w { actors = map dropped w.actors }
+
+-- ---- faults
+
+-- the actor runs
+abbrev pub IsUp : WorldView → ℕ → Type 0
+IsUp w number = slice_get w.actors number ≡ Some Runs
+
+-- what an event needs: an identifier that is free, an actor that runs
+abbrev pub Finds : Event → WorldView → Type 0
+Finds (Spawn command at id) w = IsTaken w id → ⊥
+Finds (Step number fate) w = IsUp w number
+Finds (Stop number fate) w = IsUp w number
+Finds Restart w = ⊤
+
+-- the identifier is that of a Spawn, and it is taken
+abbrev pub Clashes : Event → WorldView → ℕ → Type 0
+Clashes (Spawn command at id) w taken = (taken ≡ id) × IsTaken w id
+Clashes _ w taken = ⊥
+
+-- the number is that of an actor which is to make a call, and does not run
+abbrev pub Lacks : Event → WorldView → ℕ → Type 0
+Lacks (Step number fate) w none = (none ≡ number) × (IsUp w number → ⊥)
+Lacks (Stop number fate) w none = (none ≡ number) × (IsUp w number → ⊥)
+Lacks _ w none = ⊥
+
+-- a fault comes where its cause holds, and an event that happens found what it needs
+abbrev pub HasCause : Event → WorldView → Result (Unit {0}) WorldFault → Type 0
+HasCause e w (Ok done) = Finds e w
+HasCause e w (Err (IdTaken id)) = Clashes e w id
+HasCause e w (Err (NoActor number)) = Lacks e w number
+HasCause e w (Err OutOfMemory) = ⊤
+
+-- why an actor did not make a call: it does not run, or there was no memory
+abbrev pub IsCallFault : {X : Type 0} → WorldView → ℕ → Result X WorldFault → Type 0
+IsCallFault w number (Ok reply) = IsUp w number
+IsCallFault w number (Err (NoActor none)) = (none ≡ number) × (IsUp w number → ⊥)
+IsCallFault w number (Err (IdTaken id)) = ⊥
+IsCallFault w number (Err OutOfMemory) = ⊤
+
+-- ---- the beginning
+
+-- a world whose store holds m, after this past, and to which nothing has happened
+abbrev pub new_world : Held → History → WorldView
+new_world m past = record { past = past; jobs = []; told = []; held = m; journal = []; actors = [] }

@@ -1,0 +1,4 @@
+pub mod Actors
+pub mod Views
+pub mod Slots
+pub mod Clauses

@@ -1,0 +1,15 @@
+//! The world of every interleaving: actors that share one store, and whatever may happen to them.
+#![tactic(auto)]
+
+mod actors;
+mod events;
+mod parts;
+mod slots;
+#[cfg(test)]
+mod tests;
+mod told;
+mod world;
+
+pub use actors::AnyActor;
+pub use events::{Event, WorldFault};
+pub use world::World;

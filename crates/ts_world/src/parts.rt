@@ -1,0 +1,257 @@
+//! The parts of a world, and what each event does to them.
+ghost use Rattle.std.specs.Prelude.{◌≡◌, ◌≢◌, OnOk, OnErr, IfOk};
+ghost use Rattle.std.specs.List.{list_any};
+ghost use Rattle.ts_store.specs.declared.fate.Fate.TheVariants.{Unknown};
+ghost use Rattle.ts_store.specs.Calls.{IsSpelledCall};
+ghost use Rattle.ts_store.specs.Memory.{held_in};
+ghost use Rattle.ts_model.specs.Fresh.{id_in};
+ghost use Rattle.ts_world.specs.declared.events.Event.TheVariants as event;
+ghost use Rattle.ts_world.specs.Views.{Dropped};
+ghost use Rattle.ts_world.specs.Slots.{view_of, is_taken, is_job_id, carries, AreSame, ArePartsOk, IsAdded, IsAnswer, IsMade, IsCalled};
+ghost use Rattle.ts_world.specs.Clauses.{MaySpawn, job_spawned, Spawned, Called, Happens, HasCause, IsCallFault};
+
+use crate::events::WorldFault;
+use crate::slots::{Slot, advance, asked_by, drop_running, first_slot, put_slot};
+use crate::told::{MadeCall, changes, copy_reply};
+use std::alloc::Global;
+use std::thread::Threads;
+use ts_base::{Duplicate, Name, OutOfMemory, Stop};
+use ts_model::{Command, History, Job, JobList};
+use ts_store::{Call, Entry, Fate, Journal, MemStore, Reply, apply};
+
+/// The parts of a world.
+#[derive(Drop)]
+pub(crate) struct Parts {
+    /// What all actors share.
+    pub(crate) store: MemStore,
+    /// What had been done when the world began.
+    pub(crate) past: History,
+    /// The job of each actor that ever came.
+    pub(crate) jobs: JobList,
+    /// The calls that were made, in order.
+    pub(crate) told: Vec<MadeCall>,
+    /// Their entries.
+    pub(crate) journal: Journal,
+    /// Where each actor stands.
+    pub(crate) slots: Vec<Slot>,
+}
+
+// ---- an actor comes
+
+/// Adds an actor with the job of this command, stamp and identifier, unless the identifier is taken.
+pub(crate) fn spawn<R: Threads + Sync>(
+    parts: &mut Parts,
+    rt: &R,
+    alloc: Global,
+    command: Command,
+    at: u64,
+    id: u128,
+) -> Result<(), WorldFault>
+    requires kept { ArePartsOk parts.old }
+    requires may { MaySpawn (view_of parts.old) command id }
+    ensures kept { ArePartsOk parts.new }
+    ensures spawned { OnOk result (Spawned (job_spawned command at id) (view_of parts.old) (view_of parts.new)) }
+    ensures same { OnErr result (view_of parts.new ≡ view_of parts.old) }
+    ensures cause { HasCause (event.Spawn command at id) (view_of parts.old) result }
+{
+    if is_taken(alloc, parts, id)? {
+        return Err(WorldFault::IdTaken(id));
+    }
+    let job = Job {
+        command,
+        at,
+        id,
+        stop: Stop::Never,
+    };
+    let slot = first_slot(rt, alloc, job);
+    add(parts, job, slot)?;
+    Ok(())
+}
+
+// Whether a job or a held name has the identifier.
+fn is_taken(alloc: Global, parts: &Parts, id: u128) -> Result<bool, OutOfMemory>
+    ensures { IfOk result (λ taken. taken ≡ is_taken parts.now.jobs (held_in parts.now.store) id) }
+{
+    if has_job(parts.jobs.as_slice(), id) {
+        return Ok(true);
+    }
+    let names = parts.store.names(alloc)?;
+    Ok(has_name(names.as_slice(), id))
+}
+
+// Whether a job has the identifier.
+fn has_job(jobs: &[Job], id: u128) -> bool
+    ensures { result ≡ list_any (is_job_id id) jobs.now }
+{
+    jobs.iter().any(|job| job.id == id)
+}
+
+// Whether a name carries the identifier.
+fn has_name(names: &[Name], id: u128) -> bool
+    ensures { result ≡ list_any (carries id) names.now }
+{
+    names.iter().any(|name| carries(*name, id))
+}
+
+// Whether a name carries the identifier.
+fn carries(name: Name, id: u128) -> bool
+    ensures { result ≡ carries id name }
+{
+    match id_of(name) {
+        Some(own) => own == id,
+        None => false,
+    }
+}
+
+// The identifier that a name carries.
+fn id_of(name: Name) -> Option<u128>
+    ensures { result ≡ id_in name }
+{
+    match name {
+        Name::Schema(key) => Some(key.id),
+        Name::Commit(frag, _) => Some(frag.id),
+        Name::Part(frag, _) => Some(frag.id),
+        Name::Lease(key, _) => Some(key.id),
+        Name::Domain => None,
+    }
+}
+
+// Adds an actor, with its job and its slot. Want of memory leaves the parts as they were.
+fn add(parts: &mut Parts, job: Job, slot: Slot) -> Result<(), OutOfMemory>
+    ensures added { OnOk result (IsAdded job slot parts.old parts.new) }
+    ensures same { OnErr result (AreSame parts.old parts.new) }
+{
+    parts.slots.reserve(1)?;
+    parts.jobs.push(job)?;
+    parts.slots.push(slot)?;
+    Ok(())
+}
+
+// ---- an actor makes a call
+
+/// Makes the next call of the running actor with this number and hands it the reply.
+pub(crate) fn step<R: Threads + Sync>(
+    parts: &mut Parts,
+    rt: &R,
+    alloc: Global,
+    number: u32,
+    fate: Fate,
+) -> Result<(), WorldFault>
+    requires kept { ArePartsOk parts.old }
+    requires known { fate ≢ Unknown }
+    ensures kept { ArePartsOk parts.new }
+    ensures called { OnOk result (Called number fate (λ s. s ≢ Dropped) (view_of parts.old) (view_of parts.new)) }
+    ensures same { OnErr result (view_of parts.new ≡ view_of parts.old) }
+    ensures cause { HasCause (event.Step number fate) (view_of parts.old) result }
+{
+    let reply = call(parts, alloc, number, fate)?;
+    advance(rt, alloc, &mut parts.slots, number, reply);
+    Ok(())
+}
+
+/// Makes the next call of the running actor with this number and drops the actor.
+pub(crate) fn stop(
+    parts: &mut Parts,
+    alloc: Global,
+    number: u32,
+    fate: Fate,
+) -> Result<(), WorldFault>
+    requires kept { ArePartsOk parts.old }
+    requires known { fate ≢ Unknown }
+    ensures kept { ArePartsOk parts.new }
+    ensures called { OnOk result (Called number fate (λ s. s ≡ Dropped) (view_of parts.old) (view_of parts.new)) }
+    ensures same { OnErr result (view_of parts.new ≡ view_of parts.old) }
+    ensures cause { HasCause (event.Stop number fate) (view_of parts.old) result }
+{
+    let reply = call(parts, alloc, number, fate)?;
+    drop(reply);
+    put_slot(&mut parts.slots, number as usize, Slot::Dropped);
+    Ok(())
+}
+
+// Makes the call that the running actor with a number waits to make, and enters it.
+fn call(parts: &mut Parts, alloc: Global, number: u32, fate: Fate) -> Result<Reply, WorldFault>
+    requires kept { ArePartsOk parts.old }
+    requires known { fate ≢ Unknown }
+    ensures called { IfOk result (λ reply. IsCalled number fate parts.old parts.new reply) }
+    ensures same { OnErr result (AreSame parts.old parts.new) }
+    ensures cause { IsCallFault (view_of parts.old) number result }
+{
+    match asked_by(alloc, parts.slots.as_slice(), number) {
+        Ok(call) => match make(parts, alloc, number, call, fate) {
+            Ok(reply) => Ok(reply),
+            Err(OutOfMemory) => Err(WorldFault::OutOfMemory),
+        },
+        Err(fault) => Err(fault),
+    }
+}
+
+// Makes a call in the lane of an actor, and enters it with all that is known of it. The memory for
+// that is taken first; want of memory leaves the parts as they were.
+fn make(
+    parts: &mut Parts,
+    alloc: Global,
+    number: u32,
+    call: Call,
+    fate: Fate,
+) -> Result<Reply, OutOfMemory>
+    requires spelled { IsSpelledCall call }
+    requires known { fate ≢ Unknown }
+    ensures made { IfOk result (λ reply. IsMade number call fate parts.old parts.new reply) }
+    ensures same { OnErr result (AreSame parts.old parts.new) }
+{
+    let entry = Entry {
+        lane: number,
+        call: call.copy(alloc)?,
+        fate,
+    };
+    parts.told.reserve(1)?;
+    parts.journal.push(entry)?;
+    let changed = changes(&parts.store, &call, fate);
+    let Ok((reply, twin)) = answer(alloc, &mut parts.store, &call, fate) else {
+        let _ = parts.journal.pop();
+        return Err(OutOfMemory);
+    };
+    parts.told.push(MadeCall {
+        actor: number,
+        call,
+        fate,
+        reply: twin,
+        changed,
+    })?;
+    Ok(reply)
+}
+
+// Asks the store a call with this fate, and gives its reply and a copy of that. Want of memory leaves
+// what is held as it was.
+fn answer(
+    alloc: Global,
+    store: &mut MemStore,
+    call: &Call,
+    fate: Fate,
+) -> Result<(Reply, Reply), OutOfMemory>
+    requires spelled { IsSpelledCall call.now }
+    requires known { fate ≢ Unknown }
+    ensures answered { IfOk result (λ replies. IsAnswer (held_in store.old) call.now fate replies.0 (held_in store.new)) }
+    ensures twin { IfOk result (λ replies. replies.1 ≡ replies.0) }
+    ensures same { OnErr result (held_in store.new ≡ held_in store.old) }
+{
+    store.force(fate);
+    let reply = apply(alloc, store, call);
+    if reply.is_no_memory() {
+        return Err(OutOfMemory);
+    }
+    let twin = copy_reply(alloc, &reply)?;
+    Ok((reply, twin))
+}
+
+// ---- all running actors are dropped
+
+/// Drops each actor that runs.
+pub(crate) fn restart(parts: &mut Parts)
+    requires { ArePartsOk parts.old }
+    ensures kept { ArePartsOk parts.new }
+    ensures restarted { Happens event.Restart (view_of parts.old) (view_of parts.new) }
+{
+    drop_running(&mut parts.slots);
+}

@@ -1,0 +1,128 @@
+//! Where the actors of a world stand.
+ghost use Rattle.std.specs.Prelude.{◌≡◌, ◌≢◌, ◌<◌, [], length, map, slice_set};
+ghost use Rattle.ts_store.specs.Calls.{IsSpelledReply};
+ghost use Rattle.ts_actor.specs.Traces.{Trace, CanCome, Expects, filled};
+ghost use Rattle.ts_world.specs.declared.slots.Running.{Running};
+ghost use Rattle.ts_world.specs.Actors.{job_of, Follows};
+ghost use Rattle.ts_world.specs.Slots.{standing_of, IsSlot, IsDue, IsNextSlot, IsDueAt, IsAdvanced, AsksFor, dropped_slot};
+ghost use Rattle.ts_world.specs.Views.{Dropped};
+
+use crate::actors::AnyActor;
+use crate::events::WorldFault;
+use std::alloc::Global;
+use std::mem;
+use std::thread::Threads;
+use ts_actor::{Actor, Step};
+use ts_base::Duplicate;
+use ts_model::{Job, Outcome};
+use ts_store::{Call, Reply};
+
+/// An actor that waits for the reply to a call.
+#[derive(Drop)]
+pub(crate) struct Running {
+    pub(crate) actor: AnyActor,
+    pub(crate) asked: Call,
+}
+
+/// Where an actor stands.
+#[derive(Drop)]
+pub(crate) enum Slot {
+    /// It runs.
+    Runs(Running),
+    /// It came to this end.
+    Ended(Outcome),
+    /// It was dropped.
+    Dropped,
+}
+
+// The slot of an actor that has just come.
+pub(crate) fn first_slot<R: Threads + Sync>(rt: &R, alloc: Global, job: Job) -> Slot
+    ensures slot_is { IsSlot job [] result }
+    ensures up { standing_of result ≢ Dropped }
+{
+    go_on(rt, alloc, AnyActor::of(job), Reply::Start)
+}
+
+// Hands an actor the reply that it waits for.
+pub(crate) fn go_on<R: Threads + Sync>(
+    rt: &R,
+    alloc: Global,
+    mut actor: AnyActor,
+    reply: Reply,
+) -> Slot
+    requires due { Expects (Follows actor) reply }
+    requires spelled { IsSpelledReply reply }
+    ensures slot_is { (t : Trace) → Follows actor t → CanCome t.asked reply → IsSlot (job_of actor) (filled t reply) result }
+    ensures up { standing_of result ≢ Dropped }
+{
+    match actor.next(rt, alloc, reply) {
+        Step::Ask(asked) => Slot::Runs(Running { actor, asked }),
+        Step::Done(end) => Slot::Ended(end),
+    }
+}
+
+// The slot of an actor once it has its reply.
+pub(crate) fn next_slot<R: Threads + Sync>(rt: &R, alloc: Global, slot: Slot, reply: Reply) -> Slot
+    requires { IsDue slot reply }
+    ensures next { (r : Running) → slot ≡ Slot.Runs r → IsNextSlot r reply result }
+{
+    match slot {
+        Slot::Runs(running) => go_on(rt, alloc, running.actor, reply),
+        other => other,
+    }
+}
+
+// Hands the running actor with a number the reply that it waits for.
+pub(crate) fn advance<R: Threads + Sync>(
+    rt: &R,
+    alloc: Global,
+    slots: &mut [Slot],
+    number: u32,
+    reply: Reply,
+)
+    requires { IsDueAt slots.old number reply }
+    ensures { IsAdvanced slots.old number reply slots.new }
+{
+    let place = number as usize;
+    let slot = mem::replace(&mut slots[place], Slot::Dropped);
+    let next = next_slot(rt, alloc, slot, reply);
+    put_slot(slots, place, next);
+}
+
+// Puts a slot in the place of another.
+pub(crate) fn put_slot(slots: &mut [Slot], place: usize, slot: Slot)
+    requires { place < length slots.old }
+    ensures { slots.new ≡ slice_set slots.old place slot }
+{
+    drop(mem::replace(&mut slots[place], slot));
+}
+
+// A copy of the call that the actor with a number waits to make.
+pub(crate) fn asked_by(alloc: Global, slots: &[Slot], number: u32) -> Result<Call, WorldFault>
+    ensures { AsksFor slots.now number result }
+{
+    match slots.get(number as usize) {
+        Some(Slot::Runs(running)) => Ok(running.asked.copy(alloc)?),
+        _ => Err(WorldFault::NoActor(number)),
+    }
+}
+
+// Drops each actor that runs.
+pub(crate) fn drop_running(slots: &mut [Slot])
+    ensures { slots.new ≡ map dropped_slot slots.old }
+{
+    for slot in slots.iter_mut() {
+        let was = mem::replace(slot, Slot::Dropped);
+        drop(mem::replace(slot, dropped(was)));
+    }
+}
+
+// The slot after a restart.
+fn dropped(slot: Slot) -> Slot
+    ensures { result ≡ dropped_slot slot }
+{
+    match slot {
+        Slot::Runs(_running) => Slot::Dropped,
+        other => other,
+    }
+}

@@ -1,0 +1,128 @@
+//! A world: actors that share one store, and events that happen to them.
+ghost use Rattle.std.specs.Prelude.{◌≡◌, ◌≢◌, [], OnOk, OnErr};
+ghost use Rattle.std.specs.Option.{option_copied};
+ghost use Rattle.ts_base.specs.Held.{Held};
+ghost use Rattle.ts_store.specs.Memory.{held_in};
+ghost use Rattle.ts_model.specs.Stands.{Stands};
+ghost use Rattle.ts_world.specs.Views.{end_of};
+ghost use Rattle.ts_world.specs.Clauses.{IsSound, BeganWith, MayCome, Happens, HasCause, new_world};
+
+use crate::events::{Event, WorldFault};
+use crate::parts::{self, Parts};
+use crate::slots::Slot;
+use std::alloc::Global;
+use std::marker::Model;
+use std::thread::Threads;
+use ts_model::{History, JobList, Outcome};
+use ts_store::{Journal, MemStore};
+
+/// A world of actors, each with one job, that share a store in memory.
+///
+/// It lets every interleaving of their calls happen, each call with any fate, and every crash: one
+/// event is one call of one actor, or an actor that comes, or that is dropped. Contracts see the
+/// past, the job of each actor that ever came, the calls with their fates and replies, what the store
+/// holds, the journal, and where each actor stands.
+#[derive(Drop)]
+pub struct World {
+    parts: Parts,
+}
+
+impl Model for World {
+    ghost use Rattle.ts_world.specs.Views.{WorldView};
+
+    ghost Value = { WorldView };
+
+    ghost use Rattle.std.specs.Coded.{codes};
+    ghost use Rattle.ts_base.specs.Held.{held_code};
+
+    ghost coded = { Prim.hlevel (codes, held_code) };
+
+    ghost use Rattle.ts_world.specs.Slots.{view_of, ArePartsOk};
+
+    ghost view = { λ world. view_of world.parts };
+
+    ghost invariant = { λ world. ArePartsOk world.parts };
+}
+
+impl World {
+    /// A world with a store and no actors. The store has to stand for the past.
+    ///
+    /// What the store plans for its calls does not count: each event gives the fate of its call. It
+    /// takes no memory.
+    pub fn new(alloc: Global, store: MemStore, past: History) -> World
+        requires { Stands (held_in store) past }
+        ensures new { result ≡ new_world (held_in store) past }
+        ensures sound { IsSound result }
+        ensures began { BeganWith (held_in store) result }
+    {
+        World {
+            parts: Parts {
+                store,
+                past,
+                jobs: JobList::new(alloc),
+                told: Vec::new(alloc),
+                journal: Journal::new(alloc),
+                slots: Vec::new(alloc),
+            },
+        }
+    }
+
+    /// Lets an event happen.
+    ///
+    /// A Spawn adds an actor, with the number of actors that came before it as its number and its
+    /// lane. It is refused with `IdTaken` where an earlier job or a held name carries the identifier.
+    /// Where none of these carries it, the caller has to know that no deed of the past does. A Step makes the next call of an
+    /// actor and hands it the reply; a Stop makes the call and drops the actor; both are refused with
+    /// `NoActor` where no such actor runs. A Restart drops every running actor. An actor that asks
+    /// for nothing more has ended. Whatever is refused, and whatever wants memory, changes nothing
+    /// that contracts see.
+    pub fn step<R: Threads + Sync>(
+        &mut self,
+        rt: &R,
+        alloc: Global,
+        event: Event,
+    ) -> Result<(), WorldFault>
+        requires { MayCome self.old event }
+        ensures sound { IsSound self.new }
+        ensures happens { OnOk result (Happens event self.old self.new) }
+        ensures began { (m : Held) → BeganWith m self.old → BeganWith m self.new }
+        ensures unchanged { OnErr result (self.new ≡ self.old) }
+        ensures cause { HasCause event self.old result }
+    {
+        match event {
+            Event::Spawn(command, at, id) => {
+                parts::spawn(&mut self.parts, rt, alloc, command, at, id)
+            }
+            Event::Step(number, fate) => parts::step(&mut self.parts, rt, alloc, number, fate),
+            Event::Stop(number, fate) => parts::stop(&mut self.parts, alloc, number, fate),
+            Event::Restart => {
+                parts::restart(&mut self.parts);
+                Ok(())
+            }
+        }
+    }
+
+    /// How the actor with a number ended, or None where it runs, was dropped, or never came.
+    pub fn answer_of(&self, actor: u32) -> Option<&Outcome>
+        ensures { option_copied result ≡ end_of self.now.actors actor }
+    {
+        match self.parts.slots.get(actor as usize) {
+            Some(Slot::Ended(end)) => Some(end),
+            _ => None,
+        }
+    }
+
+    /// The calls that were made, in order, each in the lane of its actor.
+    pub fn journal(&self) -> &Journal
+        ensures { result.now ≡ self.now.journal }
+    {
+        &self.parts.journal
+    }
+
+    /// The store that the actors share.
+    pub fn store(&self) -> &MemStore
+        ensures { held_in result.now ≡ self.now.held }
+    {
+        &self.parts.store
+    }
+}
