@@ -1,5 +1,5 @@
-pub mod Collected
 pub mod Pieces
+pub mod Recorded
 pub mod Texts
 pub mod Whole
 pub mod Exact

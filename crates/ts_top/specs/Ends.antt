@@ -8,6 +8,8 @@ use Rattle.ts_model.specs.declared.commands.Command.{Command}
 use Rattle.ts_model.specs.declared.commands.Command.TheVariants as command
 use Rattle.ts_model.specs.declared.commands.Line.{Line}
 use Rattle.ts_model.specs.declared.answers.Pair.{Pair}
+use Rattle.ts_model.specs.declared.answers.Driven.{Driven}
+use Rattle.ts_model.specs.declared.answers.Driven.TheVariants as driven
 use Rattle.ts_model.specs.declared.answers.Outcome.{Outcome}
 use Rattle.ts_model.specs.declared.answers.Outcome.TheVariants as outcome
 use Rattle.ts_model.specs.declared.answers.Refusal.{Refusal}
@@ -47,16 +49,21 @@ abbrev pub command_name : Command → List ℕ
 command_name (command.Write x v) = codes "write"
 command_name (command.Read to) = codes "read"
 
--- the end of the command with this number in its lane, which is lane 0
-unfoldable pub end_text : ℕ → Command → Outcome → List ℕ
-end_text number command end = codes "0." ++ decimal number ++ codes "\t" ++ command_name command ++ codes "\t" ++ outcome_text end
+-- how a command came out: its end, or that it was stopped
+unfoldable pub result_text : Driven Outcome → List ℕ
+result_text (driven.Done end) = outcome_text end
+result_text driven.Stopped = codes "stopped\n"
 
--- the ends of the commands of these lines, numbered from a number on
-abbrev pub texts_from : ℕ → List Line → List Outcome → List ℕ
-texts_from number [] ends = []
+-- how the command with this number in its lane, which is lane 0, came out
+unfoldable pub end_text : ℕ → Command → Driven Outcome → List ℕ
+end_text number command result = codes "0." ++ decimal number ++ codes "\t" ++ command_name command ++ codes "\t" ++ result_text result
+
+-- how the commands of these lines came out, numbered from a number on
+abbrev pub texts_from : ℕ → List Line → List (Driven Outcome) → List ℕ
+texts_from number [] results = []
 texts_from number (line ∷ lines) [] = []
-texts_from number (line ∷ lines) (end ∷ ends) = end_text number line.command end ++ texts_from (number + 1) lines ends
+texts_from number (line ∷ lines) (result ∷ results) = end_text number line.command result ++ texts_from (number + 1) lines results
 
--- the ends of the commands of a script
-abbrev pub ends_text : List Line → List Outcome → List ℕ
-ends_text lines ends = texts_from 1 lines ends
+-- how the commands of a script came out
+abbrev pub ends_text : List Line → List (Driven Outcome) → List ℕ
+ends_text lines results = texts_from 1 lines results

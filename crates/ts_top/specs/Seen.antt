@@ -5,8 +5,8 @@ use Rattle.ts_base.specs.Held.{Held}
 use Rattle.ts_store.specs.Counts.{Rose}
 use Rattle.ts_store.specs.Streams.{AppendsFront}
 use Rattle.ts_store.specs.declared.journal.Entry.{Entry}
-use Rattle.ts_store.specs.Journals.{held_after}
 use Rattle.ts_model.specs.declared.commands.Line.{Line}
+use Rattle.ts_model.specs.declared.answers.Driven.{Driven}
 use Rattle.ts_model.specs.declared.answers.Outcome.{Outcome}
 use Rattle.ts_model.specs.Fresh.{jobs_of}
 use Rattle.ts_model.specs.Runs.{IsRun}
@@ -91,10 +91,9 @@ pub record IsRead (words : List (List ℕ)) (input : Stream) (lines : List Line)
   pub to_end : IfSome input.old (λ _. input.new ≡ Some [])
   pub unhurt : input.now ≡ input.before
 
--- the commands were done over a store that tells what it holds: the journal leads to what it holds now, and the journal and the ends are a run of the commands
-pub record Performed (seen : Seen) (lines : List Line) (ends : List Outcome) (m : Held) : Type 0 where
-  pub held : seen.later ≡ Some (held_after m seen.journal)
-  pub run : IsRun seen.seed (jobs_of seen.seed lines) m seen.journal ends
+-- the commands were done: the journal and how they came out are a run of them
+abbrev pub Performed : Seen → List Line → List (Driven Outcome) → Type 0
+Performed seen lines results = IsRun seen.seed (jobs_of seen.seed lines) seen.held seen.later seen.journal results
 
 -- the ends were printed: all of them with status 0, else a front of the text; with status 5 the sink failed
 pub record PrintsEnds (out : Stream) (text : List ℕ) (status : ℕ) : Type 0 where
@@ -105,7 +104,7 @@ pub record PrintsEnds (out : Stream) (text : List ℕ) (status : ℕ) : Type 0 w
 
 -- the commands of a script were done and their ends printed, or there was no memory to begin with them
 pub data Plays (seen : Seen) (lines : List Line) : Type 0 where
-  ended : (ends : List Outcome) → IfSome seen.held (Performed seen lines ends) → PrintsEnds seen.out (ends_text lines ends) seen.status → Plays seen lines
+  ended : (results : List (Driven Outcome)) → Performed seen lines results → PrintsEnds seen.out (ends_text lines results) seen.status → Plays seen lines
   ran_short : seen.status ≡ 7 → seen.journal ≡ [] → seen.later ≡ seen.held → Appends seen.out.old seen.out.new [] → Plays seen lines
 
 pub record Played (seen : Seen) (lines : List Line) : Type 0 where

@@ -1,45 +1,59 @@
 //! The printed text of answers: a line for the end of each command, and one for each cell that a
 //! read shows.
 ghost use Rattle.std.specs.Prelude.{◌≡◌, ◌++◌, length, string_bytes, IfOk, OnOk};
-ghost use Rattle.ts_top.specs.Ends.{row_text, rows_text, refusal_text, outcome_text, place_text, command_name, end_text, ends_text};
+ghost use Rattle.ts_top.specs.Ends.{row_text, rows_text, refusal_text, outcome_text, place_text, command_name, result_text, end_text, ends_text};
 
 use std::alloc::Global;
 use ts_base::{NameText, OutOfMemory, Place};
-use ts_model::{Command, Line, Outcome, Pair, Refusal};
+use ts_model::{Command, Driven, Line, Outcome, Pair, Refusal};
 
 #[cfg(test)]
 mod tests;
 
-/// Prints the ends of the commands of a script, each with its number, counted from 1.
+/// Prints how the commands of a script came out, each with its number, counted from 1.
 pub(crate) fn print_ends(
     alloc: Global,
     lines: &[Line],
-    ends: &[Outcome],
+    results: &[Driven<Outcome>],
 ) -> Result<String, OutOfMemory>
-    requires { length lines.now ≡ length ends.now }
-    ensures { IfOk result (λ text. string_bytes text ≡ ends_text lines.now ends.now) }
+    requires { length lines.now ≡ length results.now }
+    ensures { IfOk result (λ text. string_bytes text ≡ ends_text lines.now results.now) }
 {
     let mut text = String::new(alloc);
-    for (index, end) in ends.iter().enumerate() {
-        print_end(&mut text, index as u64 + 1, &lines[index].command, end)?;
+    for (index, result) in results.iter().enumerate() {
+        print_end(&mut text, index as u64 + 1, &lines[index].command, result)?;
     }
     Ok(text)
 }
 
-/// Adds the end of one command, which has a number in its lane.
+/// Adds how one command came out, which has a number in its lane.
 #[tactic(auto, unfolding(crate::specs::Ends::end_text))]
 fn print_end(
     text: &mut String,
     number: u64,
     command: &Command,
-    end: &Outcome,
+    came: &Driven<Outcome>,
 ) -> Result<(), OutOfMemory>
     ensures { OnOk result (string_bytes text.new
-        ≡ string_bytes text.old ++ end_text number command.now end.now) }
+        ≡ string_bytes text.old ++ end_text number command.now came.now) }
 {
     let name = command_name(command);
     write!(text, "0.{number}\t{name}\t")?;
-    print_outcome(text, end)
+    print_result(text, came)
+}
+
+/// Adds how a command came out: its end, or that it was stopped.
+#[tactic(auto, unfolding(crate::specs::Ends::result_text))]
+fn print_result(text: &mut String, came: &Driven<Outcome>) -> Result<(), OutOfMemory>
+    ensures { OnOk result (string_bytes text.new ≡ string_bytes text.old ++ result_text came.now) }
+{
+    match came {
+        Driven::Done(end) => print_outcome(text, end),
+        Driven::Stopped => {
+            text.push_str("stopped\n")?;
+            Ok(())
+        }
+    }
 }
 
 /// The name of a command, as scripts and answers have it.

@@ -7,7 +7,6 @@ mod lines;
 mod notices;
 mod runner;
 mod script;
-mod steps;
 mod top;
 mod words;
 

@@ -1,85 +1,66 @@
-//! Doing jobs one after the other over a store, with every call entered in a journal.
-ghost use Rattle.std.specs.Prelude.{◌≡◌, ◌⊎◌, ◌≤◌, ℕ, Some, length, IfOk, OnErr};
-ghost use Rattle.ts_base.specs.Held.{Held};
+//! Doing jobs one after the other over a store that enters their calls in a journal.
+ghost use Rattle.std.specs.Prelude.{◌≡◌, ◌≤◌, ℕ, length, IfOk, OnErr};
 ghost use Rattle.ts_model.specs.Driving.{Ran, AllRan};
-ghost use Rattle.ts_model.specs.Fresh.{id_of, jobs_of};
-ghost use Rattle.ts_model.specs.declared.states.State.TheVariants.{Over};
+ghost use Rattle.ts_model.specs.Fresh.{id_of, job_from, jobs_of};
+ghost use Rattle.ts_top.specs.Runners.{KeepsCount};
 
-use crate::steps::{ask, begin, go};
 use std::alloc::Global;
-use ts_base::OutOfMemory;
-use ts_model::{Job, Line, Outcome, State};
-use ts_store::{Journal, Store, enter_call};
+use std::thread::Threads;
+use ts_actor::{Driven, drive};
+use ts_base::{OutOfMemory, Stop};
+use ts_model::{Job, Line, Outcome};
+use ts_store::{Recorder, Store};
+use ts_world::AnyActor;
 
-/// Does a job in a lane to its end: makes the calls that it asks for, and enters each in the
-/// journal.
-pub fn run_job<S: Store>(
+/// Does a job to its end, or to where it is stopped.
+pub(crate) fn run_job<R: Threads + Sync, S: Store>(
+    rt: &R,
     alloc: Global,
-    store: &mut S,
-    journal: &mut Journal,
-    lane: u32,
+    recorder: &mut Recorder<S>,
     job: &Job,
-) -> Outcome
-    ensures ran { (number : ℕ) (m : Held) → S.held store.old ≡ Some m → Ran number lane job.now m (S.held store.new) journal.old journal.new result }
+) -> Driven<Outcome>
+    ensures ran { (number : ℕ) → Ran number recorder.old.book.lane job.now (S.held recorder.old.store) (S.held recorder.new.store) recorder.old.book.journal recorder.new.book.journal result }
+    ensures lane { recorder.new.book.lane ≡ recorder.old.book.lane }
+    ensures counted { KeepsCount (S.faults recorder.old.store) (S.faults recorder.new.store) recorder.old.book.journal recorder.new.book.journal }
 {
-    let mut state = begin(job.command);
-    'calls: loop {
-        let Ok(asked) = ask(alloc, job, &state) else {
-            return Outcome::OutOfMemory;
-        };
-        let Some(call) = asked else {
-            return end_of(state);
-        };
-        let reply = enter_call(alloc, store, journal, lane, call);
-        let Ok(next) = go(alloc, job, state, reply) else {
-            return Outcome::OutOfMemory;
-        };
-        state = next;
-    }
+    let mut actor = AnyActor::of(*job);
+    drive(rt, alloc, &mut actor, recorder, &job.stop)
 }
 
-/// Does the commands of the lines of lane 0 one after the other, and gives the end of each.
+/// Does the commands of these lines one after the other, and gives how each came out.
 ///
-/// The memory for all ends is taken first: for want of it nothing is done.
-pub fn run_lines<S: Store>(
+/// The memory for all results is taken first: for want of it nothing is done.
+pub(crate) fn run_lines<R: Threads + Sync, S: Store>(
+    rt: &R,
     alloc: Global,
-    store: &mut S,
-    journal: &mut Journal,
+    recorder: &mut Recorder<S>,
     seed: u64,
     lines: &[Line],
-) -> Result<Vec<Outcome>, OutOfMemory>
+) -> Result<Vec<Driven<Outcome>>, OutOfMemory>
     requires { length lines.now ≤ 4096 }
-    ensures ran { IfOk result (λ ends. (m : Held) → S.held store.old ≡ Some m → AllRan 0 (jobs_of seed lines.now) m (S.held store.new) journal.old journal.new ends.items) }
-    ensures count { IfOk result (λ ends. length ends.items ≡ length lines.now) }
-    ensures short { OnErr result ((S.held store.new ≡ S.held store.old) × (journal.new ≡ journal.old)) }
+    ensures ran { IfOk result (λ results. AllRan recorder.old.book.lane (jobs_of seed lines.now) (S.held recorder.old.store) (S.held recorder.new.store) recorder.old.book.journal recorder.new.book.journal results.items) }
+    ensures count { IfOk result (λ results. length results.items ≡ length lines.now) }
+    ensures counted { KeepsCount (S.faults recorder.old.store) (S.faults recorder.new.store) recorder.old.book.journal recorder.new.book.journal }
+    ensures short { OnErr result (recorder.new ≡ recorder.old) }
 {
-    let mut ends = Vec::with_capacity(alloc, lines.len())?;
+    let mut results = Vec::with_capacity(alloc, lines.len())?;
     for (index, line) in lines.iter().enumerate() {
         let job = job_of(seed, index as u64 + 1, line);
-        let end = run_job(alloc, store, journal, 0, &job);
-        ends.push(end)?;
+        let result = run_job(rt, alloc, recorder, &job);
+        results.push(result)?;
     }
-    Ok(ends)
+    Ok(results)
 }
 
 // The job of a line of lane 0: its identifier is made of the seed, the lane and the number of the
 // command.
 fn job_of(seed: u64, number: u64, line: &Line) -> Job
-    ensures { result ≡ record { command = line.now.command; at = line.now.at; id = id_of seed 0 number } }
+    ensures { result ≡ job_from (id_of seed 0 number) line.now }
 {
     Job {
         command: line.command,
         at: line.at,
         id: (u128::from(seed) << 64) + u128::from(number),
-    }
-}
-
-// How a job that asks nothing more has ended.
-fn end_of(state: State) -> Outcome
-    ensures { (state ≡ Over result) ⊎ (result ≡ Outcome.OutOfMemory) }
-{
-    match state {
-        State::Over(end) => end,
-        _other => Outcome::OutOfMemory,
+        stop: Stop::Never,
     }
 }

@@ -1,6 +1,7 @@
 //! The top call: from words and a script to printed text and a status.
-ghost use Rattle.std.specs.Prelude.{◌≡◌, ◌⊎◌, ◌↔◌, ◌^◌, ◌≤◌, ℕ, List, [], false, true, map, length, Err, IfOk, IfErr, IsSomeAnd};
-ghost use Rattle.ts_store.specs.Counts.{Rose};
+ghost use Rattle.std.specs.Prelude.{◌≡◌, ◌⊎◌, ◌↔◌, ◌+◌, ◌^◌, ◌≤◌, ℕ, List, [], false, true, map, length, Err, IfOk, IfErr, IsSomeAnd};
+ghost use Rattle.ts_store.specs.Counts.{capped, Rose};
+ghost use Rattle.ts_store.specs.Journals.{failures};
 ghost use Rattle.ts_top.specs.Words.{job};
 ghost use Rattle.ts_top.specs.Script.{Bad, NotBuilt, AreLimited, script_of};
 ghost use Rattle.ts_top.specs.Ends.{ends_text};
@@ -13,8 +14,8 @@ use crate::script::{ScriptFault, read_script};
 use crate::words::is_job;
 use std::alloc::Global;
 use std::thread::Threads;
-use ts_model::{Line, LineList, Outcome};
-use ts_store::{InputFault, Journal, Sink, Source, Store, read_input, write_all};
+use ts_model::{Driven, Line, LineList, Outcome};
+use ts_store::{InputFault, Journal, Recorder, Sink, Source, Store, read_input, write_all};
 
 #[cfg(test)]
 mod tests;
@@ -106,11 +107,11 @@ fn prepare<I: Source>(alloc: Global, words: &[&str], input: &mut I) -> Result<Li
 
 // Prints the ends of the commands, and gives the status: 0, or 5 where the sink fails, or 7 for
 // want of memory.
-fn print_all<O: Sink>(alloc: Global, out: &mut O, lines: &[Line], ends: &[Outcome]) -> u8
-    requires { length lines.now ≡ length ends.now }
-    ensures { PrintsEnds (record { old = O.contents out.old; new = O.contents out.new; before = O.faults out.old; now = O.faults out.new }) (ends_text lines.now ends.now) result }
+fn print_all<O: Sink>(alloc: Global, out: &mut O, lines: &[Line], results: &[Driven<Outcome>]) -> u8
+    requires { length lines.now ≡ length results.now }
+    ensures { PrintsEnds (record { old = O.contents out.old; new = O.contents out.new; before = O.faults out.old; now = O.faults out.new }) (ends_text lines.now results.now) result }
 {
-    let Ok(text) = print_ends(alloc, lines, ends) else {
+    let Ok(text) = print_ends(alloc, lines, results) else {
         return 7;
     };
     match write_all(out, text.as_bytes()) {
@@ -120,7 +121,8 @@ fn print_all<O: Sink>(alloc: Global, out: &mut O, lines: &[Line], ends: &[Outcom
 }
 
 // Does the commands of a script over a store, and prints their ends.
-fn play<S: Store, O: Sink>(
+fn play<R: Threads + Sync, S: Store, O: Sink>(
+    rt: &R,
     alloc: Global,
     seed: u64,
     store: S,
@@ -128,18 +130,23 @@ fn play<S: Store, O: Sink>(
     lines: &[Line],
 ) -> Ran<S>
     requires { AreLimited lines.now }
-    ensures { (words : List (List ℕ)) (input : Stream) → Plays (record { words = words; seed = seed; input = input; out = record { old = O.contents out.old; new = O.contents out.new; before = O.faults out.old; now = O.faults out.new }; held = S.held store; later = S.held result.store; status = result.status; journal = result.journal }) lines.now }
+    ensures plays { (words : List (List ℕ)) (input : Stream) → Plays (record { words = words; seed = seed; input = input; out = record { old = O.contents out.old; new = O.contents out.new; before = O.faults out.old; now = O.faults out.new }; held = S.held store; later = S.held result.store; status = result.status; journal = result.journal }) lines.now }
+    ensures known { (result.status ≡ 0) ⊎ (result.status ≡ 5) ⊎ (result.status ≡ 7) }
+    ensures counted { capped (S.faults store + failures result.journal) ≤ S.faults result.store }
 {
-    let mut store = store;
-    let mut journal = Journal::new(alloc);
-    let Ok(ends) = run_lines(alloc, &mut store, &mut journal, seed, lines) else {
-        return Ran {
-            status: 7,
-            store,
-            journal,
-        };
+    let mut recorder = Recorder::new(store, Journal::new(alloc), 0);
+    let Ok(results) = run_lines(rt, alloc, &mut recorder, seed, lines) else {
+        return left_by(recorder, 7);
     };
-    let status = print_all(alloc, out, lines, ends.as_slice());
+    let status = print_all(alloc, out, lines, results.as_slice());
+    left_by(recorder, status)
+}
+
+// What a run leaves that ends with this status.
+fn left_by<S: Store>(recorder: Recorder<S>, status: u8) -> Ran<S>
+    ensures { result ≡ record { status = status; store = recorder.store; journal = recorder.book.journal } }
+{
+    let (store, journal) = recorder.into_parts();
     Ran {
         status,
         store,
@@ -148,7 +155,8 @@ fn play<S: Store, O: Sink>(
 }
 
 // The run, with all that is seen of it.
-fn run_seen<S: Store, I: Source, O: Sink>(
+fn run_seen<R: Threads + Sync, S: Store, I: Source, O: Sink>(
+    rt: &R,
     alloc: Global,
     words: &[&str],
     seed: u64,
@@ -156,7 +164,7 @@ fn run_seen<S: Store, I: Source, O: Sink>(
     input: &mut I,
     out: &mut O,
 ) -> Ran<S>
-    ensures { IsRunOf (record {
+    ensures run { IsRunOf (record {
       words = map (λ word. word.now) words.entry.now;
       seed = seed;
       input = record { old = I.left input.old; new = I.left input.new; before = I.faults input.old; now = I.faults input.new };
@@ -166,9 +174,11 @@ fn run_seen<S: Store, I: Source, O: Sink>(
       status = result.status;
       journal = result.journal;
     }) }
+    ensures untouched { (result.status ≡ 2) ⊎ (result.status ≡ 3) ⊎ (result.status ≡ 4) ⊎ (result.status ≡ 8) → result.store ≡ store }
+    ensures counted { capped (S.faults store + failures result.journal) ≤ S.faults result.store }
 {
     match prepare(alloc, words, input) {
-        Ok(lines) => play(alloc, seed, store, out, lines.as_slice()),
+        Ok(lines) => play(rt, alloc, seed, store, out, lines.as_slice()),
         Err(stop) => {
             print_stop(out, stop);
             Ran {
@@ -191,7 +201,7 @@ fn run_seen<S: Store, I: Source, O: Sink>(
 /// of every command which calls it made, how it ended, and that a read shows of each cell the last
 /// write, in the order of timestamp and identifier, among those stamped up to its own end.
 pub fn run<R: Threads + Sync, S: Store, I: Source, O: Sink>(
-    _rt: &R,
+    rt: &R,
     alloc: Global,
     words: &[&str],
     seed: u64,
@@ -210,6 +220,9 @@ pub fn run<R: Threads + Sync, S: Store, I: Source, O: Sink>(
       journal = result.journal;
     }) }
 
+    // Each call of the journal that failed was counted by the store.
+    ensures counted { capped (S.faults store + failures result.journal) ≤ S.faults result.store }
+
     // Each status, with where it comes.
     ensures usage { (result.status ≡ 2) ↔ (job (map (λ word. word.now) words.entry.now) ≡ false) }
     ensures bad_script { result.status ≡ 3 → (n : ℕ) × Means (I.left input.old) (Err (Bad n)) }
@@ -222,7 +235,7 @@ pub fn run<R: Threads + Sync, S: Store, I: Source, O: Sink>(
     ensures write_fault { result.status ≡ 5 → Rose (O.faults out.old) (O.faults out.new) }
 
     // Without a command no call is made of the store.
-    ensures untouched { (result.status ≡ 2) ⊎ (result.status ≡ 3) ⊎ (result.status ≡ 4) ⊎ (result.status ≡ 8) → (result.journal ≡ []) × (S.held result.store ≡ S.held store) }
+    ensures untouched { (result.status ≡ 2) ⊎ (result.status ≡ 3) ⊎ (result.status ≡ 4) ⊎ (result.status ≡ 8) → (result.journal ≡ []) × (result.store ≡ store) }
 {
-    run_seen(alloc, words, seed, store, input, out)
+    run_seen(rt, alloc, words, seed, store, input, out)
 }

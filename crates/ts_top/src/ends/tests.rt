@@ -1,7 +1,7 @@
 use super::print_ends;
 use std::test::Fail;
 use ts_base::{CommitKind, FragKey, Name, Part, Place, Prefix};
-use ts_model::{Answer, Command, Line, Outcome, Pair, PairList, Refusal};
+use ts_model::{Answer, Command, Driven, Line, Outcome, Pair, PairList, Refusal};
 
 const WRITE: Line = Line {
     command: Command::Write { x: 5, v: 10 },
@@ -32,11 +32,11 @@ fn prints_a_write_and_a_read(rt: HostRuntime) -> Result<(), Fail> {
         v: -9223372036854775808,
     })?;
     let ends = [
-        Outcome::Written(frag(1)),
-        Outcome::Read(Answer { rows }),
-        Outcome::Read(Answer {
+        Driven::Done(Outcome::Written(frag(1))),
+        Driven::Done(Outcome::Read(Answer { rows })),
+        Driven::Done(Outcome::Read(Answer {
             rows: PairList::new(alloc),
-        }),
+        })),
     ];
     let text = print_ends(alloc, &[WRITE, READ, READ], &ends)?;
     assert_eq!(rt;
@@ -51,21 +51,31 @@ fn prints_a_write_and_a_read(rt: HostRuntime) -> Result<(), Fail> {
     Ok(())
 }
 
+fn refused(why: Refusal) -> Driven<Outcome> {
+    Driven::Done(Outcome::Refused(why))
+}
+
 #[test]
-fn prints_why_a_command_was_refused(rt: HostRuntime) -> Result<(), Fail> {
+fn prints_why_a_command_has_no_answer(rt: HostRuntime) -> Result<(), Fail> {
     let alloc = rt.alloc();
     let part = Name::Part(frag(0x7f), Part::Plain);
     let commit = Name::Commit(frag(1), CommitKind::Wrt);
     let ends = [
-        Outcome::Refused(Refusal::Domain { dim: 0, value: -1 }),
-        Outcome::Refused(Refusal::Taken(part)),
-        Outcome::Refused(Refusal::StoreFault(Place::Name(commit))),
-        Outcome::Refused(Refusal::StoreFault(Place::Prefix(Prefix::Commits))),
-        Outcome::Refused(Refusal::Damaged { name: part, at: 14 }),
-        Outcome::Refused(Refusal::Missing(part)),
-        Outcome::OutOfMemory,
+        refused(Refusal::Domain { dim: 0, value: -1 }),
+        refused(Refusal::Taken(part)),
+        refused(Refusal::StoreFault(Place::Name(commit))),
+        refused(Refusal::StoreFault(Place::Prefix(Prefix::Commits))),
+        refused(Refusal::Damaged { name: part, at: 14 }),
+        refused(Refusal::Missing(part)),
+        Driven::Done(Outcome::OutOfMemory),
+        Driven::Stopped,
+        Driven::Stopped,
     ];
-    let text = print_ends(alloc, &[WRITE, WRITE, WRITE, READ, READ, READ, READ], &ends)?;
+    let text = print_ends(
+        alloc,
+        &[WRITE, WRITE, WRITE, READ, READ, READ, READ, WRITE, READ],
+        &ends,
+    )?;
     assert_eq!(rt;
         text.as_str(),
         "0.1\twrite\trefused\tDomain\t0\t-1\n\
@@ -74,7 +84,9 @@ fn prints_why_a_command_was_refused(rt: HostRuntime) -> Result<(), Fail> {
         0.4\tread\trefused\tStoreFault\t__commits/\n\
         0.5\tread\trefused\tDamaged\t__fragments/__1_1_0000000000000000000000000000007f_1/plain.tdb\t14\n\
         0.6\tread\trefused\tMissing\t__fragments/__1_1_0000000000000000000000000000007f_1/plain.tdb\n\
-        0.7\tread\tmemory\n"
+        0.7\tread\tmemory\n\
+        0.8\twrite\tstopped\n\
+        0.9\tread\tstopped\n"
     );
     Ok(())
 }

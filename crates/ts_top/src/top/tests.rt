@@ -1,10 +1,13 @@
 //! Scripts with what they print, worked by hand, and many more against a plain list of writes.
 
+ghost use Rattle.std.specs.Prelude.{◌≡◌};
+ghost use Rattle.ts_base.specs.Names.{IsSpelled};
+
 use super::{Ran, run};
 use std::alloc::{AllocError, Global};
 use std::test::Fail;
 use std::thread::Threads;
-use ts_base::ByteList;
+use ts_base::{ByteList, CommitKind, FragKey, Name, Part};
 use ts_store::{Call, Fault, FaultList, Journal, MemSink, MemSource, MemStore};
 
 /// The write of row 1: at 1, the value 10 at the coordinate 5.
@@ -22,15 +25,15 @@ struct Shown {
     journal: Journal,
 }
 
-// Plays a script over an empty store.
+// Plays a script over a store.
 fn play<R: Threads + Sync + AllocGlobal>(
     rt: &R,
     script: &str,
+    store: MemStore,
     reads: FaultList,
     writes: FaultList,
 ) -> Result<Shown, Fail> {
     let alloc = rt.alloc();
-    let store = MemStore::new(alloc, FaultList::new(alloc));
     let mut input = MemSource::new(ByteList::of_bytes(alloc, script.as_bytes())?, reads);
     let mut out = MemSink::new(alloc, writes);
     let Ran {
@@ -48,17 +51,54 @@ fn play<R: Threads + Sync + AllocGlobal>(
 // Plays a script over an empty store and streams without faults.
 fn play_well<R: Threads + Sync + AllocGlobal>(rt: &R, script: &str) -> Result<Shown, Fail> {
     let alloc = rt.alloc();
-    play(rt, script, FaultList::new(alloc), FaultList::new(alloc))
+    play_over(rt, script, MemStore::new(alloc, FaultList::new(alloc)))
 }
 
-// A plan by which the first call fails.
-fn first_fails(alloc: Global) -> Result<FaultList, Fail> {
+// Plays a script over a store, and streams without faults.
+fn play_over<R: Threads + Sync + AllocGlobal>(
+    rt: &R,
+    script: &str,
+    store: MemStore,
+) -> Result<Shown, Fail> {
+    let alloc = rt.alloc();
+    play(
+        rt,
+        script,
+        store,
+        FaultList::new(alloc),
+        FaultList::new(alloc),
+    )
+}
+
+// A plan by which one call fails.
+fn fails_at(alloc: Global, call: u64, whole: bool) -> Result<FaultList, Fail> {
     let mut plan = FaultList::new(alloc);
-    plan.push(Fault {
-        call: 0,
-        whole: false,
-    })?;
+    plan.push(Fault { call, whole })?;
     Ok(plan)
+}
+
+// The fragment of one write with the timestamp 1.
+fn frag(id: u128) -> FragKey
+    ensures { (result.t1 ≡ 1) × (result.t2 ≡ 1) × (result.v ≡ 1) × (result.id ≡ id) }
+{
+    FragKey {
+        t1: 1,
+        t2: 1,
+        id,
+        v: 1,
+    }
+}
+
+fn part(id: u128) -> Name
+    ensures { IsSpelled result }
+{
+    Name::Part(frag(id), Part::Plain)
+}
+
+fn wrt(id: u128) -> Name
+    ensures { IsSpelled result }
+{
+    Name::Commit(frag(id), CommitKind::Wrt)
 }
 
 #[test]
@@ -130,7 +170,8 @@ fn failing_streams_lose_nothing(rt: HostRuntime) -> Result<(), Fail> {
     let unread = play(
         &rt,
         script.as_str(),
-        first_fails(alloc)?,
+        MemStore::new(alloc, FaultList::new(alloc)),
+        fails_at(alloc, 0, false)?,
         FaultList::new(alloc),
     )?;
     assert_eq!(rt; unread.status, 4);
@@ -140,12 +181,67 @@ fn failing_streams_lose_nothing(rt: HostRuntime) -> Result<(), Fail> {
     let unprinted = play(
         &rt,
         script.as_str(),
+        MemStore::new(alloc, FaultList::new(alloc)),
         FaultList::new(alloc),
-        first_fails(alloc)?,
+        fails_at(alloc, 0, false)?,
     )?;
     assert_eq!(rt; unprinted.status, 5);
     assert_eq!(rt; unprinted.printed.len(), 0);
     assert_eq!(rt; unprinted.journal.len(), 4);
+    Ok(())
+}
+
+#[test]
+fn a_failed_commit_is_refused_and_may_show(rt: HostRuntime) -> Result<(), Fail> {
+    let alloc = rt.alloc();
+    let script = format!(in alloc; "{WRITE}{READ}")?;
+    for (whole, read) in [(true, "1\t0\n5\t10\n"), (false, "0\t0\n")] {
+        let store = MemStore::new(alloc, fails_at(alloc, 1, whole)?);
+        let shown = play_over(&rt, script.as_str(), store)?;
+        let text = format!(in alloc;
+            "0.1\twrite\trefused\tStoreFault\t__commits/__1_1_00000000000000000000000000000001_1.wrt\n0.2\tread\tok\t{read}"
+        )?;
+        assert_eq!(rt; shown.status, 0);
+        assert_eq!(rt; shown.printed.as_slice(), text.as_bytes());
+    }
+    Ok(())
+}
+
+#[test]
+fn objects_that_are_not_as_a_write_leaves_them_are_refused(rt: HostRuntime) -> Result<(), Fail> {
+    let alloc = rt.alloc();
+    let rows = [
+        (
+            [true, false, false],
+            READ,
+            "0.1\tread\trefused\tMissing\t__fragments/__1_1_00000000000000000000000000000007_1/plain.tdb\n",
+        ),
+        (
+            [true, true, false],
+            READ,
+            "0.1\tread\trefused\tDamaged\t__fragments/__1_1_00000000000000000000000000000007_1/plain.tdb\t0\n",
+        ),
+        (
+            [false, false, true],
+            WRITE,
+            "0.1\twrite\trefused\tTaken\t__fragments/__1_1_00000000000000000000000000000001_1/plain.tdb\n",
+        ),
+    ];
+    for ([committed, parted, taken], script, text) in rows {
+        let mut store = MemStore::new(alloc, FaultList::new(alloc));
+        if committed {
+            store.plant(wrt(7), ByteList::new(alloc))?;
+        }
+        if parted {
+            store.plant(part(7), ByteList::new(alloc))?;
+        }
+        if taken {
+            store.plant(part(1), ByteList::new(alloc))?;
+        }
+        let shown = play_over(&rt, script, store)?;
+        assert_eq!(rt; shown.status, 0);
+        assert_eq!(rt; shown.printed.as_slice(), text.as_bytes());
+    }
     Ok(())
 }
 

@@ -4,4 +4,4 @@ use Rattle.ts_top.proofs.ends.print_ends.Given as goal
 
 abbrev pub invariant-loop-index : goal.invariant-loop-index
 invariant-loop-index l =
-    string_bytes l.text ++ texts_from (l.index + 1) (drop l.index l.lines) (drop l.index l.ends) ≡ ends_text l.lines l.ends
+    string_bytes l.text ++ texts_from (l.index + 1) (drop l.index l.lines) (drop l.index l.results) ≡ ends_text l.lines l.results

@@ -1,14 +1,16 @@
-use Rattle.std.proofs.Common.{◌≡◌, ◌≤◌, Some, take, length}
+use Rattle.std.proofs.Common.{◌≡◌, ◌≤◌, take, length}
 use Rattle.std.specs.Prelude.{vec_len, vec_capacity}
-use Rattle.ts_base.specs.Held.{Held}
 use Rattle.ts_model.specs.Driving.{AllRan}
 use Rattle.ts_model.specs.Fresh.{jobs_of}
+use Rattle.ts_top.specs.Runners.{KeepsCount}
 use Rattle.ts_top.proofs.runner.run_lines.Given as goal
 
--- the jobs of the lines so far were done, and there is room for the ends of the others
+-- the jobs of the lines so far were done, and there is room for the results of the others
 abbrev pub invariant-loop-index : goal.invariant-loop-index
 invariant-loop-index g l = record {
-  ran : (m : Held) → g.S.Store.held l.fn.store ≡ Some m → AllRan 0 (jobs_of l.seed (take l.index l.lines)) m (g.S.Store.held l.store) l.fn.journal l.journal l.ends.items;
-  count : vec_len l.ends ≡ l.index;
-  room : length l.lines ≤ vec_capacity l.ends;
+  ran : AllRan l.fn.recorder.book.lane (jobs_of l.seed (take l.index l.lines)) (g.S.Store.held l.fn.recorder.store) (g.S.Store.held l.recorder.store) l.fn.recorder.book.journal l.recorder.book.journal l.results.items;
+  lane : l.recorder.book.lane ≡ l.fn.recorder.book.lane;
+  counted : KeepsCount (g.S.Store.faults l.fn.recorder.store) (g.S.Store.faults l.recorder.store) l.fn.recorder.book.journal l.recorder.book.journal;
+  count : vec_len l.results ≡ l.index;
+  room : length l.lines ≤ vec_capacity l.results;
 }
