@@ -1,0 +1,9 @@
+pub mod Children
+pub mod Pairs
+pub mod PickLemmas
+pub mod Texts
+pub mod Words
+pub mod ScanLaws
+pub mod Outer
+pub mod GrammarLaws
+pub mod GrammarReads

@@ -1,0 +1,11 @@
+pub mod Codes
+pub mod Grammar
+pub mod Holds
+pub mod Machine
+pub mod Picks
+pub mod Seen
+pub mod Spelled
+pub mod States
+pub mod Tests
+pub mod Tokens
+pub mod Views
