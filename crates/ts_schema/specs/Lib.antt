@@ -3,4 +3,6 @@ pub mod BrokenSchemas
 pub mod Evolutions
 pub mod Faults
 pub mod FrameTexts
+pub mod Parts
 pub mod SchemaTexts
+pub mod Wants

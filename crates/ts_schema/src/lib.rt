@@ -13,17 +13,22 @@ mod schema_reading;
 mod schema_writing;
 mod schemas;
 mod showing;
+mod spelling;
 #[cfg(test)]
 mod tests;
 mod there;
 mod types;
+mod wants;
 
 pub use attrs::{Attr, AttrList};
+pub use checking::schema_fault;
 pub use evolution::Evolution;
 pub use faults::SchemaFault;
 pub use frames::Frame;
 pub use schemas::{Schema, SchemaList};
 pub use showing::show_row;
+pub use spelling::Spelling;
 pub use there::schema_at;
 pub use ts_base::LabelList;
 pub use ts_domain::Order;
+pub use wants::{Want, taken};
