@@ -2,8 +2,10 @@ pub mod Corners
 pub mod Insides
 pub mod KeyLemmas
 pub mod MergeLaws
+pub mod MergeAllLaws
 pub mod MergeSteps
 pub mod Places
+pub mod OrderedPieces
 pub mod PlainExact
 pub mod PlainPieces
 pub mod WrittenPieces

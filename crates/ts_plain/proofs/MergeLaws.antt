@@ -53,23 +53,29 @@ module _ (cmp : Order) (total : IsTotalOrder cmp) where
 
   -- ---- the merged list climbs
 
-  newer_above : (u : List ℤ) (v w : Version) → cmp u v.coords ≡ Less → cmp u w.coords ≡ Less → cmp u (newer v w).coords ≡ Less
-  newer_above u v w a b = by_test (key_lt v.key w.key)
+  -- what holds of two versions holds of the newer one
+  newer_all : (P : Version → Type 0) (v w : Version) → P v → P w → P (newer v w)
+  newer_all P v w a b = by_test (key_lt v.key w.key)
     where
-      by_test : (t : Bool) → cmp u (cond t w v).coords ≡ Less
+      by_test : (t : Bool) → P (cond t w v)
       by_test true = b
       by_test false = a
 
-  merged_above : (u : List ℤ) (vs ws : List Version) → Above cmp u vs → Above cmp u ws → Above cmp u (merged cmp vs ws)
-  merged_above u [] ws a b = b
-  merged_above u (v ∷ vs) [] a b = a
-  merged_above u (v ∷ vs) (w ∷ ws) a b = by_order (merged_above u vs (w ∷ ws) a.1 b) (merged_above u (v ∷ vs) ws a b.1) (merged_above u vs ws a.1 b.1) (cmp v.coords w.coords)
+  -- what holds of each version of two lists holds of those of the merged list
+  pub merged_all : (P : Version → Type 0) (vs ws : List Version) → AllByRecursion P vs → AllByRecursion P ws → AllByRecursion P (merged cmp vs ws)
+  merged_all P [] ws a b = b
+  merged_all P (v ∷ vs) [] a b = a
+  merged_all P (v ∷ vs) (w ∷ ws) a b = by_order (merged_all P vs (w ∷ ws) a.1 b) (merged_all P (v ∷ vs) ws a b.1) (merged_all P vs ws a.1 b.1) (cmp v.coords w.coords)
     where
-      by_order : Above cmp u (merged cmp vs (w ∷ ws)) → Above cmp u (merged cmp (v ∷ vs) ws) → Above cmp u (merged cmp vs ws)
-          → (o : Ordering) → Above cmp u (chosen o v w (merged cmp vs (w ∷ ws)) (merged cmp (v ∷ vs) ws) (merged cmp vs ws))
+      by_order : AllByRecursion P (merged cmp vs (w ∷ ws)) → AllByRecursion P (merged cmp (v ∷ vs) ws) → AllByRecursion P (merged cmp vs ws)
+          → (o : Ordering) → AllByRecursion P (chosen o v w (merged cmp vs (w ∷ ws)) (merged cmp (v ∷ vs) ws) (merged cmp vs ws))
       by_order first second both Less = (a.0, first)
       by_order first second both Greater = (b.0, second)
-      by_order first second both Equal = (newer_above u v w a.0 b.0, both)
+      by_order first second both Equal = (newer_all P v w a.0 b.0, both)
+
+  -- what comes behind a place in both lists does so in the merged list
+  merged_above : (u : List ℤ) (vs ws : List Version) → Above cmp u vs → Above cmp u ws → Above cmp u (merged cmp vs ws)
+  merged_above u vs ws a b = merged_all (λ (w : Version). cmp u w.coords ≡ Less) vs ws a b
 
   pub merged_climbs : (vs ws : List Version) → Climbs cmp vs → Climbs cmp ws → Climbs cmp (merged cmp vs ws)
   merged_climbs [] ws a b = b

@@ -133,7 +133,7 @@ piece_only frame attrs piece frag object result named is h =
     answered (plain_piece frame attrs frag object) piece result (ap (λ f. plain_piece frame attrs f object) (sym named) ∙ piece_again frame attrs piece object is) h
 
 -- the head of what is spelled is read
-head_again : (frame : Frame) (attrs : List Attr) (p : Piece) (bytes : List ℕ) → IsPlainObject frame attrs p bytes → plain_head frame p.head.frag bytes ≡ Ok p.head
+pub head_again : (frame : Frame) (attrs : List Attr) (p : Piece) (bytes : List ℕ) → IsPlainObject frame attrs p bytes → plain_head frame p.head.frag bytes ≡ Ok p.head
 unfolding plain_head piece_of
 head_again frame attrs p bytes is =
     let frag = p.head.frag in

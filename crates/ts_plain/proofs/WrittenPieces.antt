@@ -44,7 +44,7 @@ less_from Equal h = absurd (cc)
 less_from Greater h = absurd (cc)
 
 -- the last of a list that was lengthened
-last_pushed : {X : Type 0} (front : List X) (x : X) → last_of (front ++ x ∷ []) ≡ Some x
+pub last_pushed : {X : Type 0} (front : List X) (x : X) → last_of (front ++ x ∷ []) ≡ Some x
 last_pushed front x =
     let count : length (front ++ x ∷ []) - 1 ≡ length front = omega (arith, length-append front (x ∷ [])) in
     let room : length front < length (front ++ x ∷ []) = omega (arith, length-append front (x ∷ [])) in
@@ -73,7 +73,7 @@ module _ (frag : FragKey) (count : ℕ) where
   many_ascend front (x ∷ xs) fits = (below_all x x (front ++ x ∷ []) xs (last_pushed front x) (λ y up. up) fits.1, many_ascend (front ++ x ∷ []) xs fits.1)
 
 -- the origins of a fragment ascend
-origins_ascend : (frag : FragKey) (consolidated : Bool) (origins : List Key) → IsTrue (may_count consolidated (length origins))
+pub origins_ascend : (frag : FragKey) (consolidated : Bool) (origins : List Key) → IsTrue (may_count consolidated (length origins))
     → InTurn (FitsOrigin frag consolidated (length origins)) [] origins → IsStrictlySortedBy key_cmp origins
 unfolding IsStrictlySortedBy
 origins_ascend frag true origins some fits = many_ascend frag (length origins) [] origins fits

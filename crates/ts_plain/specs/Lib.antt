@@ -3,5 +3,4 @@ pub mod Merges
 pub mod Pieces
 pub mod Plain
 pub mod Rules
-pub mod Wants
 pub mod Writes

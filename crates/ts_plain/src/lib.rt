@@ -8,11 +8,10 @@ mod rules;
 mod stored;
 #[cfg(test)]
 mod tests;
-mod wants;
 mod writing;
 
-pub use merging::merge_two;
+pub use merging::{merge_all, merge_two, newest_alone};
 pub use reading::{read_head, read_plain};
 pub use stored::{Side, SideList, StoredCell, StoredCellList, StoredHead, StoredPiece};
-pub use wants::{Want, taken};
+pub use ts_schema::{Want, taken};
 pub use writing::{parts_spell_one_piece, spelled_pieces_can_be_written, write_plain};

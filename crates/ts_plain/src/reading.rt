@@ -11,6 +11,7 @@ ghost use Rattle.ts_plain.specs.Rules.{side_of, from_on, last_of};
 ghost use Rattle.ts_plain.specs.Plain.{dense_at, consolidated_at, coord_at, side_at, hull_at, cells_at, origin_count_at, origin_at, origins_at, head_at, coords_at, index_at, value_at, row_at, cell_at, plain_at, plain_stored, head_stored};
 ghost use Rattle.ts_plain.specs.Pieces.{plain_piece, plain_head, IsPlainObject, BreaksSo};
 ghost use Rattle.ts_plain.specs.Writes.{NamesWrites};
+ghost use Rattle.ts_plain.specs.Merges.{IsOrdered};
 ghost use Rattle.ts_plain.specs.Insides.{IsSide, IsHull, IsInside};
 
 use crate::pieces::{head_of, piece_of};
@@ -419,6 +420,7 @@ fn read_piece_head(
 /// object's start, is that of the first field in the order of the layout that the object ends within
 /// or that breaks its rule. A body that goes on after its layout is broken at the first byte too
 /// many; an object that is cut behind its first 14 bytes is broken at 6, where its length stands.
+/// The versions of a piece stand in global order, those of one cell by ascending key.
 pub fn read_plain(
     alloc: Global,
     frame: &Frame,
@@ -430,6 +432,7 @@ pub fn read_plain(
     ensures found { IfOk result (λ piece. IsPlainObject frame.now schema.now.attrs piece object.now × (piece.head.frag ≡ frag)) }
     ensures only { (piece : AnyPiece) → piece.head.frag ≡ frag → IsPlainObject frame.now schema.now.attrs piece object.now → IsRead (λ found. found) piece result }
     ensures names { IfOk result NamesWrites }
+    ensures ordered { IfOk result (λ piece. IsOrdered frame.now piece.versions) }
 {
     read_piece(alloc, frame, schema.attrs.as_slice(), frag, object)
 }

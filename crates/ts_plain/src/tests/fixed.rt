@@ -1,9 +1,13 @@
 //! Objects of an array of one dimension from 0 to 9 and one attribute of 64-bit integers.
+ghost use Rattle.std.specs.Prelude.{IfOk};
+ghost use Rattle.std.specs.List.{All};
+ghost use Rattle.ts_plain.specs.Merges.{global_order, LiesInside, Ascends};
+
 use super::{Change, broken_at, read_at};
-use crate::{Want, read_head, read_plain, taken, write_plain};
+use crate::{Want, merge_all, read_head, read_plain, taken, write_plain};
 use std::alloc::Global;
 use std::test::Fail;
-use ts_base::{Coords, FragKey, IndexList, Key, Label, Val, ValType};
+use ts_base::{Coords, FragKey, IndexList, Key, Label, Row, Val, ValType, Version, VersionList};
 use ts_domain::{Dim, Domain, Order, SubBox};
 use ts_schema::{Attr, AttrList, Frame, Schema};
 
@@ -250,5 +254,40 @@ fn a_piece_is_read_and_written_back_and_taken_from(rt: HostRuntime) -> Result<()
     let found = taken(alloc, &want, piece.versions.as_slice())?;
     assert_eq!(rt; found.len(), 1);
     assert_eq!(rt; found.at(0).row.as_slice(), [Val::Int(20)].as_slice());
+    Ok(())
+}
+
+// A list of one version, of the write with this timestamp, at a coordinate of the domain.
+fn alone(alloc: Global, frame: &Frame, t: u64, x: i128) -> Result<VersionList, Fail>
+    ensures inside { IfOk result (All (LiesInside frame.now)) }
+    ensures ascends { IfOk result (Ascends (global_order frame.now)) }
+{
+    let coords = Coords::new(&[x]);
+    if frame.domain.count() != 1 || frame.domain.check(&coords).is_err() {
+        return Err(Fail::from("outside"));
+    }
+    let mut list = VersionList::new(alloc);
+    list.push(Version {
+        key: Key { t, id: 0 },
+        schema: Key { t: 0, id: 0 },
+        coords,
+        row: Row::new(alloc),
+    })?;
+    Ok(list)
+}
+
+#[test]
+fn the_newest_version_of_each_place_is_left(rt: HostRuntime) -> Result<(), Fail> {
+    let alloc = rt.alloc();
+    let frame = frame(false)?;
+    let lists = [
+        alone(alloc, &frame, 1, 5)?,
+        alone(alloc, &frame, 3, 5)?,
+        alone(alloc, &frame, 2, 4)?,
+    ];
+    let merged = merge_all(alloc, &frame, &lists)?;
+    assert_eq!(rt; merged.len(), 2);
+    assert_eq!(rt; merged.at(0).key, Key { t: 2, id: 0 });
+    assert_eq!(rt; merged.at(1).key, Key { t: 3, id: 0 });
     Ok(())
 }

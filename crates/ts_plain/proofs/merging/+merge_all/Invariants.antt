@@ -1,0 +1,6 @@
+-- Each half is shorter than the whole.
+use Rattle.std.proofs.Common.{length}
+use Rattle.ts_plain.proofs.merging.+merge_all.Given as goal
+
+abbrev pub decreases-merge_all : goal.decreases-merge_all
+decreases-merge_all l = length l.lists.now
