@@ -16,7 +16,8 @@ use Rattle.ts_model.specs.declared.answers.Outcome.{Outcome}
 use Rattle.ts_model.specs.declared.states.State.{State}
 use Rattle.ts_model.specs.States.{Exchange, asks, begun, state_of}
 use Rattle.ts_model.specs.Stops.{Uncut}
-use Rattle.ts_model.specs.Told.{Told, trace_of, Suits, IsReplied, Replied, after_told, held_told, changes, only_lane, entry_of, entries_of}
+use Rattle.ts_model.specs.Forms.{Forms}
+use Rattle.ts_model.specs.Told.{Told, IsShortCall, trace_of, Suits, IsReplied, Replied, after_told, held_told, changes, only_lane, entry_of, entries_of}
 use Rattle.ts_model.specs.declared.commands.Line.{Line}
 use Rattle.ts_model.specs.Fresh.{job_from, jobs_from, jobs_of, id_of}
 use Rattle.std.proofs.lemmas.List.{take_more, length-take}
@@ -25,6 +26,7 @@ use Rattle.ts_model.specs.Driving.{Leaves, RanTo, Ran, AllRan}
 use Rattle.ts_model.proofs.Asked.{asked-push}
 use Rattle.ts_model.proofs.Traces.{held_told-append, trace_of-own, state_from-append}
 
+-- one more call is replied to over what those before it left
 replied-push : (m : Held) (told : List Told) (e : Told) → Replied m told → IsReplied (held_told m told) e → Replied m (told ++ e ∷ [])
 replied-push m [] e r q = (q, tt)
 replied-push m (d ∷ told) e r q = (r.0, replied-push (after_told m d) told e r.1 q)
@@ -38,6 +40,7 @@ changed_at (Some m) c fate r = cond (is_no_memory r) false (changes m c fate)
 abbrev pub told_as : ℕ → Option Held → Call → Fate → Reply → Told
 told_as number now c fate r = record { job = Some number; call = c; fate = fate; reply = r; changed = changed_at now c fate r }
 
+-- a call on what is held is replied to, and leaves what it does to it
 step_replied : (number : ℕ) (m : Held) (c : Call) (fate : Fate) (r : Reply) (later : Option Held) (b : Bool) → is_no_memory r ≡ b → Steps b m later fate c r → IsReplied m (record { job = Some number; call = c; fate = fate; reply = r; changed = cond b false (changes m c fate) }) × (later ≡ Some (cond b m (after m c fate)))
 step_replied number m c fate r later true is steps = (inl (is, refl), steps)
 step_replied number m c fate r later false is steps = (inr (steps.1, refl), steps.0)
@@ -54,10 +57,12 @@ leaves-push number m now later told c fate r leaves steps =
       held = done.1 ∙ ap Some (sym (held_told-append m told (told_as number (Some here) c fate r ∷ [])));
     })
 
+-- so it is over a store that may tell what it holds
 over-push : (number : ℕ) (held now later : Option Held) (told : List Told) (c : Call) (fate : Fate) (r : Reply) → IfSome held (λ m. Leaves m now told) → IfSome now (λ h. Steps (is_no_memory r) h later fate c r) → IfSome held (λ m. Leaves m later (told ++ told_as number now c fate r ∷ []))
 over-push number None now later told c fate r leaves steps = tt
 over-push number (Some m) now later told c fate r leaves steps = leaves-push number m now later told c fate r leaves steps
 
+-- the journal has the entry of one more call
 entered : (number lane : ℕ) (now : Option Held) (c : Call) (fate : Fate) (r : Reply) (before after_ : List Entry) (told : List Told) (journal : List Entry) (b : Bool) → is_no_memory r ≡ b → journal ≡ before ++ entries_of (only_lane lane) told → EntersIf b journal after_ (entry lane c fate) → after_ ≡ before ++ entries_of (only_lane lane) (told ++ told_as number now c fate r ∷ [])
 entered number lane now c fate r before after_ told journal b is q enters =
     by_case b is enters ∙ sym (ap (λ es. before ++ es) (filter_map-append (entry_of (only_lane lane)) told (told_as number now c fate r ∷ [])))
@@ -73,26 +78,26 @@ entered number lane now c fate r before after_ told journal b is q enters =
         some e = rw e refl
 
 -- a job that has made these calls makes the one that it asks after them
-pub ran-step : (number lane : ℕ) (job : Job) (held now later : Option Held) (before journal after_ : List Entry) (trace : List Exchange) (c : Call) (fate : Fate) (r : Reply)
-    → RanTo number lane job held now before journal trace → asks job (state_of job trace) ≡ Some c → FitsCall c r → Answers now later fate c r → Enters journal after_ lane c fate r
-    → RanTo number lane job held later before after_ (trace ++ record { call = c; reply = r } ∷ [])
-ran-step number lane job held now later before journal after_ trace c fate r ran asks_it fits answers enters =
+pub ran-step : {F : Type 0} (forms : Forms F) (number lane : ℕ) (job : Job) (held now later : Option Held) (before journal after_ : List Entry) (trace : List Exchange) (c : Call) (fate : Fate) (r : Reply)
+    → RanTo forms number lane job held now before journal trace → asks forms job (state_of forms job trace) ≡ Some c → IsShortCall c → FitsCall c r → Answers now later fate c r → Enters journal after_ lane c fate r
+    → RanTo forms number lane job held later before after_ (trace ++ record { call = c; reply = r } ∷ [])
+ran-step forms number lane job held now later before journal after_ trace c fate r ran asks_it short fits answers enters =
     let e : Told = told_as number now c fate r in
     record {
       told = ran.told ++ e ∷ [];
       calls = record {
         own = All-push (λ d. d.job ≡ Some number) ran.told e ran.calls.own refl;
-        suit = All-push Suits ran.told e ran.calls.suit (record { fits = fits; failed = answers.failed; served = answers.served });
+        suit = All-push Suits ran.told e ran.calls.suit (record { short = short; fits = fits; failed = answers.failed; served = answers.served });
         entries = entered number lane now c fate r before after_ ran.told journal (is_no_memory r) refl ran.calls.entries enters;
         over = over-push number held now later ran.told c fate r ran.calls.over answers.told;
       };
       same = trace_of-own number ran.told e refl ∙ ap (λ xs. xs ++ record { call = c; reply = r } ∷ []) ran.same;
-      asked = asked-push job (begun job.command) trace (record { call = c; reply = r }) ran.asked asks_it;
+      asked = asked-push forms job (begun job.command) trace (record { call = c; reply = r }) ran.asked asks_it;
     }
 
 -- a job that has made no call
-pub ran-none : (number lane : ℕ) (job : Job) (held : Option Held) (journal : List Entry) → RanTo number lane job held held journal journal []
-ran-none number lane job held journal = record {
+pub ran-none : {F : Type 0} (forms : Forms F) (number lane : ℕ) (job : Job) (held : Option Held) (journal : List Entry) → RanTo forms number lane job held held journal journal []
+ran-none forms number lane job held journal = record {
   told = [];
   calls = record { own = All-nil (λ e. e.job ≡ Some number); suit = All-nil Suits; entries = sym (append-nil journal); over = over held };
   same = refl;
@@ -104,10 +109,10 @@ ran-none number lane job held journal = record {
     over (Some m) = record { replied = tt; held = refl }
 
 -- a job that comes out so by the calls that it has made, none of which its stop cut off
-pub ran-ends : (number lane : ℕ) (job : Job) (held now : Option Held) (before after_ : List Entry) (trace : List Exchange) (result : Driven Outcome)
-    → RanTo number lane job held now before after_ trace → Uncut job.stop 0 trace → ComesOut job trace result → Ran number lane job held now before after_ result
-ran-ends number lane job held now before after_ trace result ran uncut ends =
-    let P : List Exchange → Type 0 = λ xs. IsDriven job xs result in
+pub ran-ends : {F : Type 0} (forms : Forms F) (number lane : ℕ) (job : Job) (held now : Option Held) (before after_ : List Entry) (trace : List Exchange) (result : Driven Outcome)
+    → RanTo forms number lane job held now before after_ trace → Uncut job.stop 0 trace → ComesOut forms job trace result → Ran forms number lane job held now before after_ result
+ran-ends forms number lane job held now before after_ trace result ran uncut ends =
+    let P : List Exchange → Type 0 = λ xs. IsDriven forms job xs result in
     record { told = ran.told; calls = ran.calls; driven = subst P (sym ran.same) (record { asked = ran.asked; uncut = uncut; ends = ends }) }
 
 -- ---- a job that was driven over a store
@@ -115,37 +120,40 @@ ran-ends number lane job held now before after_ trace result ran uncut ends =
 -- a call was made of a store and entered in its journal
 pub record Makes (lane : ℕ) (now later : Option Held) (journal after_ : List Entry) (x : Exchange) : Type 0 where
   pub fate : Fate
+  pub short : IsShortCall x.call
   pub fits : FitsCall x.call x.reply
   pub answers : Answers now later fate x.call x.reply
   pub enters : Enters journal after_ lane x.call fate x.reply
 
 -- stores that tell what they hold and the journal of their calls, and lists of calls that lead from one to another
-module _ {S : Type 0} (held : S → Option Held) (journal : S → List Entry) (leads : S → List Exchange → S → Type 0) (number lane : ℕ) (job : Job)
+module _ {F : Type 0} (forms : Forms F) {S : Type 0} (held : S → Option Held) (journal : S → List Entry) (leads : S → List Exchange → S → Type 0) (number lane : ℕ) (job : Job)
     (none : (a b : S) → leads a [] b → b ≡ a)
     (one : (a b : S) (x : Exchange) (xs : List Exchange) → leads a (x ∷ xs) b → (between : S) × Makes lane (held a) (held between) (journal a) (journal between) x × leads between xs b) where
-  ran-more : (opening : Option Held) (before : List Entry) (past xs : List Exchange) (a b : S) → RanTo number lane job opening (held a) before (journal a) past
-      → AskedFrom job (state_of job past) xs → leads a xs b → RanTo number lane job opening (held b) before (journal b) (past ++ xs)
+  -- a job makes more calls than before
+  ran-more : (opening : Option Held) (before : List Entry) (past xs : List Exchange) (a b : S) → RanTo forms number lane job opening (held a) before (journal a) past
+      → AskedFrom forms job (state_of forms job past) xs → leads a xs b → RanTo forms number lane job opening (held b) before (journal b) (past ++ xs)
   ran-more opening before past [] a b ran asked way =
-      let P : S → Type 0 = λ s. RanTo number lane job opening (held s) before (journal s) (past ++ []) in
-      let Q : List Exchange → Type 0 = λ t. RanTo number lane job opening (held a) before (journal a) t in
+      let P : S → Type 0 = λ s. RanTo forms number lane job opening (held s) before (journal s) (past ++ []) in
+      let Q : List Exchange → Type 0 = λ t. RanTo forms number lane job opening (held a) before (journal a) t in
       subst P (sym (none a b way)) (subst Q (sym (append-nil past)) ran)
   ran-more opening before past (x ∷ xs) a b ran asked way =
       let (between, makes, rest) = one a b x xs way in
-      let P : List Exchange → Type 0 = λ t. RanTo number lane job opening (held b) before (journal b) t in
-      let Q : State → Type 0 = λ s. AskedFrom job s xs in
-      let more = ran-step number lane job opening (held a) (held between) before (journal a) (journal between) past x.call makes.fate x.reply ran asked.0 makes.fits makes.answers makes.enters in
+      let P : List Exchange → Type 0 = λ t. RanTo forms number lane job opening (held b) before (journal b) t in
+      let Q : State F → Type 0 = λ s. AskedFrom forms job s xs in
+      let more = ran-step forms number lane job opening (held a) (held between) before (journal a) (journal between) past x.call makes.fate x.reply ran asked.0 makes.short makes.fits makes.answers makes.enters in
       subst P (append_assoc past (x ∷ []) xs)
-      (ran-more opening before (past ++ x ∷ []) xs between b more (subst Q (sym (state_from-append job (begun job.command) past (x ∷ []))) asked.1) rest)
+      (ran-more opening before (past ++ x ∷ []) xs between b more (subst Q (sym (state_from-append forms job (begun job.command) past (x ∷ []))) asked.1) rest)
 
   -- a job that asked for each of these calls, none of which its stop cut off, and came out so by them
-  pub ran-driven : (trace : List Exchange) (a b : S) (result : Driven Outcome) → leads a trace b → AskedFrom job (begun job.command) trace → Uncut job.stop 0 trace → ComesOut job trace result
-      → Ran number lane job (held a) (held b) (journal a) (journal b) result
+  pub ran-driven : (trace : List Exchange) (a b : S) (result : Driven Outcome) → leads a trace b → AskedFrom forms job (begun job.command) trace → Uncut job.stop 0 trace → ComesOut forms job trace result
+      → Ran forms number lane job (held a) (held b) (journal a) (journal b) result
   ran-driven trace a b result way asked uncut ends =
-      ran-ends number lane job (held a) (held b) (journal a) (journal b) trace result
-      (ran-more (held a) (journal a) [] trace a b (ran-none number lane job (held a) (journal a)) asked way) uncut ends
+      ran-ends forms number lane job (held a) (held b) (journal a) (journal b) trace result
+      (ran-more (held a) (journal a) [] trace a b (ran-none forms number lane job (held a) (journal a)) asked way) uncut ends
 
 -- ---- one job after the other
 
+-- calls that are made where others left off are replied to
 replied-append : (m : Held) (told more : List Told) → Replied m told → Replied (held_told m told) more → Replied m (told ++ more)
 replied-append m [] more r s = s
 replied-append m (e ∷ told) more r s = (r.0, replied-append (after_told m e) told more r.1 s)
@@ -160,23 +168,24 @@ leaves-append m now later told more leaves next =
       held = there.held ∙ ap Some (sym (held_told-append m told more));
     }
 
+-- so it is over a store that may tell what it holds
 over-append : (held now later : Option Held) (told more : List Told) → IfSome held (λ m. Leaves m now told) → IfSome now (λ h. Leaves h later more) → IfSome held (λ m. Leaves m later (told ++ more))
 over-append None now later told more leaves next = tt
 over-append (Some m) now later told more leaves next = leaves-append m now later told more leaves next
 
 -- one more job, after the others
-driven-push : (first : ℕ) (jobs : List Job) (results : List (Driven Outcome)) (told own : List Told) (number : ℕ) (job : Job) (result : Driven Outcome) → AreDriven first jobs results told → number ≡ first + length jobs → All (λ e. e.job ≡ Some number) own → IsDriven job (trace_of number own) result → AreDriven first (jobs ++ job ∷ []) (results ++ result ∷ []) (told ++ own)
-driven-push first [] [] told own number job result h is mine driven =
-    let P : List Told → Type 0 = λ t. AreDriven first (job ∷ []) (result ∷ []) (t ++ own) in
-    let Q : ℕ → Type 0 = λ n. All (λ e. e.job ≡ Some n) own × IsDriven job (trace_of n own) result in
+driven-push : {F : Type 0} (forms : Forms F) (first : ℕ) (jobs : List Job) (results : List (Driven Outcome)) (told own : List Told) (number : ℕ) (job : Job) (result : Driven Outcome) → AreDriven forms first jobs results told → number ≡ first + length jobs → All (λ e. e.job ≡ Some number) own → IsDriven forms job (trace_of number own) result → AreDriven forms first (jobs ++ job ∷ []) (results ++ result ∷ []) (told ++ own)
+driven-push forms first [] [] told own number job result h is mine driven =
+    let P : List Told → Type 0 = λ t. AreDriven forms first (job ∷ []) (result ∷ []) (t ++ own) in
+    let Q : ℕ → Type 0 = λ n. All (λ e. e.job ≡ Some n) own × IsDriven forms job (trace_of n own) result in
     let same : number ≡ first = omega arith in
     let here = subst Q same (mine, driven) in
     subst P (sym h) (own, [], sym (append-nil own), here.0, here.1, refl)
-driven-push first [] (r ∷ results) told own number job result h is mine driven = absurd h
-driven-push first (j ∷ jobs) [] told own number job result h is mine driven = absurd h
-driven-push first (j ∷ jobs) (r ∷ results) told own number job result h is mine driven =
+driven-push forms first [] (r ∷ results) told own number job result h is mine driven = absurd h
+driven-push forms first (j ∷ jobs) [] told own number job result h is mine driven = absurd h
+driven-push forms first (j ∷ jobs) (r ∷ results) told own number job result h is mine driven =
     let next : number ≡ first + 1 + length jobs = omega arith in
-    (h.0, h.1 ++ own, ap (λ t. t ++ own) h.2 ∙ append_assoc h.0 h.1 own, h.3, h.4, driven-push (first + 1) jobs results h.1 own number job result h.5 next mine driven)
+    (h.0, h.1 ++ own, ap (λ t. t ++ own) h.2 ∙ append_assoc h.0 h.1 own, h.3, h.4, driven-push forms (first + 1) jobs results h.1 own number job result h.5 next mine driven)
 
 -- the jobs of one more line
 pub jobs_from-push : (seed lane number : ℕ) (lines : List Line) (line : Line) → jobs_from seed lane number (lines ++ line ∷ []) ≡ jobs_from seed lane number lines ++ job_from (id_of seed lane (number + length lines)) line ∷ []
@@ -185,27 +194,29 @@ jobs_from-push seed lane number (x ∷ lines) line =
     let next : number + 1 + length lines ≡ number + length (x ∷ lines) = omega arith in
     ap (λ js. job_from (id_of seed lane number) x ∷ js) (jobs_from-push seed lane (number + 1) lines line ∙ ap (λ n. jobs_from seed lane (number + 1) lines ++ job_from (id_of seed lane n) line ∷ []) next)
 
+-- there is a job for each line
 pub length-jobs_from : (seed lane number : ℕ) (lines : List Line) → length (jobs_from seed lane number lines) ≡ length lines
 length-jobs_from seed lane number [] = refl
 length-jobs_from seed lane number (x ∷ lines) = let rest = length-jobs_from seed lane (number + 1) lines in omega arith
 
 -- a job that was done after the others
-pub ran-one_more : (lane : ℕ) (jobs : List Job) (held now later : Option Held) (before journal after_ : List Entry) (results : List (Driven Outcome)) (number : ℕ) (job : Job) (result : Driven Outcome)
-    → AllRan lane jobs held now before journal results → number ≡ length jobs → Ran number lane job now later journal after_ result
-    → AllRan lane (jobs ++ job ∷ []) held later before after_ (results ++ result ∷ [])
-ran-one_more lane jobs held now later before journal after_ results number job result all is ran =
+pub ran-one_more : {F : Type 0} (forms : Forms F) (lane : ℕ) (jobs : List Job) (held now later : Option Held) (before journal after_ : List Entry) (results : List (Driven Outcome)) (number : ℕ) (job : Job) (result : Driven Outcome)
+    → AllRan forms lane jobs held now before journal results → number ≡ length jobs → Ran forms number lane job now later journal after_ result
+    → AllRan forms lane (jobs ++ job ∷ []) held later before after_ (results ++ result ∷ [])
+ran-one_more forms lane jobs held now later before journal after_ results number job result all is ran =
     record {
       told = all.told ++ ran.told;
       suit = All-append Suits all.told ran.told all.suit ran.calls.suit;
       entries =
           ran.calls.entries ∙ ap (λ es. es ++ entries_of (only_lane lane) ran.told) all.entries ∙ append_assoc before (entries_of (only_lane lane) all.told) (entries_of (only_lane lane) ran.told)
           ∙ ap (λ es. before ++ es) (sym (filter_map-append (entry_of (only_lane lane)) all.told ran.told));
-      driven = driven-push 0 jobs results all.told ran.told number job result all.driven (is ∙ sym (zero-add (length jobs))) ran.calls.own ran.driven;
+      driven = driven-push forms 0 jobs results all.told ran.told number job result all.driven (is ∙ sym (zero-add (length jobs))) ran.calls.own ran.driven;
       over = over-append held now later all.told ran.told all.over ran.calls.over;
     }
 
-pub ran-no_job : (lane : ℕ) (held : Option Held) (journal : List Entry) → AllRan lane [] held held journal journal []
-ran-no_job lane held journal = record { told = []; suit = All-nil Suits; entries = sym (append-nil journal); driven = refl; over = over held }
+-- no job was done
+pub ran-no_job : {F : Type 0} (forms : Forms F) (lane : ℕ) (held : Option Held) (journal : List Entry) → AllRan forms lane [] held held journal journal []
+ran-no_job forms lane held journal = record { told = []; suit = All-nil Suits; entries = sym (append-nil journal); driven = refl; over = over held }
   where
     over : (held : Option Held) → IfSome held (λ m. Leaves m held [])
     over None = tt

@@ -1,25 +1,25 @@
--- Where a run may begin: the empty map stands for the first deeds, and nearly each seed is fresh over it.
-use Rattle.std.proofs.Common.{◌≡◌, ℕ, ◌-◌, ◌/◌, ◌^◌, ◌<◌, inl, inr, List, [], length, refl, sym, ◌∙◌, ap, arith}
+-- Where a run may begin: the empty map stands for the empty history, and each seed is fresh over it.
+use Rattle.std.proofs.Common.{◌≡◌, ℕ, ◌^◌, ◌<◌, inl, inr, List, [], None, length, sym, ◌∙◌, ap}
 use Rattle.std.specs.Prelude.{All}
 use Rattle.std.specs.Option.{is_some}
 use Rattle.std.specs.FinMap as map
 use Rattle.std.proofs.lemmas.Bool.{true≢false}
+use Rattle.std.proofs.lemmas.Option.{none-some}
 use Rattle.ts_base.specs.declared.names.Name.{Name}
+use Rattle.ts_base.specs.declared.names.Name.TheVariants as name
 use Rattle.ts_base.specs.Names.{name_cmp, wrt_of}
 use Rattle.ts_base.specs.Held.{Held}
-use Rattle.ts_store.specs.declared.journal.Entry.{Entry}
 use Rattle.ts_model.specs.declared.commands.Line.{Line}
 use Rattle.ts_model.specs.declared.answers.Driven.{Driven}
 use Rattle.ts_model.specs.declared.answers.Outcome.{Outcome}
-use Rattle.ts_model.specs.Deeds.{IsHistory, first_schema, first_deeds}
+use Rattle.ts_model.specs.Forms.{Forms, Spelled, Tracking, FormsLaws}
 use Rattle.ts_model.specs.Jobs.{IsFitLine}
-use Rattle.ts_model.specs.PlainLaws.{PlainLaws}
 use Rattle.ts_model.specs.Stands.{Stands}
 use Rattle.ts_model.specs.Fresh.{IsFreshSeed, jobs_of}
-use Rattle.ts_model.specs.Told.{Told, Replied, only_lane, entries_of}
+use Rattle.ts_model.specs.Told.{Told, Suits, Replied}
 use Rattle.ts_model.specs.Driven.{AreDriven}
 use Rattle.ts_model.specs.Runs.{IsTrueRun}
-use Rattle.ts_model.proofs.ListLemmas.{Contains-nil, Contains-only}
+use Rattle.ts_model.proofs.ListLemmas.{Contains-nil}
 use Rattle.ts_model.proofs.HeldLemmas.{Holds}
 use Rattle.ts_model.proofs.TrueRuns.{true_run}
 
@@ -27,31 +27,34 @@ use Rattle.ts_model.proofs.TrueRuns.{true_run}
 abbrev pub nothing : Held
 nothing = map.empty
 
+-- no name is held
 pub none_held : (n : Name) → Holds nothing n → ⊥
 none_held n held = true≢false (sym held ∙ ap is_some (map.get-empty name_cmp n))
 
-pub first_history : IsHistory first_deeds
-first_history = record { rest = []; begins = refl; follow = (refl, ((refl, refl), tt)) }
+-- nothing is held under any name
+none_there : (n : Name) → map.get nothing n ≡ None
+none_there n = map.get-empty name_cmp n
 
-pub nothing_stands : Stands nothing first_deeds
-nothing_stands = record {
-  history = first_history;
+-- the empty map stands for the empty history
+pub nothing_stands : (spelled : Spelled) → Stands spelled nothing []
+nothing_stands spelled = record {
+  history = tt;
+  frame = none_there name.Domain;
+  schemas = λ k. none_there (name.Schema k);
+  short_frame = λ bytes is. absurd (none-some bytes (sym (none_there name.Domain) ∙ is));
+  short_schemas = λ k bytes is. absurd (none-some bytes (sym (none_there (name.Schema k)) ∙ is));
   whole = λ f committed. absurd (none_held (wrt_of f) committed);
   covered = λ w at. absurd (Contains-nil w at);
 }
 
--- each seed but the greatest is fresh over nothing
-pub fresh_over_nothing : (seed : ℕ) → seed < 2 ^ 64 - 1 → IsFreshSeed nothing first_deeds seed
-fresh_over_nothing seed below id upper (inl (k, at, is)) =
-    let same : 2 ^ 128 - 1 ≡ id = ap (λ l. l.id) (Contains-only first_schema k at) ∙ is in
-    let greatest : (2 ^ 128 - 1) / 2 ^ 64 ≡ seed = ap (λ n. n / 2 ^ 64) same ∙ upper in
-    omega arith
-fresh_over_nothing seed below id upper (inr (n, held, is)) = none_held n held
+-- each seed is fresh over nothing
+pub fresh_over_nothing : (seed : ℕ) → IsFreshSeed nothing [] seed
+fresh_over_nothing seed id upper (inl (k, at, is)) = Contains-nil k at
+fresh_over_nothing seed id upper (inr (n, held, is)) = none_held n held
 
--- a run over nothing is true of the history that begins with the first deeds
-pub true_from_nothing : PlainLaws → (seed : ℕ) (lines : List Line) (journal : List Entry) (told : List Told) (results : List (Driven Outcome))
-    → seed < 2 ^ 64 - 1 → length lines < 2 ^ 32 → All IsFitLine lines
-    → Replied nothing told → entries_of (only_lane 0) told ≡ journal → AreDriven 0 (jobs_of seed lines) results told
-    → IsTrueRun (jobs_of seed lines) first_deeds nothing journal told results
-true_from_nothing laws seed lines journal told results below few fit replied entries driven =
-    true_run laws seed lines first_deeds nothing journal told results nothing_stands (fresh_over_nothing seed below) (omega arith) few fit replied entries driven
+-- a run over nothing is true of the empty history
+pub true_from_nothing : {F : Type 0} (forms : Forms F) (spelled : Spelled) (tracks : Tracking F) → FormsLaws forms spelled tracks → (seed : ℕ) (lines : List Line) (told : List Told) (results : List (Driven Outcome))
+    → seed < 2 ^ 64 → length lines < 2 ^ 32 → All IsFitLine lines → Replied nothing told → All Suits told → AreDriven forms 0 (jobs_of seed lines) results told
+    → IsTrueRun spelled (jobs_of seed lines) [] nothing told results
+true_from_nothing forms spelled tracks laws seed lines told results seed_fits few fit replied suit driven =
+    true_run forms spelled tracks laws seed lines [] nothing told results (nothing_stands spelled) (fresh_over_nothing seed) seed_fits few fit replied suit driven

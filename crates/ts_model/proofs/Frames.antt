@@ -1,136 +1,150 @@
--- What a call of one job leaves alone, and that the claims of the other jobs stay.
-use Rattle.std.proofs.Common.{◌≡◌, ℕ, ◌⊎◌, inl, inr, List, [], ◌∷◌, ◌++◌, Some, sym, ◌∙◌, ap, append_assoc}
-use Rattle.std.specs.Prelude.{Contains}
-use Rattle.std.specs.FinMap as map
-use Rattle.std.proofs.lemmas.Option.{same_Some, none-some}
-use Rattle.ts_base.specs.declared.keys.Key.{Key}
-use Rattle.ts_base.specs.declared.keys.FragKey.{FragKey}
-use Rattle.ts_base.specs.declared.names.Name.{Name}
-use Rattle.ts_base.specs.declared.names.Name.TheVariants as name
-use Rattle.ts_base.specs.declared.names.Part.TheVariants.{Plain}
-use Rattle.ts_base.specs.declared.names.Place.TheVariants as place
-use Rattle.ts_base.specs.declared.heads.Version.{Version}
+-- The claims of a job stay by the calls of others.
+use Rattle.std.proofs.Common.{List, Some, [], ap, inl, inr, refl, subst, suc, sym, zero, ℕ, ◌++◌, ◌∙◌, ◌∷◌, ◌≡◌}
+use Rattle.std.proofs.lemmas.Option.{none-some, same_Some}
+use Rattle.std.specs.Prelude.{slice_get}
 use Rattle.ts_base.specs.Held.{Held}
-use Rattle.ts_model.specs.declared.commands.Command.{Command}
-use Rattle.ts_model.specs.declared.commands.Command.TheVariants.{Write, Read}
-use Rattle.ts_model.specs.declared.commands.Job.{Job}
-use Rattle.ts_model.specs.declared.answers.Outcome.{Outcome}
-use Rattle.ts_model.specs.declared.answers.Outcome.TheVariants as outcome
-use Rattle.ts_model.specs.declared.answers.Refusal.{Refusal}
-use Rattle.ts_model.specs.declared.answers.Refusal.TheVariants as refusal
-use Rattle.ts_model.specs.declared.states.State.{State}
-use Rattle.ts_model.specs.declared.states.State.TheVariants.{PutsPart, PutsCommit, ListsCommits, Fetches, Over}
-use Rattle.ts_model.specs.declared.deeds.Written.{Written}
-use Rattle.ts_model.specs.Deeds.{History, writes, keys, IsNewKey}
-use Rattle.ts_model.specs.Jobs.{key_of, written_under}
-use Rattle.ts_model.specs.Plain.{part_text}
-use Rattle.ts_model.specs.Stands.{HoldsOne}
-use Rattle.ts_model.specs.States.{part_of, commit_of}
+use Rattle.ts_base.specs.declared.heads.Cell.{Cell}
+use Rattle.ts_base.specs.declared.keys.FragKey.{FragKey}
+use Rattle.ts_base.specs.declared.names.PartBytes.{PartBytes}
+use Rattle.ts_model.proofs.ListLemmas.{slice_get_push}
+use Rattle.ts_model.proofs.Stays.{absent_stays, clean_stays, end_stays, fetching_stays, frame_stays, gathering_stays, has_listed_stays, has_near_stays, new_stays, on_way_stays, opening_stays, works_stays}
+use Rattle.ts_model.specs.Commands.{frame_made, piece_of}
+use Rattle.ts_model.specs.Deeds.{History, frame_in}
+use Rattle.ts_model.specs.Forms.{Forms, Spelled, Tracking}
 use Rattle.ts_model.specs.Fresh.{id_in}
-use Rattle.ts_model.specs.Told.{Told, history_told}
-use Rattle.ts_model.specs.Ends.{ListedAt, IsUnwritten, IsTrueRefusal, IsTrueEnd}
-use Rattle.ts_model.specs.Kept.{Writing, Fetching, Claims}
-use Rattle.ts_model.proofs.HeldLemmas.{Holds}
-use Rattle.ts_model.proofs.HistoryLaws.{new_from_absent, absent_from_new}
+use Rattle.ts_model.specs.Jobs.{frag_of_job, key_of, written_as}
+use Rattle.ts_model.specs.Kept.{Aims, Claims, Clean, Putting}
+use Rattle.ts_model.specs.States.{commit_of, list_schemas, part_objects, schema_object_of, write_objects}
+use Rattle.ts_model.specs.Steps.{Keeps}
+use Rattle.ts_model.specs.Told.{Told, after_told, history_told}
+use Rattle.ts_model.specs.declared.answers.Outcome.{Outcome}
+use Rattle.ts_model.specs.declared.commands.Job.{Job}
+use Rattle.ts_model.specs.declared.states.NewObject.{NewObject}
+use Rattle.ts_model.specs.declared.states.State.{State}
+use Rattle.ts_model.specs.declared.states.State.TheVariants.{ComparesFrame, Fetches, GetsFrame, GetsHeads, GetsSchema, GetsSchemas, ListsCommits, ListsDeclared, ListsSchemas, Over, Puts, PutsFrame}
+use Rattle.ts_schema.specs.Evolutions.{evolved_attrs}
+use Rattle.ts_schema.specs.declared.frames.Frame.{Frame}
+use Rattle.ts_schema.specs.declared.schemas.Schema.{Schema}
+use Rattle.ts_base.specs.declared.names.Name.TheVariants as name
+use Rattle.ts_model.specs.declared.answers.Outcome.TheVariants as outcome
 
--- a call of the job with an identifier leads from m and h to these: what is held stays, and what comes carries the identifier
-pub record Frame (m m' : Held) (h h' : History) (id : ℕ) : Type 0 where
-  pub keeps : (n : Name) (bytes : List ℕ) → map.get m n ≡ Some bytes → map.get m' n ≡ Some bytes
-  pub adds : (n : Name) → Holds m' n → Holds m n ⊎ (id_in n ≡ Some id)
-  pub stay : (w : Written) → Contains (writes h) w → Contains (writes h') w
-  pub come : (k : Key) → Contains (keys h') k → Contains (keys h) k ⊎ (k.id ≡ id)
+-- ---- what a job puts carries its identifier
 
--- ---- frames
+-- each of these objects carries the identifier
+abbrev pub Carry : ℕ → List NewObject → Type 0
+Carry id objects = (i : ℕ) (o : NewObject) → slice_get objects i ≡ Some o → id_in o.name ≡ Some id
 
-pub frame_still : (m : Held) (h : History) (id : ℕ) → Frame m m h h id
-frame_still m h id = record { keeps = λ n bytes e. e; adds = λ n held. inl held; stay = λ w at. at; come = λ k at. inl at }
+-- the one object carries it
+carry_one : (id : ℕ) (x : NewObject) → id_in x.name ≡ Some id → Carry id (x ∷ [])
+carry_one id x carries zero o at = ap (λ y. id_in y.name) (sym (same_Some x o at)) ∙ carries
+carry_one id x carries (suc i) o at = absurd (none-some o at)
 
--- what is written has the key of its job
-pub written_key_is : (k : Key) (c : Command) (w : Written) → written_under k c ≡ Some w → w.key ≡ k
-written_key_is k (Read to) w e = absurd (none-some w e)
-written_key_is k (Write x v) w e = ap (λ u. u.key) (sym (same_Some _ w e))
+-- one object more at the front carries it too
+carry_more : (id : ℕ) (x : NewObject) (objects : List NewObject) → id_in x.name ≡ Some id → Carry id objects → Carry id (x ∷ objects)
+carry_more id x objects carries rest zero o at = ap (λ y. id_in y.name) (sym (same_Some x o at)) ∙ carries
+carry_more id x objects carries rest (suc i) o at = rest i o at
+
+-- the parts of a fragment carry its identifier
+carry_parts : (frag : FragKey) (parts : List PartBytes) → Carry frag.id (part_objects frag parts)
+carry_parts frag [] = λ i o at. absurd (none-some o at)
+carry_parts frag (x ∷ parts) = carry_more frag.id (record { name = name.Part frag x.part; bytes = x.bytes }) (part_objects frag parts) refl (carry_parts frag parts)
+
+-- one object more at the end carries it too
+carry_push : (id : ℕ) (objects : List NewObject) (x : NewObject) → Carry id objects → id_in x.name ≡ Some id → Carry id (objects ++ x ∷ [])
+carry_push id objects x before carries i o at = elim (slice_get_push objects x i o at) [
+  | inl there ↦ before i o there
+  | inr last ↦ ap (λ y. id_in y.name) (sym last.1) ∙ carries
+]
+
+-- the objects of a write carry the identifier of its job
+pub write_objects-carry : {F : Type 0} (forms : Forms F) (frame : Frame) (s : Schema) (job : Job) (cells : List Cell) → Carry job.id (write_objects forms frame s job cells)
+write_objects-carry forms frame s job cells =
+    carry_push job.id (part_objects (frag_of_job job) (forms.parts frame s (piece_of frame (written_as job s.key cells)))) (record { name = commit_of job; bytes = [] })
+    (carry_parts (frag_of_job job) (forms.parts frame s (piece_of frame (written_as job s.key cells)))) refl
+
+-- what a job puts carries its identifier
+pub aims-carry : {F : Type 0} (forms : Forms F) (past : History) (jobs : List Job) (seen : List Told) (number : ℕ) (job : Job) (objects : List NewObject) (end : Outcome)
+    → Aims forms past jobs seen number job objects end → Carry job.id objects
+aims-carry forms past jobs seen number job objects outcome.Created (f, creates, is, none, framed) =
+    subst (Carry job.id) (sym is) (carry_one job.id (schema_object_of job f.attrs) refl)
+aims-carry forms past jobs seen number job objects (outcome.Evolved k) (change, frame, there, evolves, same, is, framed, sound, works) =
+    subst (Carry job.id) (sym is) (carry_one job.id (schema_object_of job (evolved_attrs there.attrs change)) refl)
+aims-carry forms past jobs seen number job objects (outcome.Written f) (w, frame, there, cells, writes_them, same, is, framed, lays, works) =
+    subst (Carry job.id) (sym is) (write_objects-carry forms frame there job cells)
+aims-carry forms past jobs seen number job objects (outcome.Read answer) none = absurd none
+aims-carry forms past jobs seen number job objects (outcome.Refused r) none = absurd none
+aims-carry forms past jobs seen number job objects outcome.OutOfMemory none = absurd none
 
 -- ---- claims that stay
 
-module _ (m m' : Held) (h h' : History) (id : ℕ) (frame : Frame m m' h h' id) where
-  pub holds_one_stays : (g : History) (f : FragKey) → HoldsOne g m f → HoldsOne g m' f
-  holds_one_stays g f one = record {
-    write = one.write;
-    written = one.written;
-    piece = one.piece;
-    spells = record {
-      bytes = one.spells.bytes;
-      held = frame.keeps (name.Part f Plain) one.spells.bytes one.spells.held;
-      short = one.spells.short;
-      spelled = one.spells.spelled;
-      named = one.spells.named;
-    };
-    holds = one.holds;
-  }
+module _ {F : Type 0} (forms : Forms F) (spelled : Spelled) (tracks : Tracking F) (past : History) (jobs : List Job) (seen : List Told) (e : Told) (m : Held) (id : ℕ)
+    (keeps : Keeps m (after_told m e) (history_told jobs past seen) (history_told jobs past (seen ++ e ∷ [])) id)
+    (number : ℕ) (job : Job) where
+  -- what the frame is, it stays
+  framed_stays : (frame : Frame) → frame_in (history_told jobs past seen) ≡ Some frame → frame_in (history_told jobs past (seen ++ e ∷ [])) ≡ Some frame
+  framed_stays = frame_stays m (after_told m e) (history_told jobs past seen) (history_told jobs past (seen ++ e ∷ [])) id keeps
 
-  new_stays : (k : Key) → (k.id ≡ id → ⊥) → IsNewKey h k → IsNewKey h' k
-  new_stays k other new = new_from_absent h' k (λ at. elim (frame.come k at) [
-    | inl before ↦ absent_from_new h k new before
-    | inr own ↦ other own
-  ])
+  -- what the last put of a job makes of it stays
+  pub aims_stays : (objects : List NewObject) (end : Outcome) → (e.job ≡ Some number → e.call ≡ list_schemas → ⊥)
+      → Aims forms past jobs seen number job objects end → Aims forms past jobs (seen ++ e ∷ []) number job objects end
+  aims_stays objects outcome.Created unlisted (f, creates, is, none, framed) = (f, creates, is, none, framed_stays (frame_made f) framed)
+  aims_stays objects (outcome.Evolved k) unlisted (change, frame, there, evolves, same, is, framed, sound, works) =
+      (change, frame, there, evolves, same, is, framed_stays frame framed, sound, works_stays spelled past jobs seen e m (after_told m e) id keeps number job there unlisted works)
+  aims_stays objects (outcome.Written f) unlisted (w, frame, there, cells, writes_them, same, is, framed, lays, works) =
+      (w, frame, there, cells, writes_them, same, is, framed_stays frame framed, lays, works_stays spelled past jobs seen e m (after_told m e) id keeps number job there unlisted works)
+  aims_stays objects (outcome.Read answer) unlisted is = is
+  aims_stays objects (outcome.Refused r) unlisted is = is
+  aims_stays objects outcome.OutOfMemory unlisted is = is
 
-  writing_stays : (job : Job) → (job.id ≡ id → ⊥) → Writing m h job → Writing m' h' job
-  writing_stays job other w = record {
-    write = w.write;
-    written = w.written;
-    inside = w.inside;
-    uncommitted = λ held. elim (frame.adds (commit_of job) held) [
-      | inl before ↦ w.uncommitted before
-      | inr own ↦ other (same_Some job.id id own)
-    ];
-    new = new_stays (w.write).key (λ own. other (ap (λ k. k.id) (sym (written_key_is (key_of job) job.command w.write w.written)) ∙ own)) w.new;
-  }
+  module _ (other : job.id ≡ id → ⊥) (apart : e.job ≡ Some number → ⊥) where
+    -- the call lists nothing for the job
+    unlisted : e.job ≡ Some number → e.call ≡ list_schemas → ⊥
+    unlisted own lists = apart own
 
-  unwritten_stays : (job : Job) → (job.id ≡ id → ⊥) → IsUnwritten h job → IsUnwritten h' job
-  unwritten_stays job other un w is = new_stays w.key (λ own. other (ap (λ k. k.id) (sym (written_key_is (key_of job) job.command w is)) ∙ own)) (un w is)
+    -- the job stays clean
+    cleans : Clean m (history_told jobs past seen) job → Clean (after_told m e) (history_told jobs past (seen ++ e ∷ [])) job
+    cleans = clean_stays m (after_told m e) (history_told jobs past seen) (history_told jobs past (seen ++ e ∷ [])) id keeps job other
 
-  refusal_stays : (job : Job) (r : Refusal) → (job.id ≡ id → ⊥) → IsTrueRefusal h job r → IsTrueRefusal h' job r
-  refusal_stays job (refusal.Missing n) other is = is
-  refusal_stays job (refusal.Damaged n at) other is = is
-  refusal_stays job (refusal.StoreFault (place.Name (name.Commit f kind))) other is = is
-  refusal_stays job _ other is = unwritten_stays job other is
+    -- a job that puts goes on as it was
+    putting_stays : (objects : List NewObject) (next : ℕ) (end : Outcome)
+        → Putting forms past jobs seen m number job objects next end → Putting forms past jobs (seen ++ e ∷ []) (after_told m e) number job objects next end
+    putting_stays objects next end is = record {
+      held = λ i o before at. keeps.keeps o.name o.bytes (is.held i o before at);
+      short = is.short;
+      free = λ i o from at. absent_stays m (after_told m e) (history_told jobs past seen) (history_told jobs past (seen ++ e ∷ [])) id keeps o.name job.id
+          (aims-carry forms past jobs seen number job objects end is.aims i o at) other (is.free i o from at);
+      some = is.some;
+      undone = new_stays m (after_told m e) (history_told jobs past seen) (history_told jobs past (seen ++ e ∷ [])) id keeps (key_of job) other is.undone;
+      aims = aims_stays objects end unlisted is.aims;
+    }
 
-module _ (past : History) (jobs : List Job) (seen : List Told) (e : Told) (m m' : Held) (id : ℕ)
-    (frame : Frame m m' (history_told jobs past seen) (history_told jobs past (seen ++ e ∷ [])) id) where
-  abbrev pub listed_stays : (number : ℕ) → ListedAt seen number → ListedAt (seen ++ e ∷ []) number
-  listed_stays number at = record {
-    before = at.before;
-    listing = at.listing;
-    later = at.later ++ e ∷ [];
-    place = ap (λ t. t ++ e ∷ []) at.place ∙ append_assoc at.before (at.listing ∷ at.later) (e ∷ []);
-    own = at.own;
-    lists = at.lists;
-  }
+    -- the claims of a state stay
+    pub claims_stay_at : (s : State F) → Claims forms spelled tracks past jobs seen m number job s → Claims forms spelled tracks past jobs (seen ++ e ∷ []) (after_told m e) number job s
+    claims_stay_at PutsFrame is = (cleans is.0, is.1)
+    claims_stay_at ComparesFrame is = (cleans is.0, is.1, (is.2.0, framed_stays is.2.0 is.2.1))
+    claims_stay_at ListsDeclared is = (cleans is.0, (is.1.0, is.1.1, is.1.2, framed_stays (frame_made is.1.0) is.1.3))
+    claims_stay_at (Puts objects next end) is = putting_stays objects next end is
+    claims_stay_at ListsCommits is = (cleans is.0, is.1)
+    claims_stay_at (ListsSchemas near) is = (cleans is.0, has_near_stays spelled past jobs seen e m (after_told m e) id keeps number job.command near is.1)
+    claims_stay_at (GetsSchema near there) is =
+        (cleans is.0, (is.1.0, is.1.1, has_listed_stays spelled past jobs seen e m (after_told m e) id keeps number job job.command near is.1.0 unlisted is.1.2))
+    claims_stay_at (GetsFrame near there) is = (cleans is.0, has_listed_stays spelled past jobs seen e m (after_told m e) id keeps number job job.command near there unlisted is.1)
+    claims_stay_at (GetsHeads r opened) is = (cleans is.0, opening_stays spelled past jobs seen e m (after_told m e) id keeps number forms job r opened unlisted is.1)
+    claims_stay_at (GetsSchemas r opened named schemas) is =
+        (cleans is.0, is.1, gathering_stays spelled past jobs seen e m (after_told m e) id keeps number forms job r opened schemas unlisted is.2)
+    claims_stay_at (Fetches r opened schemas next frag got fetch c) is = (
+      cleans is.0,
+      is.1,
+      (
+        fetching_stays spelled past jobs seen e m (after_told m e) id keeps number forms job r opened schemas next got unlisted is.2.0,
+        on_way_stays spelled past jobs seen e m (after_told m e) id keeps number tracks (history_told jobs past ((((((is.2.0.gathers).opens).reads).at).listed).commits).before) r frag fetch c is.2.1,
+      ),
+    )
+    claims_stay_at (Over end) is = end_stays past jobs seen e m (after_told m e) id keeps number job end other is
 
-  pub fetching_stays : (g : History) (to : ℕ) (listed : List FragKey) (next : ℕ) (got : List Version) → Fetching m g to listed next got → Fetching m' g to listed next got
-  fetching_stays g to listed next got f = record {
-    history = f.history;
-    whole = λ frag at. holds_one_stays m m' (history_told jobs past seen) (history_told jobs past (seen ++ e ∷ [])) id frame g frag (f.whole frag at);
-    in_time = f.in_time;
-    covered = f.covered;
-    found = f.found;
-  }
-
-  end_stays : (number : ℕ) (job : Job) (end : Outcome) → (job.id ≡ id → ⊥) → IsTrueEnd jobs past seen number job end → IsTrueEnd jobs past (seen ++ e ∷ []) number job end
-  end_stays number job (outcome.Written f) other (w, written, there) = (w, written, frame.stay w there)
-  end_stays number job (outcome.Read answer) other (to, reads, at) = (to, reads, record { listed = listed_stays number at.listed; rows = at.rows })
-  end_stays number job (outcome.Refused r) other is = refusal_stays m m' (history_told jobs past seen) (history_told jobs past (seen ++ e ∷ [])) id frame job r other is
-  end_stays number job outcome.OutOfMemory other is = is
-
-  pub claims_stay : (number : ℕ) (job : Job) (s : State) → (job.id ≡ id → ⊥) → Claims past jobs seen m number job s → Claims past jobs (seen ++ e ∷ []) m' number job s
-  claims_stay number job PutsPart other is = writing_stays m m' (history_told jobs past seen) (history_told jobs past (seen ++ e ∷ [])) id frame job other is
-  claims_stay number job PutsCommit other is =
-      (writing_stays m m' (history_told jobs past seen) (history_told jobs past (seen ++ e ∷ [])) id frame job other is.0, frame.keeps (part_of job) (part_text job) is.1)
-  claims_stay number job ListsCommits other is = is
-  claims_stay number job (Fetches listed next got) other is = record {
-    to = is.to;
-    reads = is.reads;
-    at = listed_stays number is.at;
-    fetching = fetching_stays (history_told jobs past (is.at).before) is.to listed next got is.fetching;
-  }
-  claims_stay number job (Over end) other is = end_stays number job end other is
+-- the claims of a job stay by a call of another
+pub claims_stay : {F : Type 0} (forms : Forms F) (spelled : Spelled) (tracks : Tracking F) (past : History) (jobs : List Job) (seen : List Told) (e : Told) (m : Held) (id : ℕ)
+    → Keeps m (after_told m e) (history_told jobs past seen) (history_told jobs past (seen ++ e ∷ [])) id → (number : ℕ) (job : Job) (s : State F)
+    → (job.id ≡ id → ⊥) → (e.job ≡ Some number → ⊥) → Claims forms spelled tracks past jobs seen m number job s
+    → Claims forms spelled tracks past jobs (seen ++ e ∷ []) (after_told m e) number job s
+claims_stay forms spelled tracks past jobs seen e m id keeps number job s other apart is = claims_stay_at forms spelled tracks past jobs seen e m id keeps number job other apart s is

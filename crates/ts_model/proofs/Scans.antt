@@ -1,14 +1,35 @@
--- The last write of a coordinate, where one more deed is looked at.
-use Rattle.std.proofs.Common.{◌≡◌, ℕ, ℤ, ◌+◌, ◌<◌, take, Bool, ◌&&◌, List, [], ◌∷◌, ◌++◌, Option, Some, None, refl, ◌∙◌, ap, length, get_or}
-use Rattle.std.specs.Prelude.{filter, filter_map, option_to_list}
-use Rattle.std.specs.List.{cons_option}
-use Rattle.std.proofs.lemmas.List.{take_more}
+-- Scans of a history: one more deed or cell is looked at, and at the end all of them were.
+use Rattle.std.proofs.Common.{◌≡◌, ℕ, ℤ, Bool, true, false, cond, ◌&&◌, ◌⊎◌, inl, inr, List, [], ◌∷◌, ◌++◌, Option, Some, None, refl, sym, ◌∙◌, ap, subst, append_assoc, append-nil}
+use Rattle.std.specs.Prelude.{filter, nat_le}
+use Rattle.std.specs.Option.{is_some}
+use Rattle.std.specs.Ordering.{int_cmp}
+use Rattle.std.specs.Cmp.Lexicographic.{slice_cmp}
+use Rattle.std.specs.FinMap as map
 use Rattle.std.proofs.lemmas.List.Elements.{filter-append, filter_map-append}
+use Rattle.std.proofs.lemmas.Option.{none-some}
+use Rattle.ts_base.specs.declared.keys.Key.{Key}
+use Rattle.ts_base.specs.declared.heads.Cell.{Cell}
+use Rattle.ts_base.specs.declared.values.Val.{Val}
+use Rattle.ts_base.specs.Coords.{coords_eq}
 use Rattle.ts_base.specs.Keys.{is_within, greater, greatest}
+use Rattle.ts_schema.specs.declared.schemas.Schema.{Schema}
 use Rattle.ts_model.specs.declared.deeds.Written.{Written}
 use Rattle.ts_model.specs.declared.deeds.Deed.{Deed}
-use Rattle.ts_model.specs.Deeds.{History, write_in, writes, has_cell, last_write}
-use Rattle.ts_model.proofs.Newest.{greatest-append}
+use Rattle.ts_model.specs.declared.deeds.Deed.TheVariants.{Framed, Declared, Wrote}
+use Rattle.ts_model.specs.Deeds.{History, frame_in, write_in, writes, schema_in, schemas, schema_there, row_at, has_cell, last_write}
+use Rattle.ts_schema.specs.declared.frames.Frame.{Frame}
+use Rattle.ts_model.specs.declared.answers.Answer.{Answer}
+use Rattle.ts_model.specs.Answers.{Cells, shown_in, shown_at, types_of, IsAnswer}
+use Rattle.std.specs.Option.{option_and_then}
+use Rattle.ts_model.specs.Scans.{with_shown, cells_of_deed, cells_of_deeds, Shows, AreShown, AreRows}
+use Rattle.ts_model.proofs.Newest.{greater_assoc, coords_total, coords_same, coords_tie}
+
+-- ---- the greatest of two lists
+
+-- the greatest of two lists is the greater of the greatest of each
+greatest-append : {X : Type 0} (key : X → Key) (xs ys : List X) → greatest key (xs ++ ys) ≡ greater key (greatest key xs) (greatest key ys)
+greatest-append key [] ys = refl
+greatest-append key (x ∷ xs) ys = ap (greater key (Some x)) (greatest-append key xs ys) ∙ sym (greater_assoc key (Some x) (greatest key xs) (greatest key ys))
 
 -- of the deeds before and one more the last write is that of the greater key
 pub last_write-push : (h : History) (d : Deed) (a b : ℕ) (c : List ℤ) → last_write (h ++ d ∷ []) a b c ≡ greater (λ w. w.key) (last_write h a b c) (last_write (d ∷ []) a b c)
@@ -18,16 +39,102 @@ last_write-push h d a b c =
     ∙ ap (greatest (λ w. w.key)) (filter-append p (writes h) (writes (d ∷ [])))
     ∙ greatest-append (λ w. w.key) (filter p (writes h)) (filter p (writes (d ∷ [])))
 
--- ---- collecting
+-- the schema there is that of the greater key, too
+pub schema_there-push : (h : History) (d : Deed) (b : ℕ) → schema_there (h ++ d ∷ []) b ≡ greater (λ s. s.key) (schema_there h b) (schema_there (d ∷ []) b)
+schema_there-push h d b =
+    let p : Schema → Bool = λ s. nat_le s.key.t b in
+    ap (λ ss. greatest (λ s. s.key) (filter p ss)) (filter_map-append schema_in h (d ∷ []))
+    ∙ ap (greatest (λ s. s.key)) (filter-append p (schemas h) (schemas (d ∷ [])))
+    ∙ greatest-append (λ s. s.key) (filter p (schemas h)) (filter p (schemas (d ∷ [])))
 
-module _ {X Y : Type 0} (f : X → Option Y) where
-  one : (o : Option Y) → cons_option o [] ≡ option_to_list o
-  one (Some y) = refl
-  one None = refl
+-- ---- the cells so far
 
-  -- what `f` gives of the items up to the next one
-  pub filter_map-more : (xs : List X) (i : ℕ) (d : X) → i < length xs → filter_map f (take (i + 1) xs) ≡ filter_map f (take i xs) ++ option_to_list (f (get_or xs i d))
-  filter_map-more xs i d within =
-      ap (filter_map f) (take_more xs i d within)
-      ∙ filter_map-append f (take i xs) (get_or xs i d ∷ [])
-      ∙ ap (λ ys. filter_map f (take i xs) ++ ys) (one (f (get_or xs i d)))
+-- a coordinate that is in neither list is not in both together
+absent_append : (c : List ℤ) (xs ys : List Cell) → row_at c xs ≡ None → row_at c ys ≡ None → row_at c (xs ++ ys) ≡ None
+absent_append c [] ys first second = second
+absent_append c (x ∷ xs) ys first second = by_test (coords_eq x.coords c) first (λ none. absent_append c xs ys none second)
+  where
+    by_test : (b : Bool) → cond b (Some x.row) (row_at c xs) ≡ None → (row_at c xs ≡ None → row_at c (xs ++ ys) ≡ None) → cond b (Some x.row) (row_at c (xs ++ ys)) ≡ None
+    by_test true is later = absurd (none-some x.row (sym is))
+    by_test false is later = later is
+
+-- one that is not in both together is in neither
+absent_left : (c : List ℤ) (xs ys : List Cell) → row_at c (xs ++ ys) ≡ None → row_at c xs ≡ None
+absent_left c [] ys is = refl
+absent_left c (x ∷ xs) ys is = by_test (coords_eq x.coords c) is (absent_left c xs ys)
+  where
+    by_test : (b : Bool) → cond b (Some x.row) (row_at c (xs ++ ys)) ≡ None → (row_at c (xs ++ ys) ≡ None → row_at c xs ≡ None) → cond b (Some x.row) (row_at c xs) ≡ None
+    by_test true is' later = absurd (none-some x.row (sym is'))
+    by_test false is' later = later is'
+
+-- one that is not in both together is not in the second
+absent_right : (c : List ℤ) (xs ys : List Cell) → row_at c (xs ++ ys) ≡ None → row_at c ys ≡ None
+absent_right c [] ys is = is
+absent_right c (x ∷ xs) ys is = by_test (coords_eq x.coords c) is (absent_right c xs ys)
+  where
+    by_test : (b : Bool) → cond b (Some x.row) (row_at c (xs ++ ys)) ≡ None → (row_at c (xs ++ ys) ≡ None → row_at c ys ≡ None) → row_at c ys ≡ None
+    by_test true is' later = absurd (none-some x.row (sym is'))
+    by_test false is' later = later is'
+
+-- what a map has at a coordinate after one row more
+get_more : (m : Cells) (k : List ℤ) (row : List Val) (c : List ℤ) → map.get (map.insert m k row) c ≡ cond (coords_eq k c) (Some row) (map.get m c)
+get_more m k row c = map.get-insert coords_total m k row c ∙ ap (λ b. cond b (Some row) (map.get m c)) (coords_tie c k)
+
+-- one cell more, with what is shown at its coordinates
+pub shows-push : (f : List ℤ → Option (List Val)) (m : Cells) (before : List Cell) (cell : Cell) → Shows f m before → Shows f (with_shown m cell.coords (f cell.coords)) (before ++ cell ∷ [])
+shows-push f m before cell h c = by_shown (f cell.coords) refl (coords_eq cell.coords c) refl (h c)
+  where
+    by_shown : (o : Option (List Val)) → f cell.coords ≡ o → (b : Bool) → coords_eq cell.coords c ≡ b → (map.get m c ≡ f c) ⊎ ((map.get m c ≡ None) × (row_at c before ≡ None))
+        → (map.get (with_shown m cell.coords o) c ≡ f c) ⊎ ((map.get (with_shown m cell.coords o) c ≡ None) × (row_at c (before ++ cell ∷ []) ≡ None))
+    by_shown None is b test (inl had) = inl had
+    by_shown None is true test (inr not_yet) = inl (not_yet.0 ∙ sym (ap f (sym (coords_same cell.coords c test)) ∙ is))
+    by_shown None is false test (inr not_yet) = inr (not_yet.0, absent_append c before (cell ∷ []) not_yet.1 (ap (λ t. cond t (Some cell.row) None) test))
+    by_shown (Some row) is true test had =
+        inl (get_more m cell.coords row c ∙ ap (λ t. cond t (Some row) (map.get m c)) test ∙ sym (ap f (sym (coords_same cell.coords c test)) ∙ is))
+    by_shown (Some row) is false test (inl had) = inl (get_more m cell.coords row c ∙ ap (λ t. cond t (Some row) (map.get m c)) test ∙ had)
+    by_shown (Some row) is false test (inr not_yet) =
+        inr (get_more m cell.coords row c ∙ ap (λ t. cond t (Some row) (map.get m c)) test ∙ not_yet.0, absent_append c before (cell ∷ []) not_yet.1 (ap (λ t. cond t (Some cell.row) None) test))
+
+-- before the first cell a map shows what it showed
+pub shows-start : (f : List ℤ → Option (List Val)) (m : Cells) (before : List Cell) → Shows f m before → Shows f m (before ++ [])
+shows-start f m before h = subst (Shows f m) (sym (append-nil before)) h
+
+-- the map of nothing shows what no cells show
+pub shows-none : (f : List ℤ → Option (List Val)) → Shows f map.empty []
+shows-none f c = inr (map.get-empty (slice_cmp int_cmp) c, refl)
+
+-- the cells of one deed more
+pub cells_of_deeds-push : (ds : List Deed) (d : Deed) → cells_of_deeds (ds ++ d ∷ []) ≡ cells_of_deeds ds ++ cells_of_deed d
+cells_of_deeds-push [] d = append-nil (cells_of_deed d)
+cells_of_deeds-push (x ∷ ds) d = ap (λ cs. cells_of_deed x ++ cs) (cells_of_deeds-push ds d) ∙ sym (append_assoc (cells_of_deed x) (cells_of_deeds ds) (cells_of_deed d))
+
+-- ---- the end of a scan
+
+-- no write has a coordinate that no cell has
+no_writes : (h : History) (a b : ℕ) (c : List ℤ) → row_at c (cells_of_deeds h) ≡ None → filter (λ w. is_within a b w.key && has_cell c w) (writes h) ≡ []
+no_writes [] a b c is = refl
+no_writes (Framed frame ∷ h) a b c is = no_writes h a b c is
+no_writes (Declared s ∷ h) a b c is = no_writes h a b c is
+no_writes (Wrote w ∷ h) a b c is =
+    let p : Written → Bool = λ v. is_within a b v.key && has_cell c v in
+    let no_cell : has_cell c w ≡ false = ap is_some (absent_left c w.cells (cells_of_deeds h) is) in
+    let fails : p w ≡ false = ap (λ t. is_within a b w.key && t) no_cell ∙ neither (is_within a b w.key) in
+    ap (λ t. cond t (w ∷ filter p (writes h)) (filter p (writes h))) fails ∙ no_writes h a b c (absent_right c w.cells (cells_of_deeds h) is)
+  where
+    neither : (t : Bool) → (t && false) ≡ false
+    neither true = refl
+    neither false = refl
+
+-- once all deeds were looked at the map has what is shown at each coordinate
+pub all_shown : (h : History) (there : Schema) (a b : ℕ) (m : Cells) → Shows (shown_at h there a b) m (cells_of_deeds h) → AreShown (shown_at h there a b) m
+all_shown h there a b m shows c = by_case (shows c)
+  where
+    by_case : (map.get m c ≡ shown_at h there a b c) ⊎ ((map.get m c ≡ None) × (row_at c (cells_of_deeds h) ≡ None)) → map.get m c ≡ shown_at h there a b c
+    by_case (inl same) = same
+    by_case (inr none) = none.0 ∙ sym (ap (λ ws. option_and_then (shown_in h there c) (greatest (λ w. w.key) ws)) (no_writes h a b c none.1))
+
+-- the rows with the types of the frame and of the schema there are an answer
+pub is_answer : (h later : History) (frame : Frame) (there : Schema) (a b : ℕ) (answer : Answer) → frame_in later ≡ Some frame → schema_there later b ≡ Some there
+    → answer.types ≡ types_of frame.domain there.attrs → AreRows h there a b answer.rows → IsAnswer h later a b answer
+is_answer h later frame there a b answer framed holds types rows =
+    record { frame = frame; framed = framed; there = there; holds = holds; cells = rows.cells; each = rows.each; rows = rows.same; types = types }

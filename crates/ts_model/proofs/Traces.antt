@@ -1,63 +1,171 @@
 -- One call more: the history, the traces of jobs and their states.
-use Rattle.std.proofs.Common.{◌≡◌, ℕ, List, [], ◌∷◌, ◌++◌, Option, Some, None, refl, sym, ◌∙◌, ap, subst}
-use Rattle.std.specs.List.{cons_option}
-use Rattle.std.proofs.lemmas.Bool.{eq-eqb, ne_eqb}
+use Rattle.std.proofs.Common.{Bool, List, None, Option, Some, [], ap, append_assoc, cond, false, inl, inr, refl, sym, true, ℕ, ◌++◌, ◌∙◌, ◌∷◌, ◌≡◌}
+use Rattle.std.proofs.lemmas.Bool.{cases_eq, eq-eqb, ne_eqb}
 use Rattle.std.proofs.lemmas.List.{append-nil}
 use Rattle.std.proofs.lemmas.List.Elements.{filter_map-append}
+use Rattle.std.proofs.lemmas.Option.{none-some, same_Some}
+use Rattle.std.specs.List.{cons_option}
+use Rattle.std.specs.Prelude.{option_to_list, slice_get}
 use Rattle.ts_base.specs.Held.{Held}
-use Rattle.ts_store.specs.declared.call.Call.{Call}
-use Rattle.ts_model.specs.declared.commands.Job.{Job}
-use Rattle.ts_model.specs.declared.states.State.{State}
+use Rattle.ts_base.specs.declared.keys.Key.{Key}
+use Rattle.ts_base.specs.declared.names.Prefix.TheVariants.{Schemas}
 use Rattle.ts_model.specs.Deeds.{History}
-use Rattle.ts_model.specs.States.{Exchange, begun, goes, state_from, state_of}
-use Rattle.ts_model.specs.Told.{Told, exchange_of, trace_of, after_told, held_told, grown, history_told}
-
--- a fact on a call follows from the fact on the call that it is known to be
-pub at_call : (P : Told → Type 0) (e : Told) (job : Option ℕ) (c : Call) → e.job ≡ job → e.call ≡ c → P (record e { job = job; call = c }) → P e
-at_call P e job c same_job same_call fact = subst P (λ i. record e { job = sym same_job i; call = sym same_call i }) fact
+use Rattle.ts_model.specs.Forms.{Forms}
+use Rattle.ts_model.specs.States.{Exchange, begun, goes, list_schemas, state_from, state_of}
+use Rattle.ts_model.specs.Told.{Told, after_told, deed_in, deed_told, exchange_of, found_after, found_in, grown, held_told, history_from, history_told, schemas_found, trace_of}
+use Rattle.ts_model.specs.declared.commands.Job.{Job}
+use Rattle.ts_model.specs.declared.deeds.Deed.{Deed}
+use Rattle.ts_model.specs.declared.states.State.{State}
+use Rattle.ts_store.specs.declared.call.Call.{Call}
+use Rattle.ts_store.specs.declared.call.Reply.{Reply}
+use Rattle.ts_store.specs.declared.call.Call.TheVariants as call
+use Rattle.ts_store.specs.declared.call.Reply.TheVariants as reply
 
 -- ---- histories and objects
 
-pub history_told-append : (jobs : List Job) (h : History) (a b : List Told) → history_told jobs h (a ++ b) ≡ history_told jobs (history_told jobs h a) b
-history_told-append jobs h [] b = refl
-history_told-append jobs h (e ∷ a) b = history_told-append jobs (h ++ grown jobs e) a b
+-- the history after more calls goes on from the one before them
+pub history_from-append : (jobs : List Job) (h : History) (seen a b : List Told) → history_from jobs h seen (a ++ b) ≡ history_from jobs (history_from jobs h seen a) (seen ++ a) b
+history_from-append jobs h seen [] b = ap (λ s. history_from jobs h s b) (sym (append-nil seen))
+history_from-append jobs h seen (e ∷ a) b =
+    history_from-append jobs (h ++ grown jobs h seen e) (seen ++ e ∷ []) a b
+    ∙ ap (λ s. history_from jobs (history_from jobs (h ++ grown jobs h seen e) (seen ++ e ∷ []) a) s b) (append_assoc seen (e ∷ []) a)
 
-pub history_told-push : (jobs : List Job) (h : History) (seen : List Told) (e : Told) → history_told jobs h (seen ++ e ∷ []) ≡ history_told jobs h seen ++ grown jobs e
-history_told-push jobs h seen e = history_told-append jobs h seen (e ∷ [])
+-- the history after more calls goes on from the one that was told before
+pub history_told-append : (jobs : List Job) (past : History) (a b : List Told) → history_told jobs past (a ++ b) ≡ history_from jobs (history_told jobs past a) a b
+history_told-append jobs past a b = history_from-append jobs past [] a b
 
+-- one call more appends its deeds
+pub history_told-push : (jobs : List Job) (past : History) (seen : List Told) (e : Told)
+    → history_told jobs past (seen ++ e ∷ []) ≡ history_told jobs past seen ++ grown jobs (history_told jobs past seen) seen e
+history_told-push jobs past seen e = history_told-append jobs past seen (e ∷ [])
+
+-- a history only grows
+pub history_from_grows : (jobs : List Job) (h : History) (seen told : List Told) → (more : History) × (history_from jobs h seen told ≡ h ++ more)
+history_from_grows jobs h seen [] = ([], sym (append-nil h))
+history_from_grows jobs h seen (e ∷ told) =
+    let rest = history_from_grows jobs (h ++ grown jobs h seen e) (seen ++ e ∷ []) told in
+    (grown jobs h seen e ++ rest.0, rest.1 ∙ append_assoc h (grown jobs h seen e) rest.0)
+
+-- what was told before is the front of what is told now
+pub history_told_grows : (jobs : List Job) (past : History) (a b : List Told) → (more : History) × (history_told jobs past (a ++ b) ≡ history_told jobs past a ++ more)
+history_told_grows jobs past a b =
+    let rest = history_from_grows jobs (history_told jobs past a) a b in
+    (rest.0, history_told-append jobs past a b ∙ rest.1)
+
+-- what is held after more calls goes on from what was held before them
 pub held_told-append : (m : Held) (a b : List Told) → held_told m (a ++ b) ≡ held_told (held_told m a) b
 held_told-append m [] b = refl
 held_told-append m (e ∷ a) b = held_told-append (after_told m e) a b
 
+-- ---- the history after one call more
+
+module _ (jobs : List Job) (past : History) (seen : List Told) (e : Told) where
+  -- the history before the call
+  abbrev before : History
+  before = history_told jobs past seen
+
+  -- the history after the call
+  abbrev later : History
+  later = history_told jobs past (seen ++ e ∷ [])
+
+  -- a call that changes nothing appends nothing
+  pub later_unchanged : e.changed ≡ false → later ≡ before
+  later_unchanged still = history_told-push jobs past seen e ∙ ap (λ b. before ++ cond b (option_to_list (deed_told jobs before seen e)) []) still ∙ append-nil before
+
+  -- a call of no deed appends nothing
+  pub later_no_deed : deed_told jobs before seen e ≡ None → later ≡ before
+  later_no_deed none =
+      history_told-push jobs past seen e ∙ ap (λ o. before ++ cond e.changed (option_to_list o) []) none ∙ ap (λ d. before ++ d) (nothing e.changed) ∙ append-nil before
+    where
+      nothing : (b : Bool) → ◌≡◌ {A = List Deed} (cond b [] []) []
+      nothing true = refl
+      nothing false = refl
+
+  -- a call that changes what is held appends its deed
+  pub later_deed : (d : Deed) → deed_told jobs before seen e ≡ Some d → e.changed ≡ true → later ≡ before ++ d ∷ []
+  later_deed d some changed =
+      history_told-push jobs past seen e ∙ ap (λ b. before ++ cond b (option_to_list (deed_told jobs before seen e)) []) changed
+      ∙ ap (λ o. before ++ option_to_list o) some
+
+-- the deed of a call of a job is that of what it puts
+pub deed_told_own : (jobs : List Job) (h : History) (seen : List Told) (e : Told) (number : ℕ) (job : Job) (c : Call) → e.job ≡ Some number → slice_get jobs number ≡ Some job → e.call ≡ c
+    → deed_told jobs h seen e ≡ deed_in h job (schemas_found (trace_of number seen)) c
+deed_told_own jobs h seen e number job c own at is = rw (own, at, is) refl
+
 -- ---- traces
 
+-- the trace of more calls goes on from the one before them
 pub trace_of-append : (number : ℕ) (a b : List Told) → trace_of number (a ++ b) ≡ trace_of number a ++ trace_of number b
 trace_of-append number a b = filter_map-append (exchange_of number) a b
 
+-- a call of a job is an exchange of it
 pub exchange_of_own : (number : ℕ) (e : Told) → e.job ≡ Some number → exchange_of number e ≡ Some (record { call = e.call; reply = e.reply })
 exchange_of_own number e own = rw (own, eq-eqb number number refl) refl
 
-pub exchange_of_other : (number other : ℕ) (e : Told) → e.job ≡ Some other → (other ≡ number → ⊥) → exchange_of number e ≡ None
-exchange_of_other number other e own apart = rw (own, ne_eqb other number apart) refl
+-- a call of another is no exchange of a job
+pub exchange_of_other : (number : ℕ) (e : Told) → (e.job ≡ Some number → ⊥) → exchange_of number e ≡ None
+exchange_of_other number e apart = from_maker e.job refl
+  where
+    from_maker : (o : Option ℕ) → e.job ≡ o → exchange_of number e ≡ None
+    from_maker None is = rw is refl
+    from_maker (Some other) is = rw (is, ne_eqb other number (λ same. apart (is ∙ ap Some same))) refl
 
+-- a call of a job is the last of its trace
 pub trace_of-own : (number : ℕ) (seen : List Told) (e : Told) → e.job ≡ Some number → trace_of number (seen ++ e ∷ []) ≡ trace_of number seen ++ record { call = e.call; reply = e.reply } ∷ []
 trace_of-own number seen e own = trace_of-append number seen (e ∷ []) ∙ ap (λ o. trace_of number seen ++ cons_option o []) (exchange_of_own number e own)
 
-pub trace_of-other : (number other : ℕ) (seen : List Told) (e : Told) → e.job ≡ Some other → (other ≡ number → ⊥) → trace_of number (seen ++ e ∷ []) ≡ trace_of number seen
-trace_of-other number other seen e own apart =
-    trace_of-append number seen (e ∷ []) ∙ ap (λ o. trace_of number seen ++ cons_option o []) (exchange_of_other number other e own apart) ∙ append-nil (trace_of number seen)
+-- a call of another leaves the trace of a job alone
+pub trace_of-other : (number : ℕ) (seen : List Told) (e : Told) → (e.job ≡ Some number → ⊥) → trace_of number (seen ++ e ∷ []) ≡ trace_of number seen
+trace_of-other number seen e apart =
+    trace_of-append number seen (e ∷ []) ∙ ap (λ o. trace_of number seen ++ cons_option o []) (exchange_of_other number e apart) ∙ append-nil (trace_of number seen)
+
+-- ---- the schemas that a job found
+
+-- what is found by more exchanges goes on from what was found before them
+found_after-append : (found : Option (List Key)) (xs ys : List Exchange) → found_after found (xs ++ ys) ≡ found_after (found_after found xs) ys
+found_after-append found [] ys = refl
+found_after-append found (x ∷ xs) ys = found_after-append (found_in found x.call x.reply) xs ys
+
+-- a call of a job may tell it the schemas anew
+pub schemas_found-own : (number : ℕ) (seen : List Told) (e : Told) → e.job ≡ Some number
+    → schemas_found (trace_of number (seen ++ e ∷ [])) ≡ found_in (schemas_found (trace_of number seen)) e.call e.reply
+schemas_found-own number seen e own =
+    ap schemas_found (trace_of-own number seen e own) ∙ found_after-append None (trace_of number seen) (record { call = e.call; reply = e.reply } ∷ [])
+
+-- a call that does not list the schemas tells none
+found_in_else : (found : Option (List Key)) (c : Call) (r : Reply) → (c ≡ list_schemas → ⊥) → found_in found c r ≡ found
+found_in_else found (call.List Schemas) (reply.Names names) apart = absurd (apart refl)
+found_in_else found _ r apart = refl
+
+-- a job has found what it found before by a call by which it does not list the schemas
+pub schemas_found-stays : (number : ℕ) (seen : List Told) (e : Told) → (e.job ≡ Some number → e.call ≡ list_schemas → ⊥)
+    → schemas_found (trace_of number (seen ++ e ∷ [])) ≡ schemas_found (trace_of number seen)
+schemas_found-stays number seen e unlisted = from_maker e.job refl
+  where
+    from_maker : (o : Option ℕ) → e.job ≡ o → schemas_found (trace_of number (seen ++ e ∷ [])) ≡ schemas_found (trace_of number seen)
+    from_maker None is = ap schemas_found (trace_of-other number seen e (λ own. none-some number (sym is ∙ own)))
+    from_maker (Some other) is = elim (cases_eq other number) [
+      | inl same ↦
+          let own = is ∙ ap Some same in
+          schemas_found-own number seen e own ∙ found_in_else (schemas_found (trace_of number seen)) e.call e.reply (unlisted own)
+      | inr apart ↦ ap schemas_found (trace_of-other number seen e (λ own. apart (same_Some other number (sym is ∙ own))))
+    ]
 
 -- ---- states
 
-pub state_from-append : (job : Job) (s : State) (xs ys : List Exchange) → state_from job s (xs ++ ys) ≡ state_from job (state_from job s xs) ys
-state_from-append job s [] ys = refl
-state_from-append job s (x ∷ xs) ys = state_from-append job (goes job s x.reply) xs ys
+module _ {F : Type 0} (forms : Forms F) (job : Job) where
+  -- more exchanges lead on from where those before led
+  pub state_from-append : (s : State F) (xs ys : List Exchange) → state_from forms job s (xs ++ ys) ≡ state_from forms job (state_from forms job s xs) ys
+  state_from-append s [] ys = refl
+  state_from-append s (x ∷ xs) ys = state_from-append (goes forms job s x.reply) xs ys
 
-pub state_of-own : (job : Job) (number : ℕ) (seen : List Told) (e : Told) → e.job ≡ Some number
-    → state_of job (trace_of number (seen ++ e ∷ [])) ≡ goes job (state_of job (trace_of number seen)) e.reply
-state_of-own job number seen e own =
-    ap (state_of job) (trace_of-own number seen e own) ∙ state_from-append job (begun job.command) (trace_of number seen) (record { call = e.call; reply = e.reply } ∷ [])
+  -- a call of a job leads it on
+  pub state_of-own : (number : ℕ) (seen : List Told) (e : Told) → e.job ≡ Some number
+      → state_of forms job (trace_of number (seen ++ e ∷ [])) ≡ goes forms job (state_of forms job (trace_of number seen)) e.reply
+  state_of-own number seen e own =
+      ap (state_of forms job) (trace_of-own number seen e own) ∙ state_from-append (begun job.command) (trace_of number seen) (record { call = e.call; reply = e.reply } ∷ [])
 
-pub state_of-other : (job : Job) (number other : ℕ) (seen : List Told) (e : Told) → e.job ≡ Some other → (other ≡ number → ⊥)
-    → state_of job (trace_of number (seen ++ e ∷ [])) ≡ state_of job (trace_of number seen)
-state_of-other job number other seen e own apart = ap (state_of job) (trace_of-other number other seen e own apart)
+  -- a call of another leaves a job where it is
+  pub state_of-other : (number : ℕ) (seen : List Told) (e : Told) → (e.job ≡ Some number → ⊥)
+      → state_of forms job (trace_of number (seen ++ e ∷ [])) ≡ state_of forms job (trace_of number seen)
+  state_of-other number seen e apart = ap (state_of forms job) (trace_of-other number seen e apart)

@@ -1,242 +1,158 @@
 -- The definitions on worked rows: each row computes, so that a reader can see what a definition says.
-use Rattle.std.proofs.Common.{◌≡◌, ℕ, ℤ, ◌+◌, ◌*◌, ◌^◌, Bool, true, false, List, [], ◌∷◌, ◌++◌, Some, None, inl, inr, refl, sym}
-use Rattle.std.specs.Prelude.{pos, negsuc, map}
-use Rattle.std.specs.FinMap as finmap
-use Rattle.std.proofs.lemmas.Bool.{true≢false}
+use Rattle.std.proofs.Common.{Ok, Err, ◌≡◌, ℕ, ℤ, ◌+◌, ◌*◌, ◌^◌, true, false, List, [], ◌∷◌, Some, None, refl}
+use Rattle.std.specs.Prelude.{pos, map}
+use Rattle.ts_base.specs.declared.heads.Stop.TheVariants.{Never}
+use Rattle.ts_base.specs.declared.values.Val.{Val}
 use Rattle.ts_base.specs.declared.values.Val.TheVariants.{Int}
-use Rattle.ts_base.specs.declared.heads.Version.{Version}
-use Rattle.ts_base.specs.declared.names.Place.TheVariants as place
-use Rattle.ts_base.specs.declared.names.Prefix.TheVariants.{Commits}
-use Rattle.ts_base.specs.declared.heads.Point.TheVariants.{Vac, Wrt}
-use Rattle.ts_base.specs.declared.heads.Stop.{Stop}
-use Rattle.ts_base.specs.declared.heads.Stop.TheVariants.{Never, Calls, Before}
-use Rattle.ts_base.specs.Names.{name_cmp}
-use Rattle.ts_store.specs.declared.fate.Fate.{Fate}
+use Rattle.ts_base.specs.declared.values.ValType.TheVariants.{I64}
+use Rattle.ts_domain.specs.declared.dims.Dim.{Dim}
+use Rattle.ts_domain.specs.declared.orders.Order.TheVariants.{Row}
+use Rattle.ts_schema.specs.declared.attrs.Attr.{Attr}
+use Rattle.ts_schema.specs.declared.frames.Frame.{Frame}
+use Rattle.ts_schema.specs.declared.schemas.Schema.{Schema}
 use Rattle.ts_store.specs.declared.fate.Fate.TheVariants as fate
 use Rattle.ts_store.specs.declared.call.Call.TheVariants as call
 use Rattle.ts_store.specs.declared.call.Reply.{Reply}
 use Rattle.ts_store.specs.declared.call.Reply.TheVariants as reply
+use Rattle.ts_base.specs.declared.names.Name.TheVariants as name
 use Rattle.ts_model.specs.declared.commands.Command.TheVariants.{Write, Read}
+use Rattle.ts_model.specs.declared.commands.ColIn.{ColIn}
 use Rattle.ts_model.specs.declared.commands.Job.{Job}
-use Rattle.ts_model.specs.declared.answers.Driven.TheVariants.{Done, Stopped}
-use Rattle.ts_model.specs.declared.answers.Outcome.TheVariants as outcome
 use Rattle.ts_model.specs.declared.answers.Refusal.TheVariants as refusal
-use Rattle.ts_model.specs.declared.states.State.TheVariants.{PutsPart, PutsCommit, Over}
 use Rattle.ts_model.specs.declared.deeds.Deed.{Deed}
-use Rattle.ts_model.specs.declared.deeds.Deed.TheVariants.{Wrote}
-use Rattle.ts_model.specs.Deeds.{History, first_schema, first_deeds, IsHistory}
-use Rattle.ts_model.specs.Answers.{pair, shown}
-use Rattle.ts_model.specs.Jobs.{frag_of_job, one_cell, fits, refused_before}
-use Rattle.ts_model.specs.Histories.{history_of}
-use Rattle.ts_model.specs.States.{Exchange, part_of, commit_of, asks, pairs_in, state_of}
-use Rattle.ts_model.specs.Plain.{part_text}
-use Rattle.ts_model.specs.Told.{Told, trace_of, only_lane, entries_of, history_told}
+use Rattle.ts_model.specs.declared.deeds.Deed.TheVariants.{Framed, Declared, Wrote}
+use Rattle.ts_model.specs.Deeds.{History, schema_there}
+use Rattle.ts_model.specs.Answers.{shown_at}
+use Rattle.ts_model.specs.Commands.{laid}
+use Rattle.ts_model.specs.States.{commit_of, list_schemas}
+use Rattle.ts_model.specs.Told.{Told, history_told}
 use Rattle.ts_model.specs.Fresh.{jobs_of}
-use Rattle.ts_model.specs.Stops.{Uncut}
-use Rattle.ts_model.specs.Driven.{IsDriven}
-use Rattle.ts_model.specs.Rows.{IsCutOff}
 
--- the write of a value at the coordinate x, with a stamp and an identifier
-abbrev write_job : ℕ → ℕ → ℤ → ℤ → Job
-write_job at id x v = record { command = Write x v; at = at; id = id; stop = Never }
+-- ---- an array of one dimension, whose schema got a second attribute at the time 3
 
-abbrev read_job : ℕ → ℕ → ℕ → Job
-read_job at id to = record { command = Read to; at = at; id = id; stop = Never }
+-- the dimension x from 0 to 9
+abbrev dim : Dim
+dim = record { name = 120 ∷ []; ty = I64; low = pos 0; high = pos 9; extent = pos 5 }
 
-abbrev wrote : ℕ → ℕ → ℤ → ℤ → Deed
-wrote at id x v = Wrote (record { key = record { t = at; id = id }; schema = first_schema; cells = one_cell x v })
+-- the frame of the array
+abbrev frame : Frame
+frame = record { dense = false; domain = dim ∷ []; cell = Row; tile = Row; capacity = 4 }
 
--- the first deeds, and then these
+-- an attribute of integers with a name and a fill
+abbrev attr : ℕ → ℤ → Attr
+attr letter fill = record { name = letter ∷ []; ty = I64; nullable = false; fill = Int fill }
+
+-- the first schema has the attribute a
+abbrev first : Schema
+first = record { key = record { t = 1; id = 1 }; attrs = attr 97 (pos 0) ∷ [] }
+
+-- the second has the attribute b also, which is filled with 7
+abbrev second : Schema
+second = record { key = record { t = 3; id = 3 }; attrs = attr 97 (pos 0) ∷ attr 98 (pos 7) ∷ [] }
+
+-- the write of one cell, with a stamp, an identifier and the key of its schema
+abbrev wrote : ℕ → ℕ → Schema → ℤ → List Val → Deed
+wrote at id s x row = Wrote (record { key = record { t = at; id = id }; schema = s.key; cells = record { coords = x ∷ []; row = row } ∷ [] })
+
+-- the frame, the first schema and these deeds
 abbrev with_deeds : List Deed → History
-with_deeds deeds = first_deeds ++ deeds
+with_deeds deeds = Framed frame ∷ Declared first ∷ deeds
+
+-- the cell 5 is written before the evolution, and the cell 6 after it
+abbrev evolved : History
+evolved = with_deeds (wrote 2 2 first (pos 5) (Int (pos 10) ∷ []) ∷ Declared second ∷ wrote 4 4 second (pos 6) (Int (pos 20) ∷ Int (pos 30) ∷ []) ∷ [])
 
 -- ---- what a history shows
 
--- a history of no write shows nothing
-nothing_shown : shown first_deeds 0 9 ≡ []
-nothing_shown = refl
+-- the schema that holds is the greatest that is stamped in time
+there_before : schema_there evolved 2 ≡ Some first
+there_before = refl
 
--- a write is shown at its coordinate
-one_shown : shown (with_deeds (wrote 1 1 (pos 5) (pos 10) ∷ [])) 0 9 ≡ pair (pos 5) (pos 10) ∷ []
-one_shown = refl
+-- later the second schema holds
+there_after : schema_there evolved 9 ≡ Some second
+there_after = refl
 
--- coordinates come ascending, whatever the order of the writes
-ascending : shown (with_deeds (wrote 1 1 (pos 7) (pos 70) ∷ wrote 2 2 (pos 3) (negsuc 29) ∷ [])) 0 9 ≡ pair (pos 3) (negsuc 29) ∷ pair (pos 7) (pos 70) ∷ []
-ascending = refl
+-- before the first there is none
+there_never : schema_there evolved 0 ≡ None
+there_never = refl
+
+-- a cell that was written before an attribute was added shows its fill
+fill_shows : shown_at evolved second 0 9 (pos 5 ∷ []) ≡ Some (Int (pos 10) ∷ Int (pos 7) ∷ [])
+fill_shows = refl
+
+-- one that was written after it shows what was written
+both_show : shown_at evolved second 0 9 (pos 6 ∷ []) ≡ Some (Int (pos 20) ∷ Int (pos 30) ∷ [])
+both_show = refl
+
+-- through the earlier schema it shows the first attribute alone
+one_shows : shown_at evolved first 0 9 (pos 6 ∷ []) ≡ Some (Int (pos 20) ∷ [])
+one_shows = refl
+
+-- a cell that was never written shows nothing
+none_shows : shown_at evolved second 0 9 (pos 7 ∷ []) ≡ None
+none_shows = refl
+
+-- an earlier interval shows what was written then
+earlier_shows : shown_at evolved first 0 3 (pos 6 ∷ []) ≡ None
+earlier_shows = refl
 
 -- of two writes of one cell the later stamp shows, in whichever order they were committed
-later_shows : shown (with_deeds (wrote 3 1 (pos 5) (pos 1) ∷ wrote 2 2 (pos 5) (pos 2) ∷ [])) 0 9 ≡ pair (pos 5) (pos 1) ∷ []
+later_shows : shown_at (with_deeds (wrote 3 4 first (pos 5) (Int (pos 1) ∷ []) ∷ wrote 2 5 first (pos 5) (Int (pos 2) ∷ []) ∷ [])) first 0 9 (pos 5 ∷ []) ≡ Some (Int (pos 1) ∷ [])
 later_shows = refl
 
 -- a read up to 2 sees only what is stamped up to 2
-only_in_time : shown (with_deeds (wrote 3 1 (pos 5) (pos 1) ∷ wrote 2 2 (pos 5) (pos 2) ∷ [])) 0 2 ≡ pair (pos 5) (pos 2) ∷ []
-only_in_time = refl
-
-none_in_time : shown (with_deeds (wrote 3 1 (pos 5) (pos 1) ∷ [])) 0 2 ≡ []
-none_in_time = refl
-
--- both ends of the interval belong to it
-at_both_ends : shown (with_deeds (wrote 2 1 (pos 5) (pos 1) ∷ wrote 4 2 (pos 6) (pos 2) ∷ wrote 5 3 (pos 7) (pos 3) ∷ [])) 2 4 ≡ pair (pos 5) (pos 1) ∷ pair (pos 6) (pos 2) ∷ []
-at_both_ends = refl
+in_time_shows : shown_at (with_deeds (wrote 3 4 first (pos 5) (Int (pos 1) ∷ []) ∷ wrote 2 5 first (pos 5) (Int (pos 2) ∷ []) ∷ [])) first 0 2 (pos 5 ∷ []) ≡ Some (Int (pos 2) ∷ [])
+in_time_shows = refl
 
 -- of equal stamps the greater identifier shows, in either order
-greater_id_last : shown (with_deeds (wrote 4 2 (pos 5) (pos 20) ∷ wrote 4 3 (pos 5) (pos 30) ∷ [])) 0 9 ≡ pair (pos 5) (pos 30) ∷ []
-greater_id_last = refl
+greater_shows : shown_at (with_deeds (wrote 4 2 first (pos 5) (Int (pos 20) ∷ []) ∷ wrote 4 3 first (pos 5) (Int (pos 30) ∷ []) ∷ [])) first 0 9 (pos 5 ∷ []) ≡ Some (Int (pos 30) ∷ [])
+greater_shows = refl
 
-greater_id_first : shown (with_deeds (wrote 4 3 (pos 5) (pos 30) ∷ wrote 4 2 (pos 5) (pos 20) ∷ [])) 0 9 ≡ pair (pos 5) (pos 30) ∷ []
-greater_id_first = refl
+-- so it is where the greater identifier was committed first
+greater_first_shows : shown_at (with_deeds (wrote 4 3 first (pos 5) (Int (pos 30) ∷ []) ∷ wrote 4 2 first (pos 5) (Int (pos 20) ∷ []) ∷ [])) first 0 9 (pos 5 ∷ []) ≡ Some (Int (pos 30) ∷ [])
+greater_first_shows = refl
 
--- ---- what fragments show
+-- ---- what columns lay
 
-abbrev version : ℕ → ℕ → ℤ → ℤ → Version
-version at id x v = record { key = record { t = at; id = id }; schema = first_schema; coords = x ∷ []; row = Int v ∷ [] }
+-- a column with a name
+abbrev col : ℕ → List Val → ColIn
+col letter values = record { name = letter ∷ []; values = values }
 
--- the versions show what the writes show
-versions_show : pairs_in (version 4 3 (pos 5) (pos 30) ∷ version 4 2 (pos 5) (pos 20) ∷ version 1 1 (pos 0) (pos 7) ∷ []) ≡ pair (pos 0) (pos 7) ∷ pair (pos 5) (pos 30) ∷ []
-versions_show = refl
+-- the columns give the cells one after the other
+two_laid : laid (dim ∷ []) first.attrs (col 97 (Int (pos 1) ∷ Int (pos 2) ∷ []) ∷ col 120 (Int (pos 3) ∷ Int (pos 4) ∷ []) ∷ [])
+    ≡ Ok (record { coords = pos 3 ∷ []; row = Int (pos 1) ∷ [] } ∷ record { coords = pos 4 ∷ []; row = Int (pos 2) ∷ [] } ∷ [])
+two_laid = refl
 
--- ---- which lists of deeds are histories
+-- the second cell lies where the first does
+laid_twice : laid (dim ∷ []) first.attrs (col 97 (Int (pos 1) ∷ Int (pos 2) ∷ []) ∷ col 120 (Int (pos 3) ∷ Int (pos 3) ∷ []) ∷ []) ≡ Err (refusal.DuplicateCell 1)
+laid_twice = refl
 
-one_write_is_history : IsHistory (with_deeds (wrote 1 1 (pos 5) (pos 10) ∷ []))
-one_write_is_history = record {
-  rest = wrote 1 1 (pos 5) (pos 10) ∷ [];
-  begins = refl;
-  follow = (refl, ((refl, refl), (record { new = refl; declared = refl; in_time = refl; some_cell = refl; apart = refl; inside = refl; fit = refl }, tt)));
-}
+-- the coordinate 10 lies outside
+laid_outside : laid (dim ∷ []) first.attrs (col 97 (Int (pos 1) ∷ []) ∷ col 120 (Int (pos 10) ∷ []) ∷ []) ≡ Err (refusal.Domain 0 (pos 10))
+laid_outside = refl
 
--- ---- jobs
+-- a column for the attribute is wanting
+laid_too_few : laid (dim ∷ []) first.attrs (col 120 (Int (pos 3) ∷ []) ∷ []) ≡ Err (refusal.SchemaClash (97 ∷ []))
+laid_too_few = refl
 
--- the identifiers of a script's commands: the seed, the lane 0, and the number of the command from 1
-ids : map (λ job. job.id) (jobs_of 7 (record { command = Write (pos 5) (pos 10); at = 1 } ∷ record { command = Read 9; at = 9 } ∷ [])) ≡ (7 * 2 ^ 64 + 1) ∷ (7 * 2 ^ 64 + 2) ∷ []
-ids = refl
+-- ---- what calls do
 
--- the coordinate 10 lies outside the domain, 0 and 9 inside
-outside : refused_before (Write (pos 10) (pos 1)) ≡ Some (refusal.Domain 0 (pos 10))
-outside = refl
-
-below : refused_before (Write (negsuc 0) (pos 1)) ≡ Some (refusal.Domain 0 (negsuc 0))
-below = refl
-
-least_inside : refused_before (Write (pos 0) (pos 1)) ≡ None
-least_inside = refl
-
-greatest_inside : refused_before (Write (pos 9) (pos 1)) ≡ None
-greatest_inside = refl
-
--- a value of 64 bits fits, and one more does not
-greatest_fits : fits (Write (pos 5) (pos 9223372036854775807)) ≡ true
-greatest_fits = refl
-
-above_greatest : fits (Write (pos 5) (pos 9223372036854775808)) ≡ false
-above_greatest = refl
-
--- ---- how a job goes
-
+-- a write of one cell
 abbrev a_write : Job
-a_write = write_job 1 1 (pos 5) (pos 10)
+a_write = record { command = Write (record { cols = col 97 (Int (pos 1) ∷ []) ∷ col 120 (Int (pos 3) ∷ []) ∷ [] }); at = 5; id = 9; stop = Never }
 
--- a call of a write and its reply
-abbrev put_part_of : Job → Reply → Exchange
-put_part_of job r = record { call = call.Put (part_of job) (part_text job); reply = r }
+-- its listing of the schemas
+abbrev told_listing : Told
+told_listing = record { job = Some 0; call = list_schemas; fate = fate.Done; reply = reply.Names (name.Schema first.key ∷ []); changed = false }
 
-abbrev put_part : Reply → Exchange
-put_part r = put_part_of a_write r
+-- the put of its `.wrt`
+abbrev told_commit : Reply → Told
+told_commit r = record { job = Some 0; call = call.Put (commit_of a_write) []; fate = fate.Done; reply = r; changed = true }
 
-abbrev put_commit : Reply → Exchange
-put_commit r = record { call = call.Put (commit_of a_write) []; reply = r }
-
-write_begins : state_of a_write [] ≡ PutsPart
-write_begins = refl
-
-write_goes_on : state_of a_write (put_part reply.Made ∷ []) ≡ PutsCommit
-write_goes_on = refl
-
-write_ends : state_of a_write (put_part reply.Made ∷ put_commit reply.Made ∷ []) ≡ Over (outcome.Written (frag_of_job a_write))
-write_ends = refl
-
-part_taken : state_of a_write (put_part reply.Taken ∷ []) ≡ Over (outcome.Refused (refusal.Taken (part_of a_write)))
-part_taken = refl
-
-commit_failed : state_of a_write (put_part reply.Made ∷ put_commit reply.Failed ∷ []) ≡ Over (outcome.Refused (refusal.StoreFault (place.Name (commit_of a_write))))
-commit_failed = refl
-
-no_memory : state_of a_write (put_part reply.NoMemory ∷ []) ≡ Over outcome.OutOfMemory
-no_memory = refl
-
--- a write outside the domain asks for nothing
-asks_nothing : asks (write_job 1 1 (pos 10) (pos 1)) (state_of (write_job 1 1 (pos 10) (pos 1)) []) ≡ None
-asks_nothing = refl
-
--- a read that lists no commit shows nothing
-nothing_listed : state_of (read_job 9 2 9) (record { call = call.List Commits; reply = reply.Names [] } ∷ []) ≡ Over (outcome.Read (record { rows = [] }))
-nothing_listed = refl
-
--- ---- where a job is stopped
-
--- the same write, stopped somewhere
-abbrev stopped_write : Stop → Job
-stopped_write stop = record { command = Write (pos 5) (pos 10); at = 1; id = 1; stop = stop }
-
--- stopped before its `.wrt`, it has put its part, and nothing more
-cut_before_wrt : IsDriven (stopped_write (Before Wrt)) (put_part_of (stopped_write (Before Wrt)) reply.Made ∷ []) Stopped
-cut_before_wrt = record { asked = (refl, tt); uncut = (refl, tt); ends = (call.Put (commit_of a_write) [], refl, refl) }
-
--- the same along its row: the put of the `.wrt` would have come next
-cut_along_row : IsCutOff (stopped_write (Before Wrt)) (put_part_of (stopped_write (Before Wrt)) reply.Made ∷ [])
-cut_along_row = record {
-  begins = refl;
-  left = call.Put (commit_of a_write) [] ∷ [];
-  along = ((refl, refl), (call.Put (commit_of a_write) [] ∷ [], inr refl, refl));
-  unmade = call.Put (commit_of a_write) [];
-  rest = [];
-  next = inr refl;
-  looks = λ look. absurd (true≢false (sym look));
-  cut = refl;
-}
-
--- stopped after no call, it makes none
-cut_at_once : IsDriven (stopped_write (Calls 0)) [] Stopped
-cut_at_once = record { asked = tt; uncut = tt; ends = (call.Put (part_of a_write) (part_text (stopped_write (Calls 0))), refl, refl) }
-
--- stopped after two calls, it comes to its end by them
-end_first : IsDriven (stopped_write (Calls 2)) (put_part_of (stopped_write (Calls 2)) reply.Made ∷ put_commit reply.Made ∷ []) (Done (outcome.Written (frag_of_job a_write)))
-end_first = record { asked = (refl, (refl, tt)); uncut = (refl, (refl, tt)); ends = inl refl }
-
--- a stop that a job never comes to changes nothing
-never_there : Uncut (Before Vac) 0 (put_part reply.Made ∷ put_commit reply.Made ∷ [])
-never_there = (refl, (refl, tt))
-
--- ---- what calls leave
-
--- a call of the write: the put of its part or of its `.wrt`, with its fate, its reply and whether it changed what is held
-abbrev told_part : Fate → Reply → Bool → Told
-told_part f r changed = record { job = Some 0; call = call.Put (part_of a_write) (part_text a_write); fate = f; reply = r; changed = changed }
-
-abbrev told_commit : Fate → Reply → Bool → Told
-told_commit f r changed = record { job = Some 0; call = call.Put (commit_of a_write) []; fate = f; reply = r; changed = changed }
-
--- the part alone is no deed, and the `.wrt` makes the write one
-part_is_no_deed : history_told (a_write ∷ []) first_deeds (told_part fate.Done reply.Made true ∷ []) ≡ first_deeds
-part_is_no_deed = refl
-
-write_is_deed : history_told (a_write ∷ []) first_deeds (told_part fate.Done reply.Made true ∷ told_commit fate.Done reply.Made true ∷ []) ≡ with_deeds (wrote 1 1 (pos 5) (pos 10) ∷ [])
+-- the put of the `.wrt` makes the write a deed, of the cells that its columns lay in the schema that it listed
+write_is_deed : history_told (a_write ∷ []) (with_deeds []) (told_listing ∷ told_commit reply.Made ∷ []) ≡ with_deeds (wrote 5 9 first (pos 3) (Int (pos 1) ∷ []) ∷ [])
 write_is_deed = refl
 
--- a put that failed makes the deed where it took effect, and else not
-failed_done : history_told (a_write ∷ []) first_deeds (told_part fate.Done reply.Made true ∷ told_commit fate.FailedDone reply.Failed true ∷ []) ≡ with_deeds (wrote 1 1 (pos 5) (pos 10) ∷ [])
-failed_done = refl
-
-failed_skipped : history_told (a_write ∷ []) first_deeds (told_part fate.Done reply.Made true ∷ told_commit fate.FailedSkipped reply.Failed false ∷ []) ≡ first_deeds
-failed_skipped = refl
-
--- the same by its journal, from the empty map
-by_journal : history_of (a_write ∷ []) first_deeds finmap.empty (record { lane = 0; call = call.Put (commit_of a_write) []; fate = fate.Done } ∷ []) ≡ with_deeds (wrote 1 1 (pos 5) (pos 10) ∷ [])
-by_journal = rw (finmap.get-empty name_cmp (commit_of a_write)) refl
-
--- want of memory leaves no entry
-no_entry : entries_of (only_lane 0) (told_part fate.Done reply.NoMemory false ∷ []) ≡ []
-no_entry = refl
-
--- a trace has the calls of its own job alone
-own_trace : trace_of 1 (told_part fate.Done reply.Made true ∷ []) ≡ []
-own_trace = refl
+-- the identifiers of a script's commands: the seed, the lane 0, and the number of the command from 1
+ids : map (λ job. job.id) (jobs_of 7 (record { command = Read 0 5; at = 1 } ∷ record { command = Read 0 9; at = 9 } ∷ [])) ≡ (7 * 2 ^ 64 + 1) ∷ (7 * 2 ^ 64 + 2) ∷ []
+ids = refl

@@ -1,25 +1,38 @@
 -- Deeds, histories, and what is found in a history.
-use Rattle.std.specs.Prelude.{◌≡◌, ℕ, ℤ, pos, ◌-◌, ◌^◌, Bool, true, false, cond, not, ◌&&◌, List, [], ◌∷◌, ◌++◌, Option, Some, None, filter, filter_map, is_some, length, nat_le, nat_lt, int_le, IsTrue, ⊤}
-use Rattle.std.specs.List.{list_any, list_all}
+use Rattle.std.specs.Prelude.{◌≡◌, ℕ, ℤ, ◌^◌, ◌<◌, ◌≤◌, Bool, true, false, cond, not, ◌&&◌, List, [], ◌∷◌, ◌++◌, Option, Some, None, filter, filter_map, length, nat_le, IsTrue, All, ⊤, find, is_some}
 use Rattle.ts_base.specs.declared.keys.Key.{Key}
-use Rattle.ts_model.specs.declared.deeds.Written.{Written}
-use Rattle.ts_model.specs.declared.deeds.Deed.{Deed}
-use Rattle.ts_model.specs.declared.deeds.Deed.TheVariants.{Framed, Declared, Wrote}
 use Rattle.ts_base.specs.declared.heads.Cell.{Cell}
 use Rattle.ts_base.specs.declared.values.Val.{Val}
-use Rattle.ts_base.specs.declared.values.Val.TheVariants.{Int}
-use Rattle.ts_base.specs.declared.values.ValType.TheVariants.{I64}
+use Rattle.ts_model.specs.declared.deeds.Written.{Written}
+use Rattle.ts_model.specs.declared.deeds.Deed.{Deed}
+use Rattle.ts_schema.specs.declared.frames.Frame.{Frame}
+use Rattle.ts_schema.specs.declared.schemas.Schema.{Schema}
+use Rattle.ts_schema.specs.declared.attrs.Attr.{Attr}
+use Rattle.ts_domain.specs.declared.dims.Dim.{Dim}
+use Rattle.std.specs.List.{list_any}
+use Rattle.std.specs.Option.{option_map_or}
 use Rattle.ts_base.specs.Keys.{key_eq, is_within, greatest}
 use Rattle.ts_base.specs.Coords.{coords_eq}
-use Rattle.ts_base.specs.Values.{least_of, greatest_of}
+use Rattle.ts_wire.specs.Fields.{FitsVal}
+use Rattle.ts_value.specs.Fits.{fits_of}
+use Rattle.ts_domain.specs.Domains.{is_in_domain}
+use Rattle.ts_schema.specs.Faults.{schema_fault}
+use Rattle.ts_schema.specs.FrameTexts.{IsFrame}
+use Rattle.ts_schema.specs.SchemaTexts.{AreAttrs}
+use Rattle.ts_model.specs.declared.deeds.Deed.TheVariants.{Framed, Declared, Wrote}
 
 -- a history: deeds in the order of their commits
 abbrev pub History : Type 0
 History = List Deed
 
--- the key of the schema that a deed declares
-abbrev pub schema_in : Deed → Option Key
-schema_in (Declared k) = Some k
+-- the frame of a deed
+abbrev pub framed_in : Deed → Option Frame
+framed_in (Framed frame) = Some frame
+framed_in _ = None
+
+-- the schema that a deed declares
+abbrev pub schema_in : Deed → Option Schema
+schema_in (Declared s) = Some s
 schema_in _ = None
 
 -- what a deed wrote
@@ -29,17 +42,23 @@ write_in _ = None
 
 -- the key of a deed; a frame has none
 abbrev pub key_in : Deed → Option Key
-key_in Framed = None
-key_in (Declared k) = Some k
+key_in (Framed frame) = None
+key_in (Declared s) = Some s.key
 key_in (Wrote w) = Some w.key
+
+-- the first frame of a history
+abbrev pub frame_in : History → Option Frame
+frame_in [] = None
+frame_in (Framed frame ∷ h) = Some frame
+frame_in (d ∷ h) = frame_in h
+
+-- the schemas of a history, in order
+abbrev pub schemas : History → List Schema
+schemas h = filter_map schema_in h
 
 -- the writes of a history, in order
 abbrev pub writes : History → List Written
 writes h = filter_map write_in h
-
--- the schemas of a history, in order
-abbrev pub schemas : History → List Key
-schemas h = filter_map schema_in h
 
 -- the keys of a history, in order
 abbrev pub keys : History → List Key
@@ -48,6 +67,18 @@ keys h = filter_map key_in h
 -- a deed of the history has the key
 abbrev pub has_key : History → Key → Bool
 has_key h k = list_any (key_eq k) (keys h)
+
+-- the schema of a key
+abbrev pub schema_with : History → Key → Option Schema
+schema_with h k = find (λ s. key_eq s.key k) (schemas h)
+
+-- the attributes of the schema of a key, and none where there is no such schema
+abbrev pub attrs_with : History → Key → List Attr
+attrs_with h k = option_map_or (λ s. s.attrs) (schema_with h k) []
+
+-- the schema that holds at a timestamp: the one with the greatest key among those stamped there or before
+abbrev pub schema_there : History → ℕ → Option Schema
+schema_there h b = greatest (λ s. s.key) (filter (λ s. nat_le s.key.t b) (schemas h))
 
 -- the row that stands at a coordinate
 abbrev pub row_at : List ℤ → List Cell → Option (List Val)
@@ -64,47 +95,64 @@ last_write h a b c = greatest (λ w. w.key) (filter (λ w. is_within a b w.key &
 
 -- ---- which lists of deeds are histories
 
--- the key of the one schema
-abbrev pub first_schema : Key
-first_schema = record { t = 0; id = 2 ^ 128 - 1 }
-
--- the deeds with which each history begins: the frame, and the one schema
-abbrev pub first_deeds : History
-first_deeds = Framed ∷ Declared first_schema ∷ []
-
--- the coordinate lies in the domain [0, 9]
-abbrev pub is_in_domain : List ℤ → Bool
-is_in_domain (x ∷ []) = int_le (pos 0) x && int_le x (pos 9)
-is_in_domain _ = false
-
--- the row has one value, and that is an integer of 64 bits
-abbrev pub row_fits : List Val → Bool
-row_fits (Int v ∷ []) = int_le (least_of I64) v && int_le v (greatest_of I64)
-row_fits _ = false
-
 -- no two cells have one coordinate
 abbrev pub are_apart : List Cell → Bool
 are_apart [] = true
 are_apart (cell ∷ cells) = not (is_some (row_at cell.coords cells)) && are_apart cells
 
+-- there is a value for each attribute, and each fits its type and has a spelling
+abbrev pub RowFits : List Attr → List Val → Type 0
+RowFits [] [] = ⊤
+RowFits (a ∷ attrs) (v ∷ row) = FitsVal v × IsTrue (fits_of a.ty a.nullable v) × RowFits attrs row
+RowFits _ _ = ⊥
+
+-- the cell lies in the domain, and its row is one of these attributes
+pub record CellFits (dims : List Dim) (attrs : List Attr) (cell : Cell) : Type 0 where
+  pub inside : IsTrue (is_in_domain dims cell.coords)
+  pub row : RowFits attrs cell.row
+
 -- no deed before has the key
 abbrev pub IsNewKey : History → Key → Type 0
 IsNewKey before k = IsTrue (not (has_key before k))
 
--- a write may follow these deeds
-pub record WriteFollows (before : History) (w : Written) : Type 0 where
-  pub new : IsNewKey before w.key
-  pub declared : IsTrue (list_any (key_eq w.schema) (schemas before))
-  pub in_time : IsTrue (nat_le w.schema.t w.key.t)
-  pub some_cell : IsTrue (nat_lt 0 (length w.cells))
-  pub apart : IsTrue (are_apart w.cells)
-  pub inside : IsTrue (list_all (λ cell. is_in_domain cell.coords) w.cells)
-  pub fit : IsTrue (list_all (λ cell. row_fits cell.row) w.cells)
+-- the numbers of a key have their widths
+pub record IsKey (k : Key) : Type 0 where
+  pub t : k.t < 2 ^ 64
+  pub id : k.id < 2 ^ 128
 
--- the deed may follow these deeds: one frame comes first, then the one schema, then writes
+-- a frame may follow these deeds: there are none, and the array is sparse
+pub record FrameFollows (before : History) (frame : Frame) : Type 0 where
+  pub first : before ≡ []
+  pub is_frame : IsFrame frame
+  pub sparse : frame.dense ≡ false
+
+-- a schema may follow these deeds: its attributes are such as an array of the frame can have
+pub record SchemaFollows (before : History) (s : Schema) : Type 0 where
+  pub frame : Frame
+  pub framed : frame_in before ≡ Some frame
+  pub new : IsNewKey before s.key
+  pub key : IsKey s.key
+  pub attrs : AreAttrs s.attrs
+  pub sound : schema_fault frame.domain s.attrs ≡ None
+
+-- a write may follow these deeds: its schema stands before it, its cells are apart, and each fits
+pub record WriteFollows (before : History) (w : Written) : Type 0 where
+  pub frame : Frame
+  pub framed : frame_in before ≡ Some frame
+  pub new : IsNewKey before w.key
+  pub key : IsKey w.key
+  pub schema : Schema
+  pub declared : schema_with before w.schema ≡ Some schema
+  pub in_time : IsTrue (nat_le w.schema.t w.key.t)
+  pub some_cell : 1 ≤ length w.cells
+  pub few : length w.cells < 2 ^ 64
+  pub apart : IsTrue (are_apart w.cells)
+  pub fit : All (CellFits frame.domain schema.attrs) w.cells
+
+-- the deed may follow these deeds
 abbrev pub MayFollow : History → Deed → Type 0
-MayFollow before Framed = before ≡ []
-MayFollow before (Declared k) = (before ≡ Framed ∷ []) × (k ≡ first_schema)
+MayFollow before (Framed frame) = FrameFollows before frame
+MayFollow before (Declared s) = SchemaFollows before s
 MayFollow before (Wrote w) = WriteFollows before w
 
 -- each of the deeds may follow those before it
@@ -112,8 +160,6 @@ abbrev pub Follow : History → History → Type 0
 Follow before [] = ⊤
 Follow before (d ∷ ds) = MayFollow before d × Follow (before ++ d ∷ []) ds
 
--- a history begins with the frame and the one schema, and each of its deeds may follow those before it
-pub record IsHistory (h : History) : Type 0 where
-  pub rest : History
-  pub begins : h ≡ first_deeds ++ rest
-  pub follow : Follow [] h
+-- a history is empty or begins with its one frame, and each of its deeds may follow those before it
+abbrev pub IsHistory : History → Type 0
+IsHistory h = Follow [] h

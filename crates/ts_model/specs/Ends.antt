@@ -1,54 +1,104 @@
 -- What the end of a job tells of the history.
-use Rattle.std.specs.Prelude.{◌≡◌, ℕ, List, ◌∷◌, ◌++◌, Some, Contains, ⊤}
-use Rattle.ts_base.specs.declared.names.Name.TheVariants as name
-use Rattle.ts_base.specs.declared.names.Place.TheVariants as place
-use Rattle.ts_base.specs.declared.names.Prefix.TheVariants.{Commits}
-use Rattle.ts_store.specs.declared.call.Call.TheVariants as call
-use Rattle.ts_model.specs.declared.commands.Command.TheVariants.{Read}
+use Rattle.std.specs.Prelude.{◌≡◌, ℕ, List, ◌∷◌, ◌++◌, Some, Ok, IsTrue, Contains, ⊤, ◌⊎◌}
+use Rattle.ts_base.specs.declared.names.Prefix.{Prefix}
+use Rattle.ts_base.specs.declared.heads.Cell.{Cell}
 use Rattle.ts_model.specs.declared.commands.Job.{Job}
+use Rattle.ts_model.specs.declared.commands.FrameIn.{FrameIn}
+use Rattle.ts_model.specs.declared.commands.WriteIn.{WriteIn}
 use Rattle.ts_model.specs.declared.answers.Answer.{Answer}
 use Rattle.ts_model.specs.declared.answers.Outcome.{Outcome}
-use Rattle.ts_model.specs.declared.answers.Outcome.TheVariants as outcome
 use Rattle.ts_model.specs.declared.answers.Refusal.{Refusal}
-use Rattle.ts_model.specs.declared.answers.Refusal.TheVariants as refusal
-use Rattle.ts_model.specs.declared.deeds.Written.{Written}
-use Rattle.ts_model.specs.Deeds.{History, writes, IsNewKey}
-use Rattle.ts_model.specs.Answers.{shown}
-use Rattle.ts_model.specs.Jobs.{written_of}
+use Rattle.ts_schema.specs.declared.frames.Frame.{Frame}
+use Rattle.ts_schema.specs.declared.schemas.Schema.{Schema}
+use Rattle.ts_schema.specs.declared.attrs.Attr.{Attr}
+use Rattle.ts_schema.specs.declared.evolution.Evolution.{Evolution}
+use Rattle.ts_schema.specs.Evolutions.{evolved_attrs}
+use Rattle.ts_model.specs.declared.commands.Command.TheVariants.{Create, Evolve, Write, Read}
+use Rattle.ts_base.specs.declared.names.CommitKind.TheVariants.{Wrt}
+use Rattle.ts_base.specs.declared.names.Prefix.TheVariants.{Commits, Schemas}
 use Rattle.ts_model.specs.Told.{Told, history_told}
+use Rattle.ts_model.specs.Jobs.{key_of, frag_of_job, schema_of_job, written_as}
+use Rattle.ts_model.specs.Deeds.{History, frame_in, writes, has_key, schema_with, schema_there, IsNewKey}
+use Rattle.ts_model.specs.Commands.{frame_made, laid}
+use Rattle.ts_model.specs.Answers.{IsAnswer}
+use Rattle.ts_base.specs.declared.names.Name.TheVariants as name
+use Rattle.ts_base.specs.declared.names.Place.TheVariants as place
+use Rattle.ts_store.specs.declared.call.Call.TheVariants as call
+use Rattle.ts_model.specs.declared.answers.Outcome.TheVariants as outcome
+use Rattle.ts_model.specs.declared.answers.Refusal.TheVariants as refusal
 
--- a job listed the commits at a place of what was told
-pub record ListedAt (told : List Told) (number : ℕ) : Type 0 where
+-- a job listed what is below a prefix at a place of what was told
+pub record ListedAt (told : List Told) (number : ℕ) (prefix : Prefix) : Type 0 where
   pub before : List Told
   pub listing : Told
   pub later : List Told
   pub place : told ≡ before ++ listing ∷ later
   pub own : listing.job ≡ Some number
-  pub lists : listing.call ≡ call.List Commits
+  pub lists : listing.call ≡ call.List prefix
 
--- the answer of a read is that of the history at its listing of the commits
-pub record AnswersAt (jobs : List Job) (h : History) (told : List Told) (number to : ℕ) (answer : Answer) : Type 0 where
-  pub listed : ListedAt told number
-  pub rows : answer.rows ≡ shown (history_told jobs h listed.before) 0 to
+-- the answer of a read is that of the history at its listing of the commits, shown through the history at its later listing of the schemas
+pub record AnswersAt (jobs : List Job) (past : History) (told : List Told) (number from to : ℕ) (answer : Answer) : Type 0 where
+  pub commits : ListedAt told number Commits
+  pub schemas : ListedAt told number Schemas
+  pub between : List Told
+  pub order : schemas.before ≡ commits.before ++ commits.listing ∷ between
+  pub answers : IsAnswer (history_told jobs past commits.before) (history_told jobs past schemas.before) from to answer
 
--- the job writes, and its write is a deed of the history
-abbrev pub IsWritten : History → Job → Type 0
-IsWritten h job = (w : Written) × (written_of job ≡ Some w) × Contains (writes h) w
+-- a deed of the history has the key of a job
+abbrev pub IsDone : History → Job → Type 0
+IsDone h job = IsTrue (has_key h (key_of job))
 
--- no deed of the history has the key of a job that writes
-abbrev pub IsUnwritten : History → Job → Type 0
-IsUnwritten h job = (w : Written) → written_of job ≡ Some w → IsNewKey h w.key
+-- no deed of the history has the key of a job
+abbrev pub IsUndone : History → Job → Type 0
+IsUndone h job = IsNewKey h (key_of job)
 
--- what a refusal tells of the history: nothing is missing or damaged, and a refused write is no deed, but perhaps where the put of its `.wrt` failed
+-- the job declared a schema with these attributes
+abbrev pub HasDeclared : History → Job → List Attr → Type 0
+HasDeclared h job attrs = schema_with h (key_of job) ≡ Some (schema_of_job job attrs)
+
+-- the array has the frame of a create, and a schema of it
+pub record IsCreated (h : History) (job : Job) : Type 0 where
+  pub made : FrameIn
+  pub creates : job.command ≡ Create made
+  pub framed : frame_in h ≡ Some (frame_made made)
+  pub declared : HasDeclared h job made.attrs
+
+-- the schema of an evolve is one that the change makes of another, which holds at its stamp of those that it listed
+pub record IsEvolved (jobs : List Job) (past : History) (told : List Told) (number : ℕ) (job : Job) : Type 0 where
+  pub change : Evolution
+  pub evolves : job.command ≡ Evolve change
+  pub schemas : ListedAt told number Schemas
+  pub there : Schema
+  pub holds : schema_there (history_told jobs past schemas.before) job.at ≡ Some there
+  pub declared : HasDeclared (history_told jobs past told) job (evolved_attrs there.attrs change)
+
+-- the write of a job is a deed: its cells are those of its columns, in the schema that holds at its stamp of those that it listed
+pub record IsWritten (jobs : List Job) (past : History) (told : List Told) (number : ℕ) (job : Job) : Type 0 where
+  pub cells_in : WriteIn
+  pub writes_them : job.command ≡ Write cells_in
+  pub schemas : ListedAt told number Schemas
+  pub there : Schema
+  pub holds : schema_there (history_told jobs past schemas.before) job.at ≡ Some there
+  pub frame : Frame
+  pub framed : frame_in (history_told jobs past told) ≡ Some frame
+  pub cells : List Cell
+  pub lays : laid frame.domain there.attrs cells_in.cols ≡ Ok cells
+  pub written : Contains (writes (history_told jobs past told)) (written_as job there.key cells)
+
+-- what a refusal tells of the history: no object is missing, damaged or taken, and a refused job has no deed under its key, but perhaps where the put of its own `.wrt` or schema failed
 abbrev pub IsTrueRefusal : History → Job → Refusal → Type 0
 IsTrueRefusal h job (refusal.Missing n) = ⊥
 IsTrueRefusal h job (refusal.Damaged n at) = ⊥
-IsTrueRefusal h job (refusal.StoreFault (place.Name (name.Commit f kind))) = ⊤
-IsTrueRefusal h job r = IsUnwritten h job
+IsTrueRefusal h job (refusal.Taken n) = ⊥
+IsTrueRefusal h job (refusal.StoreFault (place.Name (name.Commit f kind))) = (f ≡ frag_of_job job) × (kind ≡ Wrt) ⊎ IsUndone h job
+IsTrueRefusal h job (refusal.StoreFault (place.Name (name.Schema k))) = (k ≡ key_of job) ⊎ IsUndone h job
+IsTrueRefusal h job r = IsUndone h job
 
 -- what an end tells of the history
 abbrev pub IsTrueEnd : List Job → History → List Told → ℕ → Job → Outcome → Type 0
-IsTrueEnd jobs h told number job (outcome.Written f) = IsWritten (history_told jobs h told) job
-IsTrueEnd jobs h told number job (outcome.Read answer) = (to : ℕ) × (job.command ≡ Read to) × AnswersAt jobs h told number to answer
-IsTrueEnd jobs h told number job (outcome.Refused r) = IsTrueRefusal (history_told jobs h told) job r
-IsTrueEnd jobs h told number job outcome.OutOfMemory = ⊤
+IsTrueEnd jobs past told number job outcome.Created = IsCreated (history_told jobs past told) job
+IsTrueEnd jobs past told number job (outcome.Evolved k) = (k ≡ key_of job) × IsEvolved jobs past told number job
+IsTrueEnd jobs past told number job (outcome.Written f) = (f ≡ frag_of_job job) × IsWritten jobs past told number job
+IsTrueEnd jobs past told number job (outcome.Read answer) = (from : ℕ) × (to : ℕ) × (job.command ≡ Read from to) × AnswersAt jobs past told number from to answer
+IsTrueEnd jobs past told number job (outcome.Refused r) = IsTrueRefusal (history_told jobs past told) job r
+IsTrueEnd jobs past told number job outcome.OutOfMemory = ⊤

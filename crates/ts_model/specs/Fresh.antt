@@ -1,14 +1,14 @@
 -- Identifiers that nothing carries, and those of the jobs of a run.
-use Rattle.std.specs.Prelude.{◌≡◌, ℕ, ◌+◌, ◌*◌, ◌/◌, ◌^◌, List, [], ◌∷◌, Option, Some, None, IsTrue, ◌⊎◌, Contains, slice_get}
-use Rattle.std.specs.FinMap as map
+use Rattle.std.specs.Prelude.{◌≡◌, ℕ, ◌+◌, ◌*◌, ◌/◌, ◌^◌, List, [], ◌∷◌, Option, Some, None, slice_get, IsTrue, Contains, ◌⊎◌}
 use Rattle.ts_base.specs.declared.keys.Key.{Key}
 use Rattle.ts_base.specs.declared.names.Name.{Name}
-use Rattle.ts_base.specs.declared.names.Name.TheVariants as name
-use Rattle.ts_base.specs.declared.heads.Stop.TheVariants.{Never}
-use Rattle.ts_base.specs.Held.{Held}
 use Rattle.ts_model.specs.declared.commands.Job.{Job}
 use Rattle.ts_model.specs.declared.commands.Line.{Line}
+use Rattle.ts_base.specs.Held.{Held}
+use Rattle.ts_base.specs.declared.heads.Stop.TheVariants.{Never}
 use Rattle.ts_model.specs.Deeds.{History, keys}
+use Rattle.ts_base.specs.declared.names.Name.TheVariants as name
+use Rattle.std.specs.FinMap as map
 
 -- the identifier that a name carries
 abbrev pub id_in : Name → Option ℕ

@@ -1,18 +1,18 @@
--- What a job writes, and what it is refused for.
-use Rattle.std.specs.Prelude.{◌≡◌, ℕ, ℤ, ◌^◌, ◌<◌, Bool, true, cond, List, [], ◌∷◌, Option, Some, None, All, IsTrue, slice_get, find, nat_eq}
+-- Jobs: what carries their identifiers, and which jobs there can be.
+use Rattle.std.specs.Prelude.{◌≡◌, ℕ, ◌^◌, ◌<◌, List, Option, Some, None, nat_eq, slice_get, IsTrue, All, find}
 use Rattle.ts_base.specs.declared.keys.Key.{Key}
-use Rattle.ts_base.specs.declared.heads.Cell.{Cell}
-use Rattle.ts_base.specs.declared.values.Val.TheVariants.{Int}
 use Rattle.ts_base.specs.declared.keys.FragKey.{FragKey}
-use Rattle.ts_base.specs.Keys.{frag_of}
+use Rattle.ts_base.specs.declared.heads.Cell.{Cell}
 use Rattle.ts_model.specs.declared.commands.Command.{Command}
-use Rattle.ts_model.specs.declared.commands.Command.TheVariants.{Write, Read}
 use Rattle.ts_model.specs.declared.commands.Job.{Job}
 use Rattle.ts_model.specs.declared.commands.Line.{Line}
 use Rattle.ts_model.specs.declared.answers.Refusal.{Refusal}
-use Rattle.ts_model.specs.declared.answers.Refusal.TheVariants as refusal
 use Rattle.ts_model.specs.declared.deeds.Written.{Written}
-use Rattle.ts_model.specs.Deeds.{first_schema, is_in_domain, row_fits}
+use Rattle.ts_schema.specs.declared.schemas.Schema.{Schema}
+use Rattle.ts_schema.specs.declared.attrs.Attr.{Attr}
+use Rattle.ts_base.specs.Keys.{frag_of}
+use Rattle.ts_model.specs.declared.commands.Command.TheVariants.{Create, Read}
+use Rattle.ts_model.specs.Commands.{create_refusal, fits}
 
 -- the key of what a job makes
 abbrev pub key_of : Job → Key
@@ -22,47 +22,45 @@ key_of job = record { t = job.at; id = job.id }
 abbrev pub frag_of_job : Job → FragKey
 frag_of_job job = frag_of (key_of job)
 
--- the one cell of a write: a value at a coordinate
-abbrev pub one_cell : ℤ → ℤ → List Cell
-one_cell x v = record { coords = x ∷ []; row = Int v ∷ [] } ∷ []
+-- the schema of a job, with these attributes
+abbrev pub schema_of_job : Job → List Attr → Schema
+schema_of_job job attrs = record { key = key_of job; attrs = attrs }
 
--- what a command writes under a key, if it writes
-abbrev pub written_under : Key → Command → Option Written
-written_under k (Write x v) = Some (record { key = k; schema = first_schema; cells = one_cell x v })
-written_under k (Read to) = None
+-- what a write job writes, of these cells in the schema of a key
+abbrev pub written_as : Job → Key → List Cell → Written
+written_as job schema cells = record { key = key_of job; schema = schema; cells = cells }
 
--- what a job writes, if it writes
-abbrev pub written_of : Job → Option Written
-written_of job = written_under (key_of job) job.command
-
--- the value that a command writes is an integer of 64 bits
-abbrev pub fits : Command → Bool
-fits (Write x v) = row_fits (Int v ∷ [])
-fits (Read to) = true
-
--- the numbers of a job have their widths: its stamp 64 bits, its identifier 128, and the value that it writes 64
+-- a job that there can be: its stamp has 64 bits and its identifier 128, and its command is one that there can be
 pub record IsFit (job : Job) : Type 0 where
   pub stamp : job.at < 2 ^ 64
   pub id : job.id < 2 ^ 128
-  pub value : IsTrue (fits job.command)
+  pub command : IsTrue (fits job.command)
 
--- so have those of each job
+-- so is each job
 abbrev pub AreFit : List Job → Type 0
 AreFit jobs = All IsFit jobs
 
--- the numbers of a line have their widths
+-- a line that there can be
 pub record IsFitLine (line : Line) : Type 0 where
   pub stamp : line.at < 2 ^ 64
-  pub value : IsTrue (fits line.command)
+  pub command : IsTrue (fits line.command)
 
 -- no two jobs have one identifier
 abbrev pub AreApart : List Job → Type 0
 AreApart jobs = (i j : ℕ) (a b : Job) → slice_get jobs i ≡ Some a → slice_get jobs j ≡ Some b → a.id ≡ b.id → i ≡ j
 
--- why a command is refused before its first call, if it is: its coordinate lies outside the domain
+-- why a command is refused before its first call, if it is
 abbrev pub refused_before : Command → Option Refusal
-refused_before (Write x v) = cond (is_in_domain (x ∷ [])) None (Some (refusal.Domain 0 x))
-refused_before (Read to) = None
+refused_before (Create f) = create_refusal f
+refused_before _ = None
+
+-- where the schema of a job's work is looked for: a read at the end of its interval, another job at its stamp
+abbrev pub looks_at : Job → Command → ℕ
+looks_at job (Read from to) = to
+looks_at job _ = job.at
+
+abbrev pub looked_at : Job → ℕ
+looked_at job = looks_at job job.command
 
 -- the job with an identifier
 abbrev pub job_with : List Job → ℕ → Option Job

@@ -1,10 +1,9 @@
 pub mod Deeds
 pub mod Answers
 pub mod Jobs
-pub mod Histories
+pub mod Commands
 pub mod Pieces
-pub mod Plain
-pub mod PlainLaws
+pub mod Forms
 pub mod Stands
 pub mod States
 pub mod Stops
@@ -16,3 +15,5 @@ pub mod Runs
 pub mod Driven
 pub mod Kept
 pub mod Driving
+pub mod Steps
+pub mod Scans

@@ -1,83 +1,127 @@
 -- The row of each job: the puts and listings that it makes, in order, and how it may end.
-use Rattle.std.specs.Prelude.{◌≡◌, ℕ, Bool, true, false, ◌⊎◌, List, [], ◌∷◌, ◌++◌, length, Option, Some, None, Result, Ok, Err, IsTrue, Contains}
+use Rattle.std.specs.Prelude.{◌≡◌, ℕ, Bool, true, false, cond, List, [], ◌∷◌, ◌++◌, Option, Some, None, option_map, length, nat_lt, Result, Ok, Err, IsTrue, All, Contains, ⊤, ◌⊎◌, map as list_map}
+use Rattle.ts_base.specs.declared.keys.Key.{Key}
 use Rattle.ts_base.specs.declared.keys.FragKey.{FragKey}
 use Rattle.ts_base.specs.declared.names.Name.{Name}
-use Rattle.ts_base.specs.declared.names.Name.TheVariants as name
-use Rattle.ts_base.specs.declared.names.Part.TheVariants.{Plain}
-use Rattle.ts_base.specs.declared.names.Prefix.TheVariants.{Commits}
-use Rattle.ts_base.specs.declared.names.Place.{Place}
-use Rattle.ts_base.specs.declared.names.Place.TheVariants as place
-use Rattle.ts_base.specs.declared.heads.Piece.{Piece}
+use Rattle.ts_base.specs.declared.names.Part.{Part}
+use Rattle.ts_base.specs.declared.heads.Cell.{Cell}
+use Rattle.ts_base.specs.declared.heads.Head.{Head}
 use Rattle.ts_store.specs.declared.call.Call.{Call}
-use Rattle.ts_store.specs.declared.call.Call.TheVariants as call
 use Rattle.ts_store.specs.declared.call.Reply.{Reply}
-use Rattle.ts_store.specs.declared.call.Reply.TheVariants as reply
-use Rattle.ts_store.specs.Calls.{is_no_memory}
 use Rattle.ts_model.specs.declared.commands.Command.{Command}
-use Rattle.ts_model.specs.declared.commands.Command.TheVariants.{Write, Read}
 use Rattle.ts_model.specs.declared.commands.Job.{Job}
-use Rattle.ts_model.specs.declared.answers.Driven.{Driven}
-use Rattle.ts_model.specs.declared.answers.Driven.TheVariants as driven
+use Rattle.ts_model.specs.declared.commands.FrameIn.{FrameIn}
+use Rattle.ts_model.specs.declared.commands.WriteIn.{WriteIn}
 use Rattle.ts_model.specs.declared.answers.Outcome.{Outcome}
-use Rattle.ts_model.specs.declared.answers.Outcome.TheVariants as outcome
 use Rattle.ts_model.specs.declared.answers.Refusal.{Refusal}
-use Rattle.ts_model.specs.declared.answers.Refusal.TheVariants as refusal
-use Rattle.ts_model.specs.declared.deeds.Written.{Written}
-use Rattle.ts_model.specs.Jobs.{frag_of_job, written_of, refused_before}
-use Rattle.ts_model.specs.Plain.{plain_piece, part_text}
-use Rattle.ts_model.specs.States.{Exchange, part_of, commit_of, get_part, looked_into}
+use Rattle.ts_model.specs.declared.answers.Driven.{Driven}
+use Rattle.ts_schema.specs.declared.frames.Frame.{Frame}
+use Rattle.ts_schema.specs.declared.schemas.Schema.{Schema}
+use Rattle.ts_schema.specs.declared.attrs.Attr.{Attr}
+use Rattle.ts_schema.specs.declared.evolution.Evolution.{Evolution}
+use Rattle.ts_schema.specs.declared.wants.Want.{Want}
+use Rattle.std.specs.Result.{result_err}
+use Rattle.ts_schema.specs.Evolutions.{evolved_attrs, evolution_fault, schema_at}
+use Rattle.ts_schema.specs.FrameTexts.{frame_of}
+use Rattle.ts_schema.specs.SchemaTexts.{schema_of}
+use Rattle.ts_model.specs.declared.commands.Command.TheVariants.{Create, Evolve, Write, Read}
 use Rattle.ts_model.specs.Stops.{cuts, Uncut}
+use Rattle.ts_model.specs.States.{schemas_in, place_of, get_all, put_of, made_by, frame_put, schema_object_of, write_objects, is_own_frame, get_frame, list_schemas, list_commits, want_of, Exchange}
+use Rattle.ts_model.specs.Forms.{Forms, Asks, Breaks, is_look}
+use Rattle.ts_model.specs.Jobs.{key_of, frag_of_job, refused_before, looked_at}
+use Rattle.ts_model.specs.Commands.{laid}
+use Rattle.ts_base.specs.declared.names.Name.TheVariants as name
+use Rattle.ts_base.specs.declared.names.Place.TheVariants as place
+use Rattle.ts_store.specs.declared.call.Call.TheVariants as call
+use Rattle.ts_store.specs.declared.call.Reply.TheVariants as reply
+use Rattle.ts_model.specs.declared.answers.Outcome.TheVariants as outcome
+use Rattle.ts_model.specs.declared.answers.Refusal.TheVariants as refusal
+use Rattle.ts_model.specs.declared.answers.Driven.TheVariants as driven
 
--- the puts and listings of a job, in order: a write puts the part of its fragment and then the `.wrt`, a read lists the commits
-abbrev pub row_by : Job → Command → List Call
-row_by job (Write x v) = call.Put (part_of job) (part_text job) ∷ call.Put (commit_of job) [] ∷ []
-row_by job (Read to) = call.List Commits ∷ []
+-- ---- rows
 
-abbrev pub row_of : Job → List Call
-row_of job = row_by job job.command
+-- what a job found: whether the frame was there already, the schema that it works in, and the frame
+pub record Found : Type 0 where
+  pub taken : Bool
+  pub there : Schema
+  pub frame : Frame
 
--- ---- what a reply calls for
+-- the puts of a write, where no refusal stands against its cells
+abbrev pub cell_puts : {F : Type 0} → Forms F → Job → Found → Result (List Cell) Refusal → List Call
+cell_puts forms job found (Ok cells) = list_map put_of (write_objects forms found.frame found.there job cells)
+cell_puts forms job found (Err r) = []
 
--- the object or the prefix that a call speaks of
-abbrev pub place_of : Call → Place
-place_of (call.Put n bytes) = place.Name n
-place_of (call.Remove n) = place.Name n
-place_of (call.List prefix) = place.Prefix prefix
-place_of (call.Get n from len) = place.Name n
-place_of (call.Size n) = place.Name n
+-- the puts and listings of a job, in order
+abbrev pub row_by : {F : Type 0} → Forms F → Job → Found → Command → List Call
+row_by forms job found (Create f) = frame_put f ∷ (cond found.taken (list_schemas ∷ []) [] ++ put_of (schema_object_of job f.attrs) ∷ [])
+row_by forms job found (Evolve change) = list_schemas ∷ put_of (schema_object_of job (evolved_attrs (found.there).attrs change)) ∷ []
+row_by forms job found (Write w) = list_schemas ∷ cell_puts forms job found (laid (found.frame).domain (found.there).attrs w.cols)
+row_by forms job found (Read from to) = list_commits ∷ list_schemas ∷ []
 
--- a part that cannot be read is damaged where it breaks its layout first
-abbrev pub damaged_by : FragKey → Result Piece ℕ → Option Refusal
-damaged_by f (Ok p) = None
-damaged_by f (Err at) = Some (refusal.Damaged (name.Part f Plain) at)
+abbrev pub row_of : {F : Type 0} → Forms F → Job → Found → List Call
+row_of forms job found = row_by forms job found job.command
 
--- the refusal that a reply calls for, if it calls for one
-abbrev pub refused_by : Call → Reply → Option Refusal
-refused_by (call.Put n bytes) reply.Taken = Some (refusal.Taken n)
-refused_by (call.Get n from len) reply.Absent = Some (refusal.Missing n)
-refused_by (call.Get (name.Part f Plain) from len) (reply.Bytes bytes) = damaged_by f (plain_piece f bytes)
-refused_by c reply.Failed = Some (refusal.StoreFault (place_of c))
-refused_by c r = None
+-- ---- what a job found
 
--- the reply lets a job go on: it calls for no refusal, and there was memory for the call
-abbrev pub LetsOn : Exchange → Type 0
-LetsOn x = (refused_by x.call x.reply ≡ None) × (is_no_memory x.reply ≡ false)
+-- the schema that bytes spell under a key is this one
+abbrev pub IsSchemaIn : Schema → Key → Result (List Attr) ℕ → Type 0
+IsSchemaIn there k (Ok attrs) = there ≡ record { key = k; attrs = attrs }
+IsSchemaIn there k (Err at) = ⊤
+
+-- the frame that bytes spell is this one
+abbrev pub IsFrameIn : Frame → Result Frame ℕ → Type 0
+IsFrameIn frame (Ok x) = frame ≡ x
+IsFrameIn frame (Err at) = ⊤
+
+-- a reply says what the job found: that its frame was there, the schema that it works in, the frame
+abbrev pub SaysThere : Found → Command → Call → Reply → Type 0
+SaysThere found (Create f) (call.Put name.Domain bytes) reply.Taken = found.taken ≡ true
+SaysThere found (Create f) (call.Put name.Domain bytes) reply.Made = found.taken ≡ false
+SaysThere found (Evolve change) (call.Get (name.Schema k) from len) (reply.Bytes bytes) = IsSchemaIn found.there k (schema_of bytes)
+SaysThere found (Evolve change) (call.Get name.Domain from len) (reply.Bytes bytes) = IsFrameIn found.frame (frame_of bytes)
+SaysThere found (Write w) (call.Get (name.Schema k) from len) (reply.Bytes bytes) = IsSchemaIn found.there k (schema_of bytes)
+SaysThere found (Write w) (call.Get name.Domain from len) (reply.Bytes bytes) = IsFrameIn found.frame (frame_of bytes)
+SaysThere found command c r = ⊤
+
+-- a job was told bytes that spell a schema
+abbrev pub GotSchema : List Exchange → Schema → Type 0
+GotSchema trace s = (bytes : List ℕ) × Contains trace (record { call = get_all (name.Schema s.key); reply = reply.Bytes bytes }) × (schema_of bytes ≡ Ok s.attrs)
+
+-- a job got what it found: the schema there is that of its listing of the schemas, and it and the frame are spelled by the bytes that the job was told
+pub record IsGot (job : Job) (found : Found) (trace : List Exchange) : Type 0 where
+  pub names : List Name
+  pub listed : Contains trace (record { call = list_schemas; reply = reply.Names names })
+  pub newest : schema_at (schemas_in names) (looked_at job) ≡ Some (found.there).key
+  pub schema : GotSchema trace found.there
+  pub frame_bytes : List ℕ
+  pub frame_got : Contains trace (record { call = get_frame; reply = reply.Bytes frame_bytes })
+  pub frame_is : frame_of frame_bytes ≡ Ok found.frame
+
+-- all replies to a job say what it found
+abbrev pub AreFound : Job → Found → List Exchange → Type 0
+AreFound job found trace = All (λ x. SaysThere found job.command x.call x.reply) trace
 
 -- ---- going along a row
 
--- gets may stand between the calls of a row
-abbrev pub is_look : Call → Bool
-is_look (call.Get n from len) = true
-is_look _ = false
-
--- the call may come where `row` is left of a row, and leaves `rest` of it: it is a get, or the row's next call
+-- the call may come where `row` is left of a row, and leaves `rest` of it: it is a get or a size, which may stand between the calls of a row, or the row's next call
 abbrev pub IsNext : List Call → Call → List Call → Type 0
 IsNext row c rest = (IsTrue (is_look c) × (row ≡ rest)) ⊎ (row ≡ c ∷ rest)
+
+-- the reply is what a call is asked for: a get or a size may be told bytes or a length; a create goes on where its frame was there already
+abbrev pub lets_on : Call → Reply → Bool
+lets_on (call.Put name.Domain bytes) reply.Taken = true
+lets_on (call.Put n bytes) reply.Made = true
+lets_on (call.List prefix) (reply.Names names) = true
+lets_on (call.Get n from len) (reply.Bytes bytes) = true
+lets_on (call.Get n from len) (reply.Length size) = true
+lets_on (call.Size n) (reply.Bytes bytes) = true
+lets_on (call.Size n) (reply.Length len) = true
+lets_on c r = false
 
 -- the calls went along the row, each reply let the job go on, and `left` is left of the row
 abbrev pub Along : List Call → List Exchange → List Call → Type 0
 Along row [] left = row ≡ left
-Along row (x ∷ xs) left = LetsOn x × ((rest : List Call) × IsNext row x.call rest × Along rest xs left)
+Along row (x ∷ xs) left = IsTrue (lets_on x.call x.reply) × ((rest : List Call) × IsNext row x.call rest × Along rest xs left)
 
 -- the calls went along the row up to the last one
 pub record EndsAt (row : List Call) (trace : List Exchange) (last : Exchange) : Type 0 where
@@ -88,53 +132,116 @@ pub record EndsAt (row : List Call) (trace : List Exchange) (last : Exchange) : 
   pub along : Along row before left
   pub next : IsNext left last.call rest
 
+-- ---- refusals
+
+-- why a write or an evolve is refused where it found this
+abbrev pub refused_in : Found → Command → Option Refusal
+refused_in found (Evolve change) = option_map refusal.SchemaBad (evolution_fault (found.frame).domain (found.there).attrs change)
+refused_in found (Write w) = result_err (laid (found.frame).domain (found.there).attrs w.cols)
+refused_in found _ = None
+
+-- what a read wants of a fragment whose attributes are those of a schema, in the array that it found
+abbrev pub wanted_in : Found → ℕ → ℕ → Schema → Want
+wanted_in found from to s = want_of (record { from = from; to = to; frame = found.frame; there = found.there; near = [] }) s.attrs
+
+-- a read opened a fragment, whose head it got, in the schema that the head names and that it got too, and the fetch began so
+pub record IsOpened {F : Type 0} (forms : Forms F) (job : Job) (found : Found) (trace : List Exchange) (frag : FragKey) (opening : Result F ℕ) : Type 0 where
+  pub from : ℕ
+  pub to : ℕ
+  pub is_read : job.command ≡ Read from to
+  pub object : List ℕ
+  pub got : Contains trace (record { call = get_all (name.Part frag (forms.head_part found.frame)); reply = reply.Bytes object })
+  pub head : Head
+  pub reads : forms.head found.frame frag object ≡ Ok head
+  pub schema : Schema
+  pub schema_got : GotSchema trace schema
+  pub named : schema.key ≡ head.schema
+  pub opens : forms.opens found.frame schema frag object (wanted_in found from to schema) ≡ opening
+
+-- a fetch that waited for the reply to a call came by these replies, each to the call that it asked for, to wait for the reply to another
+abbrev pub IsFetched : {F : Type 0} → Forms F → List Exchange → F → Call → List Reply → F → Call → Type 0
+IsFetched forms trace f c [] g d = (f ≡ g) × (c ≡ d)
+IsFetched {F} forms trace f c (r ∷ rs) g d = Contains trace (record { call = c; reply = r }) × (h : F) × (b : Call) × (forms.steps f r ≡ Asks h b) × IsFetched forms trace h b rs g d
+
+-- a fetch that a read began waits for the reply to a call
+pub record IsUnderWay {F : Type 0} (forms : Forms F) (job : Job) (found : Found) (trace : List Exchange) (frag : FragKey) (fetch : F) (c : Call) : Type 0 where
+  pub first : F
+  pub opened : IsOpened forms job found trace frag (Ok first)
+  pub begun : F
+  pub asked : Call
+  pub begins : forms.steps first reply.Start ≡ Asks begun asked
+  pub replies : List Reply
+  pub fetched : IsFetched forms trace begun asked replies fetch c
+
+-- a part of a fragment breaks its layout at an offset: where a read opens the fragment, where the fetch begins, or by the last reply, which the fetch waited for
+abbrev pub BreaksPart : {F : Type 0} → Forms F → Job → Found → List Exchange → Exchange → FragKey → Part → ℕ → Type 0
+BreaksPart {F} forms job found trace last f part at =
+    ((part ≡ forms.head_part found.frame) × IsOpened forms job found trace f (Err at))
+    ⊎ ((fetch : F) × ((IsOpened forms job found trace f (Ok fetch) × (forms.steps fetch reply.Start ≡ Breaks part at)) ⊎ (IsUnderWay forms job found trace f fetch last.call × (forms.steps fetch last.reply ≡ Breaks part at))))
+
+-- a read in the frame that it got finds a part of a fragment broken at an offset
+abbrev pub BreaksFetch : {F : Type 0} → Forms F → Job → Found → List Exchange → Exchange → Name → ℕ → Type 0
+BreaksFetch forms job found trace last n at = (f : FragKey) × (part : Part) × (n ≡ name.Part f part) × IsGot job found trace × BreaksPart forms job found trace last f part at
+
+-- the bytes of an object break its layout at an offset: a schema, the frame, or the head of a fragment in an array of the frame that the job got
+abbrev pub BreaksAt : {F : Type 0} → Forms F → Job → Found → List Exchange → Name → List ℕ → ℕ → Type 0
+BreaksAt forms job found trace (name.Schema k) bytes at = schema_of bytes ≡ Err at
+BreaksAt forms job found trace name.Domain bytes at = frame_of bytes ≡ Err at
+BreaksAt forms job found trace (name.Part f part) bytes at = IsGot job found trace × (part ≡ forms.head_part found.frame) × (forms.head found.frame f bytes ≡ Err at)
+BreaksAt forms job found trace n bytes at = ⊥
+
+-- an array is there already: its frame is another one than a create makes, or it has a schema
+abbrev pub IsThere : FrameIn → Exchange → Type 0
+IsThere f last =
+    ((bytes : List ℕ) × (last ≡ record { call = get_frame; reply = reply.Bytes bytes }) × (is_own_frame (Some f) bytes ≡ false))
+    ⊎ ((names : List Name) × (last ≡ record { call = list_schemas; reply = reply.Names names }) × (nat_lt 0 (length names) ≡ true))
+
+-- a refusal has its cause: in the last call with its reply, or in what the job found and got
+abbrev pub IsCause : {F : Type 0} → Forms F → Job → Found → List Exchange → Exchange → Refusal → Type 0
+IsCause forms job found trace last refusal.ArrayExists = (f : FrameIn) × (job.command ≡ Create f) × IsThere f last
+IsCause forms job found trace last (refusal.NoSchema at) =
+    (made_by job.command ≡ None) × (names : List Name) × (last ≡ record { call = list_schemas; reply = reply.Names names }) × (at ≡ looked_at job) × (schema_at (schemas_in names) at ≡ None)
+IsCause forms job found trace last (refusal.Taken n) = (n ≡ name.Domain → ⊥) × (bytes : List ℕ) × (last ≡ record { call = call.Put n bytes; reply = reply.Taken })
+IsCause forms job found trace last (refusal.StoreFault p) = (p ≡ place_of last.call) × (last.reply ≡ reply.Failed)
+IsCause forms job found trace last (refusal.Missing n) = (place_of last.call ≡ place.Name n) × (last.reply ≡ reply.Absent)
+IsCause forms job found trace last (refusal.Damaged n at) =
+    ((bytes : List ℕ) × Contains trace (record { call = get_all n; reply = reply.Bytes bytes }) × BreaksAt forms job found trace n bytes at) ⊎ BreaksFetch forms job found trace last n at
+IsCause forms job found trace last r = IsGot job found trace × (refused_in found job.command ≡ Some r)
+
 -- ---- ends
 
--- the job is one that writes
-abbrev pub Writes : Job → Type 0
-Writes job = (w : Written) × (written_of job ≡ Some w)
-
--- how the calls may end where `row` is left of a job's row: well, at the end of the row; refused by the reply to the last call; or out of memory, which may come anywhere
-abbrev pub EndsAlong : Job → List Call → List Exchange → Outcome → Type 0
-EndsAlong job row trace (outcome.Written f) = Along row trace [] × Writes job × (f ≡ frag_of_job job)
-EndsAlong job row trace (outcome.Read answer) = Along row trace [] × ((to : ℕ) × (job.command ≡ Read to))
-EndsAlong job row trace (outcome.Refused r) = (last : Exchange) × EndsAt row trace last × (refused_by last.call last.reply ≡ Some r)
-EndsAlong job row trace outcome.OutOfMemory = ((left : List Call) × Along row trace left) ⊎ ((last : Exchange) × EndsAt row trace last)
+-- how the calls may end where `row` is a job's row: well, at the end of the row; refused; or out of memory, which may come anywhere
+abbrev pub EndsAlong : {F : Type 0} → Forms F → Job → Found → List Call → List Exchange → Outcome → Type 0
+EndsAlong forms job found row trace (outcome.Refused r) = (last : Exchange) × EndsAt row trace last × IsCause forms job found trace last r
+EndsAlong forms job found row trace outcome.OutOfMemory = ((left : List Call) × Along row trace left) ⊎ ((last : Exchange) × EndsAt row trace last)
+EndsAlong forms job found row trace outcome.Created = Along row trace [] × ((f : FrameIn) × (job.command ≡ Create f))
+EndsAlong forms job found row trace (outcome.Evolved k) = Along row trace [] × ((change : Evolution) × (job.command ≡ Evolve change)) × (k ≡ key_of job) × IsGot job found trace × (refused_in found job.command ≡ None)
+EndsAlong forms job found row trace (outcome.Written f) = Along row trace [] × ((w : WriteIn) × (job.command ≡ Write w)) × (f ≡ frag_of_job job) × IsGot job found trace × (refused_in found job.command ≡ None)
+EndsAlong forms job found row trace (outcome.Read answer) = Along row trace [] × ((from : ℕ) × (to : ℕ) × (job.command ≡ Read from to)) × IsGot job found trace
 
 -- how a job may end: one that is refused before its first call makes none
-abbrev pub MayEndAs : Job → List Exchange → Outcome → Option Refusal → Type 0
-MayEndAs job trace end None = EndsAlong job (row_of job) trace end
-MayEndAs job trace end (Some r) = (trace ≡ []) × ((end ≡ outcome.Refused r) ⊎ (end ≡ outcome.OutOfMemory))
-
-abbrev pub MayEnd : Job → List Exchange → Outcome → Type 0
-MayEnd job trace end = MayEndAs job trace end (refused_before job.command)
-
--- a get is one of the whole part of a fragment that the job's listing before it has it look into
-pub record LooksRight (job : Job) (before : List Exchange) (c : Call) : Type 0 where
-  pub names : List Name
-  pub listed : Contains before (record { call = call.List Commits; reply = reply.Names names })
-  pub frag : FragKey
-  pub looked : Contains (looked_into job.command names) frag
-  pub whole : c ≡ get_part frag
+abbrev pub MayEndAs : {F : Type 0} → Forms F → Job → Found → List Exchange → Outcome → Option Refusal → Type 0
+MayEndAs forms job found trace end None = EndsAlong forms job found (row_of forms job found) trace end
+MayEndAs forms job found trace end (Some r) = (trace ≡ []) × ((end ≡ outcome.Refused r) ⊎ (end ≡ outcome.OutOfMemory))
 
 -- the calls went along the row, and the stop cut the job off where it would have made one more call, which may come next there
-pub record IsCutOff (job : Job) (trace : List Exchange) : Type 0 where
+pub record IsCutOff {F : Type 0} (forms : Forms F) (job : Job) (found : Found) (trace : List Exchange) : Type 0 where
   pub begins : refused_before job.command ≡ None
   pub left : List Call
-  pub along : Along (row_of job) trace left
+  pub along : Along (row_of forms job found) trace left
   pub unmade : Call
   pub rest : List Call
   pub next : IsNext left unmade rest
-  pub looks : IsTrue (is_look unmade) → LooksRight job trace unmade
   pub cut : cuts job.stop (length trace) unmade ≡ true
 
 -- how a job may come out: with an end, or cut off by its stop
-abbrev pub MayComeOut : Job → List Exchange → Driven Outcome → Type 0
-MayComeOut job trace (driven.Done end) = MayEnd job trace end
-MayComeOut job trace driven.Stopped = IsCutOff job trace
+abbrev pub MayComeOut : {F : Type 0} → Forms F → Job → Found → List Exchange → Driven Outcome → Type 0
+MayComeOut forms job found trace (driven.Done end) = MayEndAs forms job found trace end (refused_before job.command)
+MayComeOut forms job found trace driven.Stopped = IsCutOff forms job found trace
 
 -- the calls of a job, in order, none of which its stop cut off, and how it came out
-pub record IsSegment (job : Job) (trace : List Exchange) (result : Driven Outcome) : Type 0 where
+pub record IsSegment {F : Type 0} (forms : Forms F) (job : Job) (trace : List Exchange) (result : Driven Outcome) : Type 0 where
   pub uncut : Uncut job.stop 0 trace
-  pub ends : MayComeOut job trace result
-  pub looks : (before after : List Exchange) (x : Exchange) → trace ≡ before ++ x ∷ after → IsTrue (is_look x.call) → LooksRight job before x.call
+  pub found : Found
+  pub are_found : AreFound job found trace
+  pub ends : MayComeOut forms job found trace result

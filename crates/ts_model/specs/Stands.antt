@@ -1,42 +1,59 @@
 -- A map of objects stands for a history.
-use Rattle.std.specs.Prelude.{◌≡◌, ℕ, ◌^◌, ◌<◌, List, length, Some, IsTrue, Contains}
-use Rattle.std.specs.FinMap as map
+use Rattle.std.specs.Prelude.{◌≡◌, ℕ, List, Some, option_map, IsTrue, Contains}
+use Rattle.ts_base.specs.declared.keys.Key.{Key}
 use Rattle.ts_base.specs.declared.keys.FragKey.{FragKey}
-use Rattle.ts_base.specs.declared.names.Name.TheVariants as name
-use Rattle.ts_base.specs.declared.names.Part.TheVariants.{Plain}
+use Rattle.ts_base.specs.declared.names.Part.{Part}
 use Rattle.ts_base.specs.declared.heads.Piece.{Piece}
-use Rattle.ts_base.specs.Keys.{frag_of}
-use Rattle.ts_base.specs.Names.{wrt_of}
-use Rattle.ts_base.specs.Held.{Held}
 use Rattle.ts_model.specs.declared.deeds.Written.{Written}
-use Rattle.ts_model.specs.Deeds.{History, IsHistory, writes}
+use Rattle.ts_schema.specs.declared.frames.Frame.{Frame}
+use Rattle.ts_schema.specs.declared.schemas.Schema.{Schema}
+use Rattle.ts_base.specs.Keys.{frag_of}
+use Rattle.ts_base.specs.Held.{Held}
+use Rattle.ts_base.specs.Names.{wrt_of}
+use Rattle.ts_schema.specs.FrameTexts.{frame_object}
+use Rattle.ts_schema.specs.SchemaTexts.{schema_object}
+use Rattle.ts_schema.specs.Parts.{Look, IsShort}
 use Rattle.ts_model.specs.Pieces.{HoldsWrite}
-use Rattle.ts_model.specs.Plain.{IsPlain}
+use Rattle.ts_model.specs.Forms.{Spelled}
+use Rattle.ts_model.specs.Deeds.{History, frame_in, writes, schema_with, IsHistory}
+use Rattle.ts_base.specs.declared.names.Name.TheVariants as name
+use Rattle.std.specs.FinMap as map
 
 -- a fragment is committed while its `.wrt` is held
 abbrev pub IsCommitted : Held → FragKey → Type 0
 IsCommitted m f = IsTrue (map.contains_key m (wrt_of f))
 
--- the part of a fragment spells the piece, in no more bytes than one get can ask for
-pub record Spells (m : Held) (f : FragKey) (p : Piece) : Type 0 where
-  pub bytes : List ℕ
-  pub held : map.get m (name.Part f Plain) ≡ Some bytes
-  pub short : length bytes < 2 ^ 64
-  pub spelled : IsPlain p bytes
+-- the parts of a fragment spell the piece, each in so few bytes that one get can ask for all of them
+pub record Spells (spelled : Spelled) (m : Held) (frame : Frame) (s : Schema) (f : FragKey) (p : Piece) : Type 0 where
+  pub look : Look
+  pub spells : spelled frame s p look
+  pub held : (part : Part) (bytes : List ℕ) → look part ≡ Some bytes → map.get m (name.Part f part) ≡ Some bytes
+  pub short : (part : Part) (bytes : List ℕ) → look part ≡ Some bytes → IsShort bytes
   pub named : p.head.frag ≡ f
 
 -- the fragment holds one write of the history
-pub record HoldsOne (h : History) (m : Held) (f : FragKey) : Type 0 where
+pub record HoldsOne (spelled : Spelled) (h : History) (m : Held) (f : FragKey) : Type 0 where
   pub write : Written
   pub written : Contains (writes h) write
+  pub frame : Frame
+  pub framed : frame_in h ≡ Some frame
+  pub schema : Schema
+  pub declared : schema_with h write.schema ≡ Some schema
   pub piece : Piece
-  pub spells : Spells m f piece
+  pub spells : Spells spelled m frame schema f piece
   pub holds : HoldsWrite write piece
 
 -- the map stands for the history
-pub record Stands (m : Held) (h : History) : Type 0 where
+pub record Stands (spelled : Spelled) (m : Held) (h : History) : Type 0 where
   pub history : IsHistory h
+  -- the frame is held exactly where the history has one, and spells it
+  pub frame : map.get m name.Domain ≡ option_map frame_object (frame_in h)
+  -- the schemas that are held are those of the history, each spelling its attributes
+  pub schemas : (k : Key) → map.get m (name.Schema k) ≡ option_map (λ s. schema_object s.attrs) (schema_with h k)
+  -- each is so short that one get can ask for all of it
+  pub short_frame : (bytes : List ℕ) → map.get m name.Domain ≡ Some bytes → IsShort bytes
+  pub short_schemas : (k : Key) (bytes : List ℕ) → map.get m (name.Schema k) ≡ Some bytes → IsShort bytes
   -- each committed fragment holds one write of the history
-  pub whole : (f : FragKey) → IsCommitted m f → HoldsOne h m f
+  pub whole : (f : FragKey) → IsCommitted m f → HoldsOne spelled h m f
   -- the fragment of each write is committed
   pub covered : (w : Written) → Contains (writes h) w → IsCommitted m (frag_of w.key)

@@ -1,39 +1,63 @@
 -- How a job goes: the call that it makes next, and where a reply leads it.
-use Rattle.std.specs.Prelude.{ℕ, ℤ, ◌+◌, ◌-◌, ◌^◌, Bool, cond, ◌&&◌, List, [], ◌∷◌, ◌++◌, Option, Some, None, option_map, filter, filter_map, length, nat_le, nat_lt, slice_get, Result, Ok, Err}
+use Rattle.std.specs.Prelude.{ℕ, ◌-◌, ◌^◌, Bool, false, cond, not, ◌&&◌, if◌then◌else◌, List, [], ◌∷◌, ◌++◌, Option, Some, None, option_map, filter, filter_map, length, nat_le, nat_lt, nat_eq, slice_get, Result, Ok, Err, find, drop, suc, zero, map as list_map}
+use Rattle.ts_base.specs.declared.keys.Key.{Key}
 use Rattle.ts_base.specs.declared.keys.FragKey.{FragKey}
 use Rattle.ts_base.specs.declared.names.Name.{Name}
-use Rattle.ts_base.specs.declared.names.Name.TheVariants as name
-use Rattle.ts_base.specs.declared.names.Part.TheVariants.{Plain}
-use Rattle.ts_base.specs.declared.names.CommitKind.TheVariants.{Wrt}
-use Rattle.ts_base.specs.declared.names.Prefix.TheVariants.{Commits}
-use Rattle.ts_base.specs.declared.names.Place.TheVariants as place
+use Rattle.ts_base.specs.declared.names.Place.{Place}
+use Rattle.ts_base.specs.declared.names.PartBytes.{PartBytes}
 use Rattle.ts_base.specs.declared.heads.Version.{Version}
-use Rattle.ts_base.specs.declared.heads.Piece.{Piece}
-use Rattle.ts_base.specs.Names.{wrt_of}
+use Rattle.ts_base.specs.declared.heads.Cell.{Cell}
+use Rattle.ts_base.specs.declared.values.Val.{Val}
 use Rattle.ts_store.specs.declared.call.Call.{Call}
-use Rattle.ts_store.specs.declared.call.Call.TheVariants as call
 use Rattle.ts_store.specs.declared.call.Reply.{Reply}
-use Rattle.ts_store.specs.declared.call.Reply.TheVariants as reply
 use Rattle.ts_model.specs.declared.commands.Command.{Command}
-use Rattle.ts_model.specs.declared.commands.Command.TheVariants.{Write, Read}
 use Rattle.ts_model.specs.declared.commands.Job.{Job}
-use Rattle.ts_model.specs.declared.answers.Pair.{Pair}
+use Rattle.ts_model.specs.declared.commands.FrameIn.{FrameIn}
+use Rattle.ts_model.specs.declared.answers.Answer.{Answer}
 use Rattle.ts_model.specs.declared.answers.Outcome.{Outcome}
-use Rattle.ts_model.specs.declared.answers.Outcome.TheVariants as outcome
 use Rattle.ts_model.specs.declared.answers.Refusal.{Refusal}
-use Rattle.ts_model.specs.declared.answers.Refusal.TheVariants as refusal
 use Rattle.ts_model.specs.declared.states.State.{State}
-use Rattle.ts_model.specs.declared.states.State.TheVariants.{PutsPart, PutsCommit, ListsCommits, Fetches, Over}
-use Rattle.ts_model.specs.Answers.{domain_numbers, number_of, pair}
-use Rattle.ts_model.specs.Jobs.{frag_of_job, refused_before}
-use Rattle.ts_model.specs.Pieces.{newest_at}
-use Rattle.ts_model.specs.Plain.{plain_piece, part_text}
+use Rattle.ts_model.specs.declared.states.NewObject.{NewObject}
+use Rattle.ts_model.specs.declared.states.Opened.{Opened}
+use Rattle.ts_model.specs.declared.states.Reading.{Reading}
+use Rattle.ts_schema.specs.declared.frames.Frame.{Frame}
+use Rattle.ts_schema.specs.declared.schemas.Schema.{Schema}
+use Rattle.ts_schema.specs.declared.attrs.Attr.{Attr}
+use Rattle.ts_schema.specs.declared.wants.Want.{Want}
+use Rattle.std.specs.Option.{option_map_or}
+use Rattle.std.specs.Str.{bytes_eq}
+use Rattle.ts_base.specs.Keys.{key_eq, key_cmp}
+use Rattle.ts_base.specs.Names.{wrt_of}
+use Rattle.ts_domain.specs.Domains.{whole_domain}
+use Rattle.ts_schema.specs.Attrs.{shown_row}
+use Rattle.ts_schema.specs.Evolutions.{evolved_attrs, evolution_fault, schema_at}
+use Rattle.ts_schema.specs.FrameTexts.{frame_object, frame_of}
+use Rattle.ts_schema.specs.SchemaTexts.{schema_object, schema_of}
+use Rattle.ts_model.specs.declared.commands.Command.TheVariants.{Create, Evolve, Write, Read}
+use Rattle.ts_model.specs.declared.states.State.TheVariants.{PutsFrame, ComparesFrame, ListsDeclared, Puts, ListsCommits, ListsSchemas, GetsSchema, GetsFrame, GetsHeads, GetsSchemas, Fetches, Over}
+use Rattle.ts_base.specs.declared.names.CommitKind.TheVariants.{Wrt}
+use Rattle.ts_base.specs.declared.names.Prefix.TheVariants.{Commits, Schemas}
+use Rattle.ts_model.specs.Pieces.{newest_of}
+use Rattle.ts_model.specs.Forms.{Stepped, Forms, Asks, Takes, Breaks}
+use Rattle.ts_model.specs.Jobs.{key_of, frag_of_job, written_as, refused_before, looked_at}
+use Rattle.ts_model.specs.Deeds.{schemas, keys}
+use Rattle.ts_model.specs.Commands.{frame_made, laid, piece_of}
+use Rattle.ts_model.specs.Answers.{fields_of, types_of}
+use Rattle.ts_base.specs.declared.names.Name.TheVariants as name
+use Rattle.ts_base.specs.declared.names.Place.TheVariants as place
+use Rattle.ts_store.specs.declared.call.Call.TheVariants as call
+use Rattle.ts_store.specs.declared.call.Reply.TheVariants as reply
+use Rattle.ts_model.specs.declared.answers.Outcome.TheVariants as outcome
+use Rattle.ts_model.specs.declared.answers.Refusal.TheVariants as refusal
+use Rattle.std.specs.FinMap as map
 
--- the object that a write job puts first
-abbrev pub part_of : Job → Name
-part_of job = name.Part (frag_of_job job) Plain
+-- ---- names
 
--- the object by which its fragment is committed
+-- the schema object of a job
+abbrev pub schema_name : Job → Name
+schema_name job = name.Schema (key_of job)
+
+-- the object by which the fragment of a job is committed
 abbrev pub commit_of : Job → Name
 commit_of job = wrt_of (frag_of_job job)
 
@@ -46,100 +70,300 @@ wrt_in _ = None
 abbrev pub committed_in : List Name → List FragKey
 committed_in names = filter_map wrt_in names
 
--- the span of the fragment lies in [a, b]
-abbrev pub lies_in : ℕ → ℕ → FragKey → Bool
-lies_in a b f = nat_le a f.t1 && nat_le f.t2 b
+-- the key of a schema object
+abbrev pub schema_key_in : Name → Option Key
+schema_key_in (name.Schema k) = Some k
+schema_key_in _ = None
 
--- the fragments that a read looks into: the committed ones of its listing whose span lies in [0, to]
+-- the schemas of a listing
+abbrev pub schemas_in : List Name → List Key
+schemas_in names = filter_map schema_key_in names
+
+-- the span of the fragment meets [a, b]; nothing meets an empty interval
+abbrev pub meets : ℕ → ℕ → FragKey → Bool
+meets a b f = nat_le a b && (nat_le f.t1 b && nat_le a f.t2)
+
+-- the fragments that a read looks into: the committed ones of its listing whose span meets the interval
 abbrev pub looked_into : Command → List Name → List FragKey
-looked_into (Write x v) names = []
-looked_into (Read to) names = filter (lies_in 0 to) (committed_in names)
+looked_into (Read from to) names = filter (meets from to) (committed_in names)
+looked_into _ names = []
 
--- the cell of a version at a coordinate
-abbrev pub pair_of : ℤ → Version → Pair
-pair_of x v = pair x (number_of v.row)
+-- ---- how jobs end
 
--- at each coordinate of the domain, ascending, the newest version among these
-abbrev pub pairs_in : List Version → List Pair
-pairs_in got = filter_map (λ x. option_map (pair_of x) (newest_at got (x ∷ []))) domain_numbers
-
--- ---- states
+-- over with a refusal
+abbrev pub refuse : {F : Type 0} → Refusal → State F
+refuse r = Over (outcome.Refused r)
 
 -- over where there is a refusal
-abbrev pub over_or : State → Option Refusal → State
-over_or s None = s
-over_or s (Some r) = Over (outcome.Refused r)
+abbrev pub unless_refused : {F : Type 0} → State F → Option Refusal → State F
+unless_refused s None = s
+unless_refused s (Some r) = refuse r
+
+-- the object or the prefix that a call speaks of
+abbrev pub place_of : Call → Place
+place_of (call.Put n bytes) = place.Name n
+place_of (call.Remove n) = place.Name n
+place_of (call.List prefix) = place.Prefix prefix
+place_of (call.Get n from len) = place.Name n
+place_of (call.Size n) = place.Name n
+
+-- how a job ends by a reply that does not let it go on
+abbrev pub ended : {F : Type 0} → Call → Reply → State F
+ended c reply.Failed = refuse (refusal.StoreFault (place_of c))
+ended (call.Put n bytes) reply.Taken = refuse (refusal.Taken n)
+ended (call.Get n from len) reply.Absent = refuse (refusal.Missing n)
+ended (call.Size n) reply.Absent = refuse (refusal.Missing n)
+ended c r = Over outcome.OutOfMemory
+
+-- an object is damaged at an offset
+abbrev pub damaged : {F : Type 0} → Name → ℕ → State F
+damaged n at = refuse (refusal.Damaged n at)
+
+-- ---- calls
+
+-- all of an object
+abbrev pub get_all : Name → Call
+get_all n = call.Get n 0 (2 ^ 64 - 1)
+
+-- the put of an object
+abbrev pub put_of : NewObject → Call
+put_of o = call.Put o.name o.bytes
+
+-- the frame that a command makes, and its first attributes
+abbrev pub made_by : Command → Option FrameIn
+made_by (Create f) = Some f
+made_by _ = None
+
+-- the put of the frame of a create
+abbrev pub frame_put : FrameIn → Call
+frame_put f = call.Put name.Domain (frame_object (frame_made f))
+
+-- the object of a job's schema with these attributes
+abbrev pub schema_object_of : Job → List Attr → NewObject
+schema_object_of job attrs = record { name = schema_name job; bytes = schema_object attrs }
+
+-- an object for each part of a fragment
+abbrev pub part_objects : FragKey → List PartBytes → List NewObject
+part_objects frag parts = list_map (λ x. record { name = name.Part frag x.part; bytes = x.bytes }) parts
+
+-- the objects that a write job puts: the parts of its fragment, and then the empty `.wrt`
+abbrev pub write_objects : {F : Type 0} → Forms F → Frame → Schema → Job → List Cell → List NewObject
+write_objects forms frame s job cells =
+    part_objects (frag_of_job job) (forms.parts frame s (piece_of frame (written_as job s.key cells))) ++ record { name = commit_of job; bytes = [] } ∷ []
+
+-- ---- puts
+
+-- a job puts objects from a place on, and ends after the last
+abbrev pub putting : {F : Type 0} → List NewObject → ℕ → Outcome → State F
+putting objects next end = cond (nat_lt next (length objects)) (Puts objects next end) (Over end)
+
+-- the put of a job's schema, after which it ends so
+abbrev pub puts_schema : {F : Type 0} → Job → List Attr → Outcome → State F
+puts_schema job attrs end = putting (schema_object_of job attrs ∷ []) 0 end
+
+-- a create puts its first schema
+abbrev pub puts_first : {F : Type 0} → Job → Option FrameIn → State F
+puts_first job (Some f) = puts_schema job f.attrs outcome.Created
+puts_first job None = Over outcome.OutOfMemory
+
+-- ---- reads
+
+-- the schema of a key among those that a read knows
+abbrev pub known_schema : Reading → List Schema → Key → Option Schema
+known_schema r schemas k = if key_eq k r.there.key then Some r.there else find (λ s. key_eq s.key k) schemas
+
+-- the attributes of the schema of a key among those that a read knows
+abbrev pub known_attrs : Reading → List Schema → Key → List Attr
+known_attrs r schemas k = option_map_or (λ s. s.attrs) (known_schema r schemas k) []
+
+-- the keys of the further schemas that these heads name, ascending and each once
+abbrev pub keys_named : Reading → List Opened → List Key
+keys_named r opened = map.keys (map.from_entries {R = key_cmp} (list_map (λ o. (o.head.schema, o.head.schema)) (filter (λ o. not (key_eq o.head.schema r.there.key)) opened)))
+
+-- the row of a version, as it shows through the schema there
+abbrev pub row_shown : Reading → List Schema → Version → List Val
+row_shown r schemas v = fields_of (v.coords, shown_row (known_attrs r schemas v.schema) v.row r.there.attrs)
+
+-- the answer of a read that got these versions
+abbrev pub answer_of : Reading → List Schema → List Version → Answer
+answer_of r schemas got = record {
+  types = types_of r.frame.domain r.there.attrs;
+  rows = list_map (λ e. row_shown r schemas e.1) (map.entries (newest_of got));
+}
+
+-- the numbers from one on, so many
+abbrev pub numbers_from : ℕ → ℕ → List ℕ
+numbers_from first zero = []
+numbers_from first (suc more) = first ∷ numbers_from (suc first) more
+
+-- what is wanted of a fragment with so many attributes: all cells of the domain that are stamped in the interval, with all their values
+abbrev pub want_of : Reading → List Attr → Want
+want_of r attrs = record { sub = whole_domain r.frame.domain; attrs = numbers_from 0 (length attrs); a = r.from; b = r.to }
+
+-- where a step of a fetch leads: to a call, on with the versions, or to an end
+abbrev pub fetch_leads : {F : Type 0} → Reading → List Opened → List Schema → ℕ → FragKey → List Version → (List Version → State F) → Stepped F → State F
+fetch_leads r opened schemas next frag got on (Asks f c) = Fetches r opened schemas next frag got f c
+fetch_leads r opened schemas next frag got on (Takes vs) = on vs
+fetch_leads r opened schemas next frag got on (Breaks part at) = damaged (name.Part frag part) at
+
+-- where the beginning of a fetch leads
+abbrev pub fetch_begins : {F : Type 0} → Forms F → Reading → List Opened → List Schema → ℕ → FragKey → List Version → (List Version → State F) → Result F ℕ → State F
+fetch_begins forms r opened schemas next frag got on (Ok f) = fetch_leads r opened schemas next frag got on (forms.steps f reply.Start)
+fetch_begins forms r opened schemas next frag got on (Err at) = damaged (name.Part frag (forms.head_part r.frame)) at
+
+-- a read begins to fetch a fragment in its schema, which it knows
+abbrev pub fetches_one : {F : Type 0} → Forms F → Reading → List Opened → List Schema → ℕ → Opened → List Version → (List Version → State F) → Option Schema → State F
+fetches_one forms r opened schemas next o got on None = Over outcome.OutOfMemory
+fetches_one forms r opened schemas next o got on (Some s) = fetch_begins forms r opened schemas next o.frag got on (forms.opens r.frame s o.frag o.object (want_of r s.attrs))
+
+-- a read fetches the fragments from a place on, after the versions before; after the last it answers
+abbrev pub fetching : {F : Type 0} → Forms F → Reading → List Opened → List Schema → ℕ → List Opened → List Version → State F
+fetching forms r opened schemas next [] got = Over (outcome.Read (answer_of r schemas got))
+fetching forms r opened schemas next (o ∷ rest) got = fetches_one forms r opened schemas next o got (λ vs. fetching forms r opened schemas (suc next) rest (got ++ vs)) (known_schema r schemas o.head.schema)
+
+-- a read gets the next further schema, or begins to fetch
+abbrev pub gathering : {F : Type 0} → Forms F → Reading → List Opened → List Key → List Schema → State F
+gathering forms r opened keys schemas = cond (nat_lt (length schemas) (length keys)) (GetsSchemas r opened keys schemas) (fetching forms r opened schemas 0 opened [])
+
+-- a read opens the next fragment, or goes on once all are open
+abbrev pub opening : {F : Type 0} → Forms F → Reading → List Opened → State F
+opening forms r opened = cond (nat_lt (length opened) (length r.near)) (GetsHeads r opened) (gathering forms r opened (keys_named r opened) [])
+
+-- ---- the work of a job in the schema there
+
+-- a write puts its cells, or is refused
+abbrev pub puts_cells : {F : Type 0} → Forms F → Job → Frame → Schema → Result (List Cell) Refusal → State F
+puts_cells forms job frame s (Ok cells) = putting (write_objects forms frame s job cells) 0 (outcome.Written (frag_of_job job))
+puts_cells forms job frame s (Err r) = refuse r
+
+-- what a job does once it has the schema there and the frame
+abbrev pub works : {F : Type 0} → Forms F → Job → Command → List FragKey → Frame → Schema → State F
+works forms job (Create f) near frame s = Over outcome.OutOfMemory
+works forms job (Evolve change) near frame s = unless_refused (puts_schema job (evolved_attrs s.attrs change) (outcome.Evolved (key_of job))) (option_map refusal.SchemaBad (evolution_fault frame.domain s.attrs change))
+works forms job (Write w) near frame s = puts_cells forms job frame s (laid frame.domain s.attrs w.cols)
+works forms job (Read from to) near frame s = opening forms (record { from = from; to = to; frame = frame; there = s; near = near }) []
+
+-- ---- where replies lead
+
+-- on with the names of a listing
+abbrev pub on_names : {F : Type 0} → Call → (List Name → State F) → Reply → State F
+on_names c on (reply.Names names) = on names
+on_names c on r = ended c r
+
+-- on with the bytes of an object
+abbrev pub on_bytes : {F : Type 0} → Call → (List ℕ → State F) → Reply → State F
+on_bytes c on (reply.Bytes bytes) = on bytes
+on_bytes c on r = ended c r
+
+-- on after a put of a new object
+abbrev pub on_made : {F : Type 0} → Call → State F → Reply → State F
+on_made c on reply.Made = on
+on_made c on r = ended c r
+
+-- on with what an object spells, or it is damaged
+abbrev pub on_read : {F A : Type 0} → Name → (A → State F) → Result A ℕ → State F
+on_read n on (Ok x) = on x
+on_read n on (Err at) = damaged n at
+
+-- where the put of a frame leads: one that is there already is compared
+abbrev pub after_frame : {F : Type 0} → Job → Call → Reply → State F
+after_frame job c reply.Taken = ComparesFrame
+after_frame job c r = on_made c (puts_first job (made_by job.command)) r
+
+-- the bytes are those of the frame that a create makes
+abbrev pub is_own_frame : Option FrameIn → List ℕ → Bool
+is_own_frame None bytes = false
+is_own_frame (Some f) bytes = bytes_eq (frame_object (frame_made f)) bytes
+
+-- where the schemas of a listing lead: to the schema there, if there is one
+abbrev pub seeks : {F : Type 0} → List FragKey → ℕ → Option Key → State F
+seeks near at None = refuse (refusal.NoSchema at)
+seeks near at (Some k) = GetsSchema near k
+
+-- where the reply to a fetch's call leads: bytes and lengths are for the fetch
+abbrev pub after_fetched : {F : Type 0} → Forms F → Reading → List Opened → List Schema → ℕ → FragKey → List Version → F → Call → Reply → State F
+after_fetched forms r opened schemas next frag got f c (reply.Bytes bytes) =
+    fetch_leads r opened schemas next frag got (λ vs. fetching forms r opened schemas (suc next) (drop (suc next) opened) (got ++ vs)) (forms.steps f (reply.Bytes bytes))
+after_fetched forms r opened schemas next frag got f c (reply.Length n) =
+    fetch_leads r opened schemas next frag got (λ vs. fetching forms r opened schemas (suc next) (drop (suc next) opened) (got ++ vs)) (forms.steps f (reply.Length n))
+after_fetched forms r opened schemas next frag got f c r' = ended c r'
+
+-- where the head of a fragment leads
+abbrev pub after_head : {F : Type 0} → Forms F → Reading → List Opened → FragKey → List ℕ → State F
+after_head forms r opened f bytes =
+    on_read (name.Part f (forms.head_part r.frame)) (λ head. opening forms r (opened ++ record { frag = f; head = head; object = bytes } ∷ [])) (forms.head r.frame f bytes)
+
+-- where a further schema leads
+abbrev pub after_schema : {F : Type 0} → Forms F → Reading → List Opened → List Key → List Schema → Key → List ℕ → State F
+after_schema forms r opened keys schemas k bytes =
+    on_read (name.Schema k) (λ attrs. gathering forms r opened keys (schemas ++ record { key = k; attrs = attrs } ∷ [])) (schema_of bytes)
+
+-- with the item at a place; a job never asks past the last
+abbrev pub with_item : {F A : Type 0} → (A → State F) → Option A → State F
+with_item on (Some x) = on x
+with_item on None = Over outcome.OutOfMemory
+
+-- ---- the automaton
 
 -- where a command begins: one that is refused before its first call is over
-abbrev pub begun : Command → State
-begun (Write x v) = over_or PutsPart (refused_before (Write x v))
-begun (Read to) = ListsCommits
+abbrev pub begins : {F : Type 0} → Command → State F
+begins (Create f) = PutsFrame
+begins (Evolve change) = ListsSchemas []
+begins (Write w) = ListsSchemas []
+begins (Read from to) = ListsCommits
 
--- all of the part of a fragment
-abbrev pub get_part : FragKey → Call
-get_part f = call.Get (name.Part f Plain) 0 (2 ^ 64 - 1)
+abbrev pub begun : {F : Type 0} → Command → State F
+begun command = unless_refused (begins command) (refused_before command)
+
+-- the get of the part that has the head
+abbrev pub get_head : {F : Type 0} → Forms F → Reading → FragKey → Call
+get_head forms r f = get_all (name.Part f (forms.head_part r.frame))
+
+-- the get of a schema
+abbrev pub get_schema : Key → Call
+get_schema k = get_all (name.Schema k)
+
+-- the get of the frame
+abbrev pub get_frame : Call
+get_frame = get_all name.Domain
+
+-- the listing of the schemas
+abbrev pub list_schemas : Call
+list_schemas = call.List Schemas
+
+-- the listing of the commits
+abbrev pub list_commits : Call
+list_commits = call.List Commits
 
 -- the next call of a job, if it is not over
-abbrev pub asks : Job → State → Option Call
-asks job PutsPart = Some (call.Put (part_of job) (part_text job))
-asks job PutsCommit = Some (call.Put (commit_of job) [])
-asks job ListsCommits = Some (call.List Commits)
-asks job (Fetches listed next got) = option_map get_part (slice_get listed next)
-asks job (Over o) = None
-
--- how a job ends by the reply to a put that does not let it go on
-abbrev pub put_end : Name → Reply → Outcome
-put_end n reply.Taken = outcome.Refused (refusal.Taken n)
-put_end n reply.Failed = outcome.Refused (refusal.StoreFault (place.Name n))
-put_end n _ = outcome.OutOfMemory
-
--- the same for a listing of the commits
-abbrev pub list_end : Reply → Outcome
-list_end reply.Failed = outcome.Refused (refusal.StoreFault (place.Prefix Commits))
-list_end _ = outcome.OutOfMemory
-
--- the same for a get
-abbrev pub get_end : Name → Reply → Outcome
-get_end n reply.Absent = outcome.Refused (refusal.Missing n)
-get_end n reply.Failed = outcome.Refused (refusal.StoreFault (place.Name n))
-get_end n _ = outcome.OutOfMemory
-
--- a read goes on with the fragment at a place of its list, or answers after the last one
-abbrev pub fetching : List FragKey → ℕ → List Version → State
-fetching listed next got = cond (nat_lt next (length listed)) (Fetches listed next got) (Over (outcome.Read (record { rows = pairs_in got })))
-
--- where the bytes of a part lead
-abbrev pub after_part : List FragKey → ℕ → List Version → FragKey → Result Piece ℕ → State
-after_part listed next got f (Ok p) = fetching listed (next + 1) (got ++ p.versions)
-after_part listed next got f (Err at) = Over (outcome.Refused (refusal.Damaged (name.Part f Plain) at))
-
--- where the reply to a get leads
-abbrev pub after_get : List FragKey → ℕ → List Version → FragKey → Reply → State
-after_get listed next got f (reply.Bytes bytes) = after_part listed next got f (plain_piece f bytes)
-after_get listed next got f r = Over (get_end (name.Part f Plain) r)
-
--- the same where a fragment is listed at the place; a read never asks past the last
-abbrev pub after_get_of : List FragKey → ℕ → List Version → Option FragKey → Reply → State
-after_get_of listed next got (Some f) r = after_get listed next got f r
-after_get_of listed next got None r = Over outcome.OutOfMemory
-
--- where the reply to a put leads: on to a state, or to the job's end
-abbrev pub put_leads : Name → State → Reply → State
-put_leads n on reply.Made = on
-put_leads n on r = Over (put_end n r)
-
--- where the reply to a listing of the commits leads
-abbrev pub listing_leads : Command → Reply → State
-listing_leads command (reply.Names names) = fetching (looked_into command names) 0 []
-listing_leads command r = Over (list_end r)
+abbrev pub asks : {F : Type 0} → Forms F → Job → State F → Option Call
+asks forms job PutsFrame = option_map frame_put (made_by job.command)
+asks forms job ComparesFrame = Some get_frame
+asks forms job ListsDeclared = Some list_schemas
+asks forms job (Puts objects next end) = option_map put_of (slice_get objects next)
+asks forms job ListsCommits = Some list_commits
+asks forms job (ListsSchemas near) = Some list_schemas
+asks forms job (GetsSchema near there) = Some (get_schema there)
+asks forms job (GetsFrame near there) = Some get_frame
+asks forms job (GetsHeads r opened) = option_map (get_head forms r) (slice_get r.near (length opened))
+asks forms job (GetsSchemas r opened keys schemas) = option_map get_schema (slice_get keys (length schemas))
+asks forms job (Fetches r opened schemas next frag got f c) = Some c
+asks forms job (Over o) = None
 
 -- where a reply leads a job
-abbrev pub goes : Job → State → Reply → State
-goes job PutsPart r = put_leads (part_of job) PutsCommit r
-goes job PutsCommit r = put_leads (commit_of job) (Over (outcome.Written (frag_of_job job))) r
-goes job ListsCommits r = listing_leads job.command r
-goes job (Fetches listed next got) r = after_get_of listed next got (slice_get listed next) r
-goes job (Over o) r = Over o
+abbrev pub goes : {F : Type 0} → Forms F → Job → State F → Reply → State F
+goes forms job PutsFrame r = with_item (λ f. after_frame job (frame_put f) r) (made_by job.command)
+goes forms job ComparesFrame r = on_bytes get_frame (λ bytes. cond (is_own_frame (made_by job.command) bytes) ListsDeclared (refuse refusal.ArrayExists)) r
+goes forms job ListsDeclared r = on_names list_schemas (λ names. cond (nat_eq (length names) 0) (puts_first job (made_by job.command)) (refuse refusal.ArrayExists)) r
+goes forms job (Puts objects next end) r = with_item (λ o. on_made (put_of o) (putting objects (suc next) end) r) (slice_get objects next)
+goes forms job ListsCommits r = on_names list_commits (λ names. ListsSchemas (looked_into job.command names)) r
+goes forms job (ListsSchemas near) r = on_names list_schemas (λ names. seeks near (looked_at job) (schema_at (schemas_in names) (looked_at job))) r
+goes forms job (GetsSchema near there) r = on_bytes (get_schema there) (λ bytes. on_read (name.Schema there) (λ attrs. GetsFrame near (record { key = there; attrs = attrs })) (schema_of bytes)) r
+goes forms job (GetsFrame near there) r = on_bytes get_frame (λ bytes. on_read name.Domain (λ frame. works forms job job.command near frame there) (frame_of bytes)) r
+goes forms job (GetsHeads r opened) r' = with_item (λ f. on_bytes (get_head forms r f) (after_head forms r opened f) r') (slice_get r.near (length opened))
+goes forms job (GetsSchemas r opened keys schemas) r' = with_item (λ k. on_bytes (get_schema k) (after_schema forms r opened keys schemas k) r') (slice_get keys (length schemas))
+goes forms job (Fetches r opened schemas next frag got f c) r' = after_fetched forms r opened schemas next frag got f c r'
+goes forms job (Over o) r = Over o
 
 -- a call and its reply
 pub record Exchange : Type 0 where
@@ -147,10 +371,10 @@ pub record Exchange : Type 0 where
   pub reply : Reply
 
 -- how far a job has come by these calls
-abbrev pub state_from : Job → State → List Exchange → State
-state_from job s [] = s
-state_from job s (x ∷ xs) = state_from job (goes job s x.reply) xs
+abbrev pub state_from : {F : Type 0} → Forms F → Job → State F → List Exchange → State F
+state_from forms job s [] = s
+state_from forms job s (x ∷ xs) = state_from forms job (goes forms job s x.reply) xs
 
 -- how far a job has come by all its calls
-abbrev pub state_of : Job → List Exchange → State
-state_of job trace = state_from job (begun job.command) trace
+abbrev pub state_of : {F : Type 0} → Forms F → Job → List Exchange → State F
+state_of forms job trace = state_from forms job (begun job.command) trace

@@ -1,20 +1,37 @@
 -- The calls of jobs, with all that is known of each, and what they leave.
-use Rattle.std.specs.Prelude.{◌≡◌, ◌≢◌, ℕ, Bool, true, false, cond, not, ◌&&◌, ◌⊎◌, List, [], ◌∷◌, ◌++◌, Option, Some, None, option_to_list, filter_map, nat_eq, ⊤}
-use Rattle.std.specs.FinMap as map
-use Rattle.ts_base.specs.Held.{Held}
+use Rattle.std.specs.Prelude.{◌≡◌, ◌≢◌, ℕ, Bool, true, false, cond, not, ◌&&◌, List, [], ◌∷◌, ◌++◌, Option, Some, None, option_map, option_and_then, option_to_list, filter_map, nat_eq, slice_get, Result, Ok, Err, ⊤, ◌⊎◌}
+use Rattle.ts_base.specs.declared.keys.Key.{Key}
+use Rattle.ts_base.specs.declared.names.Name.{Name}
+use Rattle.ts_base.specs.declared.heads.Cell.{Cell}
 use Rattle.ts_store.specs.declared.call.Call.{Call}
-use Rattle.ts_store.specs.declared.call.Call.TheVariants as call
 use Rattle.ts_store.specs.declared.call.Reply.{Reply}
-use Rattle.ts_store.specs.declared.call.Reply.TheVariants as reply
 use Rattle.ts_store.specs.declared.fate.Fate.{Fate}
-use Rattle.ts_store.specs.declared.fate.Fate.TheVariants as fate
 use Rattle.ts_store.specs.declared.journal.Entry.{Entry}
-use Rattle.ts_store.specs.Calls.{after, took_effect, reply_of, is_no_memory, FitsCall}
+use Rattle.ts_model.specs.declared.commands.Command.{Command}
 use Rattle.ts_model.specs.declared.commands.Job.{Job}
+use Rattle.ts_model.specs.declared.commands.ColIn.{ColIn}
+use Rattle.ts_model.specs.declared.answers.Refusal.{Refusal}
+use Rattle.ts_model.specs.declared.deeds.Written.{Written}
 use Rattle.ts_model.specs.declared.deeds.Deed.{Deed}
-use Rattle.ts_model.specs.Deeds.{History}
-use Rattle.ts_model.specs.Histories.{deed_of}
-use Rattle.ts_model.specs.States.{Exchange}
+use Rattle.ts_schema.specs.declared.frames.Frame.{Frame}
+use Rattle.ts_schema.specs.declared.schemas.Schema.{Schema}
+use Rattle.ts_base.specs.Held.{Held}
+use Rattle.ts_schema.specs.Evolutions.{evolved_attrs, schema_at}
+use Rattle.ts_schema.specs.Parts.{IsShort}
+use Rattle.ts_store.specs.Calls.{took_effect, after, reply_of, is_no_memory, FitsCall}
+use Rattle.ts_model.specs.declared.commands.Command.TheVariants.{Create, Evolve, Write}
+use Rattle.ts_model.specs.declared.deeds.Deed.TheVariants.{Framed, Declared, Wrote}
+use Rattle.ts_base.specs.declared.names.CommitKind.TheVariants.{Wrt}
+use Rattle.ts_base.specs.declared.names.Prefix.TheVariants.{Schemas}
+use Rattle.ts_model.specs.States.{schemas_in, made_by, Exchange}
+use Rattle.ts_model.specs.Jobs.{schema_of_job, written_as}
+use Rattle.ts_model.specs.Deeds.{History, frame_in, schema_with}
+use Rattle.ts_model.specs.Commands.{frame_made, laid}
+use Rattle.ts_base.specs.declared.names.Name.TheVariants as name
+use Rattle.ts_store.specs.declared.call.Call.TheVariants as call
+use Rattle.ts_store.specs.declared.call.Reply.TheVariants as reply
+use Rattle.ts_store.specs.declared.fate.Fate.TheVariants as fate
+use Rattle.std.specs.FinMap as map
 
 -- a call: the number of the job that made it, its fate, its reply, and whether it changed what is held
 pub record Told : Type 0 where
@@ -52,8 +69,14 @@ abbrev pub held_told : Held → List Told → Held
 held_told m [] = m
 held_told m (e ∷ es) = held_told (after_told m e) es
 
+-- an object that is put is short enough to be got at once
+abbrev pub IsShortCall : Call → Type 0
+IsShortCall (call.Put n bytes) = IsShort bytes
+IsShortCall c = ⊤
+
 -- the reply fits the call, and is Failed where the fate of the call is not Done, and only there
 pub record Suits (e : Told) : Type 0 where
+  pub short : IsShortCall e.call
   pub fits : FitsCall e.call e.reply
   pub failed : e.reply ≡ reply.Failed → e.fate ≢ fate.Done
   pub served : e.reply ≢ reply.Failed → e.fate ≡ fate.Done
@@ -79,16 +102,71 @@ entry_of lane e = cond (is_no_memory e.reply) None (Some (record { lane = lane e
 abbrev pub entries_of : (Option ℕ → ℕ) → List Told → List Entry
 entries_of lane told = filter_map (entry_of lane) told
 
--- the deed of what a call puts
-abbrev pub deed_in : List Job → Call → Option Deed
-deed_in jobs (call.Put n bytes) = deed_of jobs n
-deed_in jobs _ = None
+-- ---- the history
+
+-- the schemas that a reply to a listing of them names, or else those that were found before
+abbrev pub found_in : Option (List Key) → Call → Reply → Option (List Key)
+found_in before (call.List Schemas) (reply.Names names) = Some (schemas_in names)
+found_in before c r = before
+
+-- the schemas that a job found by the last of these calls that lists them
+abbrev pub found_after : Option (List Key) → List Exchange → Option (List Key)
+found_after found [] = found
+found_after found (x ∷ xs) = found_after (found_in found x.call x.reply) xs
+
+abbrev pub schemas_found : List Exchange → Option (List Key)
+schemas_found trace = found_after None trace
+
+-- the schema that a job works in, of those that it found: the one that holds at its stamp
+abbrev pub schema_used : History → Job → Option (List Key) → Option Schema
+schema_used h job found = option_and_then (schema_with h) (option_and_then (λ keys. schema_at keys job.at) found)
+
+-- the schema that a job declares
+abbrev pub declared_by : History → Job → Option (List Key) → Command → Option Schema
+declared_by h job found (Create f) = Some (schema_of_job job f.attrs)
+declared_by h job found (Evolve change) = option_map (λ s. schema_of_job job (evolved_attrs s.attrs change)) (schema_used h job found)
+declared_by h job found _ = None
+
+-- the cells, if no refusal stands against them
+abbrev pub cells_of : Result (List Cell) Refusal → Option (List Cell)
+cells_of (Ok cells) = Some cells
+cells_of (Err r) = None
+
+-- what columns write in a schema of an array with a frame
+abbrev pub written_in : Job → List ColIn → Option Schema → Option Frame → Option Written
+written_in job cols (Some s) (Some frame) = option_map (written_as job s.key) (cells_of (laid frame.domain s.attrs cols))
+written_in job cols _ _ = None
+
+-- what a job writes
+abbrev pub written_by : History → Job → Option (List Key) → Command → Option Written
+written_by h job found (Write w) = written_in job w.cols (schema_used h job found) (frame_in h)
+written_by h job found _ = None
+
+-- the deed of an object that a job puts: of the frame, of a schema, or of a `.wrt`
+abbrev pub deed_of : History → Job → Option (List Key) → Name → Option Deed
+deed_of h job found name.Domain = option_map (λ f. Framed (frame_made f)) (made_by job.command)
+deed_of h job found (name.Schema k) = option_map Declared (declared_by h job found job.command)
+deed_of h job found (name.Commit f Wrt) = option_map Wrote (written_by h job found job.command)
+deed_of h job found _ = None
+
+-- the deed of a call of a job
+abbrev pub deed_in : History → Job → Option (List Key) → Call → Option Deed
+deed_in h job found (call.Put n bytes) = deed_of h job found n
+deed_in h job found _ = None
+
+-- the deed of a call, after these deeds and these calls: no bytes are decoded
+abbrev pub deed_told : List Job → History → List Told → Told → Option Deed
+deed_told jobs h seen e = option_and_then (λ number. option_and_then (λ job. deed_in h job (schemas_found (trace_of number seen)) e.call) (slice_get jobs number)) e.job
 
 -- the deeds that a call appends: that of what it puts, where it changed what is held
-abbrev pub grown : List Job → Told → List Deed
-grown jobs e = cond e.changed (option_to_list (deed_in jobs e.call)) []
+abbrev pub grown : List Job → History → List Told → Told → List Deed
+grown jobs h seen e = cond e.changed (option_to_list (deed_told jobs h seen e)) []
 
--- the history after the calls
+-- the history after further calls
+abbrev pub history_from : List Job → History → List Told → List Told → History
+history_from jobs h seen [] = h
+history_from jobs h seen (e ∷ es) = history_from jobs (h ++ grown jobs h seen e) (seen ++ e ∷ []) es
+
+-- the history after the calls, from a past one
 abbrev pub history_told : List Job → History → List Told → History
-history_told jobs h [] = h
-history_told jobs h (e ∷ es) = history_told jobs (h ++ grown jobs e) es
+history_told jobs past told = history_from jobs past [] told

@@ -1,34 +1,36 @@
 //! How a command ends: its answer, or why it was refused.
 
-use ts_base::{FragKey, Name, Place, Sequence};
+use ts_base::{FragKey, Key, Label, Name, Place, RowList, Sequence, ValType};
+use ts_domain::DomainFault;
+use ts_schema::SchemaFault;
 
-/// A cell of the array as a read shows it.
-#[derive(Clone, Copy, Debug, PartialEq, Eq)]
-pub struct Pair {
-    /// The coordinate.
-    pub x: i128,
-    /// The value.
-    pub v: i128,
-}
-
-/// The cells of an answer.
-pub type PairList = Sequence<Pair>;
+/// A list of types.
+pub type TypeList = Sequence<ValType>;
 
 /// What a read found.
 #[derive(Debug, Drop, PartialEq, Eq)]
 pub struct Answer {
-    /// The cells that have a value, ascending by coordinate.
-    pub rows: PairList,
+    /// The types of the fields: of all dimensions, and then of all attributes of the schema that
+    /// holds at the end of the interval.
+    pub types: TypeList,
+    /// A row for each cell that has a value, in row order of the coordinates: the coordinates, and
+    /// then the value of each attribute.
+    pub rows: RowList,
 }
 
 /// How a command ended.
 #[derive(Debug, Drop, PartialEq, Eq)]
 pub enum Outcome {
+    /// The array has its frame, and a schema of this job.
+    Created,
+    /// The schema of this key is declared.
+    Evolved(Key),
     /// A write is committed in the fragment of this key.
     Written(FragKey),
     /// A read was answered.
     Read(Answer),
-    /// The command was refused, and changed nothing that a read shows.
+    /// The command was refused, and no deed has its key. But where the call that failed was the put
+    /// of its own schema or of its own commit, that may have been done all the same.
     Refused(Refusal),
     /// There was no memory to go on.
     OutOfMemory,
@@ -37,15 +39,27 @@ pub enum Outcome {
 /// Why a command was refused.
 #[derive(Clone, Copy, Debug, PartialEq, Eq)]
 pub enum Refusal {
+    /// There is an array already: it has another frame, or a schema.
+    ArrayExists,
+    /// There is no domain of these dimensions.
+    DomainBad(DomainFault),
+    /// There is no schema of these attributes.
+    SchemaBad(SchemaFault),
+    /// No schema is stamped at `at`, in milliseconds since 1970-01-01, or before.
+    NoSchema { at: u64 },
+    /// The columns of a write are not those of the schema; this is the first name that clashes.
+    SchemaClash { attr: Label },
     /// The coordinate `value` lies outside dimension `dim`, counted from 0.
     Domain { dim: u8, value: i128 },
+    /// The cell with this index, counted from 0, has coordinates that came earlier.
+    DuplicateCell { index: u64 },
     /// An object of this name was there already when the command put it.
     Taken(Name),
     /// The call on this object, or on what is below this prefix, failed.
     StoreFault(Place),
     /// The object breaks its layout first at the offset `at`, in bytes from its start.
     Damaged { name: Name, at: u64 },
-    /// An object that a committed fragment must have is not there.
+    /// An object that must be there is not.
     Missing(Name),
 }
 

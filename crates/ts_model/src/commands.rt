@@ -1,20 +1,104 @@
 //! What a lane is asked to do.
 
-use ts_base::{Sequence, Stop};
+use std::alloc::Global;
+use ts_base::{Duplicate, Label, OutOfMemory, Row, Sequence, Stop};
+use ts_domain::{DimList, Order};
+use ts_schema::{AttrList, Evolution};
+
+/// A sparse array that is to be made: its frame, and the attributes of its first schema.
+#[derive(Debug, Drop, PartialEq, Eq)]
+pub struct FrameIn {
+    /// The dimensions.
+    pub dims: DimList,
+    /// The order of the cells in a space tile.
+    pub cell: Order,
+    /// The order of the space tiles.
+    pub tile: Order,
+    /// The number of cells in a data tile.
+    pub capacity: u32,
+    /// The attributes.
+    pub attrs: AttrList,
+}
+
+impl Duplicate for FrameIn {
+    fn copy(&self, alloc: Global) -> Result<FrameIn, OutOfMemory> {
+        Ok(FrameIn {
+            dims: self.dims.copy(alloc)?,
+            cell: self.cell,
+            tile: self.tile,
+            capacity: self.capacity,
+            attrs: self.attrs.copy(alloc)?,
+        })
+    }
+}
+
+/// A column of a write: a value for each of its cells.
+#[derive(Debug, Drop, PartialEq, Eq)]
+pub struct ColIn {
+    /// The name of the dimension or of the attribute.
+    pub name: Label,
+    /// The values. Those of a blob are texts of hexadecimal digits.
+    pub values: Row,
+}
+
+/// The columns of a write.
+pub type ColInList = Sequence<ColIn>;
+
+impl Duplicate for ColIn {
+    fn copy(&self, alloc: Global) -> Result<ColIn, OutOfMemory> {
+        Ok(ColIn {
+            name: self.name,
+            values: self.values.copy(alloc)?,
+        })
+    }
+}
+
+/// What is to be written.
+#[derive(Debug, Drop, PartialEq, Eq)]
+pub struct WriteIn {
+    /// A column for each dimension and for each attribute, in any order.
+    pub cols: ColInList,
+}
+
+impl Duplicate for WriteIn {
+    fn copy(&self, alloc: Global) -> Result<WriteIn, OutOfMemory> {
+        Ok(WriteIn {
+            cols: self.cols.copy(alloc)?,
+        })
+    }
+}
 
 /// A command on the array.
-#[derive(Clone, Copy, Debug, PartialEq, Eq)]
+#[derive(Debug, Drop, PartialEq, Eq)]
 pub enum Command {
-    /// Writes the value `v` at the coordinate `x`.
-    Write { x: i128, v: i128 },
-    /// Reads the whole domain in the interval from 0 to `to`, in milliseconds since 1970-01-01,
-    /// both ends included.
-    Read { to: u64 },
+    /// Makes the array.
+    Create(FrameIn),
+    /// Declares a schema: the one that holds at the stamp, after a change.
+    Evolve(Evolution),
+    /// Writes cells, in the schema that holds at the stamp.
+    Write(WriteIn),
+    /// Reads the whole domain in the interval from `from` to `to`, in milliseconds since 1970-01-01,
+    /// both ends included, through the schema that holds at `to`.
+    Read { from: u64, to: u64 },
+}
+
+impl Duplicate for Command {
+    fn copy(&self, alloc: Global) -> Result<Command, OutOfMemory> {
+        match self {
+            Command::Create(frame) => Ok(Command::Create(frame.copy(alloc)?)),
+            Command::Evolve(change) => Ok(Command::Evolve(change.copy(alloc)?)),
+            Command::Write(cells) => Ok(Command::Write(cells.copy(alloc)?)),
+            Command::Read { from, to } => Ok(Command::Read {
+                from: *from,
+                to: *to,
+            }),
+        }
+    }
 }
 
 /// A command with its stamp, the identifier that everything which it makes will carry, and where it
 /// is stopped.
-#[derive(Clone, Copy, Debug, PartialEq, Eq)]
+#[derive(Debug, Drop, PartialEq, Eq)]
 pub struct Job {
     /// The command.
     pub command: Command,
@@ -29,8 +113,19 @@ pub struct Job {
 /// Jobs in the order in which a lane does them.
 pub type JobList = Sequence<Job>;
 
+impl Duplicate for Job {
+    fn copy(&self, alloc: Global) -> Result<Job, OutOfMemory> {
+        Ok(Job {
+            command: self.command.copy(alloc)?,
+            at: self.at,
+            id: self.id,
+            stop: self.stop,
+        })
+    }
+}
+
 /// A line of a script: a command and its stamp.
-#[derive(Clone, Copy, Debug, PartialEq, Eq)]
+#[derive(Debug, Drop, PartialEq, Eq)]
 pub struct Line {
     /// The command.
     pub command: Command,

@@ -2,6 +2,7 @@
 
 use std::alloc::Global;
 use ts_base::{CellList, Duplicate, Key, OutOfMemory, Sequence};
+use ts_schema::{Frame, Schema};
 
 /// What a write did.
 #[derive(Debug, Drop, PartialEq, Eq)]
@@ -10,7 +11,7 @@ pub struct Written {
     pub key: Key,
     /// The key of the schema that the rows of the cells follow.
     pub schema: Key,
-    /// The cells that it laid, no two at one coordinate.
+    /// The cells that it laid, no two at one place.
     pub cells: CellList,
 }
 
@@ -27,10 +28,10 @@ impl Duplicate for Written {
 /// A deed: a step that a reader of the array can tell from what came before.
 #[derive(Debug, Drop, PartialEq, Eq)]
 pub enum Deed {
-    /// The array got its frame: its kind and its domain.
-    Framed,
-    /// A schema with this key was declared.
-    Declared(Key),
+    /// The array got its frame.
+    Framed(Frame),
+    /// A schema was declared.
+    Declared(Schema),
     /// A write was committed.
     Wrote(Written),
 }
@@ -38,8 +39,8 @@ pub enum Deed {
 impl Duplicate for Deed {
     fn copy(&self, alloc: Global) -> Result<Deed, OutOfMemory> {
         match self {
-            Deed::Framed => Ok(Deed::Framed),
-            Deed::Declared(key) => Ok(Deed::Declared(*key)),
+            Deed::Framed(frame) => Ok(Deed::Framed(*frame)),
+            Deed::Declared(schema) => Ok(Deed::Declared(schema.copy(alloc)?)),
             Deed::Wrote(write) => Ok(Deed::Wrote(write.copy(alloc)?)),
         }
     }

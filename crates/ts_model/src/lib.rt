@@ -5,15 +5,15 @@
 #![tactic(auto)]
 
 mod answers;
+mod blobs;
 mod commands;
 mod deeds;
-mod plain;
 mod scan;
 mod states;
 
-pub use answers::{Answer, Driven, Outcome, Pair, PairList, Refusal};
-pub use commands::{Command, Job, JobList, Line, LineList};
+pub use answers::{Answer, Driven, Outcome, Refusal, TypeList};
+pub use blobs::blob_bytes;
+pub use commands::{ColIn, ColInList, Command, FrameIn, Job, JobList, Line, LineList, WriteIn};
 pub use deeds::{Deed, History, Written};
-pub use plain::{Side, StoredCell, StoredCellList, StoredHead, StoredPiece};
 pub use scan::reference;
-pub use states::State;
+pub use states::{NewObject, NewObjectList, Opened, OpenedList, Reading, State};

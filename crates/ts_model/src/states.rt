@@ -1,25 +1,152 @@
 //! How far a job has come.
 
 use crate::answers::Outcome;
-use ts_base::{FragList, VersionList};
+use std::alloc::Global;
+use ts_base::{
+    ByteList, Duplicate, FragKey, FragList, Head, Key, KeyList, Name, OutOfMemory, Sequence,
+    VersionList,
+};
+use ts_schema::{Frame, Schema, SchemaList};
+use ts_store::Call;
+
+/// An object that a job is to put.
+#[derive(Debug, Drop, PartialEq, Eq)]
+pub struct NewObject {
+    /// Its name.
+    pub name: Name,
+    /// Its bytes.
+    pub bytes: ByteList,
+}
+
+/// Objects in the order in which a job puts them.
+pub type NewObjectList = Sequence<NewObject>;
+
+impl Duplicate for NewObject {
+    fn copy(&self, alloc: Global) -> Result<NewObject, OutOfMemory> {
+        Ok(NewObject {
+            name: self.name,
+            bytes: self.bytes.copy(alloc)?,
+        })
+    }
+}
+
+/// A fragment whose head was read.
+#[derive(Debug, Drop, PartialEq, Eq)]
+pub struct Opened {
+    /// The fragment, as the listing has it.
+    pub frag: FragKey,
+    /// The head.
+    pub head: Head,
+    /// The object of the part that has the head.
+    pub object: ByteList,
+}
+
+/// Fragments whose heads were read.
+pub type OpenedList = Sequence<Opened>;
+
+impl Duplicate for Opened {
+    fn copy(&self, alloc: Global) -> Result<Opened, OutOfMemory> {
+        Ok(Opened {
+            frag: self.frag,
+            head: self.head.copy(alloc)?,
+            object: self.object.copy(alloc)?,
+        })
+    }
+}
+
+/// What a read knows before it opens a fragment.
+#[derive(Debug, Drop, PartialEq, Eq)]
+pub struct Reading {
+    /// The least timestamp of the interval, in milliseconds since 1970-01-01.
+    pub from: u64,
+    /// The greatest timestamp of the interval, in milliseconds since 1970-01-01.
+    pub to: u64,
+    /// The frame of the array.
+    pub frame: Frame,
+    /// The schema that holds at `to`.
+    pub there: Schema,
+    /// The committed fragments whose span meets the interval, ascending.
+    pub near: FragList,
+}
 
 /// How far a job has come: which call it makes next, with what it found so far.
+///
+/// `F` is how far the fetch of a fragment has come, which differs with the way in which fragments
+/// are written.
 #[derive(Debug, Drop, PartialEq, Eq)]
-pub enum State {
-    /// A write puts the part of its fragment.
-    PutsPart,
-    /// A write puts the `.wrt` by which its fragment is committed.
-    PutsCommit,
+pub enum State<F> {
+    /// A create puts the frame.
+    PutsFrame,
+    /// A create gets the frame that was there already.
+    ComparesFrame,
+    /// A create lists the schemas, since its own frame was there already.
+    ListsDeclared,
+    /// A job puts objects, of which `next` are put already, and ends so after the last.
+    Puts {
+        /// The objects, in order.
+        objects: NewObjectList,
+        /// The place of the next one.
+        next: u64,
+        /// The end after the last.
+        end: Outcome,
+    },
     /// A read lists the commits.
     ListsCommits,
-    /// A read gets the part of one listed fragment after the other.
+    /// An evolve, a write or a read lists the schemas.
+    ListsSchemas {
+        /// The committed fragments that a read looks into, ascending; none of another job.
+        near: FragList,
+    },
+    /// The same job gets the schema that holds at its stamp, or at the end of the interval.
+    GetsSchema {
+        /// The same fragments.
+        near: FragList,
+        /// The key of the schema.
+        there: Key,
+    },
+    /// The same job gets the frame.
+    GetsFrame {
+        /// The same fragments.
+        near: FragList,
+        /// The schema.
+        there: Schema,
+    },
+    /// A read gets the part that has the head, of one fragment after the other.
+    GetsHeads {
+        /// What it reads.
+        reading: Reading,
+        /// The fragments before the next one.
+        opened: OpenedList,
+    },
+    /// A read gets the further schemas that the heads name, one after the other.
+    GetsSchemas {
+        /// What it reads.
+        reading: Reading,
+        /// The fragments.
+        opened: OpenedList,
+        /// The keys of the schemas, ascending.
+        keys: KeyList,
+        /// The schemas of the keys before the next one.
+        schemas: SchemaList,
+    },
+    /// A read fetches one fragment after the other.
     Fetches {
-        /// The listed fragments whose span lies in the interval, ascending.
-        listed: FragList,
-        /// The place of the next one in `listed`.
+        /// What it reads.
+        reading: Reading,
+        /// The fragments.
+        opened: OpenedList,
+        /// The schemas that the heads name.
+        schemas: SchemaList,
+        /// The place of the fragment that is fetched.
         next: u64,
+        /// The fragment.
+        frag: FragKey,
         /// The versions in the fragments before it, in order.
         got: VersionList,
+        /// How far the fetch has come.
+        fetch: F,
+        /// The call that it asks for.
+        asked: Call,
     },
     /// The job has ended.
     Over(Outcome),

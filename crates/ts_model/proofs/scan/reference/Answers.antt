@@ -1,8 +1,9 @@
--- The slice of a history has its deeds.
-use Rattle.std.proofs.Common.{◌≡◌, List, IfOk, subst}
-use Rattle.ts_model.specs.declared.deeds.Deed.{Deed}
-use Rattle.ts_model.specs.Answers.{shown}
+-- The frame and the schema are those of the later history, and the rows those of the one before.
+use Rattle.std.proofs.Common.{rules}
+use Rattle.ts_model.proofs.Scans.{is_answer}
 use Rattle.ts_model.proofs.scan.reference.Goals as goal
 
-pub returns : goal.returns
-returns c = subst (λ (deeds : List Deed). IfOk c.rows_at.result (λ rows. rows ≡ shown deeds c.args.from c.args.to)) c.as_slice.ensures c.rows_at.ensures
+pub returns-in_ok-answer-in-Some-schema_there : goal.returns-in_ok-answer-in-Some-schema_there
+returns-in_ok-answer-in-Some-schema_there c =
+    is_answer c.args.seen.now c.args.later.now c.in-Some.frame.now c.in-Some-schema_there.there.now c.args.from c.args.to c.in_ok-answer-in-Some-schema_there.field-0
+    (search rules) (search rules) (search rules) (search rules)

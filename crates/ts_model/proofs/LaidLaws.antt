@@ -1,0 +1,130 @@
+-- The piece of a write: it holds what was written, and it is one that a write makes.
+use Rattle.std.proofs.Common.{◌≡◌, ℤ, Bool, true, false, ◌&&◌, cond, List, [], ◌∷◌, length, map as list_map, Some, None, Ok, refl, sym, ap, ◌∙◌, subst, arith}
+use Rattle.std.specs.Prelude.{IsTrue, option_map}
+use Rattle.std.specs.List.{All, list_all}
+use Rattle.std.proofs.lemmas.Bool.{true≢false}
+use Rattle.std.proofs.lemmas.List.{length-map}
+use Rattle.std.proofs.lemmas.List.Elements.{All-map}
+use Rattle.ts_base.specs.declared.heads.Cell.{Cell}
+use Rattle.ts_base.specs.declared.heads.Version.{Version}
+use Rattle.ts_base.specs.declared.keys.Key.{Key}
+use Rattle.ts_base.specs.declared.values.Val.{Val}
+use Rattle.ts_base.specs.Keys.{key_eq}
+use Rattle.ts_base.specs.Coords.{coords_eq}
+use Rattle.ts_domain.specs.Bounds.{is_between}
+use Rattle.ts_domain.specs.Domains.{is_in_domain}
+use Rattle.ts_schema.specs.declared.attrs.Attr.{Attr}
+use Rattle.ts_schema.specs.declared.frames.Frame.{Frame}
+use Rattle.ts_schema.specs.FrameTexts.{IsFrame}
+use Rattle.ts_schema.specs.SchemaTexts.{AreAttrs}
+use Rattle.ts_model.specs.declared.commands.ColIn.{ColIn}
+use Rattle.ts_model.specs.declared.deeds.Written.{Written}
+use Rattle.ts_model.specs.Deeds.{row_at, IsKey, RowFits}
+use Rattle.ts_model.specs.Commands.{is_spelled_col, laid, LaidFollows, in_global_order, low_of_cells, high_of_cells, version_in, piece_of}
+use Rattle.ts_model.specs.Pieces.{version_at, HoldsWrite, IsVersion, IsOrdinary}
+use Rattle.ts_model.proofs.KeyLemmas.{key_same, key_itself, key_other}
+use Rattle.ts_model.proofs.Laying.{coords_decide, laid_follows}
+use Rattle.ts_model.proofs.GlobalOrder.{row_at-in_global_order, All-in_global_order, length-in_global_order, Climb-in_global_order}
+use Rattle.ts_model.proofs.Corners.{corners_of}
+
+-- ---- what the piece holds
+
+-- the version of a row at a coordinate
+abbrev versioned : Key → Key → List ℤ → List Val → Version
+versioned key schema c row = record { key = key; schema = schema; coords = c; row = row }
+
+-- at its own key a write's versions are those of its rows
+version_own : (key schema : Key) (c : List ℤ) (cells : List Cell) → version_at (list_map (version_in key schema) cells) key c ≡ option_map (versioned key schema c) (row_at c cells)
+version_own key schema c [] = refl
+version_own key schema c (cell ∷ cells) =
+    ap (λ b. cond (b && coords_eq cell.coords c) (Some (version_in key schema cell)) (version_at (list_map (version_in key schema) cells) key c)) (key_itself key)
+    ∙ by (coords_eq cell.coords c) refl (version_own key schema c cells)
+  where
+    by : (b : Bool) → coords_eq cell.coords c ≡ b → version_at (list_map (version_in key schema) cells) key c ≡ option_map (versioned key schema c) (row_at c cells)
+        → cond (true && b) (Some (version_in key schema cell)) (version_at (list_map (version_in key schema) cells) key c) ≡ option_map (versioned key schema c) (cond b (Some cell.row) (row_at c cells))
+    by true e rest = ap (λ d. Some (versioned key schema d cell.row)) ((coords_decide cell.coords c).0 e)
+    by false e rest = rest
+
+-- at another key there is none
+version_other : (key schema k : Key) (c : List ℤ) (cells : List Cell) → key_eq key k ≡ false → version_at (list_map (version_in key schema) cells) k c ≡ None
+version_other key schema k c [] other = refl
+version_other key schema k c (cell ∷ cells) other =
+    ap (λ b. cond (b && coords_eq cell.coords c) (Some (version_in key schema cell)) (version_at (list_map (version_in key schema) cells) k c)) other ∙ version_other key schema k c cells other
+
+-- at each key the versions of a write are those of its rows, or there are none
+versions_are : (key schema k : Key) (c : List ℤ) (cells : List Cell)
+    → version_at (list_map (version_in key schema) cells) k c ≡ cond (key_eq k key) (option_map (versioned key schema c) (row_at c cells)) None
+versions_are key schema k c cells = by (key_eq k key) refl
+  where
+    by : (b : Bool) → key_eq k key ≡ b → version_at (list_map (version_in key schema) cells) k c ≡ cond b (option_map (versioned key schema c) (row_at c cells)) None
+    by true e = ap (λ l. version_at (list_map (version_in key schema) cells) l c) (key_same k key e) ∙ version_own key schema c cells
+    by false e = version_other key schema k c cells (key_other key k (λ same. absurd (true≢false (sym (subst (λ l. key_eq l key ≡ true) same (key_itself key)) ∙ e))))
+
+-- the piece of a write holds what it wrote
+pub held_in_piece : (frame : Frame) (w : Written) → HoldsWrite w (piece_of frame w)
+unfolding piece_of
+held_in_piece frame w = record {
+  named = refl;
+  schema = refl;
+  ordinary = refl;
+  origins = refl;
+  versions = λ k c.
+      versions_are w.key w.schema k c (in_global_order frame w.cells)
+      ∙ ap (λ o. cond (key_eq k w.key) (option_map (versioned w.key w.schema c) o) None) (row_at-in_global_order frame c w.cells);
+}
+
+-- the piece of a write that is laid holds what was written
+pub written_held : (frame : Frame) (attrs : List Attr) (key schema : Key) (cols : List ColIn) (cells : List Cell) → IsFrame frame → frame.dense ≡ false → AreAttrs attrs → IsKey key → IsKey schema
+    → IsTrue (list_all is_spelled_col cols) → laid frame.domain attrs cols ≡ Ok cells
+    → HoldsWrite (record { key = key; schema = schema; cells = cells }) (piece_of frame (record { key = key; schema = schema; cells = cells }))
+written_held frame attrs key schema cols cells is sparse are is_key is_schema spelled e = held_in_piece frame (record { key = key; schema = schema; cells = cells })
+
+-- ---- the piece is one that a write makes
+
+-- a cell that lies in the domain, and between the corners, and fits
+record IsPlaced (frame : Frame) (attrs : List Attr) (low high : List ℤ) (cell : Cell) : Type 0 where
+  inside : IsTrue (is_in_domain frame.domain cell.coords)
+  hull : IsTrue (is_between low high cell.coords)
+  row : RowFits attrs cell.row
+
+-- the piece of a write whose cells may be those of a write
+pub ordinary_piece : (frame : Frame) (attrs : List Attr) (key schema : Key) (cells : List Cell) → IsFrame frame → frame.dense ≡ false → AreAttrs attrs → IsKey key → IsKey schema
+    → LaidFollows frame.domain attrs cells → IsOrdinary frame attrs (piece_of frame (record { key = key; schema = schema; cells = cells }))
+unfolding piece_of
+ordinary_piece frame attrs key schema cells is sparse are is_key is_schema follows =
+    let span = corners_of frame.domain cells follows.some_cell (λ k d lt. (follows.fit k d lt).inside) in
+    let placed : All (IsPlaced frame attrs (low_of_cells cells) (high_of_cells cells)) cells =
+    λ k d lt. record { inside = (follows.fit k d lt).inside; hull = span.each k d lt; row = (follows.fit k d lt).row } in
+    let ordered = All-in_global_order frame (IsPlaced frame attrs (low_of_cells cells) (high_of_cells cells)) cells placed in
+    let long : length (list_map (version_in key schema) (in_global_order frame cells)) ≡ length cells =
+    length-map (in_global_order frame cells) (version_in key schema) ∙ length-in_global_order frame cells follows.apart in
+    let some = follows.some_cell in
+    let few = follows.few in
+    let piece = piece_of frame (record { key = key; schema = schema; cells = cells }) in
+    record {
+      is_frame = is;
+      are_attrs = are;
+      key = key;
+      is_key = is_key;
+      schema = is_schema;
+      frag = refl;
+      origins = refl;
+      consolidated = refl;
+      dense = refl;
+      sparse = sparse;
+      cells = sym long;
+      some = omega (arith, some, long);
+      few = omega (arith, few, long);
+      low = span.corners.low_in;
+      high = span.corners.high_in;
+      corners = span.corners.ordered;
+      versions = All-map (IsVersion frame attrs piece.head key) (version_in key schema) (in_global_order frame cells)
+          (λ k d lt. record { by_own = refl; in_schema = refl; inside = (ordered k d lt).inside; hull = (ordered k d lt).hull; row = (ordered k d lt).row });
+      climb = Climb-in_global_order frame key schema cells;
+    }
+
+-- the piece of a write that is laid is one that a write makes
+pub written_ordinary : (frame : Frame) (attrs : List Attr) (key schema : Key) (cols : List ColIn) (cells : List Cell) → IsFrame frame → frame.dense ≡ false → AreAttrs attrs → IsKey key → IsKey schema
+    → IsTrue (list_all is_spelled_col cols) → laid frame.domain attrs cols ≡ Ok cells → IsOrdinary frame attrs (piece_of frame (record { key = key; schema = schema; cells = cells }))
+written_ordinary frame attrs key schema cols cells is sparse are is_key is_schema spelled e =
+    ordinary_piece frame attrs key schema cells is sparse are is_key is_schema (laid_follows frame.domain attrs cols cells spelled is.domain.some e)

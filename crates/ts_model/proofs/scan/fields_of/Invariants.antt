@@ -1,0 +1,11 @@
+use Rattle.std.proofs.Common.{◌≡◌, ◌++◌, map, take}
+use Rattle.ts_base.specs.declared.values.Val.TheVariants.{Int}
+use Rattle.ts_model.proofs.scan.fields_of.Given as goal
+
+-- the coordinates so far
+abbrev pub invariant-loop-number : goal.invariant-loop-number
+invariant-loop-number l = l.fields ≡ map Int (take l.number-index l.coords)
+
+-- the coordinates, and the values so far
+abbrev pub invariant-loop-val : goal.invariant-loop-val
+invariant-loop-val l = l.fields ≡ map Int l.coords ++ take l.val-index l.row

@@ -1,0 +1,114 @@
+-- How fragments are written and read, as plain functions: what a machine that writes and reads them computes.
+use Rattle.std.specs.Prelude.{◌≡◌, ℕ, Bool, true, false, List, [], ◌∷◌, ◌++◌, Some, length, slice_get, Result, Ok, IsTrue, All}
+use Rattle.ts_base.specs.declared.keys.FragKey.{FragKey}
+use Rattle.ts_base.specs.declared.names.Name.{Name}
+use Rattle.ts_base.specs.declared.names.Part.{Part}
+use Rattle.ts_base.specs.declared.names.PartBytes.{PartBytes}
+use Rattle.ts_base.specs.declared.heads.Version.{Version}
+use Rattle.ts_base.specs.declared.heads.Piece.{Piece}
+use Rattle.ts_base.specs.declared.heads.Head.{Head}
+use Rattle.ts_store.specs.declared.call.Call.{Call}
+use Rattle.ts_store.specs.declared.call.Reply.{Reply}
+use Rattle.ts_schema.specs.declared.frames.Frame.{Frame}
+use Rattle.ts_schema.specs.declared.schemas.Schema.{Schema}
+use Rattle.ts_schema.specs.declared.wants.Want.{Want}
+use Rattle.ts_schema.specs.Wants.{taken}
+use Rattle.ts_schema.specs.Parts.{Look, look_in, IsShort}
+use Rattle.ts_store.specs.Calls.{part_of}
+use Rattle.ts_model.specs.Pieces.{IsOrdinary}
+use Rattle.ts_base.specs.declared.names.Name.TheVariants as name
+use Rattle.ts_store.specs.declared.call.Call.TheVariants as call
+use Rattle.ts_store.specs.declared.call.Reply.TheVariants as reply
+
+-- what a fetch does with a reply: it asks for a call, it has all the versions that were wanted, or a part breaks its layout at an offset
+pub data Stepped (F : Type 0) : Type 0 where
+  Asks : F → Call → Stepped F
+  Takes : List Version → Stepped F
+  Breaks : Part → ℕ → Stepped F
+
+-- one way to write fragments and to read them; F is how far a fetch has come
+pub record Forms (F : Type 0) : Type 0 where
+  -- the parts of a piece in the order of their puts, that of the head last
+  pub parts : Frame → Schema → Piece → List PartBytes
+  -- the part that has the head
+  pub head_part : Frame → Part
+  -- the head in the object of that part, or the offset at which the object is broken
+  pub head : Frame → FragKey → List ℕ → Result Head ℕ
+  -- a fetch of what is wanted of a fragment, from that object on
+  pub opens : Frame → Schema → FragKey → List ℕ → Want → Result F ℕ
+  -- what a fetch does with the reply to the call that it asked for; the first one is Start
+  pub steps : F → Reply → Stepped F
+
+-- ---- what the model asks of them
+
+-- in an array of a frame the parts spell a piece, whose cells are written in a schema
+abbrev pub Spelled : Type 1
+Spelled = Frame → Schema → Piece → Look → Type 0
+
+-- gets and sizes look at what is held
+abbrev pub is_look : Call → Bool
+is_look (call.Get n from len) = true
+is_look (call.Size n) = true
+is_look _ = false
+
+-- a fetch asks for nothing but gets and sizes
+abbrev pub AsksLooks : {F : Type 0} → Forms F → Type 0
+AsksLooks {F} forms = (f : F) (r : Reply) (g : F) (c : Call) → forms.steps f r ≡ Asks g c → IsTrue (is_look c)
+
+-- a fetch waits for the reply to a call, on its way to what is wanted of the piece that the parts spell
+abbrev pub Tracking : Type 0 → Type 1
+Tracking F = Frame → Schema → Piece → Look → Want → F → Call → Type 0
+
+-- the reply to a call on a part with these bytes
+abbrev pub IsToldOf : Call → List ℕ → Reply → Type 0
+IsToldOf (call.Get n from len) bytes r = r ≡ reply.Bytes (part_of from len bytes)
+IsToldOf (call.Size n) bytes r = r ≡ reply.Length (length bytes)
+IsToldOf _ bytes r = ⊥
+
+-- the call asks for bytes of a part of the fragment, or for its size
+abbrev pub SpeaksOf : Call → Name → Type 0
+SpeaksOf (call.Get n from len) m = n ≡ m
+SpeaksOf (call.Size n) m = n ≡ m
+SpeaksOf _ m = ⊥
+
+-- the call is on a part that the fragment has
+pub record AsksHeld (look : Look) (frag : FragKey) (c : Call) : Type 0 where
+  pub part : Part
+  pub bytes : List ℕ
+  pub held : look part ≡ Some bytes
+  pub named : SpeaksOf c (name.Part frag part)
+
+-- a fetch goes on or has all versions; it finds nothing broken
+abbrev pub GoesWell : {F : Type 0} → (F → Call → Type 0) → List Version → Stepped F → Type 0
+GoesWell tracks wanted (Asks f c) = tracks f c
+GoesWell tracks wanted (Takes vs) = vs ≡ wanted
+GoesWell tracks wanted (Breaks part at) = ⊥
+
+-- a fetch that begins on the parts of a piece goes well
+pub record OpensWell {F : Type 0} (forms : Forms F) (tracks : F → Call → Type 0) (frame : Frame) (schema : Schema) (p : Piece) (object : List ℕ) (want : Want) : Type 0 where
+  pub fetch : F
+  pub opens : forms.opens frame schema p.head.frag object want ≡ Ok fetch
+  pub starts : GoesWell tracks (taken want p.versions) (forms.steps fetch reply.Start)
+
+-- the laws of one way to write fragments and to read them
+pub record FormsLaws {F : Type 0} (forms : Forms F) (spelled : Spelled) (tracks : Tracking F) : Type 0 where
+  -- the parts of a piece that one write makes spell it, where each is short enough to be got at once
+  pub parts : (frame : Frame) (s : Schema) (p : Piece) → IsOrdinary frame s.attrs p → All (λ x. IsShort x.bytes) (forms.parts frame s p) → spelled frame s p (look_in (forms.parts frame s p))
+  -- the part that has the head is the last
+  pub last : (frame : Frame) (s : Schema) (p : Piece) → IsOrdinary frame s.attrs p
+      → (front : List PartBytes) × (bytes : List ℕ) × (forms.parts frame s p ≡ front ++ record { part = forms.head_part frame; bytes = bytes } ∷ [])
+  -- no part comes twice
+  pub once : (frame : Frame) (s : Schema) (p : Piece) (i k : ℕ) (x y : PartBytes) → slice_get (forms.parts frame s p) i ≡ Some x → slice_get (forms.parts frame s p) k ≡ Some y → x.part ≡ y.part → i ≡ k
+  -- the part with the head is there, and its object is read as the piece's head
+  pub head : (frame : Frame) (s : Schema) (p : Piece) (look : Look) → spelled frame s p look
+      → (object : List ℕ) × (look (forms.head_part frame) ≡ Some object) × (forms.head frame p.head.frag object ≡ Ok p.head)
+  -- a fetch asks for nothing but gets and sizes
+  pub looks : AsksLooks forms
+  -- a fetch begins well
+  pub opens : (frame : Frame) (s : Schema) (p : Piece) (look : Look) (want : Want) (object : List ℕ) → spelled frame s p look → look (forms.head_part frame) ≡ Some object
+      → OpensWell forms (tracks frame s p look want) frame s p object want
+  -- a fetch asks for parts that the fragment has
+  pub asks : (frame : Frame) (s : Schema) (p : Piece) (look : Look) (want : Want) (f : F) (c : Call) → tracks frame s p look want f c → AsksHeld look p.head.frag c
+  -- a fetch that is told what is held goes on well
+  pub goes : (frame : Frame) (s : Schema) (p : Piece) (look : Look) (want : Want) (f : F) (c : Call) (part : Part) (bytes : List ℕ) (r : Reply)
+      → tracks frame s p look want f c → look part ≡ Some bytes → SpeaksOf c (name.Part p.head.frag part) → IsToldOf c bytes r → GoesWell (tracks frame s p look want) (taken want p.versions) (forms.steps f r)
