@@ -5,7 +5,7 @@ use Rattle.std.proofs.lemmas.Bool.{true≢false}
 use Rattle.ts_base.specs.declared.lists.OutOfMemory.{OutOfMemory}
 use Rattle.ts_store.specs.declared.call.Call.{Call}
 use Rattle.ts_store.specs.declared.call.Reply.{Reply}
-use Rattle.ts_model.specs.declared.commands.Command.{Command}
+use Rattle.ts_model.specs.Forms.{Forms}
 use Rattle.ts_model.specs.declared.commands.Job.{Job}
 use Rattle.ts_model.specs.declared.answers.Outcome.{Outcome}
 use Rattle.ts_model.specs.declared.answers.Outcome.TheVariants as outcome
@@ -13,7 +13,6 @@ use Rattle.ts_model.specs.declared.states.State.{State}
 use Rattle.ts_model.specs.declared.states.State.TheVariants.{Over}
 use Rattle.ts_model.specs.States.{Exchange, asks, goes, begun, state_from}
 use Rattle.ts_model.specs.Driven.{EndsFrom}
-use Rattle.ts_model.proofs.Traces.{state_from-append}
 use Rattle.ts_actor.specs.declared.machine.Phase.{Phase}
 use Rattle.ts_actor.specs.declared.machine.Phase.TheVariants.{New, Going, Ended}
 use Rattle.ts_actor.specs.Traces.{Trace, asking, exchange, filled, CanCome}
@@ -21,32 +20,36 @@ use Rattle.ts_actor.specs.Machines.{IsAt, Follows}
 
 -- ---- where a reply leads
 
-with_reply : (job : Job) (past : List Exchange) (asked : Option Call) (r : Reply) → asked ≢ None → state_from job (begun job.command) (past ++ exchange asked r) ≡ goes job (state_from job (begun job.command) past) r
-with_reply job past None r waits = absurd (waits refl)
-with_reply job past (Some c) r waits = state_from-append job (begun job.command) past (record { call = c; reply = r } ∷ [])
+state_from-append : {F : Type 0} (forms : Forms F) (job : Job) (s : State F) (xs ys : List Exchange) → state_from forms job s (xs ++ ys) ≡ state_from forms job (state_from forms job s xs) ys
+state_from-append forms job s [] ys = refl
+state_from-append forms job s (x ∷ xs) ys = state_from-append forms job (goes forms job s x.reply) xs ys
+
+with_reply : {F : Type 0} (forms : Forms F) (job : Job) (past : List Exchange) (asked : Option Call) (r : Reply) → asked ≢ None → state_from forms job (begun job.command) (past ++ exchange asked r) ≡ goes forms job (state_from forms job (begun job.command) past) r
+with_reply forms job past None r waits = absurd (waits refl)
+with_reply forms job past (Some c) r waits = state_from-append forms job (begun job.command) past (record { call = c; reply = r } ∷ [])
 
 -- the reply to the call that a job asks for leads it on from the state that it is in
-pub goes_on : (job : Job) (s : State) (t : Trace) (r : Reply) → IsAt job s t → state_from job (begun job.command) (filled t r) ≡ goes job s r
-goes_on job s t r at = with_reply job t.past t.asked r at.waits ∙ ap (λ u. goes job u r) at.came
+pub goes_on : {F : Type 0} (forms : Forms F) (job : Job) (s : State F) (t : Trace) (r : Reply) → IsAt forms job s t → state_from forms job (begun job.command) (filled t r) ≡ goes forms job s r
+goes_on forms job s t r at = with_reply forms job t.past t.asked r at.waits ∙ ap (λ u. goes forms job u r) at.came
 
-is_going : (serves : Command → Type 0) (may : State → Type 0) (job : Job) (phase : Phase) (s : State) (t : Trace) → phase ≡ Going s → Follows serves may job phase t → IsAt job s t
-is_going serves may job phase s t is follows = (subst (λ (p : Phase). Follows serves may job p t) is follows).2
+is_going : {F : Type 0} (forms : Forms F) (serves : Job → Type 0) (may : Job → State F → Type 0) (job : Job) (phase : Phase F) (s : State F) (t : Trace) → phase ≡ Going s → Follows forms serves may job phase t → IsAt forms job s t
+is_going {F} forms serves may job phase s t is follows = (subst (λ (p : Phase F). Follows forms serves may job p t) is follows).2
 
 -- what a reply leads to is what it leads to after every trace that the machine follows
-pub led_on : (serves : Command → Type 0) (may : State → Type 0) (job : Job) (phase : Phase) (s : State) (r : Reply) (result : Result State OutOfMemory) → phase ≡ Going s → IfOk result (λ next. next ≡ goes job s r)
-    → IfOk result (λ next. (t : Trace) → Follows serves may job phase t → CanCome t.asked r → state_from job (begun job.command) (filled t r) ≡ next)
-led_on serves may job phase s r (Ok next) is went = λ t follows can. goes_on job s t r (is_going serves may job phase s t is follows) ∙ sym went
-led_on serves may job phase s r (Err e) is went = went
+pub led_on : {F : Type 0} (forms : Forms F) (serves : Job → Type 0) (may : Job → State F → Type 0) (job : Job) (phase : Phase F) (s : State F) (r : Reply) (result : Result (State F) OutOfMemory) → phase ≡ Going s → IfOk result (λ next. next ≡ goes forms job s r)
+    → IfOk result (λ next. (t : Trace) → Follows forms serves may job phase t → CanCome t.asked r → state_from forms job (begun job.command) (filled t r) ≡ next)
+led_on forms serves may job phase s r (Ok next) is went = λ t follows can. goes_on forms job s t r (is_going forms serves may job phase s t is follows) ∙ sym went
+led_on forms serves may job phase s r (Err e) is went = went
 
 -- ---- what users of a machine know
 
 -- the call that a machine waits for is the one that its job asks where the calls before it have led
-pub asks_next : (serves : Command → Type 0) (may : State → Type 0) (job : Job) (phase : Phase) (past : List Exchange) (c : Call) → Follows serves may job phase (asking past c) → asks job (state_from job (begun job.command) past) ≡ Some c
-asks_next serves may job New past c follows = absurd (true≢false (ap (λ (t : Trace). is_some t.asked) follows.1))
-asks_next serves may job (Going s) past c follows = ap (asks job) follows.2.came ∙ follows.2.asks_it
-asks_next serves may job Ended past c follows = absurd follows
+pub asks_next : {F : Type 0} (forms : Forms F) (serves : Job → Type 0) (may : Job → State F → Type 0) (job : Job) (phase : Phase F) (past : List Exchange) (c : Call) → Follows forms serves may job phase (asking past c) → asks forms job (state_from forms job (begun job.command) past) ≡ Some c
+asks_next forms serves may job New past c follows = absurd (true≢false (ap (λ (t : Trace). is_some t.asked) follows.1))
+asks_next forms serves may job (Going s) past c follows = ap (asks forms job) follows.2.came ∙ follows.2.asks_it
+asks_next forms serves may job Ended past c follows = absurd follows
 
 -- an end that is not for want of memory is where the calls have led the job
-pub over_at : (job : Job) (past : List Exchange) (end : Outcome) → EndsFrom job (begun job.command) past end → end ≢ outcome.OutOfMemory → state_from job (begun job.command) past ≡ Over end
-over_at job past end (inl over) other = over
-over_at job past end (inr none) other = absurd (other none)
+pub over_at : {F : Type 0} (forms : Forms F) (job : Job) (past : List Exchange) (end : Outcome) → EndsFrom forms job (begun job.command) past end → end ≢ outcome.OutOfMemory → state_from forms job (begun job.command) past ≡ Over end
+over_at forms job past end (inl over) other = over
+over_at forms job past end (inr none) other = absurd (other none)

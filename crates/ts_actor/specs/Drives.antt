@@ -11,11 +11,13 @@ use Rattle.ts_model.specs.declared.answers.Driven.{Driven}
 use Rattle.ts_model.specs.declared.answers.Driven.TheVariants as driven
 use Rattle.ts_model.specs.States.{Exchange}
 use Rattle.ts_model.specs.Stops.{cuts, Uncut}
+use Rattle.ts_model.specs.Told.{IsShortCall}
 use Rattle.ts_actor.specs.Traces.{Trace, asking}
 
 -- a call was made of a store, from what it was before to what it is after; the store's own members say what that is
 pub record Called {S : Type 0} (held : S → Option Held) (last : S → Fate) (faults : S → ℕ) (notes : S → Call → Reply → S → Type 0) (before : S) (x : Exchange) (after : S) : Type 0 where
   pub fits : FitsCall x.call x.reply
+  pub short : IsShortCall x.call
   pub spelled : IsSpelledReply x.reply
   pub answers : Answers (held before) (held after) (last after) x.call x.reply
   pub cause : HasCause (faults before) (faults after) x.reply

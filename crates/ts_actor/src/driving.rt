@@ -1,6 +1,7 @@
 //! Driving a machine over a store.
 ghost use Rattle.std.specs.Prelude.{◌≡◌, ◌-◌, ◌^◌, ℕ, min};
 ghost use Rattle.ts_model.specs.Stops.{is_point, cuts};
+ghost use Rattle.ts_model.specs.Told.{IsShortCall};
 ghost use Rattle.ts_actor.specs.Traces.{start};
 ghost use Rattle.ts_actor.specs.Drives.{Called, Drove};
 
@@ -37,10 +38,20 @@ pub fn drive<R: Threads + Sync, A: Actor, S: Store>(
                 if is_cut(stop, made, &call) {
                     return Driven::Stopped;
                 }
+                measure(&call);
                 reply = apply(alloc, store, &call);
                 made = made.saturating_add(1);
             }
         }
+    }
+}
+
+// An object that is put is short enough to be got at once. The call itself does nothing.
+fn measure(call: &Call)
+    ensures { IsShortCall call.now }
+{
+    if let Call::Put(_, bytes) = call {
+        let _count = bytes.len();
     }
 }
 

@@ -1,14 +1,16 @@
-//! What the jobs of an array do: the pieces that they read and write, and the machines that make
+//! What the jobs of an array do: how the pieces are written and read, and the machines that make
 //! their calls.
 #![tactic(auto)]
 
 mod actor;
 mod driving;
 mod machine;
-mod plain;
+mod pieces;
+mod plain_pieces;
 
 pub use actor::{Actor, Step};
 pub use driving::drive;
 pub use machine::{Automaton, Machine, Phase};
-pub use plain::{PlainFault, read_plain, write_cell, write_plain};
+pub use pieces::{Fetched, Pieces};
+pub use plain_pieces::PlainPieces;
 pub use ts_model::Driven;

@@ -1,9 +1,10 @@
 //! A machine that does the jobs of one kind.
 ghost use Rattle.std.specs.Prelude.{◌≡◌, ◌≢◌, ◌<◌, ◌⊎◌, ℕ, IfOk, IfSome, None};
 ghost use Rattle.ts_store.specs.Calls.{IsSpelledCall, IsSpelledReply};
-ghost use Rattle.ts_model.specs.declared.commands.Command.{Command};
+ghost use Rattle.ts_model.specs.declared.commands.Job.{Job as AnyJob};
 ghost use Rattle.ts_model.specs.declared.states.State.{State};
 ghost use Rattle.ts_model.specs.declared.states.State.TheVariants.{Over};
+ghost use Rattle.ts_model.specs.Forms.{Forms};
 ghost use Rattle.ts_model.specs.States.{asks, begun, goes, state_from};
 ghost use Rattle.ts_model.specs.Driven.{EndsFrom};
 ghost use Rattle.ts_actor.specs.Machines.{Follows, calls_left};
@@ -23,45 +24,60 @@ use ts_store::{Call, Reply};
 ///
 /// Each function computes what the model says of any job. Only memory can be wanting.
 pub trait Automaton {
-    /// The commands that it is for.
-    ghost serves: { Command → Type 0 };
+    /// How far the fetch of a fragment has come.
+    type Fetch: Drop;
 
-    /// The states that jobs with these commands can be in.
-    ghost may: { State → Type 0 };
+    /// How fragments are written and read.
+    ghost forms: { Forms Self.Fetch };
+
+    /// The jobs that it is for.
+    ghost serves: { AnyJob → Type 0 };
+
+    /// The states that these jobs can be in.
+    ghost may: { AnyJob → State Self.Fetch → Type 0 };
 
     /// The most calls that a job makes from a state on.
-    ghost left: { State → ℕ };
+    ghost left: { State Self.Fetch → ℕ };
 
-    /// Where a command begins.
-    fn begin(command: Command) -> State
-        requires { serves command }
-        ensures is { result ≡ begun command }
-        ensures may { may result };
+    /// Where a job begins. It takes no memory.
+    fn begin(alloc: Global, job: &Job) -> State<Self::Fetch>
+        requires { serves job.now }
+        ensures is { result ≡ begun job.now.command }
+        ensures may { may job.now result };
 
     /// The next call of a job, or None where it is over.
-    fn ask(alloc: Global, job: &Job, state: &State) -> Result<Option<Call>, OutOfMemory>
-        requires command { serves job.now.command }
-        requires state { may state.now }
-        ensures is { IfOk result (λ call. call ≡ asks job.now state.now) }
+    fn ask(
+        alloc: Global,
+        job: &Job,
+        state: &State<Self::Fetch>,
+    ) -> Result<Option<Call>, OutOfMemory>
+        requires job { serves job.now }
+        requires state { may job.now state.now }
+        ensures is { IfOk result (λ call. call ≡ asks forms job.now state.now) }
         ensures spelled { IfOk result (λ call. IfSome call IsSpelledCall) };
 
     /// Where a reply leads a job. A job that makes a call has fewer of them left afterwards.
-    fn go(alloc: Global, job: &Job, state: State, reply: Reply) -> Result<State, OutOfMemory>
-        requires command { serves job.now.command }
-        requires state { may state }
+    fn go(
+        alloc: Global,
+        job: &Job,
+        state: State<Self::Fetch>,
+        reply: Reply,
+    ) -> Result<State<Self::Fetch>, OutOfMemory>
+        requires job { serves job.now }
+        requires state { may job.now state }
         requires reply { IsSpelledReply reply }
-        ensures is { IfOk result (λ next. next ≡ goes job.now state reply) }
-        ensures may { IfOk result may }
-        ensures fewer { IfOk result (λ next. asks job.now state ≢ None → left next < left state) };
+        ensures is { IfOk result (λ next. next ≡ goes forms job.now state reply) }
+        ensures may { IfOk result (may job.now) }
+        ensures fewer { IfOk result (λ next. asks forms job.now state ≢ None → left next < left state) };
 }
 
 /// How far a machine has come.
 #[derive(Debug, Drop, PartialEq, Eq)]
-pub enum Phase {
+pub enum Phase<F> {
     /// It waits for its first reply, `Start`.
     New,
     /// It waits for the reply to the call that the job asks for in this state.
-    Going(State),
+    Going(State<F>),
     /// It is done.
     Ended,
 }
@@ -70,15 +86,15 @@ pub enum Phase {
 #[derive(Drop)]
 pub struct Machine<K: Automaton> {
     job: Job,
-    phase: Phase,
+    phase: Phase<K::Fetch>,
     of: PhantomData<K>,
 }
 
 impl<K: Automaton> Machine<K> {
     /// A machine that has made no call of the job yet. It takes no memory.
     pub fn of(job: Job) -> Machine<K>
-        requires { K.serves job.command }
-        ensures new { Follows K.serves K.may result.job result.phase start }
+        requires { K.serves job }
+        ensures new { Follows K.forms K.serves K.may result.job result.phase start }
         ensures task { result.job ≡ job }
     {
         Machine {
@@ -96,9 +112,9 @@ impl<K: Automaton> Actor for Machine<K> {
 
     ghost task = { λ m. m.job };
 
-    ghost follows = { λ m t. Follows K.serves K.may m.job m.phase t };
+    ghost follows = { λ m t. Follows K.forms K.serves K.may m.job m.phase t };
 
-    ghost ends = { λ job past end. EndsFrom job (begun job.command) past end };
+    ghost ends = { λ job past end. EndsFrom K.forms job (begun job.command) past end };
 
     ghost measure = { λ m. calls_left K.left m.job m.phase };
 
@@ -122,25 +138,25 @@ impl<K: Automaton> Actor for Machine<K> {
 fn led<K: Automaton>(
     alloc: Global,
     job: &Job,
-    phase: Phase,
+    phase: Phase<K::Fetch>,
     reply: Reply,
-) -> Result<State, OutOfMemory>
-    requires due { Expects (Follows K.serves K.may job.now phase) reply }
+) -> Result<State<K::Fetch>, OutOfMemory>
+    requires due { Expects (Follows K.forms K.serves K.may job.now phase) reply }
     requires reply_spelled { IsSpelledReply reply }
-    ensures serves { K.serves job.now.command }
-    ensures is { IfOk result (λ state. (t : Trace) → Follows K.serves K.may job.now phase t → CanCome t.asked reply → state_from job.now (begun job.now.command) (filled t reply) ≡ state) }
-    ensures may { IfOk result K.may }
+    ensures serves { K.serves job.now }
+    ensures is { IfOk result (λ state. (t : Trace) → Follows K.forms K.serves K.may job.now phase t → CanCome t.asked reply → state_from K.forms job.now (begun job.now.command) (filled t reply) ≡ state) }
+    ensures may { IfOk result (K.may job.now) }
     ensures fewer { IfOk result (λ state. K.left state < calls_left K.left job.now phase) }
 {
     match phase {
-        Phase::New => Ok(K::begin(job.command)),
+        Phase::New => Ok(K::begin(alloc, job)),
         Phase::Going(state) => K::go(alloc, job, state, reply),
         Phase::Ended => Err(OutOfMemory),
     }
 }
 
 // How a job that asks nothing more has ended.
-fn end_of(state: State) -> Outcome
+fn end_of<F: Drop>(state: State<F>) -> Outcome
     ensures { (state ≡ Over result) ⊎ (result ≡ Outcome.OutOfMemory) }
 {
     match state {

@@ -1,0 +1,116 @@
+//! How the pieces of an array are written in parts and read from them, whichever way that is.
+ghost use Rattle.std.specs.Prelude.{◌≡◌, ◌<◌, ◌^◌, ℕ, All, IfOk};
+ghost use Rattle.ts_base.specs.declared.heads.Piece.{Piece as AnyPiece};
+ghost use Rattle.ts_base.specs.Names.{IsSpelledPart, IsSpelledFrag};
+ghost use Rattle.ts_wire.specs.Reading.{DecodesOr};
+ghost use Rattle.ts_schema.specs.declared.frames.Frame.{Frame as AnyFrame};
+ghost use Rattle.ts_schema.specs.declared.schemas.Schema.{Schema as AnySchema};
+ghost use Rattle.ts_schema.specs.declared.wants.Want.{Want as AnyWant};
+ghost use Rattle.ts_schema.specs.Parts.{Look};
+ghost use Rattle.ts_plain.specs.Merges.{global_order, LiesInside, Ascends, IsMergedAll};
+ghost use Rattle.ts_store.specs.declared.call.Call.{Call as AnyCall};
+ghost use Rattle.ts_model.specs.Forms.{Forms, FormsLaws};
+ghost use Rattle.ts_model.specs.Pieces.{IsOrdinary};
+ghost use Rattle.ts_actor.specs.Fetches.{IsStep, FallsAtAsk, AsksSpelled};
+ghost use Rattle.ts_actor.specs.PieceLaws.{SpellsOne, RefusesBroken, OpensUnbroken};
+
+use std::alloc::Global;
+use ts_base::{
+    ByteList, FragKey, Head, OutOfMemory, Part, PartList, Piece, VersionList, VersionLists,
+};
+use ts_schema::{Frame, Schema, Spelling, Want};
+use ts_store::{Call, Reply};
+use ts_wire::ReadFault;
+
+/// What a fetch does with a reply.
+#[derive(Debug, Drop, PartialEq, Eq)]
+pub enum Fetched {
+    /// It asks for this call on a part of its fragment, and waits for its reply.
+    Ask(Call),
+    /// These are all versions that are wanted.
+    Got(VersionList),
+    /// This part breaks its layout first at the offset `at`, in bytes from its start.
+    Damaged { part: Part, at: u64 },
+    /// There was no memory to go on.
+    OutOfMemory,
+}
+
+/// One way to write the pieces of an array in parts, and to read them.
+///
+/// What each call computes is a function, `forms`; the laws at the end say that these functions
+/// undo each other.
+pub trait Pieces: Spelling {
+    /// A fetch: how far the reading of a fragment has come.
+    type Fetch: Drop;
+
+    /// What the calls compute.
+    ghost forms: { Forms Self.Fetch };
+
+    /// A fetch waits for the reply to a call, on its way to what is wanted of the piece that these
+    /// parts spell.
+    ghost tracks: { AnyFrame → AnySchema → AnyPiece → Look → AnyWant → Self.Fetch → AnyCall → Type 0 };
+
+    /// More than the calls that a fetch still asks for.
+    ghost left: { Self.Fetch → ℕ };
+
+    /// The parts of a piece, in the order in which they are put: that of the head is the last.
+    fn parts(
+        alloc: Global,
+        frame: &Frame,
+        schema: &Schema,
+        piece: &Piece,
+    ) -> Result<PartList, OutOfMemory>
+        requires { IsOrdinary frame.now schema.now.attrs piece.now }
+        ensures is { IfOk result (λ parts. parts ≡ forms.parts frame.now schema.now piece.now) }
+        ensures spelled { IfOk result (All (λ x. IsSpelledPart x.part)) };
+
+    /// The part that has the head.
+    fn head_part(frame: &Frame) -> Part
+        ensures is { result ≡ forms.head_part frame.now }
+        ensures spelled { IsSpelledPart result };
+
+    /// The head of a fragment, from the object of that part. The offset of the first broken field
+    /// comes where the object breaks its layout up to the end of the head.
+    fn head(alloc: Global, frame: &Frame, frag: FragKey, object: &[u8]) -> Result<Head, ReadFault>
+        ensures { DecodesOr (λ head. head) (forms.head frame.now frag object.now) result };
+
+    /// Begins to fetch what is wanted of a fragment, from the object of the part with the head on.
+    fn fetch(
+        alloc: Global,
+        frame: &Frame,
+        schema: &Schema,
+        frag: FragKey,
+        object: ByteList,
+        want: &Want,
+    ) -> Result<Self::Fetch, ReadFault>
+        requires { IsSpelledFrag frag }
+        ensures is { DecodesOr (λ fetch. fetch) (forms.opens frame.now schema.now frag object want.now) result }
+        ensures few { IfOk result (λ fetch. left fetch < 2 ^ 128) };
+
+    /// Goes on with a fetch. The first reply is `Start`, each later one is bytes or a length.
+    fn next(alloc: Global, fetch: &mut Self::Fetch, reply: Reply) -> Fetched
+        ensures is { IsStep (forms.steps fetch.old reply) fetch.new result }
+        ensures falls { FallsAtAsk (left fetch.old) (left fetch.new) result }
+        ensures spelled { AsksSpelled result };
+
+    /// Many lists of versions as one in global order: at each place the version with the greatest key
+    /// of all lists, that of the first list where keys tie.
+    ///
+    /// Each list stands in global order, its versions of one place by ascending key.
+    fn merge(alloc: Global, frame: &Frame, lists: VersionLists) -> Result<VersionList, OutOfMemory>
+        requires inside { All (All (LiesInside frame.now)) lists }
+        requires ascend { All (Ascends (global_order frame.now)) lists }
+        ensures { IfOk result (IsMergedAll (global_order frame.now) lists) };
+
+    /// What is written is read again, and fetches find what was written.
+    ghost laws: { FormsLaws forms Self.spelled tracks };
+
+    /// The parts of a fragment hold one piece.
+    ghost one_piece: { SpellsOne Self.spelled };
+
+    /// What is refused as damaged breaks the grammar first at the offset that is told.
+    ghost broken: { RefusesBroken forms Self.off };
+
+    /// An object that breaks the grammar is not read as if it were whole.
+    ghost whole: { OpensUnbroken forms Self.off };
+}

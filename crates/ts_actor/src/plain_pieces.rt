@@ -1,0 +1,93 @@
+//! Pieces that are written whole, in one object.
+ghost use Rattle.ts_plain.specs.Pieces.{IsPlain};
+ghost use Rattle.ts_actor.specs.PlainForms.{plain_forms, IsPlainBroken, NeverWaits};
+ghost use Rattle.ts_actor.specs.PlainLaws.{plain_laws, plain_one, plain_broken, plain_whole};
+
+use crate::pieces::{Fetched, Pieces};
+use std::alloc::Global;
+use std::mem;
+use ts_base::{
+    ByteList, FragKey, Head, OutOfMemory, Part, PartBytes, PartList, Piece, VersionList,
+    VersionLists,
+};
+use ts_plain::{merge_all, read_head, read_plain, write_plain};
+use ts_schema::{Frame, Schema, Spelling, Want, taken};
+use ts_store::Reply;
+use ts_wire::ReadFault;
+
+/// The whole fragment in the one part `plain.tdb`.
+///
+/// A fetch finds all that is wanted in the object that has the head, and asks for no call.
+#[derive(Drop)]
+pub struct PlainPieces;
+
+impl Spelling for PlainPieces {
+    ghost spelled = { IsPlain };
+
+    ghost off = { IsPlainBroken };
+}
+
+impl Pieces for PlainPieces {
+    type Fetch = VersionList;
+
+    ghost forms = { plain_forms };
+
+    ghost tracks = { NeverWaits };
+
+    ghost left = { λ _. 0 };
+
+    ghost laws = { plain_laws };
+
+    ghost one_piece = { plain_one };
+
+    ghost broken = { plain_broken };
+
+    ghost whole = { plain_whole };
+
+    fn parts(
+        alloc: Global,
+        _frame: &Frame,
+        _schema: &Schema,
+        piece: &Piece,
+    ) -> Result<PartList, OutOfMemory> {
+        let bytes = write_plain(alloc, piece)?;
+        let mut parts = PartList::new(alloc);
+        parts.push(PartBytes {
+            part: Part::Plain,
+            bytes,
+        })?;
+        Ok(parts)
+    }
+
+    fn head_part(_frame: &Frame) -> Part {
+        Part::Plain
+    }
+
+    fn head(alloc: Global, frame: &Frame, frag: FragKey, object: &[u8]) -> Result<Head, ReadFault> {
+        read_head(alloc, frame, frag, object)
+    }
+
+    fn fetch(
+        alloc: Global,
+        frame: &Frame,
+        schema: &Schema,
+        frag: FragKey,
+        object: ByteList,
+        want: &Want,
+    ) -> Result<VersionList, ReadFault> {
+        let piece = read_plain(alloc, frame, schema, frag, object.as_slice())?;
+        Ok(taken(alloc, want, piece.versions.as_slice())?)
+    }
+
+    fn next(alloc: Global, fetch: &mut VersionList, _reply: Reply) -> Fetched {
+        Fetched::Got(mem::replace(fetch, VersionList::new(alloc)))
+    }
+
+    fn merge(
+        alloc: Global,
+        frame: &Frame,
+        lists: VersionLists,
+    ) -> Result<VersionList, OutOfMemory> {
+        merge_all(alloc, frame, lists.as_slice())
+    }
+}
