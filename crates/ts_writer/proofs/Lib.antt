@@ -1,1 +1,9 @@
-pub mod WriterLaws
+pub mod Frames
+pub mod Endings
+pub mod Collected
+pub mod Again
+pub mod Hulls
+pub mod Lengths
+pub mod Placed
+pub mod Steps
+pub mod Written

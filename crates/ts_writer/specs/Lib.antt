@@ -1,2 +1,6 @@
-pub mod Writers
 pub mod Writing
+pub mod Creators
+pub mod Evolvers
+pub mod Laying
+pub mod Places
+pub mod Writers

@@ -1,19 +1,16 @@
--- Writers: the job of each, and the calls that it has made.
+-- Writers: the calls that each has made.
 use Rattle.std.specs.Prelude.{ℕ}
 use Rattle.ts_model.specs.declared.commands.Job.{Job}
+use Rattle.ts_model.specs.Forms.{Forms}
 use Rattle.ts_actor.specs.Traces.{Trace}
 use Rattle.ts_actor.specs.Machines as machine
-use Rattle.ts_writer.specs.declared.writer.Writer.{Writer}
-use Rattle.ts_writer.specs.Writing.{IsWrite, IsWriteState, puts_left}
+use Rattle.ts_actor.specs.declared.machine.Phase.{Phase}
+use Rattle.ts_writer.specs.Writing.{IsWriteJob, IsLaterState, calls_left as left}
 
--- the job of a writer
-abbrev pub job_of : Writer → Job
-job_of w = w.machine.job
-
--- the writer has asked for the calls of the trace, and they had these replies
-abbrev pub Follows : Writer → Trace → Type 0
-Follows w t = machine.Follows IsWrite IsWriteState w.machine.job w.machine.phase t
+-- the writer of a job has asked for the calls of the trace, and they had these replies
+abbrev pub Follows : {F : Type 0} → Forms F → Job → Phase F → Trace → Type 0
+Follows forms job phase t = machine.Follows forms IsWriteJob (λ j s. IsLaterState s) job phase t
 
 -- more than the calls that a writer still asks for
-abbrev pub calls_left : Writer → ℕ
-calls_left w = machine.calls_left puts_left w.machine.job w.machine.phase
+abbrev pub calls_left : {F : Type 0} → Job → Phase F → ℕ
+calls_left job phase = machine.calls_left left job phase

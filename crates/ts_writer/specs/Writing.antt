@@ -1,31 +1,92 @@
--- Writes: the states in which a write can be.
-use Rattle.std.specs.Prelude.{ℕ, ℤ, ⊤}
+-- Jobs that put objects: which jobs they are, and the states in which each can be.
+use Rattle.std.specs.Prelude.{◌≡◌, ℕ, ◌+◌, ◌-◌, ◌^◌, List, None, length, All, ⊤}
+use Rattle.ts_base.specs.Names.{IsSpelled}
+use Rattle.ts_schema.specs.SchemaTexts.{AreAttrs}
 use Rattle.ts_base.specs.declared.heads.Stop.TheVariants.{Never}
 use Rattle.ts_model.specs.declared.commands.Command.{Command}
-use Rattle.ts_model.specs.declared.commands.Command.TheVariants.{Write, Read}
+use Rattle.ts_model.specs.declared.commands.Command.TheVariants.{Create, Evolve, Write}
+use Rattle.ts_model.specs.declared.commands.ColIn.{ColIn}
 use Rattle.ts_model.specs.declared.commands.Job.{Job}
+use Rattle.ts_model.specs.declared.states.NewObject.{NewObject}
 use Rattle.ts_model.specs.declared.states.State.{State}
-use Rattle.ts_model.specs.declared.states.State.TheVariants.{PutsPart, PutsCommit, ListsCommits, Fetches, Over}
+use Rattle.ts_model.specs.declared.states.State.TheVariants.{PutsFrame, ComparesFrame, ListsDeclared, Puts, ListsSchemas, GetsSchema, GetsFrame, Over}
+use Rattle.ts_model.specs.Jobs.{IsFit, refused_before}
+
+-- the command is a create
+abbrev pub IsCreate : Command → Type 0
+IsCreate (Create f) = ⊤
+IsCreate _ = ⊥
+
+-- the command is an evolve
+abbrev pub IsEvolve : Command → Type 0
+IsEvolve (Evolve change) = ⊤
+IsEvolve _ = ⊥
 
 -- the command is a write
 abbrev pub IsWrite : Command → Type 0
-IsWrite (Write x v) = ⊤
-IsWrite (Read to) = ⊥
+IsWrite (Write w) = ⊤
+IsWrite _ = ⊥
 
--- a write can be in the state
-abbrev pub IsWriteState : State → Type 0
-IsWriteState PutsPart = ⊤
-IsWriteState PutsCommit = ⊤
-IsWriteState ListsCommits = ⊥
-IsWriteState (Fetches listed next got) = ⊥
-IsWriteState (Over end) = ⊤
+-- the job is a create that there can be
+pub record IsCreateJob (job : Job) : Type 0 where
+  pub fit : IsFit job
+  pub kind : IsCreate job.command
 
--- the most calls that a write makes from a state on: its two puts
-abbrev pub puts_left : State → ℕ
-puts_left PutsPart = 2
-puts_left PutsCommit = 1
-puts_left s = 0
+-- the job is an evolve that there can be
+pub record IsEvolveJob (job : Job) : Type 0 where
+  pub fit : IsFit job
+  pub kind : IsEvolve job.command
 
--- the job that writes the value v at the coordinate x; it is stopped nowhere
-abbrev pub write_job : ℕ → ℕ → ℤ → ℤ → Job
-write_job at id x v = record { command = Write x v; at = at; id = id; stop = Never }
+-- the job is a write that there can be
+pub record IsWriteJob (job : Job) : Type 0 where
+  pub fit : IsFit job
+  pub kind : IsWrite job.command
+
+-- the command writes these columns
+abbrev pub Columns : Command → List ColIn → Type 0
+Columns (Write w) cols = w.cols ≡ cols
+Columns _ cols = ⊥
+
+-- each of the objects has a name with a spelling
+abbrev pub AreSpelled : List NewObject → Type 0
+AreSpelled objects = All (λ o. IsSpelled o.name) objects
+
+-- the job is over
+abbrev pub IsOver : {F : Type 0} → State F → Type 0
+IsOver (Over end) = ⊤
+IsOver _ = ⊥
+
+-- a job that puts its objects can be in the state
+abbrev pub IsPutState : {F : Type 0} → State F → Type 0
+IsPutState (Puts objects next end) = AreSpelled objects
+IsPutState (Over end) = ⊤
+IsPutState _ = ⊥
+
+-- a create can be in the state
+abbrev pub IsCreateState : {F : Type 0} → Job → State F → Type 0
+IsCreateState job PutsFrame = refused_before job.command ≡ None
+IsCreateState job ComparesFrame = refused_before job.command ≡ None
+IsCreateState job ListsDeclared = ⊤
+IsCreateState job s = IsPutState s
+
+-- an evolve or a write can be in the state
+abbrev pub IsLaterState : {F : Type 0} → State F → Type 0
+IsLaterState (ListsSchemas near) = ⊤
+IsLaterState (GetsSchema near there) = ⊤
+IsLaterState (GetsFrame near there) = AreAttrs there.attrs
+IsLaterState s = IsPutState s
+
+-- the most calls that a job makes from a state on: those before its first put of many, and then its puts
+abbrev pub calls_left : {F : Type 0} → State F → ℕ
+calls_left PutsFrame = 2 ^ 64 + 3
+calls_left ComparesFrame = 2 ^ 64 + 2
+calls_left ListsDeclared = 2 ^ 64 + 1
+calls_left (ListsSchemas near) = 2 ^ 64 + 3
+calls_left (GetsSchema near there) = 2 ^ 64 + 2
+calls_left (GetsFrame near there) = 2 ^ 64 + 1
+calls_left (Puts objects next end) = length objects - next
+calls_left _ = 0
+
+-- the job of a command that is stopped nowhere
+abbrev pub job_for : ℕ → ℕ → Command → Job
+job_for at id command = record { command = command; at = at; id = id; stop = Never }

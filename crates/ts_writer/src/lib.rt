@@ -1,10 +1,25 @@
-//! Writing: the machine of a job that writes a cell.
+//! Writing: the machines of the jobs that make an array, declare a schema or write cells.
 #![tactic(auto)]
 
-mod steps;
-#[cfg(test)]
-mod tests;
+mod cells;
+mod columns;
+mod creating;
+mod creator;
+mod ends;
+mod evolver;
+mod evolving;
+mod laying;
+mod pieces;
+mod places;
+mod puts;
+mod there;
+mod values;
 mod writer;
+mod writing;
 
-pub use steps::Writes;
+pub use creating::Creates;
+pub use creator::Creator;
+pub use evolver::Evolver;
+pub use evolving::Evolves;
 pub use writer::Writer;
+pub use writing::Writes;

@@ -1,38 +1,44 @@
 //! The machine of a write.
-ghost use Rattle.std.specs.Prelude.{◌≡◌};
+ghost use Rattle.std.specs.Prelude.{◌≡◌, IsTrue};
+ghost use Rattle.ts_model.specs.declared.commands.Command.TheVariants.{Write};
+ghost use Rattle.ts_model.specs.Commands.{fits};
+ghost use Rattle.ts_model.specs.Jobs.{IsFit};
 ghost use Rattle.ts_model.specs.States.{begun};
 ghost use Rattle.ts_model.specs.Driven.{EndsFrom};
+ghost use Rattle.ts_actor.specs.Machines.{Follows, calls_left};
 ghost use Rattle.ts_actor.specs.Traces.{start};
-ghost use Rattle.ts_writer.specs.Writers.{job_of, Follows, calls_left};
-ghost use Rattle.ts_writer.specs.Writing.{IsWrite, write_job};
+ghost use Rattle.ts_writer.specs.Writing.{IsWrite, IsWriteJob, IsLaterState, job_for, calls_left as left};
 
-use crate::steps::Writes;
+use crate::writing::Writes;
 use std::alloc::Global;
 use std::thread::Threads;
-use ts_actor::{Actor, Machine, Step};
+use ts_actor::{Actor, Machine, Pieces, Step};
 use ts_base::Stop;
-use ts_model::{Command, Job, Outcome};
+use ts_model::{Command, Job, Outcome, WriteIn};
 use ts_store::Reply;
 
-/// A write on its way: it puts the part of its fragment and then, where that was made, the `.wrt` by
-/// which the fragment is committed.
+/// A write on its way, whose pieces are written the way of `P`: it finds the schema that holds at its
+/// stamp, gets it and the frame, puts the parts of its fragment and then, where those were made, the
+/// `.wrt` by which the fragment is committed.
 ///
-/// A coordinate outside the domain is refused before any call. A put that finds its name taken, or
-/// that fails, ends the write with the refusal that says so.
+/// Where no schema is stamped at its stamp or before, it is refused with `NoSchema`. Columns that are
+/// not those of the schema, and cells outside the domain or at one place, are refused before any put.
+/// A put that finds its name taken, or that fails, ends the write with the refusal that says so.
 #[derive(Drop)]
-pub struct Writer {
-    machine: Machine<Writes>,
+pub struct Writer<P: Pieces> {
+    machine: Machine<Writes<P>>,
 }
 
-impl Writer {
-    /// A writer of the value `v` at the coordinate `x`, with the stamp `at`, in milliseconds since
-    /// 1970-01-01, and the identifier `id`. It has made no call yet, and takes no memory.
-    pub fn new(at: u64, id: u128, x: i128, v: i128) -> Writer
-        ensures new { Follows result start }
-        ensures task { job_of result ≡ write_job at id x v }
+impl<P: Pieces> Writer<P> {
+    /// A writer of the cells of `cells`, with the stamp `at`, in milliseconds since 1970-01-01, and
+    /// the identifier `id`. It has made no call yet, and takes no memory.
+    pub fn new(at: u64, id: u128, cells: WriteIn) -> Writer<P>
+        requires { IsTrue (fits (Write cells)) }
+        ensures new { Follows P.forms IsWriteJob (λ job s. IsLaterState s) result.machine.job result.machine.phase start }
+        ensures task { result.machine.job ≡ job_for at id (Write cells) }
     {
         Writer::of(Job {
-            command: Command::Write { x, v },
+            command: Command::Write(cells),
             at,
             id,
             stop: Stop::Never,
@@ -40,10 +46,11 @@ impl Writer {
     }
 
     /// A writer of a job whose command is a write. It has made no call yet, and takes no memory.
-    pub fn of(job: Job) -> Writer
-        requires { IsWrite job.command }
-        ensures new { Follows result start }
-        ensures task { job_of result ≡ job }
+    pub fn of(job: Job) -> Writer<P>
+        requires fit { IsFit job }
+        requires kind { IsWrite job.command }
+        ensures new { Follows P.forms IsWriteJob (λ job s. IsLaterState s) result.machine.job result.machine.phase start }
+        ensures task { result.machine.job ≡ job }
     {
         Writer {
             machine: Machine::of(job),
@@ -51,18 +58,18 @@ impl Writer {
     }
 }
 
-impl Actor for Writer {
+impl<P: Pieces> Actor for Writer<P> {
     type Out = Outcome;
 
     type Task = Job;
 
-    ghost task = { job_of };
+    ghost task = { λ w. w.machine.job };
 
-    ghost follows = { Follows };
+    ghost follows = { λ w t. Follows P.forms IsWriteJob (λ job s. IsLaterState s) w.machine.job w.machine.phase t };
 
-    ghost ends = { λ job past end. EndsFrom job (begun job.command) past end };
+    ghost ends = { λ job past end. EndsFrom P.forms job (begun job.command) past end };
 
-    ghost measure = { calls_left };
+    ghost measure = { λ w. calls_left left w.machine.job w.machine.phase };
 
     fn next<R: Threads + Sync>(&mut self, rt: &R, alloc: Global, reply: Reply) -> Step<Outcome> {
         self.machine.next(rt, alloc, reply)

@@ -1,0 +1,147 @@
+//! How an evolve goes: the call that it makes next, and where the reply leads it.
+ghost use Rattle.std.specs.Prelude.{◌≡◌, ◌≢◌, ◌<◌, ◌^◌, ◌+◌, None, IfOk};
+ghost use Rattle.ts_base.specs.declared.keys.FragKey.{FragKey as AnyFrag};
+ghost use Rattle.std.specs.Prelude.{List};
+ghost use Rattle.ts_store.specs.Calls.{IsSpelledReply};
+ghost use Rattle.ts_schema.specs.FrameTexts.{frame_of};
+ghost use Rattle.ts_model.specs.declared.commands.Command.TheVariants.{Evolve};
+ghost use Rattle.ts_model.specs.States.{asks, goes, on_read, works};
+ghost use Rattle.ts_writer.specs.Writing.{IsEvolve, IsEvolveJob, IsLaterState, calls_left};
+
+use crate::ends::{get_ended, refuse};
+use crate::puts::{after_put, key_of, put_schema};
+use crate::there::{after_schema, after_schemas, ask_later, stamp_of};
+use std::alloc::Global;
+use std::marker::PhantomData;
+use ts_actor::{Automaton, Pieces};
+use ts_base::{FragList, Name, OutOfMemory};
+use ts_model::{Command, Job, Outcome, Refusal, State};
+use ts_schema::{Evolution, Frame, Schema, SchemaFault};
+use ts_store::{Call, Reply};
+
+/// The automaton of evolves.
+#[derive(Drop)]
+pub struct Evolves<P> {
+    pieces: PhantomData<P>,
+}
+
+impl<P: Pieces> Automaton for Evolves<P> {
+    type Fetch = P::Fetch;
+
+    ghost forms = { P.forms };
+
+    ghost serves = { IsEvolveJob };
+
+    ghost may = { λ job state. IsLaterState state };
+
+    ghost left = { calls_left };
+
+    fn begin(alloc: Global, job: &Job) -> State<P::Fetch> {
+        match &job.command {
+            Command::Evolve(_) => State::ListsSchemas {
+                near: FragList::new(alloc),
+            },
+            _ => unreachable!(),
+        }
+    }
+
+    fn ask(
+        alloc: Global,
+        _job: &Job,
+        state: &State<P::Fetch>,
+    ) -> Result<Option<Call>, OutOfMemory> {
+        ask_later(alloc, state)
+    }
+
+    fn go(
+        alloc: Global,
+        job: &Job,
+        state: State<P::Fetch>,
+        reply: Reply,
+    ) -> Result<State<P::Fetch>, OutOfMemory>
+        requires job { IsEvolveJob job.now }
+        requires state { IsLaterState state }
+        requires reply { IsSpelledReply reply }
+        ensures is { IfOk result (λ next. next ≡ goes P.forms job.now state reply) }
+        ensures may { IfOk result IsLaterState }
+        ensures fewer { IfOk result (λ next. asks P.forms job.now state ≢ None → calls_left next < calls_left state) }
+    {
+        match state {
+            State::ListsSchemas { near } => after_schemas(alloc, stamp_of(job), near, &reply),
+            State::GetsSchema { near, there } => after_schema(alloc, near, there, &reply),
+            State::GetsFrame { near: _, there } => after_frame::<P>(alloc, job, &there, &reply),
+            State::Puts { objects, next, end } => Ok(after_put(objects, next, end, &reply)),
+            State::Over(end) => Ok(State::Over(end)),
+            _ => unreachable!(),
+        }
+    }
+}
+
+// The change that an evolve makes.
+fn change_in(job: &Job) -> &Evolution
+    requires { IsEvolve job.now.command }
+    ensures { job.now.command ≡ Evolve result.now }
+{
+    match &job.command {
+        Command::Evolve(change) => change,
+        _ => unreachable!(),
+    }
+}
+
+// Where the frame leads an evolve that found its schema.
+fn after_frame<P: Pieces>(
+    alloc: Global,
+    job: &Job,
+    there: &Schema,
+    reply: &Reply,
+) -> Result<State<P::Fetch>, OutOfMemory>
+    requires { IsEvolveJob job.now }
+    ensures is { IfOk result (λ state. (near : List AnyFrag) → state ≡ goes P.forms job.now (State.GetsFrame near there.now) reply.now) }
+    ensures may { IfOk result IsLaterState }
+    ensures fewer { IfOk result (λ state. calls_left state < 2 ^ 64 + 1) }
+{
+    match reply {
+        Reply::Bytes(bytes) => read_frame::<P>(alloc, job, there, bytes.as_slice()),
+        _ => Ok(get_ended(Name::Domain, reply)),
+    }
+}
+
+// Where the bytes of the frame's object lead: on to the put of the schema, or to the job's end.
+fn read_frame<P: Pieces>(
+    alloc: Global,
+    job: &Job,
+    there: &Schema,
+    bytes: &[u8],
+) -> Result<State<P::Fetch>, OutOfMemory>
+    requires { IsEvolveJob job.now }
+    ensures is { IfOk result (λ state. (near : List AnyFrag) → state ≡ on_read Name.Domain (λ frame. works P.forms job.now job.now.command near frame there.now) (frame_of bytes.now)) }
+    ensures may { IfOk result IsLaterState }
+    ensures fewer { IfOk result (λ state. calls_left state < 2 ^ 64 + 1) }
+{
+    match Frame::decode(bytes) {
+        Ok(frame) => evolve::<P>(alloc, job, &frame, there),
+        Err(damaged) => Ok(refuse(Refusal::Damaged {
+            name: Name::Domain,
+            at: damaged.at,
+        })),
+    }
+}
+
+// An evolve puts the schema after its change, or is refused.
+fn evolve<P: Pieces>(
+    alloc: Global,
+    job: &Job,
+    frame: &Frame,
+    there: &Schema,
+) -> Result<State<P::Fetch>, OutOfMemory>
+    requires { IsEvolveJob job.now }
+    ensures is { IfOk result (λ state. (near : List AnyFrag) → state ≡ works P.forms job.now job.now.command near frame.now there.now) }
+    ensures may { IfOk result IsLaterState }
+    ensures fewer { IfOk result (λ state. calls_left state < 2 ^ 64 + 1) }
+{
+    match there.evolved(alloc, frame, key_of(job), change_in(job)) {
+        Ok(schema) => put_schema(alloc, job, &schema, Outcome::Evolved(key_of(job))),
+        Err(SchemaFault::OutOfMemory) => Err(OutOfMemory),
+        Err(fault) => Ok(refuse(Refusal::SchemaBad(fault))),
+    }
+}

@@ -1,0 +1,144 @@
+//! The piece of a write: its cells in global order, between their corners.
+ghost use Rattle.std.specs.Prelude.{◌≡◌, ◌≤◌, [], length, map, IfOk, IsTrue, All};
+ghost use Rattle.ts_base.specs.declared.heads.Cell.{Cell as AnyCell};
+ghost use Rattle.std.specs.BTreeMap.{values};
+ghost use Rattle.ts_domain.specs.Boxes.{IsBox};
+ghost use Rattle.ts_domain.specs.Domains.{is_in_domain};
+ghost use Rattle.ts_model.specs.Commands.{low_of_cells, high_of_cells, version_in, in_global_order, piece_of};
+ghost use Rattle.ts_writer.specs.Places.{placed_behind, head_in};
+
+use crate::places::{GlobalPlace, place_of};
+use std::alloc::{AllocError, Global};
+use std::collections::BTreeMap;
+use ts_base::{
+    Cell, CellList, Coords, FragKey, Head, Key, KeyList, OutOfMemory, Piece, Version, VersionList,
+};
+use ts_domain::{Domain, SubBox};
+use ts_schema::Frame;
+
+/// The piece of a write with this key, whose cells follow the schema of another.
+pub(crate) fn piece_of(
+    alloc: Global,
+    frame: &Frame,
+    key: Key,
+    schema: Key,
+    cells: CellList,
+) -> Result<Piece, OutOfMemory>
+    requires some { 1 ≤ length cells }
+    requires inside { All (λ (cell : AnyCell). IsTrue (is_in_domain frame.now.domain cell.coords)) cells }
+    ensures { IfOk result (λ p. p ≡ piece_of frame.now (record { key = key; schema = schema; cells = cells })) }
+{
+    let head = head_of(alloc, frame, key, schema, &cells)?;
+    let versions = versions_of(alloc, frame, key, schema, cells)?;
+    Ok(Piece { head, versions })
+}
+
+// The head of the piece.
+fn head_of(
+    alloc: Global,
+    frame: &Frame,
+    key: Key,
+    schema: Key,
+    cells: &CellList,
+) -> Result<Head, OutOfMemory>
+    requires some { 1 ≤ length cells.now }
+    requires inside { All (λ (cell : AnyCell). IsTrue (is_in_domain frame.now.domain cell.coords)) cells.now }
+    ensures { IfOk result (λ head. head ≡ head_in frame.now (record { key = key; schema = schema; cells = cells.now })) }
+{
+    let hull = hull_of(&frame.domain, cells.as_slice());
+    let mut origins = KeyList::new(alloc);
+    origins.push(key)?;
+    Ok(Head {
+        frag: FragKey {
+            t1: key.t,
+            t2: key.t,
+            id: key.id,
+            v: 1,
+        },
+        schema,
+        dense: frame.dense,
+        consolidated: false,
+        low: hull.low,
+        high: hull.high,
+        cells: cells.len(),
+        origins,
+    })
+}
+
+// The least box that has all the cells.
+fn hull_of(domain: &Domain, cells: &[Cell]) -> SubBox
+    requires some { 1 ≤ length cells.now }
+    requires inside { All (λ (cell : AnyCell). IsTrue (is_in_domain domain.now cell.coords)) cells.now }
+    ensures low { result.low ≡ low_of_cells cells.now }
+    ensures high { result.high ≡ high_of_cells cells.now }
+{
+    let mut hull = box_of(&cells[0].coords);
+    for cell in cells {
+        hull = hull.hull(&box_of(&cell.coords));
+    }
+    hull
+}
+
+// The box of one cell.
+fn box_of(at: &Coords) -> SubBox
+    ensures value { result ≡ record { low = at.now; high = at.now } }
+    ensures valid { IsBox result }
+{
+    SubBox {
+        low: *at,
+        high: *at,
+    }
+}
+
+// The versions of the cells, in global order.
+fn versions_of(
+    alloc: Global,
+    frame: &Frame,
+    key: Key,
+    schema: Key,
+    cells: CellList,
+) -> Result<VersionList, OutOfMemory>
+    requires { All (λ (cell : AnyCell). IsTrue (is_in_domain frame.now.domain cell.coords)) cells }
+    ensures { IfOk result (λ versions. versions ≡ map (version_in key schema) (in_global_order frame.now cells)) }
+{
+    let placed = placed(alloc, frame, key, schema, cells)?;
+    Ok(VersionList::from_vec(versions_in(alloc, placed)?))
+}
+
+// The versions of the cells, by their places. Where two cells have one place the first is kept.
+fn placed(
+    alloc: Global,
+    frame: &Frame,
+    key: Key,
+    schema: Key,
+    cells: CellList,
+) -> Result<BTreeMap<GlobalPlace, Version>, OutOfMemory>
+    requires { All (λ (cell : AnyCell). IsTrue (is_in_domain frame.now.domain cell.coords)) cells }
+    ensures { IfOk result (λ placed. placed.entries ≡ placed_behind frame.now key schema cells []) }
+{
+    let mut cells = cells;
+    let mut placed = BTreeMap::new(alloc);
+    while let Some(cell) = cells.pop() {
+        let place = place_of(frame, &cell.coords);
+        placed.insert(
+            place,
+            Version {
+                key,
+                schema,
+                coords: cell.coords,
+                row: cell.row,
+            },
+        )?;
+    }
+    Ok(placed)
+}
+
+// All versions, in the order of their places.
+fn versions_in(
+    alloc: Global,
+    placed: BTreeMap<GlobalPlace, Version>,
+) -> Result<Vec<Version>, AllocError>
+    ensures { IfOk result (λ versions. versions.items ≡ values placed) }
+{
+    placed.into_values().collect(alloc)
+}

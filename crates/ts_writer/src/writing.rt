@@ -1,0 +1,252 @@
+//! How a write goes: the call that it makes next, and where the reply leads it.
+ghost use Rattle.std.specs.Prelude.{◌≡◌, ◌≢◌, ◌<◌, ◌^◌, ◌+◌, ◌++◌, ◌∷◌, [], None, Ok, List, All, IfOk, IsTrue};
+ghost use Rattle.std.specs.List.{list_all};
+ghost use Rattle.ts_base.specs.declared.keys.FragKey.{FragKey as AnyFrag};
+ghost use Rattle.ts_base.specs.Names.{IsSpelledFrag, IsSpelledPart, wrt_of};
+ghost use Rattle.ts_store.specs.Calls.{IsSpelledReply};
+ghost use Rattle.ts_schema.specs.FrameTexts.{IsFrame, frame_of};
+ghost use Rattle.ts_schema.specs.SchemaTexts.{AreAttrs};
+ghost use Rattle.ts_model.specs.Commands.{is_spelled_col, laid};
+ghost use Rattle.ts_model.specs.Deeds.{IsKey};
+ghost use Rattle.ts_model.specs.Jobs.{frag_of_job};
+ghost use Rattle.ts_model.specs.States.{asks, goes, on_read, part_objects, puts_cells, works};
+ghost use Rattle.ts_writer.specs.Writing.{AreSpelled, Columns, IsWrite, IsWriteJob, IsLaterState, calls_left};
+
+use crate::ends::{get_ended, refuse};
+use crate::laying::{LayFault, lay};
+use crate::pieces::piece_of;
+use crate::puts::{after_put, key_of, key_with, put};
+use crate::there::{after_schema, after_schemas, ask_later, stamp_of};
+use std::alloc::Global;
+use std::marker::PhantomData;
+use ts_actor::{Automaton, Pieces};
+use ts_base::{
+    ByteList, CellList, CommitKind, FragKey, FragList, Key, Name, OutOfMemory, PartBytes, PartList,
+};
+use ts_model::{ColInList, Command, Job, NewObject, NewObjectList, Outcome, Refusal, State};
+use ts_schema::{Frame, Schema};
+use ts_store::{Call, Reply};
+
+/// The automaton of writes, whose pieces are written the way of `P`.
+#[derive(Drop)]
+pub struct Writes<P: Pieces> {
+    of: PhantomData<P>,
+}
+
+impl<P: Pieces> Automaton for Writes<P> {
+    type Fetch = P::Fetch;
+
+    ghost forms = { P.forms };
+
+    ghost serves = { IsWriteJob };
+
+    ghost may = { λ job state. IsLaterState state };
+
+    ghost left = { calls_left };
+
+    fn begin(alloc: Global, job: &Job) -> State<P::Fetch> {
+        match &job.command {
+            Command::Write(_) => State::ListsSchemas {
+                near: FragList::new(alloc),
+            },
+            _ => unreachable!(),
+        }
+    }
+
+    fn ask(
+        alloc: Global,
+        _job: &Job,
+        state: &State<P::Fetch>,
+    ) -> Result<Option<Call>, OutOfMemory> {
+        ask_later(alloc, state)
+    }
+
+    fn go(
+        alloc: Global,
+        job: &Job,
+        state: State<P::Fetch>,
+        reply: Reply,
+    ) -> Result<State<P::Fetch>, OutOfMemory>
+        requires job { IsWriteJob job.now }
+        requires state { IsLaterState state }
+        requires reply { IsSpelledReply reply }
+        ensures is { IfOk result (λ next. next ≡ goes P.forms job.now state reply) }
+        ensures may { IfOk result IsLaterState }
+        ensures fewer { IfOk result (λ next. asks P.forms job.now state ≢ None → calls_left next < calls_left state) }
+    {
+        match state {
+            State::ListsSchemas { near } => after_schemas(alloc, stamp_of(job), near, &reply),
+            State::GetsSchema { near, there } => after_schema(alloc, near, there, &reply),
+            State::GetsFrame { near: _, there } => after_frame::<P>(alloc, job, &there, &reply),
+            State::Puts { objects, next, end } => Ok(after_put(objects, next, end, &reply)),
+            State::Over(end) => Ok(State::Over(end)),
+            _ => unreachable!(),
+        }
+    }
+}
+
+// The columns of a write.
+fn cols_in(job: &Job) -> &ColInList
+    requires { IsWriteJob job.now }
+    ensures is { Columns job.now.command result.now }
+    ensures spelled { IsTrue (list_all is_spelled_col result.now) }
+{
+    match &job.command {
+        Command::Write(cells) => &cells.cols,
+        _ => unreachable!(),
+    }
+}
+
+// The fragment of a write.
+fn frag_of(job: &Job) -> FragKey
+    ensures is { result ≡ frag_of_job job.now }
+    ensures spelled { IsSpelledFrag result }
+{
+    FragKey {
+        t1: job.at,
+        t2: job.at,
+        id: job.id,
+        v: 1,
+    }
+}
+
+// Where the frame leads a write that found its schema.
+fn after_frame<P: Pieces>(
+    alloc: Global,
+    job: &Job,
+    there: &Schema,
+    reply: &Reply,
+) -> Result<State<P::Fetch>, OutOfMemory>
+    requires job { IsWriteJob job.now }
+    requires attrs { AreAttrs there.now.attrs }
+    ensures is { IfOk result (λ state. (near : List AnyFrag) → state ≡ goes P.forms job.now (State.GetsFrame near there.now) reply.now) }
+    ensures may { IfOk result IsLaterState }
+    ensures fewer { IfOk result (λ state. calls_left state < 2 ^ 64 + 1) }
+{
+    match reply {
+        Reply::Bytes(bytes) => read_frame::<P>(alloc, job, there, bytes.as_slice()),
+        _ => Ok(get_ended(Name::Domain, reply)),
+    }
+}
+
+// Where the bytes of the frame's object lead: on to the puts, or to the job's end.
+fn read_frame<P: Pieces>(
+    alloc: Global,
+    job: &Job,
+    there: &Schema,
+    bytes: &[u8],
+) -> Result<State<P::Fetch>, OutOfMemory>
+    requires job { IsWriteJob job.now }
+    requires attrs { AreAttrs there.now.attrs }
+    ensures is { IfOk result (λ state. (near : List AnyFrag) → state ≡ on_read Name.Domain (λ frame. works P.forms job.now job.now.command near frame there.now) (frame_of bytes.now)) }
+    ensures may { IfOk result IsLaterState }
+    ensures fewer { IfOk result (λ state. calls_left state < 2 ^ 64 + 1) }
+{
+    match Frame::decode(bytes) {
+        Ok(frame) => write::<P>(alloc, job, &frame, there),
+        Err(damaged) => Ok(refuse(Refusal::Damaged {
+            name: Name::Domain,
+            at: damaged.at,
+        })),
+    }
+}
+
+// A write puts its cells, or is refused.
+fn write<P: Pieces>(
+    alloc: Global,
+    job: &Job,
+    frame: &Frame,
+    there: &Schema,
+) -> Result<State<P::Fetch>, OutOfMemory>
+    requires job { IsWriteJob job.now }
+    requires frame { IsFrame frame.now }
+    requires attrs { AreAttrs there.now.attrs }
+    ensures is { IfOk result (λ state. (near : List AnyFrag) → state ≡ works P.forms job.now job.now.command near frame.now there.now) }
+    ensures may { IfOk result IsLaterState }
+    ensures fewer { IfOk result (λ state. calls_left state < 2 ^ 64 + 1) }
+{
+    let cols = cols_in(job);
+    match lay(alloc, frame, &there.attrs, cols) {
+        Ok(cells) => put_cells::<P>(alloc, job, frame, there, cols, cells),
+        Err(LayFault::Refused(refusal)) => Ok(refuse(refusal)),
+        Err(LayFault::OutOfMemory) => Err(OutOfMemory),
+    }
+}
+
+// A write puts the cells that its columns lay. The piece of a dense array is another one: where
+// there is one, the write ends as for want of memory.
+fn put_cells<P: Pieces>(
+    alloc: Global,
+    job: &Job,
+    frame: &Frame,
+    there: &Schema,
+    cols: &ColInList,
+    cells: CellList,
+) -> Result<State<P::Fetch>, OutOfMemory>
+    requires frame { IsFrame frame.now }
+    requires attrs { AreAttrs there.now.attrs }
+    requires spelled { IsTrue (list_all is_spelled_col cols.now) }
+    requires laid { laid frame.now.domain there.now.attrs cols.now ≡ Ok cells }
+    ensures is { IfOk result (λ state. state ≡ puts_cells P.forms job.now frame.now there.now (Ok cells)) }
+    ensures may { IfOk result IsLaterState }
+    ensures fewer { IfOk result (λ state. calls_left state < 2 ^ 64) }
+{
+    if frame.dense {
+        return Err(OutOfMemory);
+    }
+    let piece = piece_of(alloc, frame, key_of(job), schema_key(there), cells)?;
+    let parts = P::parts(alloc, frame, there, &piece)?;
+    let frag = frag_of(job);
+    let objects = objects_of(alloc, frag, parts)?;
+    Ok(put(objects, 0, Outcome::Written(frag)))
+}
+
+// The key of a schema.
+fn schema_key(schema: &Schema) -> Key
+    ensures is { result ≡ schema.now.key }
+    ensures key { IsKey result }
+{
+    key_with(schema.key.t, schema.key.id)
+}
+
+// The objects that a write puts: the parts of its fragment, and then the empty `.wrt`.
+fn objects_of(alloc: Global, frag: FragKey, parts: PartList) -> Result<NewObjectList, OutOfMemory>
+    requires frag { IsSpelledFrag frag }
+    requires parts { All (λ x. IsSpelledPart x.part) parts }
+    ensures is { IfOk result (λ objects. objects ≡ part_objects frag parts ++ record { name = wrt_of frag; bytes = [] } ∷ []) }
+    ensures spelled { IfOk result AreSpelled }
+{
+    let mut objects = part_objects(alloc, frag, parts)?;
+    objects.push(NewObject {
+        name: Name::Commit(frag, CommitKind::Wrt),
+        bytes: ByteList::new(alloc),
+    })?;
+    Ok(NewObjectList::from_vec(objects))
+}
+
+// An object for each part of a fragment.
+fn part_objects(
+    alloc: Global,
+    frag: FragKey,
+    parts: PartList,
+) -> Result<Vec<NewObject>, OutOfMemory>
+    ensures { IfOk result (λ objects. objects.items ≡ part_objects frag parts) }
+{
+    let parts = parts.into_vec();
+    let mut objects = Vec::with_capacity(alloc, parts.len())?;
+    for part in parts {
+        objects.push(part_object(frag, part))?;
+    }
+    Ok(objects)
+}
+
+// The object of a part of a fragment.
+fn part_object(frag: FragKey, part: PartBytes) -> NewObject
+    ensures { result ≡ record { name = Name.Part frag part.part; bytes = part.bytes } }
+{
+    let PartBytes { part, bytes } = part;
+    NewObject {
+        name: Name::Part(frag, part),
+        bytes,
+    }
+}
