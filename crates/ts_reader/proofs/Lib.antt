@@ -1,2 +1,5 @@
 pub mod Collected
+pub mod Leads
+pub mod Newer
+pub mod Rising
 pub mod ReaderLaws

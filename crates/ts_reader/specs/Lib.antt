@@ -1,2 +1,4 @@
+pub mod Fetching
+pub mod Newest
 pub mod Readers
 pub mod Reading

@@ -1,113 +1,50 @@
-//! What a read answers: at each coordinate the newest of the versions that it got.
-ghost use Rattle.std.specs.Prelude.{◌≡◌, ◌++◌, ◌∷◌, [], cond, filter_map, option_copied, option_map, option_to_list, IfOk, OnOk, Some};
-ghost use Rattle.ts_base.specs.Coords.{coords_eq};
-ghost use Rattle.ts_base.specs.Keys.{greater};
-ghost use Rattle.ts_model.specs.Pieces.{newest_at};
-ghost use Rattle.ts_model.specs.States.{pair_of, pairs_in};
-ghost use Rattle.ts_model.specs.Answers.{number_of, domain_numbers};
+//! What a read answers: of each cell the newest version, as it shows through the schema that holds.
+ghost use Rattle.std.specs.Prelude.{◌≡◌, map, IfOk};
+ghost use Rattle.std.specs.BTreeMap.{values, IsOrdered};
+ghost use Rattle.std.specs.Ordering.{int_cmp};
+ghost use Rattle.std.specs.Cmp.Lexicographic.{slice_cmp};
+ghost use Rattle.ts_model.specs.States.{answer_of, row_shown};
+ghost use Rattle.ts_reader.specs.Reading.{AreRising};
 
+use crate::newest::newest_of;
+use crate::shown::{row_shown, types_of};
 use std::alloc::Global;
-use ts_base::{Coords, OutOfMemory, Val, Version};
-use ts_model::{Pair, PairList};
+use std::collections::BTreeMap;
+use ts_base::{Coords, OutOfMemory, RowList, Version, VersionList};
+use ts_model::{Answer, Reading};
+use ts_schema::SchemaList;
 
-/// The coordinates of the domain, ascending.
-const DOMAIN: [i128; 10] = [0, 1, 2, 3, 4, 5, 6, 7, 8, 9];
-
-/// At each coordinate of the domain, ascending, the newest of these versions.
-pub fn pairs(alloc: Global, got: &[Version]) -> Result<PairList, OutOfMemory>
-    ensures { IfOk result (λ rows. rows ≡ pairs_in got.now) }
+/// The answer of a read that got these versions.
+pub(crate) fn answer_of(
+    alloc: Global,
+    reading: &Reading,
+    schemas: &SchemaList,
+    got: VersionList,
+) -> Result<Answer, OutOfMemory>
+    requires { AreRising schemas.now }
+    ensures { IfOk result (λ answer. answer ≡ answer_of reading.now schemas.now got) }
 {
-    pairs_at(alloc, &DOMAIN, got)
+    let newest = newest_of(alloc, got)?;
+    Ok(Answer {
+        types: types_of(alloc, &reading.frame.domain, &reading.there.attrs)?,
+        rows: rows_of(alloc, reading, schemas, &newest)?,
+    })
 }
 
-// At each of these coordinates, in turn, the newest of these versions.
-fn pairs_at(alloc: Global, coordinates: &[i128], got: &[Version]) -> Result<PairList, OutOfMemory>
-    ensures { IfOk result (λ rows. rows ≡ filter_map (λ x. option_map (pair_of x) (newest_at got.now (x ∷ []))) coordinates.now) }
+// The rows of versions by their coordinates, in row order.
+fn rows_of(
+    alloc: Global,
+    reading: &Reading,
+    schemas: &SchemaList,
+    newest: &BTreeMap<Coords, Version>,
+) -> Result<RowList, OutOfMemory>
+    requires { AreRising schemas.now }
+    ensures rows { IfOk result (λ rows. rows ≡ map (row_shown reading.now schemas.now) (values newest.now)) }
+    ensures ordered { IsOrdered (slice_cmp int_cmp) newest.now }
 {
-    let mut rows = PairList::new(alloc);
-    for x in coordinates {
-        add(&mut rows, pair_at(x, got))?;
+    let mut rows = RowList::new(alloc);
+    for version in newest.values() {
+        rows.push(row_shown(alloc, reading, schemas, version)?)?;
     }
     Ok(rows)
-}
-
-// Adds a pair to rows, if there is one.
-fn add(rows: &mut PairList, pair: Option<Pair>) -> Result<(), OutOfMemory>
-    ensures { OnOk result (rows.new ≡ rows.old ++ option_to_list pair) }
-{
-    match pair {
-        Some(pair) => rows.push(pair),
-        None => Ok(()),
-    }
-}
-
-// The newest of these versions at a coordinate, as a read shows it.
-fn pair_at(x: &i128, got: &[Version]) -> Option<Pair>
-    ensures { result ≡ option_map (pair_of x.now) (newest_at got.now (x.now ∷ [])) }
-{
-    let at = Coords::new(&[*x]);
-    newest(&at, got).map(|version| shown(x, version))
-}
-
-// A version as a read shows it.
-fn shown(x: &i128, version: &Version) -> Pair
-    ensures { result ≡ pair_of x.now version.now }
-{
-    Pair {
-        x: *x,
-        v: number(version),
-    }
-}
-
-// The newest of these versions at a coordinate.
-fn newest<'a>(at: &Coords, got: &'a [Version]) -> Option<&'a Version>
-    ensures { option_copied result ≡ newest_at got.now at.now }
-{
-    let mut newest = None;
-    for version in got {
-        newest = newest_with(at, newest, version);
-    }
-    newest
-}
-
-// The newest version at a coordinate, where one more is looked at.
-fn newest_with<'a>(
-    at: &Coords,
-    newest: Option<&'a Version>,
-    version: &'a Version,
-) -> Option<&'a Version>
-    ensures { option_copied result ≡ cond (coords_eq version.now.coords at.now) (greater (λ v. v.key) (option_copied newest.entry) (Some version.now)) (option_copied newest.entry) }
-{
-    if is_at(version, at) {
-        newer(newest, version)
-    } else {
-        newest
-    }
-}
-
-// A version where it has a greater key than the newest before it, and else that one.
-fn newer<'a>(newest: Option<&'a Version>, version: &'a Version) -> Option<&'a Version>
-    ensures { option_copied result ≡ greater (λ v. v.key) (option_copied newest.entry) (Some version.now) }
-{
-    match newest {
-        Some(other) if !(other.key < version.key) => newest,
-        _ => Some(version),
-    }
-}
-
-// Whether a version is one of the coordinate.
-fn is_at(version: &Version, at: &Coords) -> bool
-    ensures { result ≡ coords_eq version.now.coords at.now }
-{
-    version.coords == *at
-}
-
-// The value of a version.
-fn number(version: &Version) -> i128
-    ensures { result ≡ number_of version.now.row }
-{
-    match version.row.as_slice() {
-        [Val::Int(v)] => *v,
-        _ => 0,
-    }
 }

@@ -2,10 +2,14 @@
 #![tactic(auto)]
 
 mod answers;
+mod ends;
+mod fetching;
+mod listing;
+mod newest;
+mod opening;
 mod reader;
+mod shown;
 mod steps;
-#[cfg(test)]
-mod tests;
 
 pub use reader::Reader;
 pub use steps::Reads;

@@ -1,39 +1,42 @@
 //! The machine of a read.
-ghost use Rattle.std.specs.Prelude.{◌≡◌};
+ghost use Rattle.std.specs.Prelude.{◌≡◌, ◌<◌, ◌^◌};
 ghost use Rattle.ts_model.specs.States.{begun};
 ghost use Rattle.ts_model.specs.Driven.{EndsFrom};
 ghost use Rattle.ts_actor.specs.Traces.{start};
-ghost use Rattle.ts_reader.specs.Readers.{job_of, Follows, calls_left};
-ghost use Rattle.ts_reader.specs.Reading.{IsRead, read_job};
+ghost use Rattle.ts_reader.specs.Readers.{Follows, calls_left};
+ghost use Rattle.ts_reader.specs.Reading.{IsReadJob, read_job};
 
 use crate::steps::Reads;
 use std::alloc::Global;
 use std::thread::Threads;
-use ts_actor::{Actor, Machine, Step};
+use ts_actor::{Actor, Machine, Pieces, Step};
 use ts_base::Stop;
 use ts_model::{Command, Job, Outcome};
 use ts_store::Reply;
 
-/// A read on its way: it lists the commits, gets the part of each committed fragment whose span lies
-/// in its interval, one after the other, and answers with the newest version at each coordinate.
+/// A read on its way: it lists the commits and then the schemas, gets the schema that holds at the
+/// end of its interval, the frame, the head of each committed fragment whose span meets the
+/// interval, and the further schemas that the heads name. Then it fetches one fragment after the
+/// other, and answers with the newest version of each cell, as it shows through the schema that
+/// holds.
 ///
-/// A call that fails, a part that is not there and a part that breaks its layout each end the read
-/// with the refusal that says so.
+/// A call that fails, an object that is not there and one that breaks its layout each end the read
+/// with the refusal that says so; so does an interval at whose end no schema holds.
 #[derive(Drop)]
-pub struct Reader {
-    machine: Machine<Reads>,
+pub struct Reader<P: Pieces> {
+    machine: Machine<Reads<P>>,
 }
 
-impl Reader {
-    /// A reader of the whole domain in the interval from 0 to `to`, with the stamp `at`, both in
-    /// milliseconds since 1970-01-01, and the identifier `id`. It has made no call yet, and takes no
-    /// memory.
-    pub fn new(at: u64, id: u128, to: u64) -> Reader
-        ensures new { Follows result start }
-        ensures task { job_of result ≡ read_job at id to }
+impl<P: Pieces> Reader<P> {
+    /// A reader of the whole domain in the interval from `from` to `to`, both ends included, with the
+    /// stamp `at`, all in milliseconds since 1970-01-01, and the identifier `id`. It has made no call
+    /// yet, and takes no memory.
+    pub fn new(at: u64, id: u128, from: u64, to: u64) -> Reader<P>
+        ensures new { Follows P.forms result.machine.job result.machine.phase start }
+        ensures task { result.machine.job ≡ read_job at id from to }
     {
         Reader::of(Job {
-            command: Command::Read { to },
+            command: Command::Read { from, to },
             at,
             id,
             stop: Stop::Never,
@@ -41,10 +44,10 @@ impl Reader {
     }
 
     /// A reader of a job whose command is a read. It has made no call yet, and takes no memory.
-    pub fn of(job: Job) -> Reader
-        requires { IsRead job.command }
-        ensures new { Follows result start }
-        ensures task { job_of result ≡ job }
+    pub fn of(job: Job) -> Reader<P>
+        requires { IsReadJob job }
+        ensures new { Follows P.forms result.machine.job result.machine.phase start }
+        ensures task { result.machine.job ≡ job }
     {
         Reader {
             machine: Machine::of(job),
@@ -52,18 +55,18 @@ impl Reader {
     }
 }
 
-impl Actor for Reader {
+impl<P: Pieces> Actor for Reader<P> {
     type Out = Outcome;
 
     type Task = Job;
 
-    ghost task = { job_of };
+    ghost task = { λ reader. reader.machine.job };
 
-    ghost follows = { Follows };
+    ghost follows = { λ reader t. Follows P.forms reader.machine.job reader.machine.phase t };
 
-    ghost ends = { λ job past end. EndsFrom job (begun job.command) past end };
+    ghost ends = { λ job past end. EndsFrom P.forms job (begun job.command) past end };
 
-    ghost measure = { calls_left };
+    ghost measure = { λ reader. calls_left P.left reader.machine.job reader.machine.phase };
 
     fn next<R: Threads + Sync>(&mut self, rt: &R, alloc: Global, reply: Reply) -> Step<Outcome> {
         self.machine.next(rt, alloc, reply)

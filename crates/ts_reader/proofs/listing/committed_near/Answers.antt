@@ -2,16 +2,16 @@
 use Rattle.std.proofs.Common.{◌++◌, sym, ◌∙◌, ap, get_or}
 use Rattle.std.specs.Prelude.{option_to_list, filter}
 use Rattle.ts_base.specs.declared.names.Name.TheVariants.{Domain}
-use Rattle.ts_model.specs.States.{lies_in, wrt_in}
+use Rattle.ts_model.specs.States.{meets, wrt_in}
 use Rattle.ts_reader.proofs.Collected.{filter-filter_map-more}
-use Rattle.ts_reader.proofs.steps.committed_to.Goals as goal
+use Rattle.ts_reader.proofs.listing.committed_near.Goals as goal
 
 pub loop-name-preserved : goal.loop-name-preserved
 loop-name-preserved c =
     record {
       is =
           c.in_ok-add_committed.ensures.is
-          ∙ ap (λ fs. fs ++ filter (lies_in 0 c.args.to) (option_to_list (wrt_in (get_or c.args.names.now c.loop-name.name-index Domain)))) c.loop-name.invariant.is
-          ∙ sym (filter-filter_map-more wrt_in (lies_in 0 c.args.to) c.args.names.now c.loop-name.name-index Domain c.loop-name-test.true);
+          ∙ ap (λ fs. fs ++ filter (meets c.args.from c.args.to) (option_to_list (wrt_in (get_or c.args.names.now c.loop-name.name-index Domain)))) c.loop-name.invariant.is
+          ∙ sym (filter-filter_map-more wrt_in (meets c.args.from c.args.to) c.args.names.now c.loop-name.name-index Domain c.loop-name-test.true);
       spelled = c.in_ok-add_committed.ensures.spelled;
     }

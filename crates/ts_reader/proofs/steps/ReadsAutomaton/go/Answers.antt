@@ -1,0 +1,14 @@
+-- A further schema is one call less.
+use Rattle.std.proofs.Common.{◌≢◌, ◌<◌, None, length, sym, subst}
+use Rattle.std.proofs.lemmas.Result.{IfOk-weaker}
+use Rattle.ts_model.specs.States.{asks, get_schema}
+use Rattle.ts_reader.specs.Reading.{reads_left}
+use Rattle.ts_reader.proofs.Collected.{within_asked}
+use Rattle.ts_reader.proofs.steps.ReadsAutomaton.go.Goals as goal
+
+pub returns-in-GetsSchemas-clause-fewer : goal.returns-in-GetsSchemas-clause-fewer
+returns-in-GetsSchemas-clause-fewer g c =
+    let at = c.in-GetsSchemas in
+    IfOk-weaker c.after_further.result _ _ (λ next fewer.
+    subst (λ s. asks g.P.Pieces.forms c.args.job.now s ≢ None → reads_left g.P.Pieces.left next < reads_left g.P.Pieces.left s) (sym at.is)
+    (λ asked. fewer (within_asked get_schema at.keys (length at.schemas) asked))) c.after_further.ensures.fewer

@@ -1,0 +1,50 @@
+-- Fetches of fragments: where one step of a fetch leads.
+use Rattle.std.specs.Prelude.{ℕ, ◌<◌, List, Option, Some, None, Result, Ok, Err, ⊤}
+use Rattle.ts_base.specs.declared.keys.FragKey.{FragKey}
+use Rattle.ts_base.specs.declared.heads.Version.{Version}
+use Rattle.ts_base.specs.declared.names.Name.TheVariants as name
+use Rattle.ts_store.specs.Calls.{IsSpelledCall}
+use Rattle.ts_store.specs.declared.call.Reply.TheVariants as reply
+use Rattle.ts_schema.specs.declared.schemas.Schema.{Schema}
+use Rattle.ts_model.specs.declared.answers.Outcome.TheVariants as outcome
+use Rattle.ts_model.specs.declared.answers.Refusal.TheVariants as refusal
+use Rattle.ts_model.specs.declared.states.Opened.{Opened}
+use Rattle.ts_model.specs.declared.states.Reading.{Reading}
+use Rattle.ts_model.specs.declared.states.State.{State}
+use Rattle.ts_model.specs.declared.states.State.TheVariants.{Fetches, Over}
+use Rattle.ts_model.specs.Forms.{Stepped, Forms, Asks, Takes, Breaks}
+use Rattle.ts_model.specs.States.{want_of}
+use Rattle.ts_reader.specs.declared.fetching.Led.{Led}
+use Rattle.ts_reader.specs.declared.fetching.Led.TheVariants as led
+
+-- where a step of a fetch of a fragment leads
+abbrev pub led_by : {F : Type 0} → FragKey → Stepped F → Led F
+led_by frag (Asks f c) = led.Asks f c
+led_by frag (Takes vs) = led.Takes vs
+led_by frag (Breaks part at) = led.Ends (outcome.Refused (refusal.Damaged (name.Part frag part) at))
+
+-- where the beginning of a fetch leads
+abbrev pub led_first : {F : Type 0} → Forms F → Reading → FragKey → Result F ℕ → Led F
+led_first forms r frag (Ok f) = led_by frag (forms.steps f reply.Start)
+led_first forms r frag (Err at) = led.Ends (outcome.Refused (refusal.Damaged (name.Part frag (forms.head_part r.frame)) at))
+
+-- where the beginning of a fetch leads that is in a schema, if that is known
+abbrev pub led_in : {F : Type 0} → Forms F → Reading → Opened → Option Schema → Led F
+led_in forms r o None = led.Ends outcome.OutOfMemory
+led_in forms r o (Some s) = led_first forms r o.frag (forms.opens r.frame s o.frag o.object (want_of r s.attrs))
+
+-- the state of a read that was led so: it waits for a call, goes on with the versions, or is over
+abbrev pub state_led : {F : Type 0} → Reading → List Opened → List Schema → ℕ → FragKey → List Version → (List Version → State F) → Led F → State F
+state_led r opened schemas next frag got on (led.Asks f c) = Fetches r opened schemas next frag got f c
+state_led r opened schemas next frag got on (led.Takes vs) = on vs
+state_led r opened schemas next frag got on (led.Ends end) = Over end
+
+-- a call that is asked for has a spelling
+abbrev pub AsksSpelled : {F : Type 0} → Led F → Type 0
+AsksSpelled (led.Asks f c) = IsSpelledCall c
+AsksSpelled _ = ⊤
+
+-- a fetch that asks for a call has fewer left than this
+abbrev pub HasFewer : {F : Type 0} → (F → ℕ) → ℕ → Led F → Type 0
+HasFewer left most (led.Asks f c) = left f < most
+HasFewer left most _ = ⊤

@@ -1,0 +1,25 @@
+-- Trees by coordinates and by keys, seen as finite maps.
+use Rattle.std.specs.Prelude.{ℤ, List, cond, filter, not, map as list_map}
+use Rattle.std.specs.BTreeMap.{BTreeMap}
+use Rattle.std.specs.FinMap as map
+use Rattle.ts_base.specs.declared.keys.Key.{Key}
+use Rattle.ts_base.specs.declared.heads.Version.{Version}
+use Rattle.ts_base.specs.Keys.{key_cmp, key_eq}
+use Rattle.ts_model.specs.declared.states.Opened.{Opened}
+use Rattle.ts_model.specs.Pieces.{Newest}
+
+-- the versions of a tree by their coordinates
+abbrev pub newest_in : BTreeMap (List ℤ) Version → Newest
+newest_in tree = map.from_entries tree.entries
+
+-- the keys of a tree
+abbrev pub keys_in : BTreeMap Key Key → map.FinMap key_cmp Key
+keys_in tree = map.from_entries tree.entries
+
+-- the keys of the schemas that the heads name beside one
+abbrev pub keys_of_others : Key → List Opened → map.FinMap key_cmp Key
+keys_of_others there opened = map.from_entries (list_map (λ o. (o.head.schema, o.head.schema)) (filter (λ o. not (key_eq o.head.schema there)) opened))
+
+-- with a key more, unless it is the one
+abbrev pub with_other : Key → Key → map.FinMap key_cmp Key → map.FinMap key_cmp Key
+with_other there key m = cond (not (key_eq key there)) (map.insert m key key) m

@@ -1,0 +1,234 @@
+//! Fetching: one fragment after the other.
+ghost use Rattle.std.specs.Prelude.{◌≡◌, ◌≤◌, ◌<◌, ◌-◌, ◌+◌, ◌^◌, ◌++◌, suc, drop, length, IfOk};
+ghost use Rattle.ts_base.specs.Names.{IsSpelledFrag};
+ghost use Rattle.ts_store.specs.Calls.{IsSpelledCall};
+ghost use Rattle.ts_model.specs.States.{after_fetched, fetch_leads, fetching, known_schema};
+ghost use Rattle.ts_reader.specs.Reading.{AreRising, AreSpelled, IsFetching, IsReadState, fetches_left, reads_left};
+ghost use Rattle.ts_reader.specs.Fetching.{AsksSpelled, HasFewer, led_by, led_in};
+
+use crate::answers::answer_of;
+use crate::ends::ended;
+use crate::shown::{known_schema, want_of};
+use std::alloc::Global;
+use ts_actor::{Fetched, Pieces};
+use ts_base::{Duplicate, FragKey, Name, OutOfMemory, VersionList};
+use ts_model::{Opened, OpenedList, Outcome, Reading, Refusal, State};
+use ts_schema::SchemaList;
+use ts_store::{Call, Reply};
+use ts_wire::ReadFault;
+
+/// What a read has once it fetches.
+#[derive(Drop)]
+pub(crate) struct Ready {
+    /// What it reads.
+    pub reading: Reading,
+    /// The fragments.
+    pub opened: OpenedList,
+    /// The further schemas that it knows.
+    pub schemas: SchemaList,
+}
+
+/// How far a fetch has come, as its state has it.
+#[derive(Drop)]
+pub(crate) struct Way<F> {
+    /// The place of the fragment.
+    pub next: u64,
+    /// The fragment.
+    pub frag: FragKey,
+    /// The versions in the fragments before it, in order.
+    pub got: VersionList,
+    /// The fetch.
+    pub fetch: F,
+}
+
+/// Where a step of a fetch leads.
+#[derive(Drop)]
+pub(crate) enum Led<F> {
+    /// It asks for this call, and waits for its reply.
+    Asks(F, Call),
+    /// These are all versions that are wanted of the fragment.
+    Takes(VersionList),
+    /// The read ends.
+    Ends(Outcome),
+}
+
+/// A read fetches the fragments from a place on, after the versions before; after the last it
+/// answers.
+pub(crate) fn fetch_from<P: Pieces>(
+    alloc: Global,
+    ready: Ready,
+    next: u64,
+    got: VersionList,
+) -> Result<State<P::Fetch>, OutOfMemory>
+    requires spelled { AreSpelled ready.opened }
+    requires rise { AreRising ready.schemas }
+    requires within { next ≤ length ready.opened }
+    ensures is { IfOk result (λ state. state ≡ fetching P.forms ready.reading ready.opened ready.schemas next (drop next ready.opened) got) }
+    ensures may { IfOk result IsReadState }
+    ensures bound { length ready.opened < 2 ^ 64 }
+    ensures fewer { IfOk result (λ state. reads_left P.left state ≤ fetches_left (length ready.opened - next)) }
+{
+    let mut got = got;
+    let count = ready.opened.len();
+    for place in next..count {
+        let opened = ready.opened.at(place);
+        let frag = opened.frag;
+        match start::<P>(alloc, &ready.reading, &ready.schemas, opened)? {
+            Led::Asks(fetch, asked) => {
+                let way = Way {
+                    next: place,
+                    frag,
+                    got,
+                    fetch,
+                };
+                return Ok(fetches(ready, way, asked));
+            }
+            Led::Takes(versions) => got = joined(got, versions)?,
+            Led::Ends(end) => return Ok(State::Over(end)),
+        }
+    }
+    let answer = answer_of(alloc, &ready.reading, &ready.schemas, got)?;
+    Ok(State::Over(Outcome::Read(answer)))
+}
+
+// A read waits for the reply to a call of a fetch.
+fn fetches<F>(ready: Ready, way: Way<F>, asked: Call) -> State<F>
+    ensures { result ≡ State.Fetches ready.reading ready.opened ready.schemas way.next way.frag way.got way.fetch asked }
+{
+    let Ready {
+        reading,
+        opened,
+        schemas,
+    } = ready;
+    let Way {
+        next,
+        frag,
+        got,
+        fetch,
+    } = way;
+    State::Fetches {
+        reading,
+        opened,
+        schemas,
+        next,
+        frag,
+        got,
+        fetch,
+        asked,
+    }
+}
+
+// Begins to fetch a fragment.
+fn start<P: Pieces>(
+    alloc: Global,
+    reading: &Reading,
+    schemas: &SchemaList,
+    opened: &Opened,
+) -> Result<Led<P::Fetch>, OutOfMemory>
+    requires frag { IsSpelledFrag opened.now.frag }
+    requires rise { AreRising schemas.now }
+    ensures is { IfOk result (λ led. led ≡ led_in P.forms reading.now opened.now (known_schema reading.now schemas.now opened.now.head.schema)) }
+    ensures few { IfOk result (HasFewer P.left (2 ^ 128)) }
+    ensures spelled { IfOk result AsksSpelled }
+{
+    let Some(schema) = known_schema(reading, schemas, opened.head.schema) else {
+        return Ok(Led::Ends(Outcome::OutOfMemory));
+    };
+    let want = want_of(alloc, reading, &schema.attrs)?;
+    let object = opened.object.copy(alloc)?;
+    match P::fetch(alloc, &reading.frame, schema, opened.frag, object, &want) {
+        Ok(fetch) => go_on::<P>(alloc, opened.frag, fetch, Reply::Start),
+        Err(ReadFault::Damaged(fault)) => {
+            let part = P::head_part(&reading.frame);
+            let name = Name::Part(opened.frag, part);
+            Ok(Led::Ends(Outcome::Refused(Refusal::Damaged { name, at: fault.at })))
+        }
+        Err(ReadFault::OutOfMemory) => Err(OutOfMemory),
+    }
+}
+
+// Goes on with the fetch of a fragment.
+fn go_on<P: Pieces>(
+    alloc: Global,
+    frag: FragKey,
+    fetch: P::Fetch,
+    reply: Reply,
+) -> Result<Led<P::Fetch>, OutOfMemory>
+    ensures is { IfOk result (λ led. led ≡ led_by frag (P.forms.steps fetch reply)) }
+    ensures fewer { IfOk result (HasFewer P.left (P.left fetch)) }
+    ensures spelled { IfOk result AsksSpelled }
+{
+    let mut fetch = fetch;
+    match P::next(alloc, &mut fetch, reply) {
+        Fetched::Ask(call) => Ok(Led::Asks(fetch, call)),
+        Fetched::Got(versions) => Ok(Led::Takes(versions)),
+        Fetched::Damaged { part, at } => {
+            let name = Name::Part(frag, part);
+            Ok(Led::Ends(Outcome::Refused(Refusal::Damaged { name, at })))
+        }
+        Fetched::OutOfMemory => Err(OutOfMemory),
+    }
+}
+
+// The versions got so far, and after them some more.
+fn joined(got: VersionList, more: VersionList) -> Result<VersionList, OutOfMemory>
+    ensures { IfOk result (λ all. all ≡ got ++ more) }
+{
+    let mut all = got.into_vec();
+    all.append(&mut more.into_vec())?;
+    Ok(VersionList::from_vec(all))
+}
+
+/// Where the reply to a fetch's call leads.
+pub(crate) fn after_fetched<P: Pieces>(
+    alloc: Global,
+    ready: Ready,
+    way: Way<P::Fetch>,
+    asked: Call,
+    reply: Reply,
+) -> Result<State<P::Fetch>, OutOfMemory>
+    requires { IsFetching ready.opened ready.schemas way.next }
+    ensures is { IfOk result (λ next. next ≡ after_fetched P.forms ready.reading ready.opened ready.schemas way.next way.frag way.got way.fetch asked reply) }
+    ensures may { IfOk result IsReadState }
+    ensures fewer { IfOk result (λ next. reads_left P.left next < fetches_left (length ready.opened - suc way.next) + suc (P.left way.fetch)) }
+{
+    match reply {
+        Reply::Bytes(bytes) => after_told::<P>(alloc, ready, way, Reply::Bytes(bytes)),
+        Reply::Length(count) => after_told::<P>(alloc, ready, way, Reply::Length(count)),
+        other => Ok(ended(&asked, &other)),
+    }
+}
+
+// Where bytes or a length lead a fetch.
+fn after_told<P: Pieces>(
+    alloc: Global,
+    ready: Ready,
+    way: Way<P::Fetch>,
+    reply: Reply,
+) -> Result<State<P::Fetch>, OutOfMemory>
+    requires { IsFetching ready.opened ready.schemas way.next }
+    ensures is { IfOk result (λ next. next ≡ fetch_leads ready.reading ready.opened ready.schemas way.next way.frag way.got (λ vs. fetching P.forms ready.reading ready.opened ready.schemas (suc way.next) (drop (suc way.next) ready.opened) (way.got ++ vs)) (P.forms.steps way.fetch reply)) }
+    ensures may { IfOk result IsReadState }
+    ensures fewer { IfOk result (λ next. reads_left P.left next < fetches_left (length ready.opened - suc way.next) + suc (P.left way.fetch)) }
+{
+    let Way {
+        next,
+        frag,
+        got,
+        fetch,
+    } = way;
+    let _count = ready.opened.len();
+    match go_on::<P>(alloc, frag, fetch, reply)? {
+        Led::Asks(fetch, asked) => {
+            let way = Way {
+                next,
+                frag,
+                got,
+                fetch,
+            };
+            Ok(fetches(ready, way, asked))
+        }
+        Led::Takes(versions) => fetch_from::<P>(alloc, ready, next + 1, joined(got, versions)?),
+        Led::Ends(end) => Ok(State::Over(end)),
+    }
+}
