@@ -4,10 +4,10 @@ use Rattle.std.specs.Prelude.{Result, Ok, Err, OnOk, OnErr}
 use Rattle.ts_base.specs.Held.{Held}
 use Rattle.ts_store.specs.declared.fate.Fate.{Fate}
 use Rattle.ts_store.specs.Journals.{held_after}
-use Rattle.ts_model.specs.Histories.{history_of}
+use Rattle.ts_model.specs.Forms.{Forms, Spelled}
 use Rattle.ts_model.specs.Told.{Told, IsReplied, Replied, after_told, held_told}
 use Rattle.ts_model.proofs.Traces.{held_told-append}
-use Rattle.ts_model.proofs.Journals.{journal_held, journal_history}
+use Rattle.ts_model.proofs.Journals.{journal_held}
 use Rattle.ts_world.specs.declared.events.Event.{Event}
 use Rattle.ts_world.specs.declared.events.Event.TheVariants.{Spawn, Step, Stop, Restart}
 use Rattle.ts_world.specs.declared.events.WorldFault.{WorldFault}
@@ -18,18 +18,17 @@ replied-push : (m : Held) (told : List Told) (e : Told) → Replied m told → I
 replied-push m [] e r q = (q, tt)
 replied-push m (d ∷ told) e r q = (r.0, replied-push (after_told m d) told e r.1 q)
 
--- the calls tell the objects and the history, and so does the journal
-pub began_by : (m : Held) (w : WorldView) → IsSound w → Replied m w.told → w.held ≡ held_told m w.told → BeganWith m w
-began_by m w sound replied held = record {
+-- the calls tell the objects, and so does the journal
+pub began_by : {F : Type 0} (forms : Forms F) (spelled : Spelled) (m : Held) (w : WorldView) → IsSound forms spelled w → Replied m w.told → w.held ≡ held_told m w.told → BeganWith m w
+began_by forms spelled m w sound replied held = record {
   replied = replied;
   held_told_is = held;
   held_is = held ∙ journal_held lane_of m w.told ∙ ap (λ es. held_after m es) (sym sound.entries);
-  history_is = journal_history lane_of w.jobs w.past m w.told replied ∙ ap (λ es. history_of w.jobs w.past m es) (sym sound.entries);
 }
 
 -- one call more
-after_call : (number : ℕ) (fate : Fate) (may : Standing → Type 0) (m : Held) (w later : WorldView) → Called number fate may w later → BeganWith m w → Replied m later.told × (later.held ≡ held_told m later.told)
-after_call number fate may m w later called began =
+after_call : {F : Type 0} (forms : Forms F) (number : ℕ) (fate : Fate) (may : Standing → Type 0) (m : Held) (w later : WorldView) → Called forms number fate may w later → BeganWith m w → Replied m later.told × (later.held ≡ held_told m later.told)
+after_call forms number fate may m w later called began =
     let P : WorldView → Type 0 = λ v. Replied m v.told × (v.held ≡ held_told m v.told) in
     let e : Told = record { job = Some number; call = called.call; fate = fate; reply = called.reply; changed = called.changed } in
     let Q : Held → Type 0 = λ h. IsReplied h e in
@@ -37,19 +36,19 @@ after_call number fate may m w later called began =
     (replied-push m w.told e began.replied (subst Q began.held_told_is called.replied), ap (λ h. after_told h e) began.held_told_is ∙ sym (held_told-append m w.told (e ∷ [])))
 
 -- what a world began with stays
-pub began_after : (e : Event) (m : Held) (w later : WorldView) → Happens e w later → IsSound later → BeganWith m w → BeganWith m later
-began_after (Spawn command at id) m w later spawned sound began =
+pub began_after : {F : Type 0} (forms : Forms F) (spelled : Spelled) (e : Event) (m : Held) (w later : WorldView) → Happens forms e w later → IsSound forms spelled later → BeganWith m w → BeganWith m later
+began_after forms spelled (Spawn command at id) m w later spawned sound began =
     let P : WorldView → Type 0 = λ v. Replied m v.told × (v.held ≡ held_told m v.told) in
     let both = subst P (sym spawned.is) (began.replied, began.held_told_is) in
-    began_by m later sound both.0 both.1
-began_after (Step number fate) m w later called sound began = let both = after_call number fate _ m w later called began in began_by m later sound both.0 both.1
-began_after (Stop number fate) m w later called sound began = let both = after_call number fate _ m w later called began in began_by m later sound both.0 both.1
-began_after Restart m w later is sound began =
+    began_by forms spelled m later sound both.0 both.1
+began_after forms spelled (Step number fate) m w later called sound began = let both = after_call forms number fate _ m w later called began in began_by forms spelled m later sound both.0 both.1
+began_after forms spelled (Stop number fate) m w later called sound began = let both = after_call forms number fate _ m w later called began in began_by forms spelled m later sound both.0 both.1
+began_after forms spelled Restart m w later is sound began =
     let P : WorldView → Type 0 = λ v. Replied m v.told × (v.held ≡ held_told m v.told) in
     let both = subst P (sym is) (began.replied, began.held_told_is) in
-    began_by m later sound both.0 both.1
+    began_by forms spelled m later sound both.0 both.1
 
 -- the same where the event may have been refused
-pub began_either : (e : Event) (m : Held) (w later : WorldView) (r : Result (Unit {0}) WorldFault) → OnOk r (Happens e w later) → OnErr r (later ≡ w) → IsSound later → BeganWith m w → BeganWith m later
-began_either e m w later (Ok done) happens same sound began = began_after e m w later happens sound began
-began_either e m w later (Err fault) happens same sound began = let P : WorldView → Type 0 = λ v. BeganWith m v in subst P (sym same) began
+pub began_either : {F : Type 0} (forms : Forms F) (spelled : Spelled) (e : Event) (m : Held) (w later : WorldView) (r : Result (Unit {0}) WorldFault) → OnOk r (Happens forms e w later) → OnErr r (later ≡ w) → IsSound forms spelled later → BeganWith m w → BeganWith m later
+began_either forms spelled e m w later (Ok done) happens same sound began = began_after forms spelled e m w later happens sound began
+began_either forms spelled e m w later (Err fault) happens same sound began = let P : WorldView → Type 0 = λ v. BeganWith m v in subst P (sym same) began

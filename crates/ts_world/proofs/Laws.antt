@@ -16,22 +16,23 @@ use Rattle.ts_model.specs.declared.commands.Job.{Job}
 use Rattle.ts_model.specs.Deeds.{History}
 use Rattle.ts_model.specs.Jobs.{IsFit}
 use Rattle.ts_model.specs.States.{Exchange, asks, begun, state_from, state_of}
+use Rattle.ts_model.specs.Stands.{Stands}
 use Rattle.ts_model.specs.Fresh.{IsNewId}
-use Rattle.ts_model.specs.Told.{Told, is_by, trace_of, entry_of, entries_of, after_told, IsReplied}
+use Rattle.ts_model.specs.Told.{Told, IsShortCall, is_by, trace_of, entry_of, entries_of, after_told, IsReplied}
 use Rattle.ts_model.specs.Driven.{AskedFrom}
 use Rattle.ts_model.specs.Kept.{IsOfJobs, Kept}
 use Rattle.ts_model.proofs.ListLemmas.{Contains-nil, slice_get_push}
 use Rattle.ts_model.proofs.Traces.{trace_of-own, trace_of-other}
 use Rattle.ts_model.proofs.Asked.{asked-push}
-use Rattle.ts_model.proofs.PlainPieces.{plain_laws}
+use Rattle.ts_model.specs.Forms.{Forms, FormsLaws, Spelled, Tracking}
 use Rattle.ts_model.proofs.KeptLaws.{step_kept}
-use Rattle.ts_model.proofs.Spawns.{spawn_kept}
+use Rattle.ts_model.proofs.Spawns.{spawn_kept, starts_kept}
 use Rattle.ts_actor.specs.Traces.{asking}
 use Rattle.ts_actor.proofs.MachineLaws.{asks_next}
-use Rattle.ts_writer.specs.Writing.{IsWrite, IsWriteState}
-use Rattle.ts_reader.specs.Reading.{IsRead, IsReadState}
+use Rattle.ts_writer.specs.Writing.{IsCreateJob, IsCreateState, IsEvolveJob, IsWriteJob, IsLaterState}
+use Rattle.ts_reader.specs.Reading.{IsReadJob, MayRead}
 use Rattle.ts_world.specs.declared.actors.AnyActor.{AnyActor}
-use Rattle.ts_world.specs.declared.actors.AnyActor.TheVariants.{Writer, Reader}
+use Rattle.ts_world.specs.declared.actors.AnyActor.TheVariants.{Creator, Evolver, Writer, Reader}
 use Rattle.ts_world.specs.declared.slots.Running.{Running}
 use Rattle.ts_world.specs.declared.slots.Slot.{Slot}
 use Rattle.ts_world.specs.declared.slots.Slot.TheVariants as slot
@@ -41,36 +42,38 @@ use Rattle.ts_world.specs.Slots.{IsRunning, IsSlot, IsActor, IsKept, dropped_slo
 use Rattle.ts_world.proofs.Lists.{get_changed, get_unchanged, item_at}
 
 -- the call that an actor waits for is the one that its job asks where the calls before it have led
-pub asks_it : (a : AnyActor) (past : List Exchange) (c : Call) → Follows a (asking past c) → asks (job_of a) (state_from (job_of a) (begun (job_of a).command) past) ≡ Some c
-asks_it (Writer w) past c follows = asks_next IsWrite IsWriteState w.machine.job w.machine.phase past c follows
-asks_it (Reader r) past c follows = asks_next IsRead IsReadState r.machine.job r.machine.phase past c follows
+pub asks_it : {P F : Type 0} (forms : Forms F) (a : AnyActor P F) (past : List Exchange) (c : Call) → Follows forms a (asking past c) → asks forms (job_of a) (state_from forms (job_of a) (begun (job_of a).command) past) ≡ Some c
+asks_it forms (Creator a) past c follows = asks_next forms IsCreateJob IsCreateState a.machine.job a.machine.phase past c follows
+asks_it forms (Evolver a) past c follows = asks_next forms IsEvolveJob (λ job s. IsLaterState s) a.machine.job a.machine.phase past c follows
+asks_it forms (Writer a) past c follows = asks_next forms IsWriteJob (λ job s. IsLaterState s) a.machine.job a.machine.phase past c follows
+asks_it forms (Reader a) past c follows = asks_next forms IsReadJob MayRead a.machine.job a.machine.phase past c follows
 
-module _ (past : History) (jobs : List Job) (told : List Told) (held : Held) (journal : List Entry) (slots : List Slot) (is : IsKept past jobs told held journal slots) where
+module _ {P F : Type 0} (forms : Forms F) (spelled : Spelled) (tracks : Tracking F) (past : History) (jobs : List Job) (told : List Told) (held : Held) (journal : List Entry) (slots : List (Slot P F)) (is : IsKept forms spelled tracks past jobs told held journal slots) where
   -- the job of an actor
-  pub job_at : (number : ℕ) (s : Slot) → slice_get slots number ≡ Some s → (job : Job) × (slice_get jobs number ≡ Some job)
+  pub job_at : (number : ℕ) (s : Slot P F) → slice_get slots number ≡ Some s → (job : Job) × (slice_get jobs number ≡ Some job)
   job_at number s at = item_at slots jobs number is.one_each (slice_get_within slots number s at)
 
   -- the actor that runs
-  pub running_at : (number : ℕ) (r : Running) (job : Job) → slice_get slots number ≡ Some (slot.Runs r) → slice_get jobs number ≡ Some job → IsRunning job (trace_of number told) r
+  pub running_at : (number : ℕ) (r : Running P F) (job : Job) → slice_get slots number ≡ Some (slot.Runs r) → slice_get jobs number ≡ Some job → IsRunning forms job (trace_of number told) r
   running_at number r job at of = (is.actors number job (slot.Runs r) of at).slot_is
 
-  pub running_asks : (number : ℕ) (r : Running) (job : Job) → slice_get slots number ≡ Some (slot.Runs r) → slice_get jobs number ≡ Some job → asks job (state_of job (trace_of number told)) ≡ Some r.asked
+  pub running_asks : (number : ℕ) (r : Running P F) (job : Job) → slice_get slots number ≡ Some (slot.Runs r) → slice_get jobs number ≡ Some job → asks forms job (state_of forms job (trace_of number told)) ≡ Some r.asked
   running_asks number r job at of =
       let runs = running_at number r job at of in
-      subst (λ (j : Job). asks j (state_of j (trace_of number told)) ≡ Some r.asked) runs.task (asks_it r.actor (trace_of number told) r.asked runs.follows)
+      subst (λ (j : Job). asks forms j (state_of forms j (trace_of number told)) ≡ Some r.asked) runs.task (asks_it forms r.actor (trace_of number told) r.asked runs.follows)
 
   -- ---- one call
 
-  module _ (number : ℕ) (r : Running) (job : Job) (at : slice_get slots number ≡ Some (slot.Runs r)) (of : slice_get jobs number ≡ Some job)
-      (e : Told) (own : e.job ≡ Some number) (calls : e.call ≡ r.asked) (memory : is_no_memory e.reply ≡ false) (replied : IsReplied held e) where
+  module _ (number : ℕ) (r : Running P F) (job : Job) (at : slice_get slots number ≡ Some (slot.Runs r)) (of : slice_get jobs number ≡ Some job)
+      (e : Told) (own : e.job ≡ Some number) (calls : e.call ≡ r.asked) (memory : is_no_memory e.reply ≡ false) (replied : IsReplied held e) (short : IsShortCall e.call) where
     abbrev last : Exchange
     last = record { call = e.call; reply = e.reply }
 
-    asked_now : asks job (state_of job (trace_of number told)) ≡ Some e.call
+    asked_now : asks forms job (state_of forms job (trace_of number told)) ≡ Some e.call
     asked_now = running_asks number r job at of ∙ ap Some (sym calls)
 
-    kept_now : Kept past jobs [] (told ++ e ∷ []) (after_told held e)
-    kept_now = step_kept plain_laws past jobs [] told held is.kept e replied (record { number = number; job = job; own = own; is_job = of; alive = Contains-nil number; asked = asked_now })
+    kept_now : FormsLaws forms spelled tracks → Kept forms spelled tracks past jobs [] (told ++ e ∷ []) (after_told held e)
+    kept_now laws = step_kept forms spelled tracks laws past jobs [] told held e is.kept (record { number = number; job = job; own = own; is_job = of; alive = Contains-nil number; asked = asked_now; short = short }) replied
 
     entered : entries_of lane_of (told ++ e ∷ []) ≡ entries_of lane_of told ++ entry number e.call e.fate ∷ []
     entered =
@@ -80,36 +83,36 @@ module _ (past : History) (jobs : List Job) (told : List Told) (held : Held) (jo
         one_entry : (b : Bool) (j : Option ℕ) → b ≡ false → j ≡ Some number → cond b None (Some (record { lane = lane_of j; call = e.call; fate = e.fate })) ≡ Some (entry number e.call e.fate)
         one_entry b j found by = rw (found, by) refl
 
-    own_actor : (s : Slot) → IsSlot job (trace_of number told ++ last ∷ []) s → IsActor (told ++ e ∷ []) number job s
+    own_actor : (s : Slot P F) → IsSlot forms job (trace_of number told ++ last ∷ []) s → IsActor forms (told ++ e ∷ []) number job s
     own_actor s slot_is =
         let before = is.actors number job (slot.Runs r) of at in
         let trace = trace_of-own number told e own in
         record {
           free = before.free;
-          asked = subst (λ (t : List Exchange). AskedFrom job (begun job.command) t) (sym trace) (asked-push job (begun job.command) (trace_of number told) last before.asked asked_now);
-          slot_is = subst (λ (t : List Exchange). IsSlot job t s) (sym trace) slot_is;
+          asked = subst (λ (t : List Exchange). AskedFrom forms job (begun job.command) t) (sym trace) (asked-push forms job (begun job.command) (trace_of number told) last before.asked asked_now);
+          slot_is = subst (λ (t : List Exchange). IsSlot forms job t s) (sym trace) slot_is;
         }
 
-    other_actor : (k : ℕ) (j : Job) (s : Slot) → (number ≡ k → ⊥) → IsActor told k j s → IsActor (told ++ e ∷ []) k j s
+    other_actor : (k : ℕ) (j : Job) (s : Slot P F) → (number ≡ k → ⊥) → IsActor forms told k j s → IsActor forms (told ++ e ∷ []) k j s
     other_actor k j s apart before =
-        let trace = trace_of-other k number told e own apart in
+        let trace = trace_of-other k told e (λ mine. apart (same_Some number k (sym own ∙ mine))) in
         record {
           free = before.free;
-          asked = subst (λ (t : List Exchange). AskedFrom j (begun j.command) t) (sym trace) before.asked;
-          slot_is = subst (λ (t : List Exchange). IsSlot j t s) (sym trace) before.slot_is;
+          asked = subst (λ (t : List Exchange). AskedFrom forms j (begun j.command) t) (sym trace) before.asked;
+          slot_is = subst (λ (t : List Exchange). IsSlot forms j t s) (sym trace) before.slot_is;
         }
 
     -- a running actor that makes its call leaves a world that keeps the same
-    pub called_kept : (s : Slot) → IsSlot job (trace_of number told ++ last ∷ []) s → IsKept past jobs (told ++ e ∷ []) (after_told held e) (journal ++ entry number e.call e.fate ∷ []) (set slots number s)
-    called_kept s slot_is = record {
-      kept = kept_now;
+    pub called_kept : FormsLaws forms spelled tracks → (s : Slot P F) → IsSlot forms job (trace_of number told ++ last ∷ []) s → IsKept forms spelled tracks past jobs (told ++ e ∷ []) (after_told held e) (journal ++ entry number e.call e.fate ∷ []) (set slots number s)
+    called_kept laws s slot_is = record {
+      kept = kept_now laws;
       entries = ap (λ es. es ++ entry number e.call e.fate ∷ []) is.entries ∙ sym entered;
       one_each = length-set slots number s ∙ is.one_each;
       actors = λ k j t j_at t_at. elim (cases_eq number k) [
         | inl same ↦
             let same_job : job ≡ j = same_Some job j (sym of ∙ ap (slice_get jobs) same ∙ j_at) in
             let same_slot : s ≡ t = same_Some s t (sym (get_changed slots number s (slice_get_within slots number (slot.Runs r) at)) ∙ ap (slice_get (set slots number s)) same ∙ t_at) in
-            subst (λ n. IsActor (told ++ e ∷ []) n j t) same (subst (λ (i : Job). IsActor (told ++ e ∷ []) number i t) same_job (subst (λ (i : Slot). IsActor (told ++ e ∷ []) number job i) same_slot (own_actor s slot_is)))
+            subst (λ n. IsActor forms (told ++ e ∷ []) n j t) same (subst (λ (i : Job). IsActor forms (told ++ e ∷ []) number i t) same_job (subst (λ (i : Slot P F). IsActor forms (told ++ e ∷ []) number job i) same_slot (own_actor s slot_is)))
         | inr apart ↦ other_actor k j t apart (is.actors k j t j_at (sym (get_unchanged slots number k s apart) ∙ t_at))
       ];
     }
@@ -126,18 +129,18 @@ module _ (past : History) (jobs : List Job) (told : List Told) (held : Held) (jo
       by_none None below = refl
       by_none (Some n) below = ne_eqb n number (λ same. let less = below n refl in omega (arith, less, same, end))
 
-  new_actor : (job j : Job) (s t : Slot) (k : ℕ) → job.stop ≡ Never → IsSlot job [] s → length jobs ≡ k → job ≡ j → s ≡ t → IsActor told k j t
+  new_actor : (job j : Job) (s t : Slot P F) (k : ℕ) → job.stop ≡ Never → IsSlot forms job [] s → length jobs ≡ k → job ≡ j → s ≡ t → IsActor forms told k j t
   new_actor job j s t k free slot_is end same_job same_slot =
       let none = no_calls k told end is.kept.known in
-      subst (λ (i : Job). IsActor told k i t) same_job (subst (λ (i : Slot). IsActor told k job i) same_slot (record {
+      subst (λ (i : Job). IsActor forms told k i t) same_job (subst (λ (i : Slot P F). IsActor forms told k job i) same_slot (record {
         free = free;
-        asked = subst (λ (x : List Exchange). AskedFrom job (begun job.command) x) (sym none) tt;
-        slot_is = subst (λ (x : List Exchange). IsSlot job x s) (sym none) slot_is;
+        asked = subst (λ (x : List Exchange). AskedFrom forms job (begun job.command) x) (sym none) tt;
+        slot_is = subst (λ (x : List Exchange). IsSlot forms job x s) (sym none) slot_is;
       }))
 
-  pub spawned_kept : (job : Job) (s : Slot) → IsNewId held past jobs job.id → IsFit job → job.stop ≡ Never → IsSlot job [] s → IsKept past (jobs ++ job ∷ []) told held journal (slots ++ s ∷ [])
+  pub spawned_kept : (job : Job) (s : Slot P F) → IsNewId held past jobs job.id → IsFit job → job.stop ≡ Never → IsSlot forms job [] s → IsKept forms spelled tracks past (jobs ++ job ∷ []) told held journal (slots ++ s ∷ [])
   spawned_kept job s new fit free slot_is = record {
-    kept = spawn_kept jobs job past [] told held is.kept new fit;
+    kept = spawn_kept forms spelled tracks past jobs [] told held job is.kept fit new;
     entries = is.entries;
     one_each = let a = length_push slots s in let b = length_push jobs job in omega (arith, a, b, is.one_each);
     actors = λ k j t j_at t_at. elim (slice_get_push slots s k t t_at) [
@@ -154,21 +157,30 @@ module _ (past : History) (jobs : List Job) (told : List Told) (held : Held) (jo
 
   -- ---- all running actors dropped
 
-  dropped_is : (job : Job) (trace : List Exchange) (s : Slot) → IsSlot job trace s → IsSlot job trace (dropped_slot s)
+  dropped_is : (job : Job) (trace : List Exchange) (s : Slot P F) → IsSlot forms job trace s → IsSlot forms job trace (dropped_slot s)
   dropped_is job trace (slot.Runs r) slot_is = tt
   dropped_is job trace (slot.Ended end) slot_is = slot_is
   dropped_is job trace slot.Dropped slot_is = slot_is
 
-  after_restart : (k : ℕ) (j : Job) (t : Slot) (o : Option Slot) → slice_get slots k ≡ o → slice_get jobs k ≡ Some j → option_map dropped_slot o ≡ Some t → IsActor told k j t
+  after_restart : (k : ℕ) (j : Job) (t : Slot P F) (o : Option (Slot P F)) → slice_get slots k ≡ o → slice_get jobs k ≡ Some j → option_map dropped_slot o ≡ Some t → IsActor forms told k j t
   after_restart k j t None at j_at now = absurd (none-some t now)
   after_restart k j t (Some s) at j_at now =
       let before = is.actors k j s j_at at in
-      subst (λ (i : Slot). IsActor told k j i) (same_Some (dropped_slot s) t now) (record { free = before.free; asked = before.asked; slot_is = dropped_is j (trace_of k told) s before.slot_is })
+      subst (λ (i : Slot P F). IsActor forms told k j i) (same_Some (dropped_slot s) t now) (record { free = before.free; asked = before.asked; slot_is = dropped_is j (trace_of k told) s before.slot_is })
 
-  pub restarted_kept : IsKept past jobs told held journal (map dropped_slot slots)
+  pub restarted_kept : IsKept forms spelled tracks past jobs told held journal (map dropped_slot slots)
   restarted_kept = record {
     kept = is.kept;
     entries = is.entries;
     one_each = length-map slots dropped_slot ∙ is.one_each;
     actors = λ k j t j_at t_at. after_restart k j t (slice_get slots k) refl j_at (sym (slice_get-map dropped_slot slots k) ∙ t_at);
   }
+
+-- a world to which nothing has happened keeps what a world keeps
+pub first_kept : {P F : Type 0} (forms : Forms F) (spelled : Spelled) (tracks : Tracking F) (past : History) (m : Held) → Stands spelled m past → IsKept {P = P} forms spelled tracks past [] [] m [] []
+first_kept forms spelled tracks past m stands = record {
+  kept = starts_kept forms spelled tracks past m stands;
+  entries = refl;
+  one_each = refl;
+  actors = λ number job s at there. absurd (none-some job at);
+}

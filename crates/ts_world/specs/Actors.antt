@@ -1,24 +1,33 @@
 -- The actor of any command: its job, and the calls that it follows.
 use Rattle.std.specs.Prelude.{ℕ}
 use Rattle.ts_model.specs.declared.commands.Job.{Job}
+use Rattle.ts_model.specs.Forms.{Forms}
 use Rattle.ts_actor.specs.Machines as machine
 use Rattle.ts_actor.specs.Traces.{Trace}
-use Rattle.ts_writer.specs.Writing.{IsWrite, IsWriteState, puts_left}
-use Rattle.ts_reader.specs.Reading.{IsRead, IsReadState, looks_left}
+use Rattle.ts_writer.specs.Creators as creator
+use Rattle.ts_writer.specs.Evolvers as evolver
+use Rattle.ts_writer.specs.Writing.{IsWriteJob, IsLaterState, calls_left as puts_left}
+use Rattle.ts_reader.specs.Readers as reader
 use Rattle.ts_world.specs.declared.actors.AnyActor.{AnyActor}
-use Rattle.ts_world.specs.declared.actors.AnyActor.TheVariants.{Writer, Reader}
+use Rattle.ts_world.specs.declared.actors.AnyActor.TheVariants.{Creator, Evolver, Writer, Reader}
 
 -- the job of an actor
-abbrev pub job_of : AnyActor → Job
-job_of (Writer w) = w.machine.job
-job_of (Reader r) = r.machine.job
+abbrev pub job_of : {P F : Type 0} → AnyActor P F → Job
+job_of (Creator a) = a.machine.job
+job_of (Evolver a) = a.machine.job
+job_of (Writer a) = a.machine.job
+job_of (Reader a) = a.machine.job
 
 -- the actor has asked for the calls of this trace, and they had these replies
-abbrev pub Follows : AnyActor → Trace → Type 0
-Follows (Writer w) t = machine.Follows IsWrite IsWriteState w.machine.job w.machine.phase t
-Follows (Reader r) t = machine.Follows IsRead IsReadState r.machine.job r.machine.phase t
+abbrev pub Follows : {P F : Type 0} → Forms F → AnyActor P F → Trace → Type 0
+Follows forms (Creator a) t = creator.Follows forms a.machine.job a.machine.phase t
+Follows forms (Evolver a) t = evolver.Follows forms a.machine.job a.machine.phase t
+Follows forms (Writer a) t = machine.Follows forms IsWriteJob (λ job s. IsLaterState s) a.machine.job a.machine.phase t
+Follows forms (Reader a) t = reader.Follows forms a.machine.job a.machine.phase t
 
--- more than the calls that an actor still asks for
-abbrev pub calls_left : AnyActor → ℕ
-calls_left (Writer w) = machine.calls_left puts_left w.machine.job w.machine.phase
-calls_left (Reader r) = machine.calls_left looks_left r.machine.job r.machine.phase
+-- more than the calls that an actor still asks for, where a fetch has so many left
+abbrev pub calls_left : {P F : Type 0} → (F → ℕ) → AnyActor P F → ℕ
+calls_left left (Creator a) = creator.calls_left a.machine.job a.machine.phase
+calls_left left (Evolver a) = evolver.calls_left a.machine.job a.machine.phase
+calls_left left (Writer a) = machine.calls_left puts_left a.machine.job a.machine.phase
+calls_left left (Reader a) = reader.calls_left left a.machine.job a.machine.phase

@@ -16,14 +16,15 @@ use Rattle.ts_model.specs.declared.commands.Job.{Job}
 use Rattle.ts_model.specs.declared.answers.Outcome.{Outcome}
 use Rattle.ts_model.specs.declared.answers.Driven.TheVariants.{Done}
 use Rattle.ts_model.specs.Deeds.{History, keys}
-use Rattle.ts_model.specs.Histories.{history_of}
-use Rattle.ts_model.specs.Jobs.{fits, AreApart}
+use Rattle.ts_model.specs.Commands.{fits}
+use Rattle.ts_model.specs.Forms.{Forms, Spelled}
+use Rattle.ts_model.specs.Jobs.{AreApart}
 use Rattle.ts_model.specs.Stands.{Stands}
 use Rattle.ts_model.specs.States.{begun, asks, state_of}
 use Rattle.ts_model.specs.Fresh.{id_in}
 use Rattle.ts_model.specs.Told.{trace_of, entries_of, IsReplied, Replied, after_told, held_told, history_told}
-use Rattle.ts_model.specs.Rows.{IsSegment}
 use Rattle.ts_model.specs.Ends.{IsTrueEnd}
+use Rattle.ts_model.specs.Rows.{IsSegment}
 use Rattle.ts_model.specs.Driven.{AskedFrom, IsDriven}
 use Rattle.ts_world.specs.declared.events.Event.{Event}
 use Rattle.ts_world.specs.declared.events.Event.TheVariants.{Spawn, Step, Stop, Restart}
@@ -34,15 +35,15 @@ use Rattle.ts_world.specs.Views.{Standing, Runs, Ended, Dropped, WorldView, drop
 -- ---- at any time
 
 -- the end of an actor: its job made the calls that it asks and ended by them, they go along the job's row, and what the end tells of the history is true
-pub record EndsTruly (w : WorldView) (number : ℕ) (job : Job) (end : Outcome) : Type 0 where
-  pub driven : IsDriven job (trace_of number w.told) (Done end)
-  pub segment : IsSegment job (trace_of number w.told) (Done end)
+pub record EndsTruly {F : Type 0} (forms : Forms F) (w : WorldView) (number : ℕ) (job : Job) (end : Outcome) : Type 0 where
+  pub driven : IsDriven forms job (trace_of number w.told) (Done end)
+  pub segment : IsSegment forms job (trace_of number w.told) (Done end)
   pub is_true : IsTrueEnd w.jobs w.past w.told number job end
 
 -- what holds of a world at any time
-pub record IsSound (w : WorldView) : Type 0 where
+pub record IsSound {F : Type 0} (forms : Forms F) (spelled : Spelled) (w : WorldView) : Type 0 where
   -- the objects that are held stand for the past and the deeds of the calls
-  pub stands : Stands w.held (history_told w.jobs w.past w.told)
+  pub stands : Stands spelled w.held (history_told w.jobs w.past w.told)
   -- the journal has each call that found memory, in the lane of its actor
   pub entries : w.journal ≡ entries_of lane_of w.told
   -- no two jobs have one identifier
@@ -50,18 +51,17 @@ pub record IsSound (w : WorldView) : Type 0 where
   -- each job has its actor
   pub one_each : length w.actors ≡ length w.jobs
   -- an actor makes the calls that its job asks, whatever became of it
-  pub asked : (number : ℕ) (job : Job) → slice_get w.jobs number ≡ Some job → AskedFrom job (begun job.command) (trace_of number w.told)
+  pub asked : (number : ℕ) (job : Job) → slice_get w.jobs number ≡ Some job → AskedFrom forms job (begun job.command) (trace_of number w.told)
   -- an actor that runs has one more call to make
-  pub runs : (number : ℕ) (job : Job) → slice_get w.jobs number ≡ Some job → slice_get w.actors number ≡ Some Runs → (c : Call) × (asks job (state_of job (trace_of number w.told)) ≡ Some c)
+  pub runs : (number : ℕ) (job : Job) → slice_get w.jobs number ≡ Some job → slice_get w.actors number ≡ Some Runs → (c : Call) × (asks forms job (state_of forms job (trace_of number w.told)) ≡ Some c)
   -- an actor that ended did so by its own calls, and told the truth
-  pub ends : (number : ℕ) (job : Job) (end : Outcome) → slice_get w.jobs number ≡ Some job → slice_get w.actors number ≡ Some (Ended end) → EndsTruly w number job end
+  pub ends : (number : ℕ) (job : Job) (end : Outcome) → slice_get w.jobs number ≡ Some job → slice_get w.actors number ≡ Some (Ended end) → EndsTruly forms w number job end
 
--- the world began with a store that held m: each call was replied to as by a store of one thread, and the objects and the history are those that the journal leaves
+-- the world began with a store that held m: each call was replied to as by a store of one thread, and the objects are those that the journal leaves
 pub record BeganWith (m : Held) (w : WorldView) : Type 0 where
   pub replied : Replied m w.told
   pub held_told_is : w.held ≡ held_told m w.told
   pub held_is : w.held ≡ held_after m w.journal
-  pub history_is : history_told w.jobs w.past w.told ≡ history_of w.jobs w.past m w.journal
 
 -- ---- before an event
 
@@ -73,7 +73,7 @@ job_spawned command at id = record { command = command; at = at; id = id; stop =
 abbrev pub IsTaken : WorldView → ℕ → Type 0
 IsTaken w id = ((number : ℕ) × (job : Job) × (slice_get w.jobs number ≡ Some job) × (job.id ≡ id)) ⊎ ((n : Name) × IsTrue (finite.contains_key w.held n) × (id_in n ≡ Some id))
 
--- a job may come: fewer than 2^32 - 1 came before, its value has 64 bits, and no deed of the past has its identifier, unless an earlier job or a held name carries it too
+-- a job may come: fewer than 2^32 - 1 came before, its command is one that there can be, and no deed of the past has its identifier, unless an earlier job or a held name carries it too
 pub record MaySpawn (w : WorldView) (command : Command) (id : ℕ) : Type 0 where
   pub fewer : length w.jobs < 2 ^ 32 - 1
   pub value : IsTrue (fits command)
@@ -95,12 +95,12 @@ pub record Spawned (job : Job) (w later : WorldView) : Type 0 where
   pub is : later ≡ record w { jobs = w.jobs ++ job ∷ []; actors = w.actors ++ standing ∷ [] }
 
 -- a running actor made the call that its job asks, with this fate: one call more was told and entered in the lane of the actor, and nothing else changed but where this actor stands
-pub record Called (number : ℕ) (fate : Fate) (may : Standing → Type 0) (w later : WorldView) : Type 0 where
+pub record Called {F : Type 0} (forms : Forms F) (number : ℕ) (fate : Fate) (may : Standing → Type 0) (w later : WorldView) : Type 0 where
   pub job : Job
   pub is_job : slice_get w.jobs number ≡ Some job
   pub ran : slice_get w.actors number ≡ Some Runs
   pub call : Call
-  pub asked : asks job (state_of job (trace_of number w.told)) ≡ Some call
+  pub asked : asks forms job (state_of forms job (trace_of number w.told)) ≡ Some call
   pub reply : Reply
   pub memory : is_no_memory reply ≡ false
   pub changed : Bool
@@ -115,11 +115,11 @@ pub record Called (number : ℕ) (fate : Fate) (may : Standing → Type 0) (w la
   }
 
 -- what an event does to a world
-abbrev pub Happens : Event → WorldView → WorldView → Type 0
-Happens (Spawn command at id) w later = Spawned (job_spawned command at id) w later
-Happens (Step number fate) w later = Called number fate (λ s. s ≢ Dropped) w later
-Happens (Stop number fate) w later = Called number fate (λ s. s ≡ Dropped) w later
-Happens Restart w later = later ≡ record w { actors = map dropped w.actors }
+abbrev pub Happens : {F : Type 0} → Forms F → Event → WorldView → WorldView → Type 0
+Happens forms (Spawn command at id) w later = Spawned (job_spawned command at id) w later
+Happens forms (Step number fate) w later = Called forms number fate (λ s. s ≢ Dropped) w later
+Happens forms (Stop number fate) w later = Called forms number fate (λ s. s ≡ Dropped) w later
+Happens forms Restart w later = later ≡ record w { actors = map dropped w.actors }
 
 -- ---- faults
 

@@ -1,5 +1,5 @@
 -- What is kept of the actors of a world, beside what every call keeps.
-use Rattle.std.specs.Prelude.{◌≡◌, ◌≢◌, ℕ, Bool, false, ◌||◌, nat_eq, List, [], ◌∷◌, ◌++◌, Some, Result, Ok, Err, map, length, slice_get, slice_set, ⊤}
+use Rattle.std.specs.Prelude.{◌≡◌, ◌≢◌, ◌<◌, ℕ, Bool, false, ◌||◌, nat_eq, List, [], ◌∷◌, ◌++◌, Some, Result, Ok, Err, map, length, slice_get, slice_set, ⊤}
 use Rattle.std.specs.List.{list_any}
 use Rattle.std.specs.Option.{option_map_or}
 use Rattle.std.specs.FinMap as finite
@@ -16,7 +16,8 @@ use Rattle.ts_store.specs.Memory.{held_in}
 use Rattle.ts_model.specs.declared.commands.Job.{Job}
 use Rattle.ts_model.specs.Deeds.{History}
 use Rattle.ts_model.specs.States.{Exchange, begun}
-use Rattle.ts_model.specs.Told.{Told, trace_of, entries_of, changes}
+use Rattle.ts_model.specs.Told.{Told, IsShortCall, trace_of, entries_of, changes}
+use Rattle.ts_model.specs.Forms.{Forms, Spelled, Tracking}
 use Rattle.ts_model.specs.Fresh.{id_in}
 use Rattle.ts_model.specs.Driven.{AskedFrom, EndsFrom}
 use Rattle.ts_model.specs.Kept.{Kept}
@@ -31,84 +32,84 @@ use Rattle.ts_world.specs.Actors.{job_of, Follows}
 use Rattle.ts_world.specs.Views.{Standing, WorldView, Runs, Ended, Dropped, lane_of}
 
 -- where the actor of a slot stands
-abbrev pub standing_of : Slot → Standing
+abbrev pub standing_of : {P F : Type 0} → Slot P F → Standing
 standing_of (slot.Runs r) = Runs
 standing_of (slot.Ended end) = Ended end
 standing_of slot.Dropped = Dropped
 
-abbrev pub standings : List Slot → List Standing
+abbrev pub standings : {P F : Type 0} → List (Slot P F) → List Standing
 standings slots = map standing_of slots
 
 -- a running actor does its job, and waits for the reply to the call that it asked for after the others
-pub record IsRunning (job : Job) (trace : List Exchange) (r : Running) : Type 0 where
+pub record IsRunning {P F : Type 0} (forms : Forms F) (job : Job) (trace : List Exchange) (r : Running P F) : Type 0 where
   pub task : job_of r.actor ≡ job
-  pub follows : Follows r.actor (asking trace r.asked)
+  pub follows : Follows forms r.actor (asking trace r.asked)
   pub spelled : IsSpelledCall r.asked
 
 -- the slot of an actor with this job, after these calls of its own
-abbrev pub IsSlot : Job → List Exchange → Slot → Type 0
-IsSlot job trace (slot.Runs r) = IsRunning job trace r
-IsSlot job trace (slot.Ended end) = EndsFrom job (begun job.command) trace end
-IsSlot job trace slot.Dropped = ⊤
+abbrev pub IsSlot : {P F : Type 0} → Forms F → Job → List Exchange → Slot P F → Type 0
+IsSlot forms job trace (slot.Runs r) = IsRunning forms job trace r
+IsSlot forms job trace (slot.Ended end) = EndsFrom forms job (begun job.command) trace end
+IsSlot forms job trace slot.Dropped = ⊤
 
 -- what is kept of the actor with a number: its job has no stop of its own, it made the calls that its job asks, and its slot is one after these
-pub record IsActor (told : List Told) (number : ℕ) (job : Job) (s : Slot) : Type 0 where
+pub record IsActor {P F : Type 0} (forms : Forms F) (told : List Told) (number : ℕ) (job : Job) (s : Slot P F) : Type 0 where
   pub free : job.stop ≡ Never
-  pub asked : AskedFrom job (begun job.command) (trace_of number told)
-  pub slot_is : IsSlot job (trace_of number told) s
+  pub asked : AskedFrom forms job (begun job.command) (trace_of number told)
+  pub slot_is : IsSlot forms job (trace_of number told) s
 
 -- what a world keeps: what every call keeps, the journal of the calls, and its actors
-pub record IsKept (past : History) (jobs : List Job) (told : List Told) (held : Held) (journal : List Entry) (slots : List Slot) : Type 0 where
-  pub kept : Kept past jobs [] told held
+pub record IsKept {P F : Type 0} (forms : Forms F) (spelled : Spelled) (tracks : Tracking F) (past : History) (jobs : List Job) (told : List Told) (held : Held) (journal : List Entry) (slots : List (Slot P F)) : Type 0 where
+  pub kept : Kept forms spelled tracks past jobs [] told held
   pub entries : journal ≡ entries_of lane_of told
   pub one_each : length slots ≡ length jobs
-  pub actors : (number : ℕ) (job : Job) (s : Slot) → slice_get jobs number ≡ Some job → slice_get slots number ≡ Some s → IsActor told number job s
+  pub actors : (number : ℕ) (job : Job) (s : Slot P F) → slice_get jobs number ≡ Some job → slice_get slots number ≡ Some s → IsActor forms told number job s
 
 -- the actor of the slot runs, and this reply can come to its call
-pub record IsDue (s : Slot) (reply : Reply) : Type 0 where
-  pub running : Running
+pub record IsDue {P F : Type 0} (forms : Forms F) (s : Slot P F) (reply : Reply) : Type 0 where
+  pub running : Running P F
   pub runs : s ≡ slot.Runs running
   pub trace : List Exchange
-  pub follows : Follows running.actor (asking trace running.asked)
+  pub follows : Follows forms running.actor (asking trace running.asked)
   pub fits : FitsCall running.asked reply
   pub spelled : IsSpelledReply reply
 
 -- what comes of a slot: after any calls that its actor followed and this reply it is the slot of the same job, and not dropped
-pub record IsNextSlot (running : Running) (reply : Reply) (later : Slot) : Type 0 where
-  pub is_slot : (trace : List Exchange) → Follows running.actor (asking trace running.asked) → IsSlot (job_of running.actor) (trace ++ record { call = running.asked; reply = reply } ∷ []) later
+pub record IsNextSlot {P F : Type 0} (forms : Forms F) (running : Running P F) (reply : Reply) (later : Slot P F) : Type 0 where
+  pub is_slot : (trace : List Exchange) → Follows forms running.actor (asking trace running.asked) → IsSlot forms (job_of running.actor) (trace ++ record { call = running.asked; reply = reply } ∷ []) later
   pub up : standing_of later ≢ Dropped
 
 -- the call that the actor with a number waits to make, or that no such actor runs
-abbrev pub AsksFor : List Slot → ℕ → Result Call WorldFault → Type 0
-AsksFor slots number (Ok c) = (r : Running) × (slice_get slots number ≡ Some (slot.Runs r)) × (c ≡ r.asked)
-AsksFor slots number (Err (NoActor none)) = (none ≡ number) × ((r : Running) → slice_get slots number ≡ Some (slot.Runs r) → ⊥)
+abbrev pub AsksFor : {P F : Type 0} → List (Slot P F) → ℕ → Result Call WorldFault → Type 0
+AsksFor {P} {F} slots number (Ok c) = (r : Running P F) × (slice_get slots number ≡ Some (slot.Runs r)) × (c ≡ r.asked)
+AsksFor {P} {F} slots number (Err (NoActor none)) = (none ≡ number) × ((r : Running P F) → slice_get slots number ≡ Some (slot.Runs r) → ⊥)
 AsksFor slots number (Err (IdTaken id)) = ⊥
 AsksFor slots number (Err OutOfMemory) = ⊤
 
 -- a restart drops an actor that runs
-abbrev pub dropped_slot : Slot → Slot
+abbrev pub dropped_slot : {P F : Type 0} → Slot P F → Slot P F
 dropped_slot (slot.Runs r) = slot.Dropped
 dropped_slot s = s
 
 -- ---- the whole
 
 -- what contracts see of the parts of a world
-abbrev pub view_of : Parts → WorldView
+abbrev pub view_of : {P F : Type 0} → Parts P F → WorldView
 view_of p = record { past = p.past; jobs = p.jobs; told = p.told.items; held = held_in p.store; journal = p.journal; actors = standings p.slots.items }
 
 -- the parts of a world keep what a world keeps
-abbrev pub ArePartsOk : Parts → Type 0
-ArePartsOk p = IsKept p.past p.jobs p.told.items (held_in p.store) p.journal p.slots.items
+abbrev pub ArePartsOk : {P F : Type 0} → Forms F → Spelled → Tracking F → Parts P F → Type 0
+ArePartsOk forms spelled tracks p = IsKept forms spelled tracks p.past p.jobs p.told.items (held_in p.store) p.journal p.slots.items
 
 -- ---- what each step of the code does to the parts
 
 -- the same for contracts: only what they do not see may differ
-pub record AreSame (before later : Parts) : Type 0 where
+pub record AreSame {P F : Type 0} (before later : Parts P F) : Type 0 where
   pub view : view_of later ≡ view_of before
   pub slots : later.slots.items ≡ before.slots.items
 
 -- an actor was added, with its job and its slot
-pub record IsAdded (job : Job) (s : Slot) (before later : Parts) : Type 0 where
+pub record IsAdded {P F : Type 0} (job : Job) (s : Slot P F) (before later : Parts P F) : Type 0 where
   pub jobs : later.jobs ≡ before.jobs ++ job ∷ []
   pub slots : later.slots.items ≡ before.slots.items ++ s ∷ []
   pub told : later.told ≡ before.told
@@ -137,7 +138,8 @@ pub record IsAnswer (m : Held) (c : Call) (fate : Fate) (r : Reply) (n : Held) :
   pub held : n ≡ after m c fate
 
 -- a call was made with this fate and entered with all that is known of it
-pub record IsMade (number : ℕ) (c : Call) (fate : Fate) (before later : Parts) (r : Reply) : Type 0 where
+pub record IsMade {P F : Type 0} (number : ℕ) (c : Call) (fate : Fate) (before later : Parts P F) (r : Reply) : Type 0 where
+  pub short : IsShortCall c
   pub answer : IsAnswer (held_in before.store) c fate r (held_in later.store)
   pub told : later.told.items ≡ before.told.items ++ record { job = Some number; call = c; fate = fate; reply = r; changed = changes (held_in before.store) c fate } ∷ []
   pub entered : later.journal ≡ before.journal ++ entry number c fate ∷ []
@@ -146,21 +148,22 @@ pub record IsMade (number : ℕ) (c : Call) (fate : Fate) (before later : Parts)
   pub past : later.past ≡ before.past
 
 -- the call that a running actor waits for was made
-pub record IsCalled (number : ℕ) (fate : Fate) (before later : Parts) (r : Reply) : Type 0 where
-  pub running : Running
+pub record IsCalled {P F : Type 0} (number : ℕ) (fate : Fate) (before later : Parts P F) (r : Reply) : Type 0 where
+  pub running : Running P F
   pub runs : slice_get before.slots.items number ≡ Some (slot.Runs running)
   pub made : IsMade number running.asked fate before later r
 
 -- the actor with a number takes a reply that can come
-pub record IsDueAt (slots : List Slot) (number : ℕ) (reply : Reply) : Type 0 where
-  pub slot_is : Slot
+pub record IsDueAt {P F : Type 0} (forms : Forms F) (slots : List (Slot P F)) (number : ℕ) (reply : Reply) : Type 0 where
+  pub slot_is : Slot P F
+  pub within : number < length slots
   pub there : slice_get slots number ≡ Some slot_is
-  pub due : IsDue slot_is reply
+  pub due : IsDue forms slot_is reply
 
 -- it took the reply
-pub record IsAdvanced (before : List Slot) (number : ℕ) (reply : Reply) (later : List Slot) : Type 0 where
-  pub running : Running
+pub record IsAdvanced {P F : Type 0} (forms : Forms F) (before : List (Slot P F)) (number : ℕ) (reply : Reply) (later : List (Slot P F)) : Type 0 where
+  pub running : Running P F
   pub runs : slice_get before number ≡ Some (slot.Runs running)
-  pub next : Slot
-  pub next_is : IsNextSlot running reply next
+  pub next : Slot P F
+  pub next_is : IsNextSlot forms running reply next
   pub is : later ≡ slice_set before number next

@@ -1,5 +1,6 @@
 //! The actor of any command.
 ghost use Rattle.std.specs.Prelude.{◌≡◌};
+ghost use Rattle.ts_model.specs.Jobs.{IsFit};
 ghost use Rattle.ts_model.specs.States.{begun};
 ghost use Rattle.ts_model.specs.Driven.{EndsFrom};
 ghost use Rattle.ts_actor.specs.Traces.{start};
@@ -7,49 +8,58 @@ ghost use Rattle.ts_world.specs.Actors.{job_of, Follows, calls_left};
 
 use std::alloc::Global;
 use std::thread::Threads;
-use ts_actor::{Actor, Step};
+use ts_actor::{Actor, Pieces, Step};
 use ts_model::{Command, Job, Outcome};
 use ts_reader::Reader;
 use ts_store::Reply;
-use ts_writer::Writer;
+use ts_writer::{Creator, Evolver, Writer};
 
-/// An actor that does the job of a command, whichever it is.
+/// An actor that does the job of a command, whichever it is, over one way to write fragments.
 #[derive(Drop)]
-pub enum AnyActor {
+pub enum AnyActor<P: Pieces> {
+    /// One that makes the array.
+    Creator(Creator<P>),
+    /// One that declares a schema.
+    Evolver(Evolver<P>),
     /// One that writes.
-    Writer(Writer),
+    Writer(Writer<P>),
     /// One that reads.
-    Reader(Reader),
+    Reader(Reader<P>),
 }
 
-impl AnyActor {
+impl<P: Pieces> AnyActor<P> {
     /// The actor of a job. It has made no call yet, and takes no memory.
-    pub fn of(job: Job) -> AnyActor
+    pub fn of(job: Job) -> AnyActor<P>
+        requires { IsFit job }
         ensures task { job_of result ≡ job }
-        ensures new { Follows result start }
+        ensures new { Follows P.forms result start }
     {
-        match job.command {
-            Command::Write { x: _, v: _ } => AnyActor::Writer(Writer::of(job)),
-            Command::Read { to: _ } => AnyActor::Reader(Reader::of(job)),
+        match &job.command {
+            Command::Create(_) => AnyActor::Creator(Creator::of(job)),
+            Command::Evolve(_) => AnyActor::Evolver(Evolver::of(job)),
+            Command::Write(_) => AnyActor::Writer(Writer::of(job)),
+            Command::Read { .. } => AnyActor::Reader(Reader::of(job)),
         }
     }
 }
 
-impl Actor for AnyActor {
+impl<P: Pieces> Actor for AnyActor<P> {
     type Out = Outcome;
 
     type Task = Job;
 
     ghost task = { job_of };
 
-    ghost follows = { Follows };
+    ghost follows = { Follows P.forms };
 
-    ghost ends = { λ job past end. EndsFrom job (begun job.command) past end };
+    ghost ends = { λ job past end. EndsFrom P.forms job (begun job.command) past end };
 
-    ghost measure = { calls_left };
+    ghost measure = { calls_left P.left };
 
     fn next<R: Threads + Sync>(&mut self, rt: &R, alloc: Global, reply: Reply) -> Step<Outcome> {
         match self {
+            AnyActor::Creator(creator) => creator.next(rt, alloc, reply),
+            AnyActor::Evolver(evolver) => evolver.next(rt, alloc, reply),
             AnyActor::Writer(writer) => writer.next(rt, alloc, reply),
             AnyActor::Reader(reader) => reader.next(rt, alloc, reply),
         }

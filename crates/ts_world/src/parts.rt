@@ -5,6 +5,7 @@ ghost use Rattle.ts_store.specs.declared.fate.Fate.TheVariants.{Unknown};
 ghost use Rattle.ts_store.specs.Calls.{IsSpelledCall};
 ghost use Rattle.ts_store.specs.Memory.{held_in};
 ghost use Rattle.ts_model.specs.Fresh.{id_in};
+ghost use Rattle.ts_model.specs.Told.{IsShortCall};
 ghost use Rattle.ts_world.specs.declared.events.Event.TheVariants as event;
 ghost use Rattle.ts_world.specs.Views.{Dropped};
 ghost use Rattle.ts_world.specs.Slots.{view_of, is_taken, is_job_id, carries, AreSame, ArePartsOk, IsAdded, IsAnswer, IsMade, IsCalled};
@@ -15,13 +16,14 @@ use crate::slots::{Slot, advance, asked_by, drop_running, first_slot, put_slot};
 use crate::told::{MadeCall, changes, copy_reply};
 use std::alloc::Global;
 use std::thread::Threads;
+use ts_actor::Pieces;
 use ts_base::{Duplicate, Name, OutOfMemory, Stop};
 use ts_model::{Command, History, Job, JobList};
 use ts_store::{Call, Entry, Fate, Journal, MemStore, Reply, apply};
 
 /// The parts of a world.
 #[derive(Drop)]
-pub(crate) struct Parts {
+pub(crate) struct Parts<P: Pieces> {
     /// What all actors share.
     pub(crate) store: MemStore,
     /// What had been done when the world began.
@@ -33,23 +35,23 @@ pub(crate) struct Parts {
     /// Their entries.
     pub(crate) journal: Journal,
     /// Where each actor stands.
-    pub(crate) slots: Vec<Slot>,
+    pub(crate) slots: Vec<Slot<P>>,
 }
 
 // ---- an actor comes
 
 /// Adds an actor with the job of this command, stamp and identifier, unless the identifier is taken.
-pub(crate) fn spawn<R: Threads + Sync>(
-    parts: &mut Parts,
+pub(crate) fn spawn<P: Pieces, R: Threads + Sync>(
+    parts: &mut Parts<P>,
     rt: &R,
     alloc: Global,
     command: Command,
     at: u64,
     id: u128,
 ) -> Result<(), WorldFault>
-    requires kept { ArePartsOk parts.old }
+    requires kept { ArePartsOk P.forms P.spelled P.tracks parts.old }
     requires may { MaySpawn (view_of parts.old) command id }
-    ensures kept { ArePartsOk parts.new }
+    ensures kept { ArePartsOk P.forms P.spelled P.tracks parts.new }
     ensures spawned { OnOk result (Spawned (job_spawned command at id) (view_of parts.old) (view_of parts.new)) }
     ensures same { OnErr result (view_of parts.new ≡ view_of parts.old) }
     ensures cause { HasCause (event.Spawn command at id) (view_of parts.old) result }
@@ -63,13 +65,14 @@ pub(crate) fn spawn<R: Threads + Sync>(
         id,
         stop: Stop::Never,
     };
-    let slot = first_slot(rt, alloc, job);
+    let twin = job.copy(alloc)?;
+    let slot = first_slot(rt, alloc, twin);
     add(parts, job, slot)?;
     Ok(())
 }
 
 // Whether a job or a held name has the identifier.
-fn is_taken(alloc: Global, parts: &Parts, id: u128) -> Result<bool, OutOfMemory>
+fn is_taken<P: Pieces>(alloc: Global, parts: &Parts<P>, id: u128) -> Result<bool, OutOfMemory>
     ensures { IfOk result (λ taken. taken ≡ is_taken parts.now.jobs (held_in parts.now.store) id) }
 {
     if has_job(parts.jobs.as_slice(), id) {
@@ -117,30 +120,32 @@ fn id_of(name: Name) -> Option<u128>
 }
 
 // Adds an actor, with its job and its slot. Want of memory leaves the parts as they were.
-fn add(parts: &mut Parts, job: Job, slot: Slot) -> Result<(), OutOfMemory>
+fn add<P: Pieces>(parts: &mut Parts<P>, job: Job, slot: Slot<P>) -> Result<(), OutOfMemory>
     ensures added { OnOk result (IsAdded job slot parts.old parts.new) }
     ensures same { OnErr result (AreSame parts.old parts.new) }
 {
-    parts.slots.reserve(1)?;
-    parts.jobs.push(job)?;
     parts.slots.push(slot)?;
+    let Ok(()) = parts.jobs.push(job) else {
+        drop(parts.slots.pop());
+        return Err(OutOfMemory);
+    };
     Ok(())
 }
 
 // ---- an actor makes a call
 
 /// Makes the next call of the running actor with this number and hands it the reply.
-pub(crate) fn step<R: Threads + Sync>(
-    parts: &mut Parts,
+pub(crate) fn step<P: Pieces, R: Threads + Sync>(
+    parts: &mut Parts<P>,
     rt: &R,
     alloc: Global,
     number: u32,
     fate: Fate,
 ) -> Result<(), WorldFault>
-    requires kept { ArePartsOk parts.old }
+    requires kept { ArePartsOk P.forms P.spelled P.tracks parts.old }
     requires known { fate ≢ Unknown }
-    ensures kept { ArePartsOk parts.new }
-    ensures called { OnOk result (Called number fate (λ s. s ≢ Dropped) (view_of parts.old) (view_of parts.new)) }
+    ensures kept { ArePartsOk P.forms P.spelled P.tracks parts.new }
+    ensures called { OnOk result (Called P.forms number fate (λ s. s ≢ Dropped) (view_of parts.old) (view_of parts.new)) }
     ensures same { OnErr result (view_of parts.new ≡ view_of parts.old) }
     ensures cause { HasCause (event.Step number fate) (view_of parts.old) result }
 {
@@ -150,16 +155,16 @@ pub(crate) fn step<R: Threads + Sync>(
 }
 
 /// Makes the next call of the running actor with this number and drops the actor.
-pub(crate) fn stop(
-    parts: &mut Parts,
+pub(crate) fn stop<P: Pieces>(
+    parts: &mut Parts<P>,
     alloc: Global,
     number: u32,
     fate: Fate,
 ) -> Result<(), WorldFault>
-    requires kept { ArePartsOk parts.old }
+    requires kept { ArePartsOk P.forms P.spelled P.tracks parts.old }
     requires known { fate ≢ Unknown }
-    ensures kept { ArePartsOk parts.new }
-    ensures called { OnOk result (Called number fate (λ s. s ≡ Dropped) (view_of parts.old) (view_of parts.new)) }
+    ensures kept { ArePartsOk P.forms P.spelled P.tracks parts.new }
+    ensures called { OnOk result (Called P.forms number fate (λ s. s ≡ Dropped) (view_of parts.old) (view_of parts.new)) }
     ensures same { OnErr result (view_of parts.new ≡ view_of parts.old) }
     ensures cause { HasCause (event.Stop number fate) (view_of parts.old) result }
 {
@@ -170,8 +175,13 @@ pub(crate) fn stop(
 }
 
 // Makes the call that the running actor with a number waits to make, and enters it.
-fn call(parts: &mut Parts, alloc: Global, number: u32, fate: Fate) -> Result<Reply, WorldFault>
-    requires kept { ArePartsOk parts.old }
+fn call<P: Pieces>(
+    parts: &mut Parts<P>,
+    alloc: Global,
+    number: u32,
+    fate: Fate,
+) -> Result<Reply, WorldFault>
+    requires kept { ArePartsOk P.forms P.spelled P.tracks parts.old }
     requires known { fate ≢ Unknown }
     ensures called { IfOk result (λ reply. IsCalled number fate parts.old parts.new reply) }
     ensures same { OnErr result (AreSame parts.old parts.new) }
@@ -188,8 +198,8 @@ fn call(parts: &mut Parts, alloc: Global, number: u32, fate: Fate) -> Result<Rep
 
 // Makes a call in the lane of an actor, and enters it with all that is known of it. The memory for
 // that is taken first; want of memory leaves the parts as they were.
-fn make(
-    parts: &mut Parts,
+fn make<P: Pieces>(
+    parts: &mut Parts<P>,
     alloc: Global,
     number: u32,
     call: Call,
@@ -207,6 +217,7 @@ fn make(
     };
     parts.told.reserve(1)?;
     parts.journal.push(entry)?;
+    measure(&call);
     let changed = changes(&parts.store, &call, fate);
     let Ok((reply, twin)) = answer(alloc, &mut parts.store, &call, fate) else {
         let _ = parts.journal.pop();
@@ -220,6 +231,15 @@ fn make(
         changed,
     })?;
     Ok(reply)
+}
+
+// An object that is put is short enough to be got at once. The call itself does nothing.
+fn measure(call: &Call)
+    ensures { IsShortCall call.now }
+{
+    if let Call::Put(_, bytes) = call {
+        let _count = bytes.len();
+    }
 }
 
 // Asks the store a call with this fate, and gives its reply and a copy of that. Want of memory leaves
@@ -248,10 +268,10 @@ fn answer(
 // ---- all running actors are dropped
 
 /// Drops each actor that runs.
-pub(crate) fn restart(parts: &mut Parts)
-    requires { ArePartsOk parts.old }
-    ensures kept { ArePartsOk parts.new }
-    ensures restarted { Happens event.Restart (view_of parts.old) (view_of parts.new) }
+pub(crate) fn restart<P: Pieces>(parts: &mut Parts<P>)
+    requires { ArePartsOk P.forms P.spelled P.tracks parts.old }
+    ensures kept { ArePartsOk P.forms P.spelled P.tracks parts.new }
+    ensures restarted { Happens P.forms event.Restart (view_of parts.old) (view_of parts.new) }
 {
     drop_running(&mut parts.slots);
 }

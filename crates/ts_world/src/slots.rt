@@ -1,34 +1,35 @@
 //! Where the actors of a world stand.
 ghost use Rattle.std.specs.Prelude.{◌≡◌, ◌≢◌, ◌<◌, [], length, map, slice_set};
+ghost use Rattle.std.specs.Option.{option_copied};
 ghost use Rattle.ts_store.specs.Calls.{IsSpelledReply};
+ghost use Rattle.ts_model.specs.Jobs.{IsFit};
 ghost use Rattle.ts_actor.specs.Traces.{Trace, CanCome, Expects, filled};
-ghost use Rattle.ts_world.specs.declared.slots.Running.{Running};
 ghost use Rattle.ts_world.specs.Actors.{job_of, Follows};
 ghost use Rattle.ts_world.specs.Slots.{standing_of, IsSlot, IsDue, IsNextSlot, IsDueAt, IsAdvanced, AsksFor, dropped_slot};
-ghost use Rattle.ts_world.specs.Views.{Dropped};
+ghost use Rattle.ts_world.specs.Views.{Dropped, end_in};
 
 use crate::actors::AnyActor;
 use crate::events::WorldFault;
 use std::alloc::Global;
 use std::mem;
 use std::thread::Threads;
-use ts_actor::{Actor, Step};
+use ts_actor::{Actor, Pieces, Step};
 use ts_base::Duplicate;
 use ts_model::{Job, Outcome};
 use ts_store::{Call, Reply};
 
 /// An actor that waits for the reply to a call.
 #[derive(Drop)]
-pub(crate) struct Running {
-    pub(crate) actor: AnyActor,
+pub(crate) struct Running<P: Pieces> {
+    pub(crate) actor: AnyActor<P>,
     pub(crate) asked: Call,
 }
 
 /// Where an actor stands.
 #[derive(Drop)]
-pub(crate) enum Slot {
+pub(crate) enum Slot<P: Pieces> {
     /// It runs.
-    Runs(Running),
+    Runs(Running<P>),
     /// It came to this end.
     Ended(Outcome),
     /// It was dropped.
@@ -36,23 +37,24 @@ pub(crate) enum Slot {
 }
 
 // The slot of an actor that has just come.
-pub(crate) fn first_slot<R: Threads + Sync>(rt: &R, alloc: Global, job: Job) -> Slot
-    ensures slot_is { IsSlot job [] result }
+pub(crate) fn first_slot<P: Pieces, R: Threads + Sync>(rt: &R, alloc: Global, job: Job) -> Slot<P>
+    requires { IsFit job }
+    ensures slot_is { IsSlot P.forms job [] result }
     ensures up { standing_of result ≢ Dropped }
 {
     go_on(rt, alloc, AnyActor::of(job), Reply::Start)
 }
 
 // Hands an actor the reply that it waits for.
-pub(crate) fn go_on<R: Threads + Sync>(
+pub(crate) fn go_on<P: Pieces, R: Threads + Sync>(
     rt: &R,
     alloc: Global,
-    mut actor: AnyActor,
+    mut actor: AnyActor<P>,
     reply: Reply,
-) -> Slot
-    requires due { Expects (Follows actor) reply }
+) -> Slot<P>
+    requires due { Expects (Follows P.forms actor) reply }
     requires spelled { IsSpelledReply reply }
-    ensures slot_is { (t : Trace) → Follows actor t → CanCome t.asked reply → IsSlot (job_of actor) (filled t reply) result }
+    ensures slot_is { (t : Trace) → Follows P.forms actor t → CanCome t.asked reply → IsSlot P.forms (job_of actor) (filled t reply) result }
     ensures up { standing_of result ≢ Dropped }
 {
     match actor.next(rt, alloc, reply) {
@@ -62,9 +64,14 @@ pub(crate) fn go_on<R: Threads + Sync>(
 }
 
 // The slot of an actor once it has its reply.
-pub(crate) fn next_slot<R: Threads + Sync>(rt: &R, alloc: Global, slot: Slot, reply: Reply) -> Slot
-    requires { IsDue slot reply }
-    ensures next { (r : Running) → slot ≡ Slot.Runs r → IsNextSlot r reply result }
+pub(crate) fn next_slot<P: Pieces, R: Threads + Sync>(
+    rt: &R,
+    alloc: Global,
+    slot: Slot<P>,
+    reply: Reply,
+) -> Slot<P>
+    requires { IsDue P.forms slot reply }
+    ensures next { (r : _) → slot ≡ Slot.Runs r → IsNextSlot P.forms r reply result }
 {
     match slot {
         Slot::Runs(running) => go_on(rt, alloc, running.actor, reply),
@@ -73,15 +80,15 @@ pub(crate) fn next_slot<R: Threads + Sync>(rt: &R, alloc: Global, slot: Slot, re
 }
 
 // Hands the running actor with a number the reply that it waits for.
-pub(crate) fn advance<R: Threads + Sync>(
+pub(crate) fn advance<P: Pieces, R: Threads + Sync>(
     rt: &R,
     alloc: Global,
-    slots: &mut [Slot],
+    slots: &mut [Slot<P>],
     number: u32,
     reply: Reply,
 )
-    requires { IsDueAt slots.old number reply }
-    ensures { IsAdvanced slots.old number reply slots.new }
+    requires { IsDueAt P.forms slots.old number reply }
+    ensures { IsAdvanced P.forms slots.old number reply slots.new }
 {
     let place = number as usize;
     let slot = mem::replace(&mut slots[place], Slot::Dropped);
@@ -90,25 +97,42 @@ pub(crate) fn advance<R: Threads + Sync>(
 }
 
 // Puts a slot in the place of another.
-pub(crate) fn put_slot(slots: &mut [Slot], place: usize, slot: Slot)
+pub(crate) fn put_slot<P: Pieces>(slots: &mut [Slot<P>], place: usize, slot: Slot<P>)
     requires { place < length slots.old }
     ensures { slots.new ≡ slice_set slots.old place slot }
 {
     drop(mem::replace(&mut slots[place], slot));
 }
 
+// The end of an actor that ended.
+pub(crate) fn end_in<P: Pieces>(slot: &Slot<P>) -> Option<&Outcome>
+    ensures { option_copied result ≡ end_in (standing_of slot.now) }
+{
+    match slot {
+        Slot::Ended(end) => Some(end),
+        _ => None,
+    }
+}
+
 // A copy of the call that the actor with a number waits to make.
-pub(crate) fn asked_by(alloc: Global, slots: &[Slot], number: u32) -> Result<Call, WorldFault>
+pub(crate) fn asked_by<P: Pieces>(
+    alloc: Global,
+    slots: &[Slot<P>],
+    number: u32,
+) -> Result<Call, WorldFault>
     ensures { AsksFor slots.now number result }
 {
-    match slots.get(number as usize) {
-        Some(Slot::Runs(running)) => Ok(running.asked.copy(alloc)?),
+    let Some(slot) = slots.get(number as usize) else {
+        return Err(WorldFault::NoActor(number));
+    };
+    match slot {
+        Slot::Runs(running) => Ok(running.asked.copy(alloc)?),
         _ => Err(WorldFault::NoActor(number)),
     }
 }
 
 // Drops each actor that runs.
-pub(crate) fn drop_running(slots: &mut [Slot])
+pub(crate) fn drop_running<P: Pieces>(slots: &mut [Slot<P>])
     ensures { slots.new ≡ map dropped_slot slots.old }
 {
     for slot in slots.iter_mut() {
@@ -118,7 +142,7 @@ pub(crate) fn drop_running(slots: &mut [Slot])
 }
 
 // The slot after a restart.
-fn dropped(slot: Slot) -> Slot
+fn dropped<P: Pieces>(slot: Slot<P>) -> Slot<P>
     ensures { result ≡ dropped_slot slot }
 {
     match slot {

@@ -1,286 +1,233 @@
-//! Worlds of two writers and a reader of one cell.
-ghost use Rattle.std.specs.Prelude.{◌≡◌, ◌<◌, ◌≤◌, ◌+◌, [], IfOk, IsTrue, length};
-ghost use Rattle.ts_model.specs.Deeds.{first_deeds};
-ghost use Rattle.ts_model.specs.Jobs.{fits};
+//! Worlds of one array over a store in memory.
+ghost use Rattle.std.specs.Prelude.{◌≡◌, ◌<◌, ◌≤◌, ◌+◌, [], true, IfOk, IsTrue, length};
+ghost use Rattle.std.specs.List.{list_all};
+ghost use Rattle.ts_model.specs.declared.commands.Command.TheVariants.{Create, Evolve, Write};
+ghost use Rattle.ts_model.specs.Commands.{fits, is_spelled_attr, is_spelled_col, is_spelled_dim};
 
 use crate::{Event, World, WorldFault};
 use std::alloc::Global;
 use std::test::Fail;
 use std::thread::Threads;
-use ts_base::{Cell, CellList, CommitKind, Coords, FragKey, Key, Name, OutOfMemory, Row, Val};
-use ts_model::{Command, Deed, History, Outcome, Pair, Written, reference};
-use ts_store::{Call, Fate, FaultList, Journal, MemStore};
+use ts_actor::PlainPieces;
+use ts_base::{Key, Label, LabelList, OutOfMemory, Row, Val, ValType};
+use ts_domain::{Dim, DimList, Order};
+use ts_model::{ColIn, ColInList, Command, FrameIn, History, Outcome, WriteIn};
+use ts_schema::{Attr, AttrList, Evolution};
+use ts_store::{Fate, FaultList, MemStore};
 
-// The key of the one schema.
-const FIRST_SCHEMA: Key = Key {
-    t: 0,
-    id: u128::MAX,
-};
-
-// The deeds with which each history begins: the frame, and the one schema.
-fn first_deeds(alloc: Global) -> Result<History, OutOfMemory>
-    ensures { IfOk result (λ past. past ≡ first_deeds) }
+// A world without actors and without a past.
+fn first_world(alloc: Global) -> World<PlainPieces>
+    ensures { (result.past ≡ []) × (result.jobs ≡ []) }
 {
-    let mut past = History::new(alloc);
-    past.push(Deed::Framed)?;
-    past.push(Deed::Declared(FIRST_SCHEMA))?;
-    Ok(past)
-}
-
-// A world without actors, after these deeds.
-fn first_world(alloc: Global) -> Result<World, OutOfMemory>
-    ensures { IfOk result (λ world. (world.past ≡ first_deeds) × (world.jobs ≡ [])) }
-{
-    let past = first_deeds(alloc)?;
     let store = MemStore::new(alloc, FaultList::new(alloc));
-    Ok(World::new(alloc, store, past))
+    World::new(alloc, store, History::new(alloc))
 }
 
 // Adds an actor to such a world.
 fn spawn<R: Threads + Sync>(
     rt: &R,
     alloc: Global,
-    world: &mut World,
+    world: &mut World<PlainPieces>,
     command: Command,
     at: u64,
     id: u128,
 ) -> Result<(), WorldFault>
-    requires past { world.old.past ≡ first_deeds }
+    requires past { world.old.past ≡ [] }
     requires few { length world.old.jobs < 9 }
     requires fits { IsTrue (fits command) }
-    requires id { id < 9 }
-    ensures past { world.new.past ≡ first_deeds }
+    ensures past { world.new.past ≡ [] }
     ensures few { length world.new.jobs ≤ length world.old.jobs + 1 }
 {
     world.step(rt, alloc, Event::Spawn(command, at, id))
 }
 
-// A world with a writer of 20 (identifier 2), a writer of 30 (identifier 3), both at 5, and a reader
-// of the interval up to 9 (identifier 4). The writers have these stamps.
-fn three_actors<R: Threads + Sync>(rt: &R, alloc: Global, stamps: [u64; 2]) -> Result<World, Fail> {
-    let mut world = first_world(alloc)?;
-    let [first, second] = stamps;
-    spawn(
-        rt,
-        alloc,
-        &mut world,
-        Command::Write { x: 5, v: 20 },
-        first,
-        2,
-    )?;
-    spawn(
-        rt,
-        alloc,
-        &mut world,
-        Command::Write { x: 5, v: 30 },
-        second,
-        3,
-    )?;
-    spawn(rt, alloc, &mut world, Command::Read { to: 9 }, 9, 4)?;
-    Ok(world)
+fn label(name: &str) -> Result<Label, Fail> {
+    Ok(Label::new(name).ok_or("no label")?)
 }
 
-// How a call goes, and what comes of its actor.
-#[derive(Clone, Copy, PartialEq, Eq)]
-enum Way {
-    Done,
-    FailsWhole,
-    FailsSkipped,
-    Stops,
+// A dimension of the numbers from 0 to 9 in one tile.
+fn dim(name: Label) -> Dim
+    ensures { is_spelled_dim result ≡ true }
+{
+    let _text = name.as_bytes();
+    Dim {
+        name,
+        ty: ValType::I64,
+        low: 0,
+        high: 9,
+        extent: 10,
+    }
 }
 
-const WAYS: [Way; 4] = [Way::Done, Way::FailsWhole, Way::FailsSkipped, Way::Stops];
+// An attribute of bytes whose fill is 0.
+fn attr(name: Label) -> Attr
+    ensures { is_spelled_attr result ≡ true }
+{
+    let _text = name.as_bytes();
+    Attr {
+        name,
+        ty: ValType::U8,
+        nullable: false,
+        fill: Val::Int(0),
+    }
+}
 
-// An actor's call.
-#[derive(Clone, Copy, PartialEq, Eq)]
-struct Choice {
+// Makes an array with the dimension x and the attribute v.
+fn create(alloc: Global) -> Result<Command, Fail>
+    ensures { IfOk result (λ command. IsTrue (fits command)) }
+{
+    let mut dims = DimList::new(alloc);
+    dims.push(dim(label("x")?))?;
+    let mut attrs = AttrList::new(alloc);
+    attrs.push(attr(label("v")?))?;
+    Ok(Command::Create(FrameIn {
+        dims,
+        cell: Order::Row,
+        tile: Order::Row,
+        capacity: 4,
+        attrs,
+    }))
+}
+
+// A column of one value.
+fn column(alloc: Global, name: Label, value: u8) -> Result<ColIn, OutOfMemory>
+    ensures { IfOk result (λ column. is_spelled_col column ≡ true) }
+{
+    let _text = name.as_bytes();
+    let mut values = Row::new(alloc);
+    values.push(Val::Int(i128::from(value)))?;
+    Ok(ColIn { name, values })
+}
+
+// Writes a value at 5.
+fn write(alloc: Global, value: u8) -> Result<Command, Fail>
+    ensures { IfOk result (λ command. IsTrue (fits command)) }
+{
+    let mut cols = ColInList::new(alloc);
+    cols.push(column(alloc, label("x")?, 5)?)?;
+    cols.push(column(alloc, label("v")?, value)?)?;
+    Ok(Command::Write(WriteIn { cols }))
+}
+
+// Takes v away, and adds w.
+fn evolve(alloc: Global) -> Result<Command, Fail>
+    ensures { IfOk result (λ command. IsTrue (fits command)) }
+{
+    let mut add = AttrList::new(alloc);
+    add.push(attr(label("w")?))?;
+    let mut less = LabelList::new(alloc);
+    less.push(label("v")?)?;
+    Ok(Command::Evolve(Evolution { add, less }))
+}
+
+// Lets an actor make its calls to its end.
+fn finish<R: Threads + Sync>(
+    rt: &R,
+    alloc: Global,
+    world: &mut World<PlainPieces>,
     actor: u32,
-    way: Way,
-}
-
-// Lets the call happen.
-fn choose<R: Threads + Sync>(
-    rt: &R,
-    alloc: Global,
-    world: &mut World,
-    choice: Choice,
 ) -> Result<(), WorldFault> {
-    let actor = choice.actor;
-    match choice.way {
-        Way::Done => world.step(rt, alloc, Event::Step(actor, Fate::Done)),
-        Way::FailsWhole => world.step(rt, alloc, Event::Step(actor, Fate::FailedDone)),
-        Way::FailsSkipped => world.step(rt, alloc, Event::Step(actor, Fate::FailedSkipped)),
-        Way::Stops => world.step(rt, alloc, Event::Stop(actor, Fate::Done)),
-    }
-}
-
-// The world after these calls.
-fn replay<R: Threads + Sync>(
-    rt: &R,
-    alloc: Global,
-    stamps: [u64; 2],
-    choices: &[Choice],
-) -> Result<World, Fail> {
-    let mut world = three_actors(rt, alloc, stamps)?;
-    for choice in choices {
-        choose(rt, alloc, &mut world, *choice)?;
-    }
-    Ok(world)
-}
-
-// Whether the actor runs after these calls: it was not stopped, and has no end.
-fn runs(world: &World, choices: &[Choice], actor: u32) -> bool {
-    let stopped = Choice {
-        actor,
-        way: Way::Stops,
-    };
-    !choices.iter().any(|choice| *choice == stopped) && world.answer_of(actor).is_none()
-}
-
-// What a schedule showed.
-#[derive(Clone, Copy, PartialEq, Eq)]
-enum Shown {
-    NoAnswer,
-    Right,
-    Wrong,
-}
-
-// The write that a fragment of the first actor or of the second commits.
-fn written_in(alloc: Global, frag: FragKey) -> Result<Written, OutOfMemory> {
-    let value = if frag.id == 2 { 20 } else { 30 };
-    let mut row = Row::new(alloc);
-    row.push(Val::Int(value))?;
-    let mut cells = CellList::new(alloc);
-    cells.push(Cell {
-        coords: Coords::new(&[5]),
-        row,
-    })?;
-    Ok(Written {
-        key: Key {
-            t: frag.t1,
-            id: frag.id,
-        },
-        schema: FIRST_SCHEMA,
-        cells,
-    })
-}
-
-// The history of the calls before the listing: the deeds of each `.wrt` whose put took effect.
-fn history_at_listing(alloc: Global, journal: &Journal) -> Result<History, OutOfMemory> {
-    let mut history = first_deeds(alloc)?;
-    for entry in journal.as_slice() {
-        match &entry.call {
-            Call::List(_) => break,
-            Call::Put(Name::Commit(frag, CommitKind::Wrt), _) => {
-                if entry.fate.took_effect() {
-                    history.push(Deed::Wrote(written_in(alloc, *frag)?))?;
-                }
-            }
-            _ => {}
+    for _ in 0..99_u64 {
+        if world.answer_of(actor).is_some() {
+            return Ok(());
         }
-    }
-    Ok(history)
-}
-
-// Compares the answer of the reader with what the reference shows of the history at its listing.
-fn compare(alloc: Global, world: &World) -> Result<Shown, OutOfMemory> {
-    let Some(Outcome::Read(answer)) = world.answer_of(2) else {
-        return Ok(Shown::NoAnswer);
-    };
-    let history = history_at_listing(alloc, world.journal())?;
-    let rows = reference(alloc, &history, 0, 9)?;
-    if answer.rows == rows {
-        Ok(Shown::Right)
-    } else {
-        Ok(Shown::Wrong)
-    }
-}
-
-// The schedules that go on from this one by a call of a running actor.
-fn longer(
-    alloc: Global,
-    world: &World,
-    choices: &[Choice],
-) -> Result<Vec<Vec<Choice>>, OutOfMemory> {
-    let mut all = Vec::new(alloc);
-    for actor in 0..3 {
-        if runs(world, choices, actor) {
-            for way in WAYS {
-                let mut next = Vec::from_slice(alloc, choices)?;
-                next.push(Choice { actor, way })?;
-                all.push(next)?;
-            }
-        }
-    }
-    Ok(all)
-}
-
-// How many schedules ended with an answer of the reader, and how many of these were wrong. It goes
-// through all schedules of the three actors, each call in each way.
-fn all_schedules<R: Threads + Sync>(
-    rt: &R,
-    alloc: Global,
-    stamps: [u64; 2],
-) -> Result<(u64, u64), Fail> {
-    let mut answers: u64 = 0;
-    let mut wrong: u64 = 0;
-    let mut open = Vec::new(alloc);
-    open.push(Vec::new(alloc))?;
-    for _ in 0..1_000_000_u64 {
-        let Some(choices) = open.pop() else {
-            return Ok((answers, wrong));
-        };
-        let world = replay(rt, alloc, stamps, choices.as_slice())?;
-        let mut more = longer(alloc, &world, choices.as_slice())?;
-        if more.is_empty() {
-            let shown = compare(alloc, &world)?;
-            if shown != Shown::NoAnswer {
-                answers = answers.saturating_add(1);
-            }
-            if shown == Shown::Wrong {
-                wrong = wrong.saturating_add(1);
-            }
-        }
-        open.append(&mut more)?;
-    }
-    Err(Fail::from("the schedules have an end"))
-}
-
-#[test]
-fn each_schedule_answers_as_the_history_of_the_journal(rt: HostRuntime) -> Result<(), Fail> {
-    for stamps in [[4, 4], [5, 4]] {
-        let (answers, wrong) = all_schedules(&rt, rt.alloc(), stamps)?;
-        assert_eq!(rt; answers, 960);
-        assert_eq!(rt; wrong, 0);
+        world.step(rt, alloc, Event::Step(actor, Fate::Done))?;
     }
     Ok(())
+}
+
+// The row of a cell at 5.
+fn row(alloc: Global, value: u8) -> Result<Row, OutOfMemory> {
+    let mut row = Row::new(alloc);
+    row.push(Val::Int(5))?;
+    row.push(Val::Int(i128::from(value)))?;
+    Ok(row)
+}
+
+// Whether the actor read one cell, with this value.
+fn has_read(
+    alloc: Global,
+    world: &World<PlainPieces>,
+    actor: u32,
+    value: u8,
+) -> Result<bool, OutOfMemory> {
+    let Some(Outcome::Read(answer)) = world.answer_of(actor) else {
+        return Ok(false);
+    };
+    let wanted = row(alloc, value)?;
+    Ok(answer.rows.len() == 1 && *answer.rows.at(0) == wanted)
+}
+
+// A world with its array, made by the actor 0, and a write of 20 (identifier 2) and one of 30
+// (identifier 3) at 5, both stamped 4, by the actors 1 and 2.
+fn two_writers<R: Threads + Sync>(rt: &R, alloc: Global) -> Result<World<PlainPieces>, Fail>
+    ensures past { IfOk result (λ world. world.past ≡ []) }
+    ensures few { IfOk result (λ world. length world.jobs ≤ 3) }
+{
+    let mut world = first_world(alloc);
+    spawn(rt, alloc, &mut world, create(alloc)?, 1, 1)?;
+    spawn(rt, alloc, &mut world, write(alloc, 20)?, 4, 2)?;
+    spawn(rt, alloc, &mut world, write(alloc, 30)?, 4, 3)?;
+    Ok(world)
+}
+
+// Adds a reader of the interval up to 9.
+fn read<R: Threads + Sync>(
+    rt: &R,
+    alloc: Global,
+    world: &mut World<PlainPieces>,
+    id: u128,
+) -> Result<(), WorldFault>
+    requires past { world.old.past ≡ [] }
+    requires few { length world.old.jobs < 9 }
+{
+    spawn(rt, alloc, world, Command::Read { from: 0, to: 9 }, 9, id)
 }
 
 #[test]
 fn of_equal_stamps_the_greater_identifier_is_last(rt: HostRuntime) -> Result<(), Fail> {
     let alloc = rt.alloc();
-    let mut world = three_actors(&rt, alloc, [4, 4])?;
-    for actor in [1, 1, 0, 0, 2, 2, 2] {
-        assert!(rt; world.answer_of(actor).is_none());
-        world.step(&rt, alloc, Event::Step(actor, Fate::Done))?;
+    let mut world = two_writers(&rt, alloc)?;
+    read(&rt, alloc, &mut world, 4)?;
+    for actor in [0, 2, 1, 3] {
+        finish(&rt, alloc, &mut world, actor)?;
     }
-    assert_eq!(rt; world.journal().len(), 7);
-    let Some(Outcome::Read(answer)) = world.answer_of(2) else {
+    assert_eq!(rt; world.answer_of(0), Some(&Outcome::Created));
+    assert!(rt; has_read(alloc, &world, 3, 30)?);
+    Ok(())
+}
+
+#[test]
+fn a_write_that_only_listed_the_schemas_is_in_no_later_one(rt: HostRuntime) -> Result<(), Fail> {
+    let alloc = rt.alloc();
+    let mut world = first_world(alloc);
+    spawn(&rt, alloc, &mut world, create(alloc)?, 1, 1)?;
+    spawn(&rt, alloc, &mut world, write(alloc, 20)?, 4, 2)?;
+    spawn(&rt, alloc, &mut world, evolve(alloc)?, 3, 3)?;
+    read(&rt, alloc, &mut world, 4)?;
+    finish(&rt, alloc, &mut world, 0)?;
+    world.step(&rt, alloc, Event::Step(1, Fate::Done))?;
+    world.step(&rt, alloc, Event::Stop(1, Fate::FailedSkipped))?;
+    finish(&rt, alloc, &mut world, 2)?;
+    finish(&rt, alloc, &mut world, 3)?;
+    assert_eq!(rt;
+        world.answer_of(2),
+        Some(&Outcome::Evolved(Key { t: 3, id: 3 }))
+    );
+    let Some(Outcome::Read(answer)) = world.answer_of(3) else {
         return Err(Fail::from("an answer"));
     };
-    assert_eq!(rt; answer.rows.as_slice(), [Pair { x: 5, v: 30 }].as_slice());
+    assert_eq!(rt; answer.rows.len(), 0);
     Ok(())
 }
 
 #[test]
 fn a_fault_names_the_identifier_or_the_actor(rt: HostRuntime) -> Result<(), Fail> {
     let alloc = rt.alloc();
-    let mut world = first_world(alloc)?;
-    let write = Command::Write { x: 5, v: 20 };
-    spawn(&rt, alloc, &mut world, write, 4, 2)?;
+    let mut world = two_writers(&rt, alloc)?;
     assert_eq!(rt;
-        spawn(&rt, alloc, &mut world, write, 4, 2),
-        Err(WorldFault::IdTaken(2))
+        read(&rt, alloc, &mut world, 3),
+        Err(WorldFault::IdTaken(3))
     );
     let step = Event::Step(9, Fate::Done);
     assert_eq!(rt; world.step(&rt, alloc, step), Err(WorldFault::NoActor(9)));
@@ -290,7 +237,7 @@ fn a_fault_names_the_identifier_or_the_actor(rt: HostRuntime) -> Result<(), Fail
 #[test]
 fn a_restart_drops_all_actors_and_keeps_what_they_put(rt: HostRuntime) -> Result<(), Fail> {
     let alloc = rt.alloc();
-    let mut world = three_actors(&rt, alloc, [4, 4])?;
+    let mut world = two_writers(&rt, alloc)?;
     world.step(&rt, alloc, Event::Step(0, Fate::Done))?;
     world.step(&rt, alloc, Event::Restart)?;
     for actor in 0..3 {

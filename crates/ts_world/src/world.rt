@@ -9,10 +9,11 @@ ghost use Rattle.ts_world.specs.Clauses.{IsSound, BeganWith, MayCome, Happens, H
 
 use crate::events::{Event, WorldFault};
 use crate::parts::{self, Parts};
-use crate::slots::Slot;
+use crate::slots::end_in;
 use std::alloc::Global;
 use std::marker::Model;
 use std::thread::Threads;
+use ts_actor::Pieces;
 use ts_model::{History, JobList, Outcome};
 use ts_store::{Journal, MemStore};
 
@@ -23,11 +24,11 @@ use ts_store::{Journal, MemStore};
 /// past, the job of each actor that ever came, the calls with their fates and replies, what the store
 /// holds, the journal, and where each actor stands.
 #[derive(Drop)]
-pub struct World {
-    parts: Parts,
+pub struct World<P: Pieces> {
+    parts: Parts<P>,
 }
 
-impl Model for World {
+impl<P: Pieces> Model for World<P> {
     ghost use Rattle.ts_world.specs.Views.{WorldView};
 
     ghost Value = { WorldView };
@@ -41,18 +42,18 @@ impl Model for World {
 
     ghost view = { λ world. view_of world.parts };
 
-    ghost invariant = { λ world. ArePartsOk world.parts };
+    ghost invariant = { λ world. ArePartsOk P.forms P.spelled P.tracks world.parts };
 }
 
-impl World {
+impl<P: Pieces> World<P> {
     /// A world with a store and no actors. The store has to stand for the past.
     ///
     /// What the store plans for its calls does not count: each event gives the fate of its call. It
     /// takes no memory.
-    pub fn new(alloc: Global, store: MemStore, past: History) -> World
-        requires { Stands (held_in store) past }
+    pub fn new(alloc: Global, store: MemStore, past: History) -> World<P>
+        requires { Stands P.spelled (held_in store) past }
         ensures new { result ≡ new_world (held_in store) past }
-        ensures sound { IsSound result }
+        ensures sound { IsSound P.forms P.spelled result }
         ensures began { BeganWith (held_in store) result }
     {
         World {
@@ -83,8 +84,8 @@ impl World {
         event: Event,
     ) -> Result<(), WorldFault>
         requires { MayCome self.old event }
-        ensures sound { IsSound self.new }
-        ensures happens { OnOk result (Happens event self.old self.new) }
+        ensures sound { IsSound P.forms P.spelled self.new }
+        ensures happens { OnOk result (Happens P.forms event self.old self.new) }
         ensures began { (m : Held) → BeganWith m self.old → BeganWith m self.new }
         ensures unchanged { OnErr result (self.new ≡ self.old) }
         ensures cause { HasCause event self.old result }
@@ -107,8 +108,8 @@ impl World {
         ensures { option_copied result ≡ end_of self.now.actors actor }
     {
         match self.parts.slots.get(actor as usize) {
-            Some(Slot::Ended(end)) => Some(end),
-            _ => None,
+            Some(slot) => end_in(slot),
+            None => None,
         }
     }
 

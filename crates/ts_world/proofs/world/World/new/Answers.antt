@@ -1,0 +1,15 @@
+-- A new world keeps what a world keeps.
+use Rattle.ts_store.specs.Memory.{held_in}
+use Rattle.ts_world.proofs.Laws.{first_kept}
+use Rattle.ts_world.proofs.Sounds.{is_sound}
+use Rattle.ts_world.proofs.world.World.new.Goals as goal
+
+pub invariant_of-result : goal.invariant_of-result
+invariant_of-result g c =
+    rw (c.new.ensures, c.new-2.ensures.items, c.new-3.ensures, c.new-4.ensures.items)
+    (first_kept {P = g.row.P.Denot} g.P.Pieces.forms g.P.Spelling.spelled g.P.Pieces.tracks c.args.past (held_in c.args.store) c.requires)
+
+pub returns-clause-sound : goal.returns-clause-sound
+returns-clause-sound g c =
+    rw (c.new.ensures, c.new-2.ensures.items, c.new-3.ensures, c.new-4.ensures.items)
+    (is_sound g.P.Pieces.forms g.P.Spelling.spelled g.P.Pieces.tracks g.met.P.Pieces.laws.looks _ _ _ _ _ _ (first_kept {P = g.row.P.Denot} g.P.Pieces.forms g.P.Spelling.spelled g.P.Pieces.tracks c.args.past (held_in c.args.store) c.requires))
