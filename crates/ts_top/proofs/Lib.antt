@@ -1,5 +1,5 @@
 pub mod Pieces
-pub mod Recorded
 pub mod Texts
 pub mod Whole
+pub mod Recorded
 pub mod Exact

@@ -7,6 +7,7 @@ use Rattle.ts_store.specs.declared.recorder.Recorder.{Recorder}
 use Rattle.ts_store.specs.Journals.{Enters}
 use Rattle.ts_store.specs.Recorders.{Recorded}
 use Rattle.ts_model.specs.declared.commands.Job.{Job}
+use Rattle.ts_model.specs.Forms.{Forms}
 use Rattle.ts_model.specs.declared.answers.Driven.{Driven}
 use Rattle.ts_model.specs.declared.answers.Driven.TheVariants as driven
 use Rattle.ts_model.specs.declared.answers.Outcome.{Outcome}
@@ -20,12 +21,6 @@ use Rattle.ts_world.specs.declared.actors.AnyActor.{AnyActor}
 use Rattle.ts_world.specs.Actors.{job_of, Follows}
 use Rattle.ts_world.proofs.Laws.{asks_it}
 use Rattle.ts_top.specs.Runners.{KeepsCount}
-
-comes_out : (job : Job) (last : AnyActor) (trace : List Exchange) (result : Driven Outcome) → job_of last ≡ job → EndsAs (job_ends job) (Follows last) job.stop trace result → ComesOut job trace result
-comes_out job last trace (driven.Done end) is ends = ends
-comes_out job last trace driven.Stopped is (c, follows_it, cut) =
-    let P : Job → Type 0 = λ j. asks j (state_from j (begun j.command) trace) ≡ Some c in
-    (c, subst P is (asks_it last trace c follows_it), cut)
 
 module _ {S : Type 0} (held : S → Option Held) (faults : S → ℕ) (notes : S → Call → Reply → S → Type 0) where
   -- a call of a store that enters it
@@ -47,17 +42,25 @@ module _ {S : Type 0} (held : S → Option Held) (faults : S → ℕ) (notes : S
   makes : (lane : ℕ) (a b : Recorder S) (x : Exchange) → a.book.lane ≡ lane → RecorderCalled a x b → Makes lane (held a.store) (held b.store) a.book.journal b.book.journal x
   makes lane a b x is called =
       let P : ℕ → Type 0 = λ l. Enters a.book.journal b.book.journal l x.call b.book.last x.reply in
-      record { fate = b.book.last; fits = called.fits; answers = called.answers; enters = subst P is called.noted.enters }
+      record { fate = b.book.last; fits = called.fits; short = called.short; answers = called.answers; enters = subst P is called.noted.enters }
 
-  -- an actor that was driven is its job that ran
-  pub recorder_ran : (number : ℕ) (job : Job) (first last : AnyActor) (before after_ : Recorder S) (result : Driven Outcome) → job_of first ≡ job → job_of last ≡ job
-      → Drove job_of Follows job_ends RecorderCalled first last before after_ job.stop result
-      → Ran number before.book.lane job (held before.store) (held after_.store) before.book.journal after_.book.journal result
-  recorder_ran number job first last before after_ result first_is last_is drove =
-      let Q : Job → Type 0 = λ j. AreAsked job_of Follows j [] drove.trace in
-      let P : Job → Type 0 = λ j. EndsAs (job_ends j) (Follows last) job.stop drove.trace result in
-      ran-driven (λ (r : Recorder S). held r.store) (λ (r : Recorder S). r.book.journal) (LeadsIn before.book.lane) number before.book.lane job
-      (λ a b way. way.1)
-      (λ a b x xs way. (way.1.0, makes before.book.lane a way.1.0 x way.0 way.1.1, (way.1.1.noted.lane ∙ way.0, way.1.2)))
-      drove.trace before after_ result (refl, drove.calls) (asked_by job_of Follows asks_it job [] drove.trace (subst Q first_is drove.asked)) drove.uncut
-      (comes_out job last drove.trace result last_is (subst P first_is drove.end))
+  module _ {W F : Type 0} (forms : Forms F) where
+    -- how an actor came out is how its job came out
+    comes_out : (job : Job) (last : AnyActor W F) (trace : List Exchange) (result : Driven Outcome) → job_of last ≡ job → EndsAs (job_ends forms job) (Follows forms last) job.stop trace result → ComesOut forms job trace result
+    comes_out job last trace (driven.Done end) is ends = ends
+    comes_out job last trace driven.Stopped is (c, follows_it, cut) =
+        let P : Job → Type 0 = λ j. asks forms j (state_from forms j (begun j.command) trace) ≡ Some c in
+        (c, subst P is (asks_it forms last trace c follows_it), cut)
+
+    -- an actor that was driven is its job that ran
+    pub recorder_ran : (number : ℕ) (job : Job) (first last : AnyActor W F) (before after_ : Recorder S) (result : Driven Outcome) → job_of first ≡ job → job_of last ≡ job
+        → Drove job_of (Follows forms) (job_ends forms) RecorderCalled first last before after_ job.stop result
+        → Ran forms number before.book.lane job (held before.store) (held after_.store) before.book.journal after_.book.journal result
+    recorder_ran number job first last before after_ result first_is last_is drove =
+        let Q : Job → Type 0 = λ j. AreAsked (job_of {P = W} {F = F}) (Follows {P = W} forms) j [] drove.trace in
+        let P : Job → Type 0 = λ j. EndsAs (job_ends forms j) (Follows forms last) job.stop drove.trace result in
+        ran-driven forms (λ (r : Recorder S). held r.store) (λ (r : Recorder S). r.book.journal) (LeadsIn before.book.lane) number before.book.lane job
+        (λ a b way. way.1)
+        (λ a b x xs way. (way.1.0, makes before.book.lane a way.1.0 x way.0 way.1.1, (way.1.1.noted.lane ∙ way.0, way.1.2)))
+        drove.trace before after_ result (refl, drove.calls) (asked_by {A = AnyActor W F} forms job_of (Follows forms) (asks_it forms) job [] drove.trace (subst Q first_is drove.asked)) drove.uncut
+        (comes_out job last drove.trace result last_is (subst P first_is drove.end))

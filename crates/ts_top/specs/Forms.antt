@@ -1,8 +1,9 @@
 -- Forms: what a JSON value has to be, and what it then stands for.
-use Rattle.std.specs.Prelude.{◌≡◌, ℕ, ℤ, List, [], ◌∷◌, ◌++◌, Bool, true, false, ◌&&◌, ◌||◌, Option, Some, None, option_and_then, Result, Ok, Err}
+use Rattle.std.specs.Prelude.{◌≡◌, ℕ, ℤ, List, [], ◌∷◌, ◌++◌, nat_lt, ◌^◌, Bool, true, false, ◌&&◌, ◌||◌, Option, Some, None, option_and_then, Result, Ok, Err}
+use Rattle.std.specs.Option.{option_map_or}
 use Rattle.std.specs.Str.{bytes_eq}
 use Rattle.serde_json.specs.Data.{Data, object, Items, no_items, item, Members, no_members, member}
-use Rattle.serde_json.specs.Find.{get, as_array, as_integer, as_i64, as_number, as_u64}
+use Rattle.serde_json.specs.Find.{get, as_array, as_integer, as_number, as_u64}
 use Rattle.ts_top.specs.declared.json.JsonFault.{JsonFault}
 use Rattle.ts_top.specs.declared.json.JsonFault.TheVariants as fault
 
@@ -20,10 +21,6 @@ when false x = None
 abbrev pub integer : Data → Option ℤ
 integer d = as_number d >>= as_integer
 
--- a whole number of 64 bits with a sign
-abbrev pub signed : Data → Option ℤ
-signed d = as_number d >>= as_i64
-
 -- a whole number of 64 bits without a sign
 abbrev pub unsigned : Data → Option ℕ
 unsigned d = as_number d >>= as_u64
@@ -37,14 +34,22 @@ abbrev pub items_onto : {A : Type 0} → (Data → Option A) → List A → Item
 items_onto form done no_items = Some done
 items_onto form done (item d ds) = form d >>= λ x. items_onto form (done ++ x ∷ []) ds
 
+-- the value under a key, in this form, or this one where the key is not there
+abbrev pub optional : {A : Type 0} → (Data → Option A) → A → List ℕ → Data → Option A
+optional form missing key d = option_map_or form (get key d) (Some missing)
+
 -- an array of items in this form
 abbrev pub list_of : {A : Type 0} → (Data → Option A) → Data → Option (List A)
 list_of form d = as_array d >>= items_onto form []
 
--- the item of a list of one
-abbrev pub only : {A : Type 0} → List A → Option A
-only (x ∷ []) = Some x
-only _ = None
+-- a whole number of 32 bits without a sign
+abbrev pub small : Data → Option ℕ
+small d = unsigned d >>= λ n. when (nat_lt n (2 ^ 32)) n
+
+-- the two items of a list of two
+abbrev pub two : {A : Type 0} → List A → Option (A × A)
+two (x ∷ y ∷ []) = Some (x, y)
+two _ = None
 
 -- a key is one of these
 abbrev pub is_one_of : List ℕ → List (List ℕ) → Bool

@@ -4,5 +4,6 @@ pub mod Lines
 pub mod Notices
 pub mod Runners
 pub mod Script
-pub mod Seen
 pub mod Words
+pub mod Values
+pub mod Seen

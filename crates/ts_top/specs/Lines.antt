@@ -1,13 +1,15 @@
 -- The lines of a script: which object stands for which command.
-use Rattle.std.specs.Prelude.{ℕ, List, [], ◌∷◌, codes, Option, Some, None, if◌then◌else◌}
+use Rattle.std.specs.Prelude.{ℕ, List, [], ◌∷◌, codes, ◌||◌, ◌&&◌, Option, None, is_some, if◌then◌else◌}
 use Rattle.std.specs.Str.{bytes_eq}
 use Rattle.serde_json.specs.Data.{Data}
-use Rattle.serde_json.specs.Find.{as_str}
+use Rattle.serde_json.specs.Find.{as_str, get}
+use Rattle.ts_domain.specs.declared.orders.Order.TheVariants.{Row}
 use Rattle.ts_model.specs.declared.commands.Command.{Command}
 use Rattle.ts_model.specs.declared.commands.Command.TheVariants as command
 use Rattle.ts_model.specs.declared.commands.Line.{Line}
-use Rattle.ts_top.specs.Forms.{◌>>=◌, when, integer, signed, unsigned, required, list_of, only, has_only}
-use Rattle.ts_top.specs.declared.lines.Columns.{Columns}
+use Rattle.ts_model.specs.Commands.{fits}
+use Rattle.ts_top.specs.Forms.{◌>>=◌, when, unsigned, small, required, optional, list_of, has_only}
+use Rattle.ts_top.specs.Values.{label, dim, attr, order, columns}
 
 -- the keys that every command may have
 abbrev pub common_keys : List (List ℕ)
@@ -17,35 +19,53 @@ common_keys = codes "cmd" ∷ codes "at" ∷ []
 abbrev pub name_of : Data → Option (List ℕ)
 name_of d = required as_str (codes "cmd") d
 
--- the columns of one cell: `{"x":[x],"v":[v]}`
-unfoldable pub columns_of : Data → Option Columns
-columns_of d = do
-  xs ← required (list_of integer) (codes "x") d
-  vs ← required (list_of signed) (codes "v") d
-  x ← only xs
-  v ← only vs
-  when (has_only [] (codes "x" ∷ codes "v" ∷ []) d) (record { x = x; v = v })
+-- the keys of a create
+abbrev pub create_keys : List (List ℕ)
+create_keys = codes "kind" ∷ codes "dims" ∷ codes "attrs" ∷ codes "cell_order" ∷ codes "tile_order" ∷ codes "capacity" ∷ []
 
--- a write: `"cols"` with the columns of one cell
+-- a create: `kind` "sparse", `dims`, `attrs`, and optional `cell_order`, `tile_order` and `capacity`
+unfoldable pub create_of : Data → Option Command
+create_of d = do
+  kind ← required as_str (codes "kind") d
+  dims ← required (list_of dim) (codes "dims") d
+  attrs ← required (list_of attr) (codes "attrs") d
+  cell ← optional order Row (codes "cell_order") d
+  tile ← optional order Row (codes "tile_order") d
+  capacity ← optional small 10000 (codes "capacity") d
+  when (bytes_eq kind (codes "sparse") && has_only common_keys create_keys d) (command.Create (record { dims = dims; cell = cell; tile = tile; capacity = capacity; attrs = attrs }))
+
+-- an evolve: optional `add` and `drop`, at least one of the two
+unfoldable pub evolve_of : Data → Option Command
+evolve_of d = do
+  add ← optional (list_of attr) [] (codes "add") d
+  less ← optional (list_of label) [] (codes "drop") d
+  when ((is_some (get (codes "add") d) || is_some (get (codes "drop") d)) && has_only common_keys (codes "add" ∷ codes "drop" ∷ []) d) (command.Evolve (record { add = add; less = less }))
+
+-- a write: `cols`
 unfoldable pub write_of : Data → Option Command
 write_of d = do
-  cols ← required columns_of (codes "cols") d
-  when (has_only common_keys (codes "cols" ∷ []) d) (command.Write cols.x cols.v)
+  cols ← required columns (codes "cols") d
+  when (has_only common_keys (codes "cols" ∷ []) d) (command.Write (record { cols = cols }))
 
--- a read, up to its own timestamp
+-- a read: optional `from`, 0 where it is not there, and `to`, the stamp where it is not there
 unfoldable pub read_of : ℕ → Data → Option Command
-read_of at d = when (has_only common_keys [] d) (command.Read at)
+read_of at d = do
+  from ← optional unsigned 0 (codes "from") d
+  to ← optional unsigned at (codes "to") d
+  when (has_only common_keys (codes "from" ∷ codes "to" ∷ []) d) (command.Read from to)
 
 -- the command of this name and timestamp
 unfoldable pub command_of : List ℕ → ℕ → Data → Option Command
 command_of name at d =
-    if bytes_eq name (codes "write") then write_of d
-    else (if bytes_eq name (codes "read") then read_of at d else None)
+    if bytes_eq name (codes "create") then create_of d
+    else (if bytes_eq name (codes "evolve") then evolve_of d
+    else (if bytes_eq name (codes "write") then write_of d
+    else (if bytes_eq name (codes "read") then read_of at d else None)))
 
--- the line that an object stands for
+-- the line that an object stands for: its command is one that there can be
 unfoldable pub line_of : Data → Option Line
 line_of d = do
   name ← name_of d
   at ← required unsigned (codes "at") d
   command ← command_of name at d
-  Some (record { command = command; at = at })
+  when (fits command) (record { command = command; at = at })

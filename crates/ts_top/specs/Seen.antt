@@ -10,6 +10,8 @@ use Rattle.ts_model.specs.declared.answers.Driven.{Driven}
 use Rattle.ts_model.specs.declared.answers.Outcome.{Outcome}
 use Rattle.ts_model.specs.Fresh.{jobs_of}
 use Rattle.ts_model.specs.Runs.{IsRun}
+use Rattle.ts_actor.specs.PlainForms.{plain_forms}
+use Rattle.ts_plain.specs.Pieces.{IsPlain}
 use Rattle.ts_top.specs.declared.top.Stop.{Stop}
 use Rattle.ts_top.specs.declared.top.Stop.TheVariants.{Usage, BadScript, NoForm, ReadFault, OutOfMemory}
 use Rattle.ts_top.specs.Words.{job}
@@ -93,7 +95,7 @@ pub record IsRead (words : List (List ℕ)) (input : Stream) (lines : List Line)
 
 -- the commands were done: the journal and how they came out are a run of them
 abbrev pub Performed : Seen → List Line → List (Driven Outcome) → Type 0
-Performed seen lines results = IsRun seen.seed (jobs_of seen.seed lines) seen.held seen.later seen.journal results
+Performed seen lines results = IsRun plain_forms IsPlain seen.seed (jobs_of seen.seed lines) seen.held seen.later seen.journal results
 
 -- the ends were printed: all of them with status 0, else a front of the text; with status 5 the sink failed
 pub record PrintsEnds (out : Stream) (text : List ℕ) (status : ℕ) : Type 0 where

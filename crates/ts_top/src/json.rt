@@ -1,8 +1,9 @@
 //! Reading a JSON value by its form: which values a form takes, and what they then stand for.
-ghost use Rattle.std.specs.Prelude.{◌≡◌, [], Option, map};
+ghost use Rattle.std.specs.Prelude.{◌≡◌, [], Option, map, option_map};
+ghost use Rattle.serde_json.specs.Find.{as_bool, as_str};
 ghost use Rattle.serde_json.specs.Data.{Data};
 ghost use Rattle.serde_json.specs.View.{view, items_view, members_view};
-ghost use Rattle.ts_top.specs.Forms.{integer, signed, unsigned, required, list_of, items_onto, only, is_one_of, keys_within, has_only, Gives};
+ghost use Rattle.ts_top.specs.Forms.{integer, unsigned, small, required, optional, list_of, items_onto, two, is_one_of, keys_within, has_only, Gives};
 
 use serde_json::{Map, Number, Value};
 use std::alloc::Global;
@@ -51,18 +52,6 @@ impl FromJson for i128 {
     }
 }
 
-/// A whole number from -2^63 to 2^63 - 1.
-impl FromJson for i64 {
-    ghost form = { signed };
-
-    fn from_json(_alloc: Global, value: &Value) -> Result<i64, JsonFault> {
-        match value.as_i64() {
-            Some(number) => Ok(number),
-            None => Err(JsonFault::Form),
-        }
-    }
-}
-
 /// A whole number from 0 to 2^64 - 1.
 impl FromJson for u64 {
     ghost form = { unsigned };
@@ -70,6 +59,30 @@ impl FromJson for u64 {
     fn from_json(_alloc: Global, value: &Value) -> Result<u64, JsonFault> {
         match value.as_u64() {
             Some(number) => Ok(number),
+            None => Err(JsonFault::Form),
+        }
+    }
+}
+
+/// A whole number from 0 to 2^32 - 1.
+impl FromJson for u32 {
+    ghost form = { small };
+
+    fn from_json(_alloc: Global, value: &Value) -> Result<u32, JsonFault> {
+        match value.as_u64() {
+            Some(number) if number <= u64::from(u32::MAX) => Ok(number as u32),
+            _ => Err(JsonFault::Form),
+        }
+    }
+}
+
+/// A truth value.
+impl FromJson for bool {
+    ghost form = { as_bool };
+
+    fn from_json(_alloc: Global, value: &Value) -> Result<bool, JsonFault> {
+        match value.as_bool() {
+            Some(is) => Ok(is),
             None => Err(JsonFault::Form),
         }
     }
@@ -108,12 +121,34 @@ pub(crate) fn required<T: FromJson>(alloc: Global, value: &Value, key: &str) -> 
     }
 }
 
-/// The item of a list of one.
-pub(crate) fn only<T: Copy>(list: &Sequence<T>) -> Option<T>
-    ensures { result ≡ only list.now }
+/// Reads the value under a key, or takes another where the key is not there.
+pub(crate) fn optional<T: FromJson>(
+    alloc: Global,
+    value: &Value,
+    key: &str,
+    missing: T,
+) -> Result<T, JsonFault>
+    ensures { Gives result (optional T.form missing key.now (view value.now)) }
+{
+    match value.get(key) {
+        Some(found) => T::from_json(alloc, found),
+        None => Ok(missing),
+    }
+}
+
+/// The text under a key, if there is one.
+pub(crate) fn text_under<'a>(value: &'a Value, key: &str) -> Option<&'a str>
+    ensures { option_map (λ text. text.now) result ≡ required as_str key.now (view value.now) }
+{
+    value.get(key).and_then(Value::as_str)
+}
+
+/// The two items of a list of two.
+pub(crate) fn two<T: Copy>(list: &Sequence<T>) -> Option<(T, T)>
+    ensures { result ≡ two list.now }
 {
     match list.as_slice() {
-        [item] => Some(*item),
+        [first, second] => Some((*first, *second)),
         _ => None,
     }
 }

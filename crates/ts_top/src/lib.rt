@@ -8,6 +8,7 @@ mod notices;
 mod runner;
 mod script;
 mod top;
+mod values;
 mod words;
 
 pub use top::{Ran, run};

@@ -1,46 +1,28 @@
-//! The two commands that a script may have, as JSON objects.
-ghost use Rattle.std.specs.Prelude.{◌≡◌, option_map, IfOk, IsTrue};
+//! The commands that a script may have, as JSON objects.
+ghost use Rattle.std.specs.Prelude.{◌≡◌, ◌&&◌, ◌^◌, pos, neg_ℤ, int_le, int_lt, nat_lt, length, IfOk, option_map};
+ghost use Rattle.ts_base.specs.Labels.{is_label};
+ghost use Rattle.ts_schema.specs.FrameTexts.{is_bound};
+ghost use Rattle.std.specs.List.{list_all};
 ghost use Rattle.serde_json.specs.View.{view};
-ghost use Rattle.ts_model.specs.Jobs.{fits, IsFitLine};
+ghost use Rattle.ts_model.specs.Commands.{fits, is_spelled_attr, is_spelled_col, is_spelled_dim, is_spelled_val, is_byte};
+ghost use Rattle.ts_model.specs.Jobs.{IsFitLine};
 ghost use Rattle.ts_top.specs.Forms.{Gives};
-ghost use Rattle.ts_top.specs.Lines.{name_of, write_of, read_of, command_of, line_of};
+ghost use Rattle.ts_top.specs.Lines.{name_of, create_of, evolve_of, write_of, read_of, command_of, line_of};
 
-use crate::json::{FromJson, JsonFault, has_only, only, required};
+use crate::json::{FromJson, JsonFault, has_only, optional, required, text_under};
+use crate::values::read_columns;
 use serde_json::Value;
 use std::alloc::Global;
-use ts_base::Sequence;
-use ts_model::{Command, Line};
+use ts_base::{Label, LabelList, Val};
+use ts_domain::{Dim, DimList, Order};
+use ts_model::{ColIn, ColInList, Command, FrameIn, Line, WriteIn};
+use ts_schema::{Attr, AttrList, Evolution};
 
 /// The keys that every command may have.
 const COMMON: [&str; 2] = ["cmd", "at"];
 
-/// The columns of a write of one cell.
-#[derive(Clone, Copy, Debug, PartialEq, Eq)]
-struct Columns {
-    /// The coordinate.
-    x: i128,
-    /// The value.
-    v: i64,
-}
-
-impl FromJson for Columns {
-    ghost use Rattle.ts_top.specs.Lines.{columns_of};
-
-    ghost form = { columns_of };
-
-    #[tactic(auto, unfolding(crate::specs::Lines::columns_of))]
-    fn from_json(alloc: Global, value: &Value) -> Result<Columns, JsonFault> {
-        let xs: Sequence<i128> = required(alloc, value, "x")?;
-        let vs: Sequence<i64> = required(alloc, value, "v")?;
-        let (Some(x), Some(v)) = (only(&xs), only(&vs)) else {
-            return Err(JsonFault::Form);
-        };
-        if !has_only(value, &[], &["x", "v"]) {
-            return Err(JsonFault::Form);
-        }
-        Ok(Columns { x, v })
-    }
-}
+/// The number of cells in a data tile where a create does not say it.
+const CAPACITY: u32 = 10_000;
 
 /// Reads a line: a command with its timestamp.
 impl FromJson for Line {
@@ -56,6 +38,9 @@ impl FromJson for Line {
         };
         let at = required(alloc, value, "at")?;
         let command = read_command(alloc, name, at, value)?;
+        if !fits(&command) {
+            return Err(JsonFault::Form);
+        }
         Ok(Line { command, at })
     }
 }
@@ -64,56 +49,242 @@ impl FromJson for Line {
 pub(crate) fn name_of(value: &Value) -> Option<&str>
     ensures { option_map (λ name. name.now) result ≡ name_of (view value.now) }
 {
-    value.get("cmd").and_then(Value::as_str)
+    text_under(value, "cmd")
 }
 
 /// Reads the command of this name and timestamp.
 #[tactic(auto, unfolding(crate::specs::Lines::command_of))]
 fn read_command(alloc: Global, name: &str, at: u64, value: &Value) -> Result<Command, JsonFault>
-    ensures gives { Gives result (command_of name.now at (view value.now)) }
-    ensures fit { IfOk result (λ command. IsTrue (fits command)) }
+    ensures { Gives result (command_of name.now at (view value.now)) }
 {
-    if name == "write" {
+    if name == "create" {
+        read_create(alloc, value)
+    } else if name == "evolve" {
+        read_evolve(alloc, value)
+    } else if name == "write" {
         read_write(alloc, value)
     } else if name == "read" {
-        read_read(at, value)
+        read_read(alloc, at, value)
     } else {
         Err(JsonFault::Form)
     }
 }
 
-/// Reads a write: the columns of one cell.
+/// Reads a create of a sparse array.
+#[tactic(auto, unfolding(crate::specs::Lines::create_of))]
+fn read_create(alloc: Global, value: &Value) -> Result<Command, JsonFault>
+    ensures { Gives result (create_of (view value.now)) }
+{
+    let Some(kind) = text_under(value, "kind") else {
+        return Err(JsonFault::Form);
+    };
+    let dims: DimList = required(alloc, value, "dims")?;
+    let attrs: AttrList = required(alloc, value, "attrs")?;
+    let cell = optional(alloc, value, "cell_order", Order::Row)?;
+    let tile = optional(alloc, value, "tile_order", Order::Row)?;
+    let capacity = optional(alloc, value, "capacity", CAPACITY)?;
+    let keys = [
+        "kind",
+        "dims",
+        "attrs",
+        "cell_order",
+        "tile_order",
+        "capacity",
+    ];
+    if kind != "sparse" || !has_only(value, &COMMON, &keys) {
+        return Err(JsonFault::Form);
+    }
+    Ok(Command::Create(FrameIn {
+        dims,
+        cell,
+        tile,
+        capacity,
+        attrs,
+    }))
+}
+
+/// Reads an evolve, which adds attributes or drops some, or both.
+#[tactic(auto, unfolding(crate::specs::Lines::evolve_of))]
+fn read_evolve(alloc: Global, value: &Value) -> Result<Command, JsonFault>
+    ensures { Gives result (evolve_of (view value.now)) }
+{
+    let add = optional(alloc, value, "add", AttrList::new(alloc))?;
+    let less = optional(alloc, value, "drop", LabelList::new(alloc))?;
+    let changes = value.get("add").is_some() || value.get("drop").is_some();
+    if !changes || !has_only(value, &COMMON, &["add", "drop"]) {
+        return Err(JsonFault::Form);
+    }
+    Ok(Command::Evolve(Evolution { add, less }))
+}
+
+/// Reads a write: its columns.
 #[tactic(auto, unfolding(crate::specs::Lines::write_of))]
 fn read_write(alloc: Global, value: &Value) -> Result<Command, JsonFault>
-    ensures gives { Gives result (write_of (view value.now)) }
-    ensures fit { IfOk result (λ command. IsTrue (fits command)) }
+    ensures { Gives result (write_of (view value.now)) }
 {
-    let cols: Columns = required(alloc, value, "cols")?;
+    let Some(found) = value.get("cols") else {
+        return Err(JsonFault::Form);
+    };
+    let cols = read_columns(alloc, found)?;
     if !has_only(value, &COMMON, &["cols"]) {
         return Err(JsonFault::Form);
     }
-    Ok(write(cols.x, cols.v))
+    Ok(Command::Write(WriteIn { cols }))
 }
 
-/// The write of a value of 64 bits.
-fn write(x: i128, v: i64) -> Command
-    ensures is { result ≡ Command.Write x v }
-    ensures fit { IsTrue (fits result) }
-{
-    Command::Write {
-        x,
-        v: i128::from(v),
-    }
-}
-
-/// Reads a read, which goes up to its own timestamp.
+/// Reads a read: its interval begins at 0 and ends at its own timestamp where it does not say else.
 #[tactic(auto, unfolding(crate::specs::Lines::read_of))]
-fn read_read(at: u64, value: &Value) -> Result<Command, JsonFault>
-    ensures gives { Gives result (read_of at (view value.now)) }
-    ensures fit { IfOk result (λ command. IsTrue (fits command)) }
+fn read_read(alloc: Global, at: u64, value: &Value) -> Result<Command, JsonFault>
+    ensures { Gives result (read_of at (view value.now)) }
 {
-    if !has_only(value, &COMMON, &[]) {
+    let from = optional(alloc, value, "from", 0)?;
+    let to = optional(alloc, value, "to", at)?;
+    if !has_only(value, &COMMON, &["from", "to"]) {
         return Err(JsonFault::Form);
     }
-    Ok(Command::Read { to: at })
+    Ok(Command::Read { from, to })
+}
+
+/// Whether the command is one that there can be: its names are labels, its numbers lie in their
+/// ranges, its columns have values, and an array has a dimension and a capacity.
+fn fits(command: &Command) -> bool
+    ensures { result ≡ fits command.now }
+{
+    match command {
+        Command::Create(made) => {
+            let capacity = made.capacity;
+            !made.dims.is_empty()
+                && are_spelled_dims(made.dims.as_slice())
+                && 1 <= capacity
+                && capacity <= 1_000_000
+                && are_spelled_attrs(made.attrs.as_slice())
+        }
+        Command::Evolve(change) => are_spelled_attrs(change.add.as_slice()),
+        Command::Write(cells) => are_spelled_cols(cells.cols.as_slice()),
+        Command::Read { from, to } => is_stamp(*from) && is_stamp(*to),
+    }
+}
+
+/// Whether a timestamp has 64 bits, as each has.
+fn is_stamp(at: u64) -> bool
+    ensures { result ≡ nat_lt at (2 ^ 64) }
+{
+    at <= u64::MAX
+}
+
+/// Whether a label is one, as each is.
+fn is_label(label: &Label) -> bool
+    ensures { result ≡ is_label label.now }
+{
+    Label::new(label.text()).is_some()
+}
+
+/// Whether each dimension is one that there can be.
+fn are_spelled_dims(dims: &[Dim]) -> bool
+    ensures { result ≡ list_all is_spelled_dim dims.now }
+{
+    dims.iter().all(|dim| is_spelled_dim(dim))
+}
+
+/// Whether a dimension has an integer type and numbers between -2^64 and 2^64.
+fn is_spelled_dim(dim: &Dim) -> bool
+    ensures { result ≡ is_spelled_dim dim.now }
+{
+    is_label(&dim.name)
+        && dim.ty.is_integer()
+        && is_bound(dim.low)
+        && is_bound(dim.high)
+        && is_bound(dim.extent)
+}
+
+/// Whether a number lies between -2^64 and 2^64.
+fn is_bound(number: i128) -> bool
+    ensures { result ≡ is_bound number }
+{
+    -18_446_744_073_709_551_616 <= number && number <= 18_446_744_073_709_551_616
+}
+
+/// Whether each attribute has a spelling.
+fn are_spelled_attrs(attrs: &[Attr]) -> bool
+    ensures { result ≡ list_all is_spelled_attr attrs.now }
+{
+    attrs.iter().all(|attr| is_spelled_attr(attr))
+}
+
+/// Whether an attribute has a spelling.
+fn is_spelled_attr(attr: &Attr) -> bool
+    ensures { result ≡ is_spelled_attr attr.now }
+{
+    is_label(&attr.name) && is_spelled_val(&attr.fill)
+}
+
+/// Whether each column has a value, and its values a spelling.
+fn are_spelled_cols(cols: &[ColIn]) -> bool
+    ensures { result ≡ list_all is_spelled_col cols.now }
+{
+    cols.iter().all(|col| is_spelled_col(col))
+}
+
+/// Whether a column has a value, and each of its values a spelling.
+fn is_spelled_col(col: &ColIn) -> bool
+    ensures { result ≡ is_spelled_col col.now }
+{
+    is_label(&col.name)
+        && col.values.len() > 0
+        && is_size(col.values.as_slice().len())
+        && are_spelled_vals(col.values.as_slice())
+}
+
+/// Whether each value has a spelling.
+fn are_spelled_vals(vals: &[Val]) -> bool
+    ensures { result ≡ list_all is_spelled_val vals.now }
+{
+    vals.iter().all(|val| is_spelled_val(val))
+}
+
+/// Whether a value has a spelling, as each value has that fits in memory.
+fn is_spelled_val(val: &Val) -> bool
+    ensures { result ≡ is_spelled_val val.now }
+{
+    match val {
+        Val::Null => true,
+        Val::Int(number) => is_wide(*number),
+        Val::Bytes(bytes) => are_bytes(bytes.as_slice()),
+    }
+}
+
+/// Whether an integer has 128 bits, as each has.
+fn is_wide(number: i128) -> bool
+    ensures { result ≡ (int_le (neg_ℤ (pos (2 ^ 127))) number && int_lt number (pos (2 ^ 127))) }
+{
+    i128::MIN <= number && number <= i128::MAX
+}
+
+/// Whether there are so few bytes that their number has 64 bits, and each is below 256, as it is of
+/// all bytes in memory.
+fn are_bytes(bytes: &[u8]) -> bool
+    ensures { result ≡ (nat_lt (length bytes.now) (2 ^ 64) && list_all is_byte bytes.now) }
+{
+    is_size(bytes.len()) && each_is_byte(bytes)
+}
+
+/// Whether each byte is below 256.
+fn each_is_byte(bytes: &[u8]) -> bool
+    ensures { result ≡ list_all is_byte bytes.now }
+{
+    bytes.iter().all(|byte| is_byte(*byte))
+}
+
+/// Whether a size has 64 bits, as each has.
+fn is_size(size: usize) -> bool
+    ensures { result ≡ nat_lt size (2 ^ 64) }
+{
+    size <= usize::MAX
+}
+
+/// Whether a byte is below 256, as each is.
+fn is_byte(byte: u8) -> bool
+    ensures { result ≡ is_byte byte }
+{
+    byte <= u8::MAX
 }

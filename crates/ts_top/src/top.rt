@@ -114,7 +114,7 @@ fn print_all<O: Sink>(alloc: Global, out: &mut O, lines: &[Line], results: &[Dri
     let Ok(text) = print_ends(alloc, lines, results) else {
         return 7;
     };
-    match write_all(out, text.as_bytes()) {
+    match write_all(out, text.as_slice()) {
         Ok(()) => 0,
         Err(_) => 5,
     }
@@ -197,9 +197,11 @@ fn run_seen<R: Threads + Sync, S: Store, I: Source, O: Sink>(
 /// to `out`. `seed` stands in the upper 64 bits of each identifier that the run makes: over a store
 /// that holds something it has to be one that no identifier there has, for what is said of answers.
 ///
-/// `Ran::status` says how the run ended. Over a store that tells what it holds the clause `run` says
-/// of every command which calls it made, how it ended, and that a read shows of each cell the last
-/// write, in the order of timestamp and identifier, among those stamped up to its own end.
+/// `Ran::status` says how the run ended. The clause `run` says of every command which calls it made
+/// and how it ended. Where the store tells what it holds, what it held stands for a history and no
+/// identifier there has the seed, it says too that a read shows of each cell the last write, in the
+/// order of timestamp and identifier, among those stamped in its interval, through the schema that
+/// holds at the end of the interval.
 pub fn run<R: Threads + Sync, S: Store, I: Source, O: Sink>(
     rt: &R,
     alloc: Global,

@@ -1,7 +1,10 @@
 use super::{ScriptFault, read_script};
 use std::alloc::Global;
 use std::test::Fail;
-use ts_model::{Command, Line, LineList};
+use ts_base::{ByteList, Label, LabelList, OutOfMemory, Row, Val, ValType};
+use ts_domain::{Dim, DimList, Order};
+use ts_model::{ColIn, ColInList, Command, FrameIn, Line, LineList, WriteIn};
+use ts_schema::{Attr, AttrList, Evolution};
 
 const GOOD: &str = "{\"cmd\":\"read\",\"at\":9}";
 
@@ -25,60 +28,144 @@ const READS: &[&str] = &[
     // Escapes are decoded, in keys and in words.
     "{\"\\u0063md\":\"read\",\"at\":9}",
     "{\"cmd\":\"re\\u0061d\",\"\\u0061t\":9}",
+    // The interval is from 0 to the timestamp where the line says nothing else.
+    "{\"cmd\":\"read\",\"at\":9,\"from\":0,\"to\":9}",
+    "{\"cmd\":\"read\",\"at\":9,\"to\":9}",
+    "{\"cmd\":\"read\",\"at\":9,\"from\":0}",
 ];
 
-/// Objects with a text under `cmd` that are no command of the two forms.
+/// Objects with a text under `cmd` that stand for no command.
 const NOT_BUILT: &[&str] = &[
     // Other names.
-    "{\"cmd\":\"vacuum\"}",
-    "{\"cmd\":\"\"}",
-    "{\"cmd\":\"Read\",\"at\":9}",
-    "{\"cmd\":\"read \",\"at\":9}",
-    "{\"cmd\":\"read\",\"cmd\":\"write\",\"at\":9}",
+    "{'cmd':'vacuum'}",
+    "{'cmd':''}",
+    "{'cmd':'Read','at':9}",
+    "{'cmd':'read ','at':9}",
+    "{'cmd':'read','cmd':'write','at':9}",
     // No timestamp, or none of a whole number from 0 to 2^64 - 1.
-    "{\"cmd\":\"read\"}",
-    "{\"cmd\":\"read\",\"At\":9}",
-    "{\"cmd\":\"read\",\"at\":\"9\"}",
-    "{\"cmd\":\"read\",\"at\":[9]}",
-    "{\"cmd\":\"read\",\"at\":null}",
-    "{\"cmd\":\"read\",\"at\":true}",
-    "{\"cmd\":\"read\",\"at\":9,\"at\":null}",
-    "{\"cmd\":\"read\",\"at\":-1}",
-    "{\"cmd\":\"read\",\"at\":-0}",
-    "{\"cmd\":\"read\",\"at\":0.0}",
-    "{\"cmd\":\"read\",\"at\":9.0}",
-    "{\"cmd\":\"read\",\"at\":1e1}",
-    "{\"cmd\":\"read\",\"at\":1e308}",
-    "{\"cmd\":\"read\",\"at\":1e-999}",
-    "{\"cmd\":\"read\",\"at\":18446744073709551616}",
+    "{'cmd':'read'}",
+    "{'cmd':'read','At':9}",
+    "{'cmd':'read','at':'9'}",
+    "{'cmd':'read','at':[9]}",
+    "{'cmd':'read','at':null}",
+    "{'cmd':'read','at':true}",
+    "{'cmd':'read','at':9,'at':null}",
+    "{'cmd':'read','at':-1}",
+    "{'cmd':'read','at':-0}",
+    "{'cmd':'read','at':0.0}",
+    "{'cmd':'read','at':9.0}",
+    "{'cmd':'read','at':1e1}",
+    "{'cmd':'read','at':1e308}",
+    "{'cmd':'read','at':1e-999}",
+    "{'cmd':'read','at':18446744073709551616}",
     // Keys that the form has not.
-    "{\"cmd\":\"read\",\"at\":9,\"lane\":0}",
-    "{\"cmd\":\"read\",\"at\":9,\"stop\":1}",
-    "{\"cmd\":\"read\",\"at\":9,\"to\":9}",
-    "{\"cmd\":\"read\",\"at\":9,\"\":0}",
-    "{\"cmd\":\"read\",\"at\":9,\"cols\":{\"x\":[5],\"v\":[1]}}",
-    "{\"cmd\":\"write\",\"at\":1,\"cols\":{\"x\":[5],\"v\":[1]},\"box\":{}}",
-    "{\"cmd\":\"write\",\"at\":1,\"cols\":{\"x\":[5],\"v\":[1],\"w\":[1]}}",
-    "{\"cmd\":\"write\",\"at\":1,\"cols\":{\"x\":[5],\"v\":[1],\"at\":1}}",
+    "{'cmd':'read','at':9,'lane':0}",
+    "{'cmd':'read','at':9,'stop':1}",
+    "{'cmd':'read','at':9,'':0}",
+    "{'cmd':'read','at':9,'where':'v = 1'}",
+    "{'cmd':'read','at':9,'cols':{'x':[5],'v':[1]}}",
+    "{'cmd':'write','at':1,'cols':{'x':[5],'v':[1]},'box':{}}",
+    "{'cmd':'write','at':1,'cols':{'x':[5]},'to':9}",
+    // An interval of no whole numbers from 0 to 2^64 - 1.
+    "{'cmd':'read','at':9,'from':-1}",
+    "{'cmd':'read','at':9,'from':null}",
+    "{'cmd':'read','at':9,'to':'9'}",
+    "{'cmd':'read','at':9,'to':9.0}",
+    "{'cmd':'read','at':9,'to':18446744073709551616}",
     // Columns that are missing, or of another form.
-    "{\"cmd\":\"write\",\"at\":1}",
-    "{\"cmd\":\"write\",\"at\":1,\"cols\":{}}",
-    "{\"cmd\":\"write\",\"at\":1,\"cols\":[[5],[1]]}",
-    "{\"cmd\":\"write\",\"at\":1,\"cols\":{\"x\":[5]}}",
-    "{\"cmd\":\"write\",\"at\":1,\"cols\":{\"v\":[1]}}",
-    "{\"cmd\":\"write\",\"cols\":{\"x\":[5],\"v\":[1]}}",
-    "{\"cmd\":\"write\",\"at\":1,\"cols\":{\"x\":5,\"v\":[1]}}",
-    "{\"cmd\":\"write\",\"at\":1,\"cols\":{\"x\":[],\"v\":[1]}}",
-    "{\"cmd\":\"write\",\"at\":1,\"cols\":{\"x\":[5,6],\"v\":[1,2]}}",
-    "{\"cmd\":\"write\",\"at\":1,\"cols\":{\"x\":[\"5\"],\"v\":[1]}}",
-    "{\"cmd\":\"write\",\"at\":1,\"cols\":{\"x\":[-0],\"v\":[1]}}",
-    "{\"cmd\":\"write\",\"at\":1,\"cols\":{\"x\":[5.0],\"v\":[1]}}",
-    "{\"cmd\":\"write\",\"at\":1,\"cols\":{\"x\":[18446744073709551616],\"v\":[1]}}",
-    "{\"cmd\":\"write\",\"at\":1,\"cols\":{\"x\":[-9223372036854775809],\"v\":[1]}}",
-    "{\"cmd\":\"write\",\"at\":1,\"cols\":{\"x\":[5],\"v\":[1e1]}}",
-    "{\"cmd\":\"write\",\"at\":1,\"cols\":{\"x\":[5],\"v\":[null]}}",
-    "{\"cmd\":\"write\",\"at\":1,\"cols\":{\"x\":[5],\"v\":[9223372036854775808]}}",
-    "{\"cmd\":\"write\",\"at\":1,\"cols\":{\"x\":[5],\"v\":[-9223372036854775809]}}",
+    "{'cmd':'write','at':1}",
+    "{'cmd':'write','cols':{'x':[5],'v':[1]}}",
+    "{'cmd':'write','at':1,'cols':[[5],[1]]}",
+    "{'cmd':'write','at':1,'cols':{'x':5,'v':[1]}}",
+    "{'cmd':'write','at':1,'cols':{'x':null}}",
+    "{'cmd':'write','at':1,'cols':{'x':[],'v':[1]}}",
+    "{'cmd':'write','at':1,'cols':{'x':[5],'v':[]}}",
+    // Values that are no null, no whole number of 64 bits and no text.
+    "{'cmd':'write','at':1,'cols':{'x':[-0]}}",
+    "{'cmd':'write','at':1,'cols':{'x':[5.0]}}",
+    "{'cmd':'write','at':1,'cols':{'x':[1e1]}}",
+    "{'cmd':'write','at':1,'cols':{'x':[18446744073709551616]}}",
+    "{'cmd':'write','at':1,'cols':{'x':[-9223372036854775809]}}",
+    "{'cmd':'write','at':1,'cols':{'x':[true]}}",
+    "{'cmd':'write','at':1,'cols':{'x':[[5]]}}",
+    "{'cmd':'write','at':1,'cols':{'x':[{}]}}",
+    // Columns whose names are no labels.
+    "{'cmd':'write','at':1,'cols':{'':[1]}}",
+    "{'cmd':'write','at':1,'cols':{'1x':[1]}}",
+    "{'cmd':'write','at':1,'cols':{'_x':[1]}}",
+    "{'cmd':'write','at':1,'cols':{'x y':[1]}}",
+    "{'cmd':'write','at':1,'cols':{'and':[1]}}",
+    "{'cmd':'write','at':1,'cols':{'null':[1]}}",
+    "{'cmd':'write','at':1,'cols':{'\\u00e9':[1]}}",
+    // A change of nothing, and changes of another form.
+    "{'cmd':'evolve','at':1}",
+    "{'cmd':'evolve','at':1,'add':{}}",
+    "{'cmd':'evolve','at':1,'add':null,'drop':['v']}",
+    "{'cmd':'evolve','at':1,'add':['v']}",
+    "{'cmd':'evolve','at':1,'drop':'v'}",
+    "{'cmd':'evolve','at':1,'drop':[5]}",
+    "{'cmd':'evolve','at':1,'drop':['not']}",
+    "{'cmd':'evolve','at':1,'drop':['v'],'attrs':[]}",
+];
+
+/// Attributes of another form.
+const NO_ATTRS: &[&str] = &[
+    "{}",
+    "{'name':'v'}",
+    "{'type':'int8'}",
+    "{'name':'or','type':'int8'}",
+    "{'name':5,'type':'int8'}",
+    "{'name':'v','type':'int'}",
+    "{'name':'v','type':'Int8'}",
+    "{'name':'v','type':8}",
+    "{'name':'v','type':'int8','nullable':null}",
+    "{'name':'v','type':'int8','nullable':0}",
+    "{'name':'v','type':'int8','fill':true}",
+    "{'name':'v','type':'int8','fill':1.5}",
+    "{'name':'v','type':'int8','fill':[]}",
+    "{'name':'v','type':'int8','size':1}",
+    "'v'",
+];
+
+/// Dimensions of another form.
+const NO_DIMS: &[&str] = &[
+    "{'type':'int8','domain':[0,9],'extent':1}",
+    "{'name':'x','domain':[0,9],'extent':1}",
+    "{'name':'x','type':'int8','extent':1}",
+    "{'name':'x','type':'int8','domain':[0,9]}",
+    "{'name':'is','type':'int8','domain':[0,9],'extent':1}",
+    "{'name':'x','type':'text','domain':[0,9],'extent':1}",
+    "{'name':'x','type':'blob','domain':[0,9],'extent':1}",
+    "{'name':'x','type':'int8','domain':[0],'extent':1}",
+    "{'name':'x','type':'int8','domain':[0,5,9],'extent':1}",
+    "{'name':'x','type':'int8','domain':9,'extent':1}",
+    "{'name':'x','type':'int8','domain':['a','z'],'extent':1}",
+    "{'name':'x','type':'int8','domain':[0,9.0],'extent':1}",
+    "{'name':'x','type':'uint64','domain':[0,18446744073709551616],'extent':1}",
+    "{'name':'x','type':'int8','domain':[0,9],'extent':'1'}",
+    "{'name':'x','type':'int8','domain':[0,9],'extent':1,'tile':1}",
+    "5",
+];
+
+/// What stands behind `cmd` and `at` of a create of another form.
+const NO_CREATES: &[&str] = &[
+    "'dims':[X],'attrs':[]",
+    "'kind':'dense','dims':[X],'attrs':[]",
+    "'kind':5,'dims':[X],'attrs':[]",
+    "'kind':'sparse','attrs':[]",
+    "'kind':'sparse','dims':[X]",
+    "'kind':'sparse','dims':[],'attrs':[]",
+    "'kind':'sparse','dims':X,'attrs':[]",
+    "'kind':'sparse','dims':[X],'attrs':{}",
+    "'kind':'sparse','dims':[X],'attrs':[],'capacity':0",
+    "'kind':'sparse','dims':[X],'attrs':[],'capacity':1000001",
+    "'kind':'sparse','dims':[X],'attrs':[],'capacity':4294967297",
+    "'kind':'sparse','dims':[X],'attrs':[],'capacity':-1",
+    "'kind':'sparse','dims':[X],'attrs':[],'capacity':'1'",
+    "'kind':'sparse','dims':[X],'attrs':[],'cell_order':'global'",
+    "'kind':'sparse','dims':[X],'attrs':[],'tile_order':'Row'",
+    "'kind':'sparse','dims':[X],'attrs':[],'tile_order':null",
+    "'kind':'sparse','dims':[X],'attrs':[],'where':''",
 ];
 
 /// Lines that are no JSON object with a text under `cmd`.
@@ -135,22 +222,40 @@ fn lines(alloc: Global, line: Line) -> Result<LineList, Fail> {
     Ok(lines)
 }
 
-fn write(x: i128, v: i128) -> Line {
-    Line {
-        command: Command::Write { x, v },
-        at: 1,
-    }
-}
-
+// A read from 0 on, up to its timestamp.
 fn read(at: u64) -> Line {
     Line {
-        command: Command::Read { to: at },
+        command: Command::Read { from: 0, to: at },
         at,
     }
 }
 
+fn label(text: &str) -> Result<Label, Fail> {
+    Ok(Label::new(text).ok_or("no label")?)
+}
+
+// A text whose apostrophes stand for quotes, and each X for a dimension.
+fn quoted(alloc: Global, text: &str) -> Result<ByteList, OutOfMemory> {
+    let mut bytes = ByteList::new(alloc);
+    for byte in text.as_bytes() {
+        match *byte {
+            b'\'' => bytes.push(b'"')?,
+            b'X' => bytes.append(
+                b"{\"name\":\"x\",\"type\":\"int8\",\"domain\":[-5,9],\"extent\":3}",
+            )?,
+            byte => bytes.push(byte)?,
+        }
+    }
+    Ok(bytes)
+}
+
+// What a text in which apostrophes stand for quotes is read as.
+fn told(alloc: Global, text: &str) -> Result<Result<LineList, ScriptFault>, OutOfMemory> {
+    Ok(read_script(alloc, quoted(alloc, text)?.as_slice()))
+}
+
 #[test]
-fn reads_each_form(rt: HostRuntime) -> Result<(), Fail> {
+fn reads_each_form_of_a_read(rt: HostRuntime) -> Result<(), Fail> {
     let alloc = rt.alloc();
     for text in READS {
         assert_eq!(rt;
@@ -159,37 +264,197 @@ fn reads_each_form(rt: HostRuntime) -> Result<(), Fail> {
             "{text}"
         );
     }
-    let last = "{\"cmd\":\"read\",\"at\":18446744073709551615}";
+    let last = "{'cmd':'read','at':18446744073709551615}";
+    assert_eq!(rt; told(alloc, last)?, Ok(lines(alloc, read(u64::MAX))?));
+    let interval = Line {
+        command: Command::Read {
+            from: u64::MAX,
+            to: 3,
+        },
+        at: 9,
+    };
+    let text = "{'cmd':'read','to':3,'at':9,'from':18446744073709551615}";
+    assert_eq!(rt; told(alloc, text)?, Ok(lines(alloc, interval)?));
+    Ok(())
+}
+
+// A write at 1 of two columns of one value; columns are read in the order of their names' bytes.
+fn write(alloc: Global, first: (&str, Val), second: (&str, Val)) -> Result<Line, Fail> {
+    let mut cols = ColInList::new(alloc);
+    for (name, val) in [first, second] {
+        let mut values = Row::new(alloc);
+        values.push(val)?;
+        cols.push(ColIn {
+            name: label(name)?,
+            values,
+        })?;
+    }
+    Ok(Line {
+        command: Command::Write(WriteIn { cols }),
+        at: 1,
+    })
+}
+
+// A value of the bytes of a text.
+fn text(alloc: Global, text: &str) -> Result<Val, Fail> {
+    Ok(Val::Bytes(ByteList::of_bytes(alloc, text.as_bytes())?))
+}
+
+#[test]
+fn reads_each_form_of_a_write(rt: HostRuntime) -> Result<(), Fail> {
+    let alloc = rt.alloc();
+    let rows = [
+        (
+            "{'cmd':'write','at':1,'cols':{'x':[5],'v':[null]}}",
+            write(alloc, ("v", Val::Null), ("x", Val::Int(5)))?,
+        ),
+        (
+            "{'cols':{'a_1':[''],'B':['\\u0000 \\u00e9\\\"']},'at':1,'cmd':'write'}",
+            write(
+                alloc,
+                ("B", text(alloc, "\0 \u{e9}\"")?),
+                ("a_1", text(alloc, "")?),
+            )?,
+        ),
+        (
+            "{'cmd':'write','at':1,'cols':{'x':[1,2],'x':[-0,5],'v':[0],'x':[-9223372036854775808]}}",
+            write(
+                alloc,
+                ("v", Val::Int(0)),
+                ("x", Val::Int(-9223372036854775808)),
+            )?,
+        ),
+        (
+            "{'cmd':'write','at':1,'cols':{'at':[18446744073709551615],'cols':[-1]}}",
+            write(
+                alloc,
+                ("at", Val::Int(18446744073709551615)),
+                ("cols", Val::Int(-1)),
+            )?,
+        ),
+    ];
+    for (text, line) in rows {
+        assert_eq!(rt; told(alloc, text)?, Ok(lines(alloc, line)?), "{text}");
+    }
+    let none = Line {
+        command: Command::Write(WriteIn {
+            cols: ColInList::new(alloc),
+        }),
+        at: 1,
+    };
     assert_eq!(rt;
-        read_script(alloc, last.as_bytes()),
-        Ok(lines(alloc, read(u64::MAX))?)
+        told(alloc, "{'cmd':'write','at':1,'cols':{}}")?,
+        Ok(lines(alloc, none)?)
     );
-    for (text, line) in [
+    Ok(())
+}
+
+// The attribute a, which may be null.
+fn attr(ty: ValType, fill: Val) -> Result<Attr, Fail> {
+    Ok(Attr {
+        name: label("a")?,
+        ty,
+        nullable: true,
+        fill,
+    })
+}
+
+// A create at 1 of this array over the dimension that X stands for.
+fn create(alloc: Global, cell: Order, tile: Order, capacity: u32) -> Result<Line, Fail> {
+    let mut dims = DimList::new(alloc);
+    dims.push(Dim {
+        name: label("x")?,
+        ty: ValType::I8,
+        low: -5,
+        high: 9,
+        extent: 3,
+    })?;
+    Ok(Line {
+        command: Command::Create(FrameIn {
+            dims,
+            cell,
+            tile,
+            capacity,
+            attrs: AttrList::new(alloc),
+        }),
+        at: 1,
+    })
+}
+
+#[test]
+fn reads_each_form_of_a_create(rt: HostRuntime) -> Result<(), Fail> {
+    let alloc = rt.alloc();
+    let rows = [
+        ("", create(alloc, Order::Row, Order::Row, 10000)?),
         (
-            "{\"cmd\":\"write\",\"at\":1,\"cols\":{\"x\":[5],\"v\":[10]}}",
-            write(5, 10),
+            ",'cell_order':'col','capacity':1",
+            create(alloc, Order::Col, Order::Row, 1)?,
         ),
         (
-            "{\"cols\":{\"v\":[10],\"x\":[5]},\"at\":1,\"cmd\":\"write\"}",
-            write(5, 10),
+            ",'tile_order':'col','capacity':1000000",
+            create(alloc, Order::Row, Order::Col, 1000000)?,
         ),
         (
-            "{\"cmd\":\"write\",\"at\":1,\"cols\":{\"x\":[1],\"x\":[5],\"v\":[10]}}",
-            write(5, 10),
+            ",'cell_order':'row','tile_order':'row'",
+            create(alloc, Order::Row, Order::Row, 10000)?,
         ),
-        (
-            "{\"cmd\":\"write\",\"at\":1,\"cols\":{\"x\":[-9223372036854775808],\"v\":[-9223372036854775808]}}",
-            write(-9223372036854775808, -9223372036854775808),
-        ),
-        (
-            "{\"cmd\":\"write\",\"at\":1,\"cols\":{\"x\":[18446744073709551615],\"v\":[9223372036854775807]}}",
-            write(18446744073709551615, 9223372036854775807),
-        ),
-    ] {
+    ];
+    for (more, line) in rows {
+        let text = format!(in alloc;
+            "{{'cmd':'create','at':1,'kind':'sparse','dims':[X],'attrs':[]{more}}}"
+        )?;
         assert_eq!(rt;
-            read_script(alloc, text.as_bytes()),
+            told(alloc, text.as_str())?,
             Ok(lines(alloc, line)?),
-            "{text}"
+            "{more}"
+        );
+    }
+    Ok(())
+}
+
+// An evolve at 1 that takes v away and adds an attribute.
+fn evolve(alloc: Global, added: Attr) -> Result<Line, Fail> {
+    let mut add = AttrList::new(alloc);
+    add.push(added)?;
+    let mut less = LabelList::new(alloc);
+    less.push(label("v")?)?;
+    Ok(Line {
+        command: Command::Evolve(Evolution { add, less }),
+        at: 1,
+    })
+}
+
+#[test]
+fn reads_each_form_of_an_attribute(rt: HostRuntime) -> Result<(), Fail> {
+    let alloc = rt.alloc();
+    let blob = Val::Bytes(ByteList::of_bytes(alloc, &[0, 255])?);
+    let rows = [
+        ("'int8'", attr(ValType::I8, Val::Null)?),
+        ("'int16','fill':null", attr(ValType::I16, Val::Null)?),
+        ("'int32','fill':-5", attr(ValType::I32, Val::Int(-5))?),
+        ("'int64','fill':'a'", attr(ValType::I64, text(alloc, "a")?)?),
+        ("'uint8','fill':256", attr(ValType::U8, Val::Int(256))?),
+        ("'uint16'", attr(ValType::U16, Val::Null)?),
+        ("'uint32'", attr(ValType::U32, Val::Null)?),
+        (
+            "'uint64','fill':18446744073709551615",
+            attr(ValType::U64, Val::Int(18446744073709551615))?,
+        ),
+        (
+            "'text','fill':'00ff'",
+            attr(ValType::Text, text(alloc, "00ff")?)?,
+        ),
+        ("'blob','fill':'00ff'", attr(ValType::Blob, blob)?),
+    ];
+    for (ty, added) in rows {
+        let text = format!(in alloc;
+            "{{'cmd':'evolve','at':1,'drop':['v'],'add':[{{'nullable':true,'name':'a','type':{ty}}}]}}"
+        )?;
+        let line = evolve(alloc, added)?;
+        assert_eq!(rt;
+            told(alloc, text.as_str())?,
+            Ok(lines(alloc, line)?),
+            "{ty}"
         );
     }
     Ok(())
@@ -200,7 +465,7 @@ fn tells_faulty_lines_apart(rt: HostRuntime) -> Result<(), Fail> {
     let alloc = rt.alloc();
     for text in NOT_BUILT {
         let fault = ScriptFault::NotBuilt { line: 1 };
-        assert_eq!(rt; read_script(alloc, text.as_bytes()), Err(fault), "{text}");
+        assert_eq!(rt; told(alloc, text)?, Err(fault), "{text}");
     }
     for text in BAD {
         let fault = ScriptFault::Bad { line: 1 };
@@ -214,6 +479,48 @@ fn tells_faulty_lines_apart(rt: HostRuntime) -> Result<(), Fail> {
         let fault = ScriptFault::Bad { line: 1 };
         assert_eq!(rt; read_script(alloc, bytes), Err(fault));
     }
+    Ok(())
+}
+
+#[test]
+fn tells_faulty_parts_of_commands(rt: HostRuntime) -> Result<(), Fail> {
+    let alloc = rt.alloc();
+    let fault = ScriptFault::NotBuilt { line: 1 };
+    for part in NO_CREATES {
+        let text = format!(in alloc; "{{'cmd':'create','at':0,{part}}}")?;
+        assert_eq!(rt; told(alloc, text.as_str())?, Err(fault), "{part}");
+    }
+    for dim in NO_DIMS {
+        let text = format!(in alloc;
+            "{{'cmd':'create','at':0,'kind':'sparse','dims':[X,{dim}],'attrs':[]}}"
+        )?;
+        assert_eq!(rt; told(alloc, text.as_str())?, Err(fault), "{dim}");
+    }
+    for attr in NO_ATTRS {
+        let text = format!(in alloc; "{{'cmd':'evolve','at':0,'add':[{attr}]}}")?;
+        assert_eq!(rt; told(alloc, text.as_str())?, Err(fault), "{attr}");
+    }
+    Ok(())
+}
+
+// The write of a column with a name of so many letters.
+fn with_name(alloc: Global, letters: usize) -> Result<String, Fail> {
+    let mut text = String::from_str(alloc, "{'cmd':'write','at':1,'cols':{'")?;
+    for _ in 0..letters {
+        text.push_str("a")?;
+    }
+    text.push_str("':[1]}}")?;
+    Ok(text)
+}
+
+#[test]
+fn a_name_has_64_letters(rt: HostRuntime) -> Result<(), Fail> {
+    let alloc = rt.alloc();
+    let longest = with_name(alloc, 64)?;
+    assert!(rt; told(alloc, longest.as_str())?.is_ok());
+    let longer = with_name(alloc, 65)?;
+    let fault = ScriptFault::NotBuilt { line: 1 };
+    assert_eq!(rt; told(alloc, longer.as_str())?, Err(fault));
     Ok(())
 }
 

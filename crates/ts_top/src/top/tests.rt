@@ -1,4 +1,8 @@
 //! Scripts with what they print, worked by hand, and many more against a plain list of writes.
+mod refusals;
+mod schemas;
+mod shapes;
+mod values;
 
 ghost use Rattle.std.specs.Prelude.{◌≡◌};
 ghost use Rattle.ts_base.specs.Names.{IsSpelled};
@@ -7,66 +11,110 @@ use super::{Ran, run};
 use std::alloc::{AllocError, Global};
 use std::test::Fail;
 use std::thread::Threads;
-use ts_base::{ByteList, CommitKind, FragKey, Name, Part};
+use ts_base::{ByteList, CommitKind, FragKey, Key, Name, OutOfMemory, Part};
 use ts_store::{Call, Fault, FaultList, Journal, MemSink, MemSource, MemStore};
 
-/// The write of row 1: at 1, the value 10 at the coordinate 5.
-const WRITE: &str = "{\"cmd\":\"write\",\"at\":1,\"cols\":{\"x\":[5],\"v\":[10]}}\n";
+/// The create of the array of most scripts.
+const C1: &str = "{'cmd':'create','at':0,'kind':'sparse',\
+    'dims':[{'name':'x','type':'int64','domain':[0,9],'extent':10}],\
+    'attrs':[{'name':'v','type':'int64'}]}\n";
 
-const READ: &str = "{\"cmd\":\"read\",\"at\":9}\n";
+/// Its dimension.
+const X: &str = "{'name':'x','type':'int64','domain':[0,9],'extent':10}";
 
-const WRITTEN: &str = "0.1\twrite\tok\t__1_1_00000000000000000000000000000001_1\n";
+/// A write: at 1, the value 10 at the coordinate 5.
+const WRITE: &str = "{'cmd':'write','at':1,'cols':{'x':[5],'v':[10]}}\n";
 
-/// What a run of `play` showed.
+const READ: &str = "{'cmd':'read','at':9}\n";
+
+/// What a run of `play` left.
 #[derive(Drop)]
 struct Shown {
     status: u8,
     printed: ByteList,
     journal: Journal,
+    store: MemStore,
 }
 
-// Plays a script over a store.
+// The bytes that a text of the tests means: an apostrophe stands for a quote, a bar for a tab, and
+// `<n>` for the 32 digits of an identifier n below 16.
+fn said(alloc: Global, text: &str) -> Result<ByteList, OutOfMemory> {
+    let mut bytes = ByteList::new(alloc);
+    for byte in text.as_bytes() {
+        match *byte {
+            b'\'' => bytes.push(b'"')?,
+            b'|' => bytes.push(b'\t')?,
+            b'<' => bytes.append(b"0000000000000000000000000000000")?,
+            b'>' => {}
+            byte => bytes.push(byte)?,
+        }
+    }
+    Ok(bytes)
+}
+
+// Plays a script with a seed over a store.
 fn play<R: Threads + Sync + AllocGlobal>(
     rt: &R,
+    seed: u64,
     script: &str,
     store: MemStore,
     reads: FaultList,
     writes: FaultList,
 ) -> Result<Shown, Fail> {
     let alloc = rt.alloc();
-    let mut input = MemSource::new(ByteList::of_bytes(alloc, script.as_bytes())?, reads);
+    let mut input = MemSource::new(said(alloc, script)?, reads);
     let mut out = MemSink::new(alloc, writes);
     let Ran {
         status,
-        store: _,
+        store,
         journal,
-    } = run(rt, alloc, &["play"], 0, store, &mut input, &mut out);
+    } = run(rt, alloc, &["play"], seed, store, &mut input, &mut out);
     Ok(Shown {
         status,
         printed: ByteList::of_bytes(alloc, out.bytes())?,
         journal,
+        store,
     })
-}
-
-// Plays a script over an empty store and streams without faults.
-fn play_well<R: Threads + Sync + AllocGlobal>(rt: &R, script: &str) -> Result<Shown, Fail> {
-    let alloc = rt.alloc();
-    play_over(rt, script, MemStore::new(alloc, FaultList::new(alloc)))
 }
 
 // Plays a script over a store, and streams without faults.
 fn play_over<R: Threads + Sync + AllocGlobal>(
     rt: &R,
+    seed: u64,
     script: &str,
     store: MemStore,
 ) -> Result<Shown, Fail> {
     let alloc = rt.alloc();
-    play(
-        rt,
-        script,
-        store,
-        FaultList::new(alloc),
-        FaultList::new(alloc),
+    let (reads, writes) = (FaultList::new(alloc), FaultList::new(alloc));
+    play(rt, seed, script, store, reads, writes)
+}
+
+// Plays a script over an empty store and streams without faults.
+fn play_well<R: Threads + Sync + AllocGlobal>(rt: &R, script: &str) -> Result<Shown, Fail> {
+    let alloc = rt.alloc();
+    play_over(rt, 0, script, MemStore::new(alloc, FaultList::new(alloc)))
+}
+
+// What a script prints that begins with the create of an array, over an empty store.
+fn printed<R: Threads + Sync + AllocGlobal>(
+    rt: &R,
+    array: &str,
+    script: &str,
+) -> Result<ByteList, Fail> {
+    let script = format!(in rt.alloc(); "{array}{script}")?;
+    let Shown {
+        status: _,
+        printed,
+        journal: _,
+        store: _,
+    } = play_well(rt, script.as_str())?;
+    Ok(printed)
+}
+
+// The create of an array with these dimensions and attributes, and further keys.
+fn created(alloc: Global, dims: &str, attrs: &str, more: &str) -> Result<String, AllocError> {
+    format!(in alloc;
+        "{{'cmd':'create','at':0,'kind':'sparse','dims':[{dims}],'attrs':[{attrs}]{more}}}\n"
     )
 }
 
@@ -103,62 +151,65 @@ fn wrt(id: u128) -> Name
 
 #[test]
 fn a_write_is_read(rt: HostRuntime) -> Result<(), Fail> {
-    let script = format!(in rt.alloc(); "{WRITE}{READ}")?;
+    let script = format!(in rt.alloc(); "{C1}{WRITE}{READ}")?;
     let shown = play_well(&rt, script.as_str())?;
-    let text = format!(in rt.alloc(); "{WRITTEN}0.2\tread\tok\t1\t0\n5\t10\n")?;
+    let text = "0.1|create|ok\n0.2|write|ok|__1_1_<2>_1\n0.3|read|ok|1|0\n5|10\n";
     assert_eq!(rt; shown.status, 0);
-    assert_eq!(rt; shown.printed.as_slice(), text.as_bytes());
-    assert_eq!(rt; shown.journal.len(), 4);
-    match &shown.journal.at(0).call {
+    assert_eq!(rt; shown.printed, said(rt.alloc(), text)?);
+    // Two puts; two gets between a listing and two puts; three gets after two listings.
+    assert_eq!(rt; shown.journal.len(), 12);
+    match &shown.journal.at(5).call {
         Call::Put(_, bytes) => {
             assert_eq!(rt; bytes.len(), 145);
             assert_eq!(rt; *bytes.at(6), 131);
         }
-        _ => assert!(rt; false, "the first call puts the part"),
+        _ => assert!(rt; false, "the first put of the write puts the part"),
     }
     Ok(())
 }
 
 #[test]
-fn scripts_print_what_their_rows_say(rt: HostRuntime) -> Result<(), Fail> {
-    let empty = play_well(&rt, "")?;
-    assert_eq!(rt; empty.status, 0);
-    assert_eq!(rt; empty.printed.as_slice(), b"".as_slice());
-
-    let outside = play_well(
-        &rt,
-        "{\"cmd\":\"write\",\"at\":1,\"cols\":{\"x\":[10],\"v\":[1]}}\n{\"cmd\":\"read\",\"at\":9}\n",
-    )?;
-    assert_eq!(rt; outside.status, 0);
-    assert_eq!(rt;
-        outside.printed.as_slice(),
-        b"0.1\twrite\trefused\tDomain\t0\t10\n0.2\tread\tok\t0\t0\n".as_slice()
-    );
-
-    let stamps = play_well(
-        &rt,
-        "{\"cmd\":\"write\",\"at\":3,\"cols\":{\"x\":[5],\"v\":[1]}}\n{\"cmd\":\"write\",\"at\":2,\"cols\":{\"x\":[5],\"v\":[2]}}\n{\"cmd\":\"read\",\"at\":9}\n{\"cmd\":\"read\",\"at\":2}\n",
-    )?;
-    assert_eq!(rt; stamps.status, 0);
-    assert_eq!(rt;
-        stamps.printed.as_slice(),
-        b"0.1\twrite\tok\t__3_3_00000000000000000000000000000001_1\n0.2\twrite\tok\t__2_2_00000000000000000000000000000002_1\n0.3\tread\tok\t1\t0\n5\t1\n0.4\tread\tok\t1\t0\n5\t2\n".as_slice()
-    );
+fn scripts_print_what_their_lines_say(rt: HostRuntime) -> Result<(), Fail> {
+    for (array, script, text) in [
+        ("", "", ""),
+        ("", "\n \t\n", ""),
+        (C1, "", "0.1|create|ok\n"),
+        (C1, READ, "0.1|create|ok\n0.2|read|ok|0|0\n"),
+        ("\n", READ, "0.1|read|refused|NoSchema|9\n"),
+    ] {
+        assert_eq!(rt;
+            printed(&rt, array, script)?,
+            said(rt.alloc(), text)?,
+            "{script}"
+        );
+    }
     Ok(())
 }
 
+/// Lines that name what is not built yet, each behind a create.
+const NOT_BUILT: [&str; 4] = [
+    "{'cmd':'vacuum'}",
+    "{'cmd':'create','at':0,'kind':'dense',\
+    'dims':[{'name':'x','type':'int64','domain':[0,9],'extent':10}],\
+    'attrs':[{'name':'v','type':'int64'}]}",
+    "{'cmd':'read','at':9,'where':'v = 1'}",
+    "{'cmd':'write','at':1,'box':[[0,1]],'cols':{'v':[1,2]}}",
+];
+
 #[test]
 fn what_is_no_script_changes_nothing(rt: HostRuntime) -> Result<(), Fail> {
-    let vacuum = format!(in rt.alloc(); "{WRITE}{{\"cmd\":\"vacuum\"}}\n")?;
-    let not_built = play_well(&rt, vacuum.as_str())?;
-    assert_eq!(rt; not_built.status, 8);
-    assert_eq!(rt; not_built.printed.as_slice(), b"not built\t2\n".as_slice());
-    assert_eq!(rt; not_built.journal.len(), 0);
-
-    let array = format!(in rt.alloc(); "{WRITE}[1]\n")?;
-    let bad = play_well(&rt, array.as_str())?;
+    let alloc = rt.alloc();
+    for line in NOT_BUILT {
+        let script = format!(in alloc; "{C1}{line}\n")?;
+        let not_built = play_well(&rt, script.as_str())?;
+        assert_eq!(rt; not_built.status, 8, "{line}");
+        assert_eq!(rt; not_built.printed, said(alloc, "not built|2\n")?);
+        assert_eq!(rt; not_built.journal.len(), 0);
+    }
+    let script = format!(in alloc; "{C1}{WRITE}[1]\n")?;
+    let bad = play_well(&rt, script.as_str())?;
     assert_eq!(rt; bad.status, 3);
-    assert_eq!(rt; bad.printed.as_slice(), b"bad script\t2\n".as_slice());
+    assert_eq!(rt; bad.printed, said(alloc, "bad script|3\n")?);
     assert_eq!(rt; bad.journal.len(), 0);
     Ok(())
 }
@@ -166,9 +217,10 @@ fn what_is_no_script_changes_nothing(rt: HostRuntime) -> Result<(), Fail> {
 #[test]
 fn failing_streams_lose_nothing(rt: HostRuntime) -> Result<(), Fail> {
     let alloc = rt.alloc();
-    let script = format!(in alloc; "{WRITE}{READ}")?;
+    let script = format!(in alloc; "{C1}{WRITE}{READ}")?;
     let unread = play(
         &rt,
+        0,
         script.as_str(),
         MemStore::new(alloc, FaultList::new(alloc)),
         fails_at(alloc, 0, false)?,
@@ -180,6 +232,7 @@ fn failing_streams_lose_nothing(rt: HostRuntime) -> Result<(), Fail> {
 
     let unprinted = play(
         &rt,
+        0,
         script.as_str(),
         MemStore::new(alloc, FaultList::new(alloc)),
         FaultList::new(alloc),
@@ -187,61 +240,218 @@ fn failing_streams_lose_nothing(rt: HostRuntime) -> Result<(), Fail> {
     )?;
     assert_eq!(rt; unprinted.status, 5);
     assert_eq!(rt; unprinted.printed.len(), 0);
-    assert_eq!(rt; unprinted.journal.len(), 4);
+    assert_eq!(rt; unprinted.journal.len(), 12);
     Ok(())
 }
 
+/// Calls of a create, a write and a read that fail, each as a failed call that was done and as one
+/// that was not: what is printed behind the create.
+const FAILED: [(u64, bool, &str); 10] = [
+    (
+        2,
+        true,
+        "0.2|write|refused|StoreFault|__schema/\n0.3|read|ok|0|0\n",
+    ),
+    (
+        3,
+        true,
+        "0.2|write|refused|StoreFault|__schema/__0_0_<1>\n0.3|read|ok|0|0\n",
+    ),
+    (
+        4,
+        false,
+        "0.2|write|refused|StoreFault|__domain.tdb\n0.3|read|ok|0|0\n",
+    ),
+    (
+        5,
+        true,
+        "0.2|write|refused|StoreFault|__fragments/__1_1_<2>_1/plain.tdb\n0.3|read|ok|0|0\n",
+    ),
+    (
+        6,
+        true,
+        "0.2|write|refused|StoreFault|__commits/__1_1_<2>_1.wrt\n0.3|read|ok|1|0\n5|10\n",
+    ),
+    (
+        6,
+        false,
+        "0.2|write|refused|StoreFault|__commits/__1_1_<2>_1.wrt\n0.3|read|ok|0|0\n",
+    ),
+    (
+        7,
+        true,
+        "0.2|write|ok|__1_1_<2>_1\n0.3|read|refused|StoreFault|__commits/\n",
+    ),
+    (
+        8,
+        false,
+        "0.2|write|ok|__1_1_<2>_1\n0.3|read|refused|StoreFault|__schema/\n",
+    ),
+    (
+        10,
+        true,
+        "0.2|write|ok|__1_1_<2>_1\n0.3|read|refused|StoreFault|__domain.tdb\n",
+    ),
+    (
+        11,
+        true,
+        "0.2|write|ok|__1_1_<2>_1\n\
+        0.3|read|refused|StoreFault|__fragments/__1_1_<2>_1/plain.tdb\n",
+    ),
+];
+
 #[test]
-fn a_failed_commit_is_refused_and_may_show(rt: HostRuntime) -> Result<(), Fail> {
+fn a_failed_call_is_told_and_a_commit_may_show(rt: HostRuntime) -> Result<(), Fail> {
     let alloc = rt.alloc();
-    let script = format!(in alloc; "{WRITE}{READ}")?;
-    for (whole, read) in [(true, "1\t0\n5\t10\n"), (false, "0\t0\n")] {
-        let store = MemStore::new(alloc, fails_at(alloc, 1, whole)?);
-        let shown = play_over(&rt, script.as_str(), store)?;
-        let text = format!(in alloc;
-            "0.1\twrite\trefused\tStoreFault\t__commits/__1_1_00000000000000000000000000000001_1.wrt\n0.2\tread\tok\t{read}"
-        )?;
+    let script = format!(in alloc; "{C1}{WRITE}{READ}")?;
+    for (call, whole, text) in FAILED {
+        let store = MemStore::new(alloc, fails_at(alloc, call, whole)?);
+        let shown = play_over(&rt, 0, script.as_str(), store)?;
+        let text = format!(in alloc; "0.1|create|ok\n{text}")?;
         assert_eq!(rt; shown.status, 0);
-        assert_eq!(rt; shown.printed.as_slice(), text.as_bytes());
+        assert_eq!(rt; shown.printed, said(alloc, text.as_str())?, "{call}");
     }
     Ok(())
 }
+
+/// The two calls of a create that fail, and what is printed of it, of a read, of the same create
+/// and of another one.
+const HALF_CREATED: [(u64, bool, &str); 4] = [
+    (
+        0,
+        true,
+        "0.1|create|refused|StoreFault|__domain.tdb\n0.2|read|refused|NoSchema|9\n\
+        0.3|create|refused|ArrayExists\n0.4|create|ok\n0.5|read|ok|0|0\n",
+    ),
+    (
+        0,
+        false,
+        "0.1|create|refused|StoreFault|__domain.tdb\n0.2|read|refused|NoSchema|9\n\
+        0.3|create|ok\n0.4|create|refused|ArrayExists\n0.5|read|ok|0|0\n",
+    ),
+    (
+        1,
+        true,
+        "0.1|create|refused|StoreFault|__schema/__0_0_<1>\n0.2|read|ok|0|0\n\
+        0.3|create|refused|ArrayExists\n0.4|create|refused|ArrayExists\n0.5|read|ok|0|0\n",
+    ),
+    (
+        1,
+        false,
+        "0.1|create|refused|StoreFault|__schema/__0_0_<1>\n0.2|read|refused|NoSchema|9\n\
+        0.3|create|refused|ArrayExists\n0.4|create|ok\n0.5|read|ok|0|0\n",
+    ),
+];
+
+#[test]
+fn a_create_that_failed_can_be_tried_again(rt: HostRuntime) -> Result<(), Fail> {
+    let alloc = rt.alloc();
+    let dims = "{'name':'y','type':'int8','domain':[0,9],'extent':1}";
+    let other = created(alloc, dims, "{'name':'v','type':'int64'}", "")?;
+    let script = format!(in alloc; "{C1}{READ}{other}{C1}{READ}")?;
+    for (call, whole, text) in HALF_CREATED {
+        let store = MemStore::new(alloc, fails_at(alloc, call, whole)?);
+        let shown = play_over(&rt, 0, script.as_str(), store)?;
+        assert_eq!(rt; shown.status, 0);
+        assert_eq!(rt; shown.printed, said(alloc, text)?, "{call} {whole}");
+    }
+    Ok(())
+}
+
+// A store with an array of no cell, made by a run with the seed 0.
+fn with_array<R: Threads + Sync + AllocGlobal>(rt: &R) -> Result<MemStore, Fail> {
+    let Shown {
+        status: _,
+        printed: _,
+        journal: _,
+        store,
+    } = play_well(rt, C1)?;
+    Ok(store)
+}
+
+// A script that is played with the seed 1 over an array, and what it prints.
+#[derive(Clone, Copy)]
+struct Second {
+    script: &'static str,
+    text: &'static str,
+}
+
+// Whether a second run over the store prints what it should.
+fn is_second<R: Threads + Sync + AllocGlobal>(
+    rt: &R,
+    store: MemStore,
+    second: Second,
+) -> Result<bool, Fail> {
+    let shown = play_over(rt, 1, second.script, store)?;
+    Ok(shown.status == 0 && shown.printed == said(rt.alloc(), second.text)?)
+}
+
+/// The identifier of the first command of a run with the seed 1.
+const FIRST: u128 = (1 << 64) + 1;
 
 #[test]
 fn objects_that_are_not_as_a_write_leaves_them_are_refused(rt: HostRuntime) -> Result<(), Fail> {
     let alloc = rt.alloc();
-    let rows = [
-        (
-            [true, false, false],
-            READ,
-            "0.1\tread\trefused\tMissing\t__fragments/__1_1_00000000000000000000000000000007_1/plain.tdb\n",
-        ),
-        (
-            [true, true, false],
-            READ,
-            "0.1\tread\trefused\tDamaged\t__fragments/__1_1_00000000000000000000000000000007_1/plain.tdb\t0\n",
-        ),
-        (
-            [false, false, true],
-            WRITE,
-            "0.1\twrite\trefused\tTaken\t__fragments/__1_1_00000000000000000000000000000001_1/plain.tdb\n",
-        ),
-    ];
-    for ([committed, parted, taken], script, text) in rows {
-        let mut store = MemStore::new(alloc, FaultList::new(alloc));
-        if committed {
-            store.plant(wrt(7), ByteList::new(alloc))?;
-        }
-        if parted {
-            store.plant(part(7), ByteList::new(alloc))?;
-        }
-        if taken {
-            store.plant(part(1), ByteList::new(alloc))?;
-        }
-        let shown = play_over(&rt, script, store)?;
-        assert_eq!(rt; shown.status, 0);
-        assert_eq!(rt; shown.printed.as_slice(), text.as_bytes());
-    }
+    let mut unparted = with_array(&rt)?;
+    unparted.plant(wrt(7), ByteList::new(alloc))?;
+    let missing = Second {
+        script: READ,
+        text: "0.1|read|refused|Missing|__fragments/__1_1_<7>_1/plain.tdb\n",
+    };
+    assert!(rt;
+        is_second(&rt, unparted, missing)?,
+        "a commit without a part"
+    );
+
+    let mut empty = with_array(&rt)?;
+    empty.plant(wrt(7), ByteList::new(alloc))?;
+    empty.plant(part(7), ByteList::new(alloc))?;
+    let damaged = Second {
+        script: READ,
+        text: "0.1|read|refused|Damaged|__fragments/__1_1_<7>_1/plain.tdb|0\n",
+    };
+    assert!(rt; is_second(&rt, empty, damaged)?, "an empty part");
+
+    let mut there = with_array(&rt)?;
+    there.plant(part(FIRST), ByteList::new(alloc))?;
+    let taken = Second {
+        script: WRITE,
+        text: "0.1|write|refused|Taken|\
+            __fragments/__1_1_00000000000000010000000000000001_1/plain.tdb\n",
+    };
+    assert!(rt; is_second(&rt, there, taken)?, "a part that is there");
+
+    let mut uncommitted = with_array(&rt)?;
+    uncommitted.plant(part(7), ByteList::new(alloc))?;
+    let unseen = Second {
+        script: READ,
+        text: "0.1|read|ok|0|0\n",
+    };
+    assert!(rt;
+        is_second(&rt, uncommitted, unseen)?,
+        "a part without a commit"
+    );
+    Ok(())
+}
+
+#[test]
+fn damaged_frames_and_schemas_are_told(rt: HostRuntime) -> Result<(), Fail> {
+    let alloc = rt.alloc();
+    let mut framed = with_array(&rt)?;
+    framed.plant(Name::Domain, ByteList::new(alloc))?;
+    let damaged = Second {
+        script: READ,
+        text: "0.1|read|refused|Damaged|__domain.tdb|0\n",
+    };
+    assert!(rt; is_second(&rt, framed, damaged)?, "an empty frame");
+
+    let mut declared = with_array(&rt)?;
+    declared.plant(Name::Schema(Key { t: 3, id: 7 }), ByteList::new(alloc))?;
+    let late = Second {
+        script: "{'cmd':'read','at':2}\n{'cmd':'read','at':3}\n",
+        text: "0.1|read|ok|0|0\n0.2|read|refused|Damaged|__schema/__3_3_<7>|0\n",
+    };
+    assert!(rt; is_second(&rt, declared, late)?, "an empty schema");
     Ok(())
 }
 
@@ -264,6 +474,62 @@ fn words_that_are_no_job_print_the_usage(rt: HostRuntime) {
     assert_eq!(rt; journal.len(), 0);
 }
 
+/// Many attributes: as a create names them, as a write fills them, and as a row shows them.
+#[derive(Drop)]
+struct Attributes {
+    declared: String,
+    columns: String,
+    shown: String,
+}
+
+// The attributes a1, a2 and so on, so many; the value of each is its number.
+fn many_attributes(alloc: Global, count: u64) -> Result<Attributes, AllocError> {
+    let mut declared = String::new(alloc);
+    let mut columns = String::new(alloc);
+    let mut shown = String::new(alloc);
+    for number in 1..count.saturating_add(1) {
+        let comma = if number == 1 { "" } else { "," };
+        write!(declared, "{comma}{{'name':'a{number}','type':'uint8'}}")?;
+        write!(columns, ",'a{number}':[{number}]")?;
+        write!(shown, "|{number}")?;
+    }
+    Ok(Attributes {
+        declared,
+        columns,
+        shown,
+    })
+}
+
+#[test]
+fn an_array_has_64_attributes(rt: HostRuntime) -> Result<(), Fail> {
+    let alloc = rt.alloc();
+    let Attributes {
+        declared,
+        columns,
+        shown,
+    } = many_attributes(alloc, 64)?;
+    let array = created(alloc, X, declared.as_str(), "")?;
+    let script = format!(in alloc;
+        "{{'cmd':'write','at':1,'cols':{{'x':[5]{columns}}}}}\n{READ}\
+        {{'cmd':'evolve','at':2,'add':[{{'name':'w','type':'int8'}}]}}\n\
+        {{'cmd':'evolve','at':2,'drop':['a64'],'add':[{{'name':'a65','type':'int8'}}]}}\n"
+    )?;
+    let text = format!(in alloc;
+        "0.1|create|ok\n0.2|write|ok|__1_1_<2>_1\n0.3|read|ok|1|0\n5{shown}\n\
+        0.4|evolve|refused|TooManyAttrs|65\n0.5|evolve|ok|__2_2_<5>\n"
+    )?;
+    assert_eq!(rt;
+        printed(&rt, array.as_str(), script.as_str())?,
+        said(alloc, text.as_str())?
+    );
+
+    let more = many_attributes(alloc, 65)?;
+    let array = created(alloc, X, more.declared.as_str(), "")?;
+    let text = "0.1|create|refused|TooManyAttrs|65\n";
+    assert_eq!(rt; printed(&rt, array.as_str(), "")?, said(alloc, text)?);
+    Ok(())
+}
+
 /// A write as a plain list keeps it: its stamp, its cell and its value; its number is its place.
 #[derive(Clone, Copy)]
 struct Wrote {
@@ -273,11 +539,11 @@ struct Wrote {
 }
 
 // The value at a cell after these writes, by a scan: the last write in the order of stamp and number
-// among those stamped up to `to`.
-fn value_at(writes: &[Wrote], to: u64, x: u64) -> Option<u64> {
+// among those stamped from `from` to `to`.
+fn value_at(writes: &[Wrote], from: u64, to: u64, x: u64) -> Option<u64> {
     let mut last: Option<Wrote> = None;
     for wrote in writes {
-        if wrote.x == x && wrote.at <= to {
+        if wrote.x == x && from <= wrote.at && wrote.at <= to {
             let is_later = match last {
                 None => true,
                 Some(other) => other.at <= wrote.at,
@@ -309,45 +575,55 @@ fn add_write(
     let (at, x, v) = (wrote.at, wrote.x, wrote.v);
     write!(
         script,
-        "{{\"cmd\":\"write\",\"at\":{at},\"cols\":{{\"x\":[{x}],\"v\":[{v}]}}}}\n"
+        "{{'cmd':'write','at':{at},'cols':{{'x':[{x}],'v':[{v}]}}}}\n"
     )?;
-    write!(text, "0.{number}\twrite\tok\t__{at}_{at}_{number:032x}_1\n")?;
+    write!(text, "0.{number}|write|ok|__{at}_{at}_{number:032x}_1\n")?;
     writes.push(wrote)?;
     Ok(())
 }
 
-// Adds a read to a script and to what it prints.
+// Adds a read of an interval to a script and to what it prints.
 fn add_read(
     alloc: Global,
     script: &mut String,
     text: &mut String,
     writes: &[Wrote],
     number: u64,
-    to: u64,
+    interval: (u64, u64),
 ) -> Result<(), AllocError> {
-    write!(script, "{{\"cmd\":\"read\",\"at\":{to}}}\n")?;
+    let (from, to) = interval;
+    write!(script, "{{'cmd':'read','at':9,'from':{from},'to':{to}}}\n")?;
     let mut rows = String::new(alloc);
     let mut count = 0u64;
     for x in 0..10 {
-        if let Some(v) = value_at(writes, to, x) {
-            write!(rows, "{x}\t{v}\n")?;
+        if let Some(v) = value_at(writes, from, to, x) {
+            write!(rows, "{x}|{v}\n")?;
             count = count.saturating_add(1);
         }
     }
-    write!(text, "0.{number}\tread\tok\t{count}\t0\n")?;
+    write!(text, "0.{number}|read|ok|{count}|0\n")?;
     text.push_str(rows.as_str())
 }
 
-// Whether a script of forty commands, made from a seed, prints what a plain list of writes gives.
+// Whether a script of a create and forty commands, made from a seed, prints what a plain list of
+// writes gives.
 fn agrees<R: Threads + Sync + AllocGlobal>(rt: &R, seed: u64) -> Result<bool, Fail> {
     let alloc = rt.alloc();
     let (mut script, mut text) = (String::new(alloc), String::new(alloc));
     let mut writes = Vec::new(alloc);
     let mut state = seed;
-    for number in 1..41 {
+    text.push_str("0.1|create|ok\n")?;
+    for number in 2..42 {
         if next(&mut state) % 4 == 0 {
-            let to = next(&mut state) % 6;
-            add_read(alloc, &mut script, &mut text, writes.as_slice(), number, to)?;
+            let interval = (next(&mut state) % 4, next(&mut state) % 6);
+            add_read(
+                alloc,
+                &mut script,
+                &mut text,
+                writes.as_slice(),
+                number,
+                interval,
+            )?;
         } else {
             let wrote = Wrote {
                 at: next(&mut state) % 5,
@@ -357,8 +633,7 @@ fn agrees<R: Threads + Sync + AllocGlobal>(rt: &R, seed: u64) -> Result<bool, Fa
             add_write(&mut script, &mut text, &mut writes, number, wrote)?;
         }
     }
-    let shown = play_well(rt, script.as_str())?;
-    Ok(shown.status == 0 && shown.printed.as_slice() == text.as_bytes())
+    Ok(printed(rt, C1, script.as_str())? == said(alloc, text.as_str())?)
 }
 
 #[test]

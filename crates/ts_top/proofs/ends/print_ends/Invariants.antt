@@ -1,7 +1,7 @@
-use Rattle.std.proofs.Common.{◌≡◌, ◌+◌, ◌++◌, drop, string_bytes}
+use Rattle.std.proofs.Common.{◌≡◌, ◌+◌, ◌++◌, drop}
 use Rattle.ts_top.specs.Ends.{texts_from, ends_text}
 use Rattle.ts_top.proofs.ends.print_ends.Given as goal
 
 abbrev pub invariant-loop-index : goal.invariant-loop-index
 invariant-loop-index l =
-    string_bytes l.text ++ texts_from (l.index + 1) (drop l.index l.lines) (drop l.index l.results) ≡ ends_text l.lines l.results
+    l.bytes.items ++ texts_from (l.index + 1) (drop l.index l.lines) (drop l.index l.results) ≡ ends_text l.lines l.results

@@ -1,7 +1,6 @@
-use Rattle.std.proofs.Common.{◌≡◌, ◌++◌, drop, string_bytes}
+use Rattle.std.proofs.Common.{◌≡◌, ◌++◌, drop}
 use Rattle.ts_top.specs.Ends.{rows_text}
 use Rattle.ts_top.proofs.ends.print_rows.Given as goal
 
 abbrev pub invariant-loop-row : goal.invariant-loop-row
-invariant-loop-row l =
-    string_bytes l.text ++ rows_text (drop l.row-index l.rows) ≡ string_bytes l.initial.text ++ rows_text l.rows
+invariant-loop-row l = l.bytes.items ++ rows_text l.types (drop l.row-index l.rows) ≡ l.initial.bytes.items ++ rows_text l.types l.rows

@@ -1,30 +1,33 @@
 -- One more line is done.
-use Rattle.std.proofs.Common.{ℕ, ◌++◌, [], ◌∷◌, ◌∙◌, ap, sym, subst, take, length, arith, refl, List}
+use Rattle.std.proofs.Common.{ℕ, ◌+◌, ◌++◌, [], ◌∷◌, ◌∙◌, ap, sym, subst, take, length, arith, refl, List}
 use Rattle.ts_model.specs.declared.commands.Job.{Job}
 use Rattle.ts_model.specs.declared.answers.Driven.{Driven}
 use Rattle.ts_model.specs.declared.answers.Outcome.{Outcome}
 use Rattle.ts_model.specs.Driving.{Ran, AllRan}
-use Rattle.ts_model.specs.Fresh.{jobs_of}
+use Rattle.ts_model.specs.declared.commands.Line.{Line}
+use Rattle.ts_model.specs.Fresh.{id_of, job_from, jobs_of}
+use Rattle.ts_actor.specs.PlainForms.{plain_forms}
 use Rattle.ts_model.proofs.Driving.{ran-one_more, jobs_of-more}
 use Rattle.ts_top.proofs.runner.run_lines.Goals as goal
 
 pub loop-index-preserved : goal.loop-index-preserved
 loop-index-preserved g c =
     let first = c.args.recorder.now in
-    let next = c.run_job-result.new.recorder in
+    let next = c.run_line-result.new.recorder in
     let jobs = jobs_of c.args.seed (take c.loop-index.index c.args.lines.now) in
-    let more = jobs_of-more c.args.seed c.args.lines.now c.loop-index.index _ c.loop-index-test.true ∙ ap (λ (j : Job). jobs ++ j ∷ []) (sym c.job_of-job.ensures) in
-    let P : List Job → Type 0 = λ js. AllRan first.book.lane js (g.S.Store.held first.store) (g.S.Store.held next.store) first.book.journal next.book.journal c.push.new.self.items in
-    let Q : List (Driven Outcome) → Type 0 = λ rs. AllRan first.book.lane (jobs ++ c.job_of-job.result ∷ []) (g.S.Store.held first.store) (g.S.Store.held next.store) first.book.journal next.book.journal rs in
-    let L : ℕ → Type 0 = λ lane. Ran (length jobs) lane c.job_of-job.result (g.S.Store.held c.loop-index.recorder.store) (g.S.Store.held next.store) c.loop-index.recorder.book.journal next.book.journal c.run_job-result.result in
+    let job = job_from (id_of c.args.seed 0 (c.loop-index.index + 1)) c.index-lines-index.result in
+    let more = jobs_of-more c.args.seed c.args.lines.now c.loop-index.index _ c.loop-index-test.true ∙ ap (λ (l : Line). jobs ++ job_from (id_of c.args.seed 0 (c.loop-index.index + 1)) l ∷ []) (sym c.index-lines-index.is) in
+    let P : List Job → Type 0 = λ js. AllRan plain_forms first.book.lane js (g.S.Store.held first.store) (g.S.Store.held next.store) first.book.journal next.book.journal c.push.new.self.items in
+    let Q : List (Driven Outcome) → Type 0 = λ rs. AllRan plain_forms first.book.lane (jobs ++ job ∷ []) (g.S.Store.held first.store) (g.S.Store.held next.store) first.book.journal next.book.journal rs in
+    let L : ℕ → Type 0 = λ lane. Ran plain_forms (length jobs) lane job (g.S.Store.held c.loop-index.recorder.store) (g.S.Store.held next.store) c.loop-index.recorder.book.journal next.book.journal c.run_line-result.result in
     record {
       ran =
           subst P (sym more)
           (subst Q (sym c.in_ok-push.ensures.items)
-          (ran-one_more first.book.lane jobs (g.S.Store.held first.store) (g.S.Store.held c.loop-index.recorder.store) (g.S.Store.held next.store) first.book.journal c.loop-index.recorder.book.journal next.book.journal c.loop-index.results.items (length jobs) c.job_of-job.result c.run_job-result.result
-          c.loop-index.invariant.ran refl (subst L c.loop-index.invariant.lane (c.run_job-result.ensures.ran (length jobs)))));
-      lane = c.run_job-result.ensures.lane ∙ c.loop-index.invariant.lane;
-      counted = λ base counts. c.run_job-result.ensures.counted base (c.loop-index.invariant.counted base counts);
+          (ran-one_more plain_forms first.book.lane jobs (g.S.Store.held first.store) (g.S.Store.held c.loop-index.recorder.store) (g.S.Store.held next.store) first.book.journal c.loop-index.recorder.book.journal next.book.journal c.loop-index.results.items (length jobs) job c.run_line-result.result
+          c.loop-index.invariant.ran refl (subst L c.loop-index.invariant.lane (c.run_line-result.ensures.ran (length jobs)))));
+      lane = c.run_line-result.ensures.lane ∙ c.loop-index.invariant.lane;
+      counted = λ base counts. c.run_line-result.ensures.counted base (c.loop-index.invariant.counted base counts);
       count = omega (arith, c.in_ok-push.ensures.len, c.loop-index.invariant.count);
       room = omega (arith, c.in_ok-push.ensures.capacity, c.loop-index.invariant.room);
     }

@@ -1,0 +1,494 @@
+//! Stamps and schemas: which write shows, and through which attributes.
+
+use super::{C1, printed, said};
+use std::test::Fail;
+
+/// Of writes to a cell the one with the greatest stamp in the interval shows, and of equal stamps
+/// the greatest identifier.
+const STAMPS: [(&str, &str); 6] = [
+    (
+        "{'cmd':'write','at':1,'cols':{'x':[5],'v':[1]}}\n\
+        {'cmd':'write','at':2,'cols':{'x':[5],'v':[2]}}\n\
+        {'cmd':'write','at':3,'cols':{'x':[5],'v':[3]}}\n\
+        {'cmd':'read','at':9,'from':2,'to':2}\n\
+        {'cmd':'read','at':9,'from':0,'to':1}\n\
+        {'cmd':'read','at':9,'from':4,'to':9}",
+        "0.1|create|ok\n\
+        0.2|write|ok|__1_1_<2>_1\n\
+        0.3|write|ok|__2_2_<3>_1\n\
+        0.4|write|ok|__3_3_<4>_1\n\
+        0.5|read|ok|1|0\n\
+        5|2\n\
+        0.6|read|ok|1|0\n\
+        5|1\n\
+        0.7|read|ok|0|0\n",
+    ),
+    (
+        "{'cmd':'write','at':3,'cols':{'x':[5],'v':[1]}}\n\
+        {'cmd':'write','at':2,'cols':{'x':[5],'v':[2]}}\n\
+        {'cmd':'read','at':9}\n\
+        {'cmd':'read','at':2}\n\
+        {'cmd':'read','at':1}\n\
+        {'cmd':'read','at':9,'to':2}\n\
+        {'cmd':'read','at':2,'from':3,'to':3}",
+        "0.1|create|ok\n\
+        0.2|write|ok|__3_3_<2>_1\n\
+        0.3|write|ok|__2_2_<3>_1\n\
+        0.4|read|ok|1|0\n\
+        5|1\n\
+        0.5|read|ok|1|0\n\
+        5|2\n\
+        0.6|read|ok|0|0\n\
+        0.7|read|ok|1|0\n\
+        5|2\n\
+        0.8|read|ok|1|0\n\
+        5|1\n",
+    ),
+    (
+        "{'cmd':'write','at':1,'cols':{'x':[5],'v':[1]}}\n\
+        {'cmd':'write','at':1,'cols':{'x':[5],'v':[2]}}\n\
+        {'cmd':'write','at':0,'cols':{'x':[5],'v':[3]}}\n\
+        {'cmd':'read','at':1}\n\
+        {'cmd':'read','at':0}",
+        "0.1|create|ok\n\
+        0.2|write|ok|__1_1_<2>_1\n\
+        0.3|write|ok|__1_1_<3>_1\n\
+        0.4|write|ok|__0_0_<4>_1\n\
+        0.5|read|ok|1|0\n\
+        5|2\n\
+        0.6|read|ok|1|0\n\
+        5|3\n",
+    ),
+    (
+        "{'cmd':'write','at':4,'cols':{'x':[1,2,3],'v':[10,20,30]}}\n\
+        {'cmd':'write','at':6,'cols':{'x':[3,4],'v':[31,41]}}\n\
+        {'cmd':'write','at':5,'cols':{'x':[2,3],'v':[22,32]}}\n\
+        {'cmd':'read','at':9}\n\
+        {'cmd':'read','at':5}\n\
+        {'cmd':'read','at':9,'from':5}\n\
+        {'cmd':'read','at':9,'from':5,'to':5}",
+        "0.1|create|ok\n\
+        0.2|write|ok|__4_4_<2>_1\n\
+        0.3|write|ok|__6_6_<3>_1\n\
+        0.4|write|ok|__5_5_<4>_1\n\
+        0.5|read|ok|4|0\n\
+        1|10\n\
+        2|22\n\
+        3|31\n\
+        4|41\n\
+        0.6|read|ok|3|0\n\
+        1|10\n\
+        2|22\n\
+        3|32\n\
+        0.7|read|ok|3|0\n\
+        2|22\n\
+        3|31\n\
+        4|41\n\
+        0.8|read|ok|2|0\n\
+        2|22\n\
+        3|32\n",
+    ),
+    (
+        "{'cmd':'write','at':18446744073709551615,'cols':{'x':[5],'v':[1]}}\n\
+        {'cmd':'read','at':18446744073709551614}\n\
+        {'cmd':'read','at':18446744073709551615}\n\
+        {'cmd':'read','at':0,'to':18446744073709551615}\n\
+        {'cmd':'read','at':9,'from':9,'to':8}",
+        "0.1|create|ok\n\
+        0.2|write|ok|__18446744073709551615_18446744073709551615_<2>_1\n\
+        0.3|read|ok|0|0\n\
+        0.4|read|ok|1|0\n\
+        5|1\n\
+        0.5|read|ok|1|0\n\
+        5|1\n\
+        0.6|read|ok|0|0\n",
+    ),
+    (
+        "{'cmd':'write','at':1,'cols':{'v':[2],'x':[1]}}\n\
+        {'cmd':'write','at':2,'cols':{'v':[4,5],'x':[3,2]}}\n\
+        {'cmd':'write','at':3,'cols':{'x':[9],'v':[8],'x':[7],'v':[6]}}\n\
+        {'cmd':'read','at':9}",
+        "0.1|create|ok\n\
+        0.2|write|ok|__1_1_<2>_1\n\
+        0.3|write|ok|__2_2_<3>_1\n\
+        0.4|write|ok|__3_3_<4>_1\n\
+        0.5|read|ok|4|0\n\
+        1|2\n\
+        2|5\n\
+        3|4\n\
+        7|6\n",
+    ),
+];
+
+#[test]
+fn the_last_write_in_the_interval_shows(rt: HostRuntime) -> Result<(), Fail> {
+    for (script, text) in STAMPS {
+        assert_eq!(rt;
+            printed(&rt, C1, script)?,
+            said(rt.alloc(), text)?,
+            "{script}"
+        );
+    }
+    Ok(())
+}
+
+/// A read shows each cell through the schema at its end, whatever schema it was written in.
+const EVOLUTIONS: [(&str, &str); 4] = [
+    (
+        "{'cmd':'write','at':1,'cols':{'x':[5],'v':[10]}}\n\
+        {'cmd':'evolve','at':5,'add':[{'name':'w','type':'int64'}]}\n\
+        {'cmd':'evolve','at':6,'drop':['v']}\n\
+        {'cmd':'read','at':4}\n\
+        {'cmd':'read','at':5}\n\
+        {'cmd':'read','at':6}",
+        "0.1|create|ok\n\
+        0.2|write|ok|__1_1_<2>_1\n\
+        0.3|evolve|ok|__5_5_<3>\n\
+        0.4|evolve|ok|__6_6_<4>\n\
+        0.5|read|ok|1|0\n\
+        5|10\n\
+        0.6|read|ok|1|0\n\
+        5|10|-9223372036854775808\n\
+        0.7|read|ok|1|0\n\
+        5|-9223372036854775808\n",
+    ),
+    (
+        "{'cmd':'evolve','at':5,'add':[{'name':'w','type':'text','fill':'-'}]}\n\
+        {'cmd':'write','at':5,'cols':{'x':[1],'v':[1],'w':['a']}}\n\
+        {'cmd':'write','at':4,'cols':{'x':[2],'v':[2]}}\n\
+        {'cmd':'write','at':6,'cols':{'x':[3],'v':[3],'w':['c']}}\n\
+        {'cmd':'write','at':4,'cols':{'x':[4],'v':[4],'w':['d']}}\n\
+        {'cmd':'write','at':6,'cols':{'x':[5],'v':[5]}}\n\
+        {'cmd':'read','at':4}\n\
+        {'cmd':'read','at':5}\n\
+        {'cmd':'read','at':9}",
+        "0.1|create|ok\n\
+        0.2|evolve|ok|__5_5_<2>\n\
+        0.3|write|ok|__5_5_<3>_1\n\
+        0.4|write|ok|__4_4_<4>_1\n\
+        0.5|write|ok|__6_6_<5>_1\n\
+        0.6|write|refused|SchemaClash|w\n\
+        0.7|write|refused|SchemaClash|w\n\
+        0.8|read|ok|1|0\n\
+        2|2\n\
+        0.9|read|ok|2|0\n\
+        1|1|'a'\n\
+        2|2|'-'\n\
+        0.10|read|ok|3|0\n\
+        1|1|'a'\n\
+        2|2|'-'\n\
+        3|3|'c'\n",
+    ),
+    (
+        "{'cmd':'evolve','at':5,'add':[{'name':'w','type':'int64'}]}\n\
+        {'cmd':'write','at':5,'cols':{'x':[1],'v':[1],'w':[2]}}\n\
+        {'cmd':'write','at':4,'cols':{'x':[2],'v':[3]}}\n\
+        {'cmd':'read','at':9,'from':0,'to':4}\n\
+        {'cmd':'read','at':9,'from':5}\n\
+        {'cmd':'read','at':4,'from':0,'to':9}",
+        "0.1|create|ok\n\
+        0.2|evolve|ok|__5_5_<2>\n\
+        0.3|write|ok|__5_5_<3>_1\n\
+        0.4|write|ok|__4_4_<4>_1\n\
+        0.5|read|ok|1|0\n\
+        2|3\n\
+        0.6|read|ok|1|0\n\
+        1|1|2\n\
+        0.7|read|ok|2|0\n\
+        1|1|2\n\
+        2|3|-9223372036854775808\n",
+    ),
+    (
+        "{'cmd':'write','at':1,'cols':{'x':[5],'v':[10]}}\n\
+        {'cmd':'evolve','at':5,'drop':['v'],'add':[{'name':'w','type':'int64'}]}\n\
+        {'cmd':'write','at':6,'cols':{'x':[6],'w':[20]}}\n\
+        {'cmd':'evolve','at':7,'add':[{'name':'v','type':'int64','fill':-1}]}\n\
+        {'cmd':'evolve','at':8,'drop':['w']}\n\
+        {'cmd':'read','at':1}\n\
+        {'cmd':'read','at':6}\n\
+        {'cmd':'read','at':7}\n\
+        {'cmd':'read','at':8}",
+        "0.1|create|ok\n\
+        0.2|write|ok|__1_1_<2>_1\n\
+        0.3|evolve|ok|__5_5_<3>\n\
+        0.4|write|ok|__6_6_<4>_1\n\
+        0.5|evolve|ok|__7_7_<5>\n\
+        0.6|evolve|ok|__8_8_<6>\n\
+        0.7|read|ok|1|0\n\
+        5|10\n\
+        0.8|read|ok|2|0\n\
+        5|-9223372036854775808\n\
+        6|20\n\
+        0.9|read|ok|2|0\n\
+        5|-9223372036854775808|10\n\
+        6|20|-1\n\
+        0.10|read|ok|2|0\n\
+        5|10\n\
+        6|-1\n",
+    ),
+];
+
+#[test]
+fn cells_show_through_the_schema_at_the_end(rt: HostRuntime) -> Result<(), Fail> {
+    for (script, text) in EVOLUTIONS {
+        assert_eq!(rt;
+            printed(&rt, C1, script)?,
+            said(rt.alloc(), text)?,
+            "{script}"
+        );
+    }
+    Ok(())
+}
+
+/// An attribute that is dropped and added again shows what was written before where its type and
+/// its nullability are the same, and its fill otherwise.
+const DROPPED_AND_ADDED: [(&str, &str); 5] = [
+    (
+        "{'cmd':'write','at':1,'cols':{'x':[5],'v':[10]}}\n\
+        {'cmd':'evolve','at':2,'drop':['v'],'add':[{'name':'w','type':'int64'}]}\n\
+        {'cmd':'evolve','at':3,'drop':['w'],'add':[{'name':'v','type':'int64','fill':3}]}\n\
+        {'cmd':'read','at':9}",
+        "0.1|create|ok\n\
+        0.2|write|ok|__1_1_<2>_1\n\
+        0.3|evolve|ok|__2_2_<3>\n\
+        0.4|evolve|ok|__3_3_<4>\n\
+        0.5|read|ok|1|0\n\
+        5|10\n",
+    ),
+    (
+        "{'cmd':'write','at':1,'cols':{'x':[5],'v':[10]}}\n\
+        {'cmd':'evolve','at':2,'drop':['v'],'add':[{'name':'v','type':'int32','fill':3}]}\n\
+        {'cmd':'read','at':9}\n\
+        {'cmd':'write','at':3,'cols':{'x':[6],'v':[4]}}\n\
+        {'cmd':'evolve','at':4,'drop':['v'],'add':[{'name':'v','type':'int64'}]}\n\
+        {'cmd':'read','at':9}",
+        "0.1|create|ok\n\
+        0.2|write|ok|__1_1_<2>_1\n\
+        0.3|evolve|ok|__2_2_<3>\n\
+        0.4|read|ok|1|0\n\
+        5|3\n\
+        0.5|write|ok|__3_3_<5>_1\n\
+        0.6|evolve|ok|__4_4_<6>\n\
+        0.7|read|ok|2|0\n\
+        5|10\n\
+        6|-9223372036854775808\n",
+    ),
+    (
+        "{'cmd':'write','at':1,'cols':{'x':[5],'v':[10]}}\n\
+        {'cmd':'evolve','at':2,'drop':['v'],'add':[{'name':'v','type':'int64','nullable':true}]}\n\
+        {'cmd':'read','at':9}\n\
+        {'cmd':'write','at':3,'cols':{'x':[5],'v':[null]}}\n\
+        {'cmd':'read','at':9}\n\
+        {'cmd':'read','at':1}",
+        "0.1|create|ok\n\
+        0.2|write|ok|__1_1_<2>_1\n\
+        0.3|evolve|ok|__2_2_<3>\n\
+        0.4|read|ok|1|0\n\
+        5|null\n\
+        0.5|write|ok|__3_3_<5>_1\n\
+        0.6|read|ok|1|0\n\
+        5|null\n\
+        0.7|read|ok|1|0\n\
+        5|10\n",
+    ),
+    (
+        "{'cmd':'write','at':1,'cols':{'x':[5],'v':[10]}}\n\
+        {'cmd':'evolve','at':2,'drop':['v'],'add':[{'name':'v','type':'text'}]}\n\
+        {'cmd':'write','at':2,'cols':{'x':[6],'v':['a']}}\n\
+        {'cmd':'evolve','at':3,'drop':['v'],'add':[{'name':'v','type':'blob','fill':'ff'}]}\n\
+        {'cmd':'read','at':2}\n\
+        {'cmd':'read','at':3}",
+        "0.1|create|ok\n\
+        0.2|write|ok|__1_1_<2>_1\n\
+        0.3|evolve|ok|__2_2_<3>\n\
+        0.4|write|ok|__2_2_<4>_1\n\
+        0.5|evolve|ok|__3_3_<5>\n\
+        0.6|read|ok|2|0\n\
+        5|''\n\
+        6|'a'\n\
+        0.7|read|ok|2|0\n\
+        5|#ff\n\
+        6|#ff\n",
+    ),
+    (
+        "{'cmd':'evolve','at':1,'add':[{'name':'w','type':'int64'}]}\n\
+        {'cmd':'write','at':1,'cols':{'x':[5],'v':[1],'w':[2]}}\n\
+        {'cmd':'evolve','at':2,'drop':['v'],'add':[{'name':'v','type':'int64'}]}\n\
+        {'cmd':'write','at':2,'cols':{'x':[6],'v':[3],'w':[4]}}\n\
+        {'cmd':'read','at':1}\n\
+        {'cmd':'read','at':2}",
+        "0.1|create|ok\n\
+        0.2|evolve|ok|__1_1_<2>\n\
+        0.3|write|ok|__1_1_<3>_1\n\
+        0.4|evolve|ok|__2_2_<4>\n\
+        0.5|write|ok|__2_2_<5>_1\n\
+        0.6|read|ok|1|0\n\
+        5|1|2\n\
+        0.7|read|ok|2|0\n\
+        5|2|1\n\
+        6|4|3\n",
+    ),
+];
+
+#[test]
+fn attributes_that_come_again_show_what_agrees(rt: HostRuntime) -> Result<(), Fail> {
+    for (script, text) in DROPPED_AND_ADDED {
+        assert_eq!(rt;
+            printed(&rt, C1, script)?,
+            said(rt.alloc(), text)?,
+            "{script}"
+        );
+    }
+    Ok(())
+}
+
+/// An evolution changes the schema at its own stamp, and no later one.
+const EVOLVED_OUT_OF_ORDER: [(&str, &str); 4] = [
+    (
+        "{'cmd':'write','at':1,'cols':{'x':[5],'v':[10]}}\n\
+        {'cmd':'evolve','at':6,'add':[{'name':'w','type':'int64'}]}\n\
+        {'cmd':'evolve','at':5,'add':[{'name':'u','type':'int8'}]}\n\
+        {'cmd':'read','at':5}\n\
+        {'cmd':'read','at':6}",
+        "0.1|create|ok\n\
+        0.2|write|ok|__1_1_<2>_1\n\
+        0.3|evolve|ok|__6_6_<3>\n\
+        0.4|evolve|ok|__5_5_<4>\n\
+        0.5|read|ok|1|0\n\
+        5|10|-128\n\
+        0.6|read|ok|1|0\n\
+        5|10|-9223372036854775808\n",
+    ),
+    (
+        "{'cmd':'write','at':1,'cols':{'x':[5],'v':[10]}}\n\
+        {'cmd':'evolve','at':5,'add':[{'name':'w','type':'int64'}]}\n\
+        {'cmd':'evolve','at':5,'add':[{'name':'u','type':'int8'}]}\n\
+        {'cmd':'evolve','at':5,'drop':['v']}\n\
+        {'cmd':'read','at':5}\n\
+        {'cmd':'read','at':4}",
+        "0.1|create|ok\n\
+        0.2|write|ok|__1_1_<2>_1\n\
+        0.3|evolve|ok|__5_5_<3>\n\
+        0.4|evolve|ok|__5_5_<4>\n\
+        0.5|evolve|ok|__5_5_<5>\n\
+        0.6|read|ok|1|0\n\
+        5|-9223372036854775808|-128\n\
+        0.7|read|ok|1|0\n\
+        5|10\n",
+    ),
+    (
+        "{'cmd':'evolve','at':6,'drop':['v'],'add':[{'name':'w','type':'int64'}]}\n\
+        {'cmd':'evolve','at':5,'drop':['w']}\n\
+        {'cmd':'evolve','at':5,'drop':['v'],'add':[{'name':'w','type':'int64'}]}\n\
+        {'cmd':'evolve','at':6,'add':[{'name':'v','type':'int64'}]}\n\
+        {'cmd':'write','at':6,'cols':{'x':[1],'v':[1],'w':[2]}}\n\
+        {'cmd':'read','at':9}\n\
+        {'cmd':'read','at':5}",
+        "0.1|create|ok\n\
+        0.2|evolve|ok|__6_6_<2>\n\
+        0.3|evolve|refused|UnknownAttr|w\n\
+        0.4|evolve|ok|__5_5_<4>\n\
+        0.5|evolve|ok|__6_6_<5>\n\
+        0.6|write|ok|__6_6_<6>_1\n\
+        0.7|read|ok|1|0\n\
+        1|2|1\n\
+        0.8|read|ok|0|0\n",
+    ),
+    (
+        "{'cmd':'evolve','at':0,'add':[{'name':'w','type':'int64'}]}\n\
+        {'cmd':'write','at':0,'cols':{'x':[1],'v':[1],'w':[2]}}\n\
+        {'cmd':'evolve','at':0,'drop':['v']}\n\
+        {'cmd':'read','at':0}",
+        "0.1|create|ok\n\
+        0.2|evolve|ok|__0_0_<2>\n\
+        0.3|write|ok|__0_0_<3>_1\n\
+        0.4|evolve|ok|__0_0_<4>\n\
+        0.5|read|ok|1|0\n\
+        1|2\n",
+    ),
+];
+
+#[test]
+fn evolutions_change_the_schema_at_their_stamps(rt: HostRuntime) -> Result<(), Fail> {
+    for (script, text) in EVOLVED_OUT_OF_ORDER {
+        assert_eq!(rt;
+            printed(&rt, C1, script)?,
+            said(rt.alloc(), text)?,
+            "{script}"
+        );
+    }
+    Ok(())
+}
+
+/// Without a schema at its stamp nothing can be written, evolved or read.
+const NO_SCHEMA: [(&str, &str); 4] = [
+    (
+        "{'cmd':'read','at':9}\n\
+        {'cmd':'write','at':1,'cols':{'x':[5],'v':[1]}}\n\
+        {'cmd':'evolve','at':5,'drop':['v']}\n\
+        {'cmd':'read','at':9,'to':3}",
+        "0.1|read|refused|NoSchema|9\n\
+        0.2|write|refused|NoSchema|1\n\
+        0.3|evolve|refused|NoSchema|5\n\
+        0.4|read|refused|NoSchema|3\n",
+    ),
+    (
+        "{'cmd':'create','at':3,'kind':'sparse','dims':[{'name':'x','type':'int64','domain':[0,9],\
+        'extent':10}],'attrs':[{'name':'v','type':'int64'}]}\n\
+        {'cmd':'write','at':2,'cols':{'x':[5],'v':[1]}}\n\
+        {'cmd':'evolve','at':2,'add':[{'name':'w','type':'int64'}]}\n\
+        {'cmd':'read','at':2}\n\
+        {'cmd':'read','at':9,'to':2}\n\
+        {'cmd':'write','at':3,'cols':{'x':[5],'v':[2]}}\n\
+        {'cmd':'read','at':2,'to':3}\n\
+        {'cmd':'read','at':3}",
+        "0.1|create|ok\n\
+        0.2|write|refused|NoSchema|2\n\
+        0.3|evolve|refused|NoSchema|2\n\
+        0.4|read|refused|NoSchema|2\n\
+        0.5|read|refused|NoSchema|2\n\
+        0.6|write|ok|__3_3_<6>_1\n\
+        0.7|read|ok|1|0\n\
+        5|2\n\
+        0.8|read|ok|1|0\n\
+        5|2\n",
+    ),
+    (
+        "{'cmd':'create','at':18446744073709551615,'kind':'sparse','dims':[{'name':'x',\
+        'type':'int64','domain':[0,9],'extent':10}],'attrs':[{'name':'v','type':'int64'}]}\n\
+        {'cmd':'write','at':9,'cols':{'x':[99],'v':['a']}}\n\
+        {'cmd':'read','at':18446744073709551614}\n\
+        {'cmd':'read','at':18446744073709551615}",
+        "0.1|create|ok\n\
+        0.2|write|refused|NoSchema|9\n\
+        0.3|read|refused|NoSchema|18446744073709551614\n\
+        0.4|read|ok|0|0\n",
+    ),
+    (
+        "{'cmd':'create','at':0,'kind':'sparse','dims':[{'name':'x','type':'int64','domain':[0,9],\
+        'extent':10}],'attrs':[]}\n\
+        {'cmd':'write','at':1,'cols':{'x':[5],'v':[1]}}\n\
+        {'cmd':'create','at':1,'kind':'sparse','dims':[{'name':'x','type':'int64','domain':[0,9],\
+        'extent':10}],'attrs':[{'name':'v','type':'int64'}]}\n\
+        {'cmd':'write','at':1,'cols':{'x':[5],'v':[1]}}\n\
+        {'cmd':'read','at':1}",
+        "0.1|create|refused|NoAttrLeft\n\
+        0.2|write|refused|NoSchema|1\n\
+        0.3|create|ok\n\
+        0.4|write|ok|__1_1_<4>_1\n\
+        0.5|read|ok|1|0\n\
+        5|1\n",
+    ),
+];
+
+#[test]
+fn nothing_is_done_without_a_schema(rt: HostRuntime) -> Result<(), Fail> {
+    for (script, text) in NO_SCHEMA {
+        assert_eq!(rt;
+            printed(&rt, "", script)?,
+            said(rt.alloc(), text)?,
+            "{script}"
+        );
+    }
+    Ok(())
+}

@@ -1,0 +1,189 @@
+//! Names, types, values, dimensions and attributes as JSON values.
+ghost use Rattle.std.specs.Prelude.{◌≡◌, [], ◌∷◌, ◌++◌, IfOk, map, option_map};
+ghost use Rattle.serde_json.specs.View.{view, members_view};
+ghost use Rattle.ts_top.specs.Forms.{Gives, list_of};
+ghost use Rattle.ts_top.specs.Values.{label, type_named, val_type, order, value, fill_said, fill, dim, attr, columns_onto, columns};
+
+use crate::json::{FromJson, JsonFault, has_only, optional, required, two};
+use serde_json::{Map, Value};
+use std::alloc::Global;
+use ts_base::{ByteList, Label, OutOfMemory, Row, Sequence, Val, ValType};
+use ts_domain::{Dim, Order};
+use ts_model::{ColIn, ColInList, blob_bytes};
+use ts_schema::Attr;
+use ts_value::default_fill;
+
+/// A label.
+impl FromJson for Label {
+    ghost form = { label };
+
+    fn from_json(_alloc: Global, value: &Value) -> Result<Label, JsonFault> {
+        match value.as_str().and_then(Label::new) {
+            Some(label) => Ok(label),
+            None => Err(JsonFault::Form),
+        }
+    }
+}
+
+/// A type by its name.
+impl FromJson for ValType {
+    ghost form = { val_type };
+
+    fn from_json(_alloc: Global, value: &Value) -> Result<ValType, JsonFault> {
+        match value.as_str().and_then(type_named) {
+            Some(ty) => Ok(ty),
+            None => Err(JsonFault::Form),
+        }
+    }
+}
+
+/// The type of a name.
+fn type_named(name: &str) -> Option<ValType>
+    ensures { result ≡ type_named name.now }
+{
+    match name {
+        "int8" => Some(ValType::I8),
+        "int16" => Some(ValType::I16),
+        "int32" => Some(ValType::I32),
+        "int64" => Some(ValType::I64),
+        "uint8" => Some(ValType::U8),
+        "uint16" => Some(ValType::U16),
+        "uint32" => Some(ValType::U32),
+        "uint64" => Some(ValType::U64),
+        "text" => Some(ValType::Text),
+        "blob" => Some(ValType::Blob),
+        _ => None,
+    }
+}
+
+/// An order: `row` or `col`.
+impl FromJson for Order {
+    ghost form = { order };
+
+    #[tactic(auto, unfolding(crate::specs::Values::order))]
+    fn from_json(_alloc: Global, value: &Value) -> Result<Order, JsonFault> {
+        match value.as_str() {
+            Some("row") => Ok(Order::Row),
+            Some("col") => Ok(Order::Col),
+            _ => Err(JsonFault::Form),
+        }
+    }
+}
+
+/// A value of a cell: null, a whole number from -2^63 to 2^64 - 1, or a string.
+impl FromJson for Val {
+    ghost form = { value };
+
+    fn from_json(alloc: Global, value: &Value) -> Result<Val, JsonFault> {
+        match value {
+            Value::Null => Ok(Val::Null),
+            Value::Number(number) => match number.as_i128() {
+                Some(integer) => Ok(Val::Int(integer)),
+                None => Err(JsonFault::Form),
+            },
+            Value::String(text) => Ok(Val::Bytes(ByteList::of_bytes(alloc, text.as_bytes())?)),
+            _ => Err(JsonFault::Form),
+        }
+    }
+}
+
+/// The fill of an attribute: the one that is given, or else the default one of its type.
+fn read_fill(
+    alloc: Global,
+    ty: ValType,
+    nullable: bool,
+    given: Option<&Value>,
+) -> Result<Val, JsonFault>
+    ensures { Gives result (fill ty nullable (option_map (λ d. view d.now) given.entry)) }
+{
+    match given {
+        Some(found) => Ok(fill_said(alloc, ty, Val::from_json(alloc, found)?)?),
+        None => Ok(default_fill(alloc, ty, nullable)),
+    }
+}
+
+/// What a fill says of an attribute of a type: for a blob it has the digits of the bytes.
+fn fill_said(alloc: Global, ty: ValType, val: Val) -> Result<Val, OutOfMemory>
+    ensures { IfOk result (λ said. said ≡ fill_said ty val) }
+{
+    match (ty, val) {
+        (ValType::Blob, Val::Bytes(text)) => match blob_bytes(alloc, text.as_slice())? {
+            Some(bytes) => Ok(Val::Bytes(bytes)),
+            None => Ok(Val::Int(0)),
+        },
+        (_, val) => Ok(val),
+    }
+}
+
+/// A dimension.
+impl FromJson for Dim {
+    ghost form = { dim };
+
+    #[tactic(auto, unfolding(crate::specs::Values::dim))]
+    fn from_json(alloc: Global, value: &Value) -> Result<Dim, JsonFault> {
+        let name = required(alloc, value, "name")?;
+        let ty = required(alloc, value, "type")?;
+        let bounds: Sequence<i128> = required(alloc, value, "domain")?;
+        let extent = required(alloc, value, "extent")?;
+        let Some((low, high)) = two(&bounds) else {
+            return Err(JsonFault::Form);
+        };
+        if !has_only(value, &[], &["name", "type", "domain", "extent"]) {
+            return Err(JsonFault::Form);
+        }
+        Ok(Dim {
+            name,
+            ty,
+            low,
+            high,
+            extent,
+        })
+    }
+}
+
+/// An attribute.
+impl FromJson for Attr {
+    ghost form = { attr };
+
+    #[tactic(auto, unfolding(crate::specs::Values::attr))]
+    fn from_json(alloc: Global, value: &Value) -> Result<Attr, JsonFault> {
+        let name = required(alloc, value, "name")?;
+        let ty = required(alloc, value, "type")?;
+        let nullable = optional(alloc, value, "nullable", false)?;
+        let fill = read_fill(alloc, ty, nullable, value.get("fill"))?;
+        if !has_only(value, &[], &["name", "type", "nullable", "fill"]) {
+            return Err(JsonFault::Form);
+        }
+        Ok(Attr {
+            name,
+            ty,
+            nullable,
+            fill,
+        })
+    }
+}
+
+/// The columns of a write: an object from names to lists of values.
+pub(crate) fn read_columns(alloc: Global, value: &Value) -> Result<ColInList, JsonFault>
+    ensures { Gives result (columns (view value.now)) }
+{
+    match value.as_object() {
+        Some(members) => read_members(alloc, members),
+        None => Err(JsonFault::Form),
+    }
+}
+
+/// Reads a column from each member of an object.
+fn read_members(alloc: Global, members: &Map<String, Value>) -> Result<ColInList, JsonFault>
+    ensures { Gives result (columns_onto [] (members_view members.now.entries)) }
+{
+    let mut done = ColInList::new(alloc);
+    for (key, value) in members.iter() {
+        let Some(name) = Label::new(key.as_str()) else {
+            return Err(JsonFault::Form);
+        };
+        let values = Row::from_json(alloc, value)?;
+        done.push(ColIn { name, values })?;
+    }
+    Ok(done)
+}
