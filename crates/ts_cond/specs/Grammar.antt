@@ -3,7 +3,6 @@ use Rattle.std.specs.Prelude.{◌≡◌, ℕ, ℤ, Bool, true, false, List, [], 
 use Rattle.ts_base.specs.declared.values.Val.{Val}
 use Rattle.ts_base.specs.declared.values.Val.TheVariants as val
 use Rattle.ts_cond.specs.declared.faults.CondFault.{CondFault}
-use Rattle.ts_cond.specs.declared.faults.CondFault.TheVariants as fault
 use Rattle.ts_cond.specs.declared.fields.CondField.{CondField}
 use Rattle.ts_cond.specs.declared.met.Met.{Met}
 use Rattle.ts_cond.specs.declared.nodes.CondOp.{CondOp}
@@ -113,9 +112,3 @@ abbrev pub meant : List CondField → Cond → Result Condition CondFault
 meant fields c =
     let found = terms_of c (record { used = []; unused = fields; clash = None }) in
     concluded found.1.clash (joined tree.Any found.0) found.1.used
-
--- the answer is this one, unless the text is too deep or too large
-pub data IsReadAs {A : Type 0} (answer wanted : Result A CondFault) : Type 0 where
-  same : answer ≡ wanted → IsReadAs answer wanted
-  deep : answer ≡ Err fault.TooDeep → IsReadAs answer wanted
-  large : answer ≡ Err fault.TooLarge → IsReadAs answer wanted

@@ -1,6 +1,9 @@
+pub mod Causes
 pub mod Codes
+pub mod CondTexts
 pub mod Grammar
 pub mod Holds
+pub mod Limits
 pub mod Machine
 pub mod Picks
 pub mod Seen

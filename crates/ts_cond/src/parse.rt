@@ -1,9 +1,12 @@
 //! Reading a condition from its text.
-ghost use Rattle.std.specs.Prelude.{◌≡◌, ◌≤◌, ◌+◌, length, drop, Ok, OnOk};
+ghost use Rattle.std.specs.Prelude.{◌≡◌, ◌≤◌, ◌+◌, ℕ, length, drop, IfOk, Ok, OnOk};
+ghost use Rattle.ts_cond.specs.Causes.{HasCause, IsReadAs, IsBroken, IsRefusedAt};
+ghost use Rattle.ts_cond.specs.CondTexts.{AreFields, IsCond};
+ghost use Rattle.ts_cond.specs.Grammar.{Cond as Tree, IsSpelled};
 ghost use Rattle.ts_cond.specs.Machine.{start, depth_in, step, after, at_token, front_step, may_end, reads, settled, parsed};
 ghost use Rattle.ts_cond.specs.Spelled.{kind_of, some_kind};
 ghost use Rattle.ts_cond.specs.States.{level_of, reading_of, Comes, Ends, Parses};
-ghost use Rattle.ts_cond.specs.Tokens.{scan};
+ghost use Rattle.ts_cond.specs.Tokens.{scan, tokens_of};
 
 use crate::cond::Cond;
 use crate::faults::CondFault;
@@ -19,16 +22,33 @@ impl Cond {
     ///
     /// Each fault comes exactly where it is said: see [`CondFault`]. The condition records the
     /// fields that it names, in the order of their first names.
+    ///
+    /// `parses` tells the answer by the automaton that reads the tokens. `cause`, `spelled` and
+    /// `broken` tell it by the grammar: why each answer comes; and the other way round what is
+    /// answered to a text that spells a tree, and to one that is broken at an offset. Each text is
+    /// one of the two, by `texts_are_spelled_or_broken`. `object` says that the condition has an
+    /// object, where the fields are those of an array.
     pub fn parse(alloc: Global, text: &[u8], fields: &CondFieldList) -> Result<Cond, CondFault>
         requires { length fields.now ≤ 255 }
-        ensures { Parses result (parsed text.now fields.now) }
+        ensures parses { Parses result (parsed text.now fields.now) }
+        ensures cause { HasCause result text.now fields.now }
+        ensures spelled { (tree : Tree) → IsSpelled text.now tree → IsReadAs result fields.now tree }
+        ensures broken { (at : ℕ) → IsBroken (tokens_of text.now) at → IsRefusedAt result at }
+        ensures object { AreFields fields.now → IfOk result IsCond }
     {
-        let Ok(start) = State::start(alloc, fields) else {
-            return Err(CondFault::OutOfMemory);
-        };
-        let state = read_tokens(alloc, text, start)?;
-        settle(state)
+        read_text(alloc, text, fields)
     }
+}
+
+fn read_text(alloc: Global, text: &[u8], fields: &CondFieldList) -> Result<Cond, CondFault>
+    requires { length fields.now ≤ 255 }
+    ensures { Parses result (parsed text.now fields.now) }
+{
+    let Ok(start) = State::start(alloc, fields) else {
+        return Err(CondFault::OutOfMemory);
+    };
+    let state = read_tokens(alloc, text, start)?;
+    settle(state)
 }
 
 fn read_tokens(alloc: Global, text: &[u8], start: State) -> Result<State, CondFault>

@@ -31,4 +31,5 @@ pub use spelling::Spelling;
 pub use there::schema_at;
 pub use ts_base::LabelList;
 pub use ts_domain::Order;
+pub use types::{read_type, write_type};
 pub use wants::{Want, taken};
