@@ -10,7 +10,7 @@ use Rattle.ts_schema.specs.Faults.{schema_fault}
 use Rattle.ts_store.specs.declared.fate.Fate.TheVariants as fate
 use Rattle.ts_store.specs.declared.call.Reply.TheVariants as reply
 use Rattle.ts_model.specs.declared.commands.Command.{Command}
-use Rattle.ts_model.specs.declared.commands.Command.TheVariants.{Create, Evolve, Write, Read}
+use Rattle.ts_model.specs.declared.commands.Command.TheVariants.{Create, Evolve, Write, Read, Delete}
 use Rattle.ts_model.specs.declared.commands.Job.{Job}
 use Rattle.ts_model.specs.declared.answers.Driven.TheVariants.{Done}
 use Rattle.ts_model.specs.declared.answers.Outcome.TheVariants as outcome
@@ -41,7 +41,8 @@ not_before (Create f) r p is e =
     not_of_faults refusal.DomainBad refusal.SchemaBad (domain_fault f.dims) (schema_fault f.dims f.attrs) p (λ x q. cc) (λ y q. cc) (is ∙ ap Some (sym same))
 not_before (Evolve change) r p is e = none-some _ is
 not_before (Write w) r p is e = none-some _ is
-not_before (Read from to) r p is e = none-some _ is
+not_before (Read from to query) r p is e = none-some _ is
+not_before (Delete text) r p is e = none-some _ is
 
 -- a reply in a trace is that of a call of the job
 told_with : (number : ℕ) (own : List Told) (x : Exchange) → Contains (trace_of number own) x → (e : Told) × Contains own e × (e.reply ≡ x.reply)

@@ -182,7 +182,7 @@ evolved_are_attrs dims attrs change are can none =
 -- ---- objects
 
 -- the body of a short object is short
-short_body : (k : Kind) (body : List ℕ) → IsShort (wrapped k body) → length body < 2 ^ 64
+pub short_body : (k : Kind) (body : List ℕ) → IsShort (wrapped k body) → length body < 2 ^ 64
 short_body k body short = let long = length-wrapped k body in omega (arith, short, long)
 
 -- the object of a frame is read as that frame

@@ -5,6 +5,7 @@ use Rattle.std.specs.FinMap as map
 use Rattle.std.proofs.lemmas.Bool.{true≢false}
 use Rattle.std.proofs.lemmas.Option.{none-some, same_Some, slice_get-map}
 use Rattle.std.proofs.lemmas.List.{take_all}
+use Rattle.std.proofs.lemmas.List.Elements.{Contains-append_left}
 use Rattle.ts_base.specs.declared.keys.FragKey.{FragKey}
 use Rattle.ts_base.specs.declared.keys.Key.{Key}
 use Rattle.ts_base.specs.declared.names.Name.{Name}
@@ -24,24 +25,26 @@ use Rattle.ts_store.specs.declared.call.Reply.{Reply}
 use Rattle.ts_store.specs.declared.call.Reply.TheVariants as reply
 use Rattle.ts_store.specs.Calls.{answer, reply_of, is_no_memory, part_of, part_reply, length_reply}
 use Rattle.ts_model.specs.declared.commands.Job.{Job}
+use Rattle.ts_model.specs.declared.deeds.Erasure.{Erasure}
 use Rattle.ts_model.specs.declared.deeds.Written.{Written}
 use Rattle.ts_model.specs.declared.answers.Refusal.TheVariants as refusal
 use Rattle.ts_model.specs.declared.states.Opened.{Opened}
 use Rattle.ts_model.specs.declared.states.Reading.{Reading}
 use Rattle.ts_model.specs.declared.states.State.{State}
 use Rattle.ts_model.specs.declared.states.State.TheVariants.{Fetches}
-use Rattle.ts_model.specs.Deeds.{History, IsHistory, writes, schema_with, schema_there, attrs_with}
+use Rattle.ts_model.specs.Deeds.{History, IsHistory, erases, writes, schema_with, schema_there, attrs_with}
 use Rattle.ts_model.specs.Forms.{Forms, Spelled, Tracking, FormsLaws, OpensWell, GoesWell, Stepped, IsToldOf, SpeaksOf}
 use Rattle.ts_model.specs.Forms.Stepped.{Asks, Takes, Breaks}
 use Rattle.ts_model.specs.Jobs.{looks_at}
 use Rattle.ts_model.specs.Stands.{HoldsOne}
-use Rattle.ts_model.specs.States.{keys_named, known_schema, known_attrs, want_of, ended, fetch_leads, fetch_begins, fetches_one, fetching, after_fetched}
-use Rattle.ts_model.specs.Kept.{AreGot, Clean, Gathering, Fetching, Claims}
+use Rattle.ts_model.specs.States.{known_schema, known_attrs, want_of, ended, fetch_leads, fetch_begins, fetches_one, fetching, after_fetched}
+use Rattle.ts_model.specs.Kept.{AreGot, Clean, Erasing, Gathering, Fetching, Claims}
 use Rattle.ts_model.specs.Told.{Told, IsReplied, after_told, history_told}
 use Rattle.ts_model.specs.Ends.{IsTrueRefusal}
 use Rattle.ts_model.specs.Steps.{Comes, Advances}
 use Rattle.ts_model.proofs.ListLemmas.{Contains-slice_get, take_next}
-use Rattle.ts_model.proofs.HistoryLaws.{IsHistory-front, schema_with-append}
+use Rattle.ts_model.proofs.HistoryLaws.{IsHistory-front, erases-append, schema_with-append}
+use Rattle.ts_model.proofs.Erasing.{all_erased, erased_in}
 use Rattle.ts_model.proofs.Traces.{history_told_grows}
 use Rattle.ts_model.proofs.Effects.{IsLook, look_stays, look_history, look_leads}
 use Rattle.ts_model.proofs.Stays.{clean_look, fetching_stays, on_way_stays}
@@ -72,7 +75,11 @@ begins_now jobs past seen before listing later place = let grown = history_told_
 
 module _ {F : Type 0} (forms : Forms F) (spelled : Spelled) (tracks : Tracking F) (laws : FormsLaws forms spelled tracks)
     (past : History) (jobs : List Job) (seen : List Told) (m : Held) (number : ℕ) (job : Job) (clean : Clean m (history_told jobs past seen) job)
-    (r : Reading) (opened : List Opened) (schemas : List Schema) (gathers : Gathering forms spelled past jobs seen m number job r opened schemas) (all_schemas : length schemas ≡ length (keys_named r opened)) where
+    (r : Reading) (opened : List Opened) (schemas : List Schema) (erasing : Erasing forms spelled past jobs seen m number job r opened schemas) (all_deletes : length r.erased ≡ length r.deletes) where
+  -- what the read gathered
+  abbrev gathers : Gathering forms spelled past jobs seen m number job r opened schemas
+  gathers = erasing.gathers
+
   -- the state's claims hold
   abbrev Holds : State F → Type 0
   Holds s = Claims forms spelled tracks past jobs seen m number job s
@@ -87,7 +94,7 @@ module _ {F : Type 0} (forms : Forms F) (spelled : Spelled) (tracks : Tracking F
 
   -- the versions in the fragments before the next one were got
   abbrev IsFound : ℕ → List Version → Type 0
-  IsFound next got = AreGot g r.from r.to (take next r.near) got
+  IsFound next got = AreGot g r.from r.to (r.ready).sub (take next r.near) got
 
   -- what is wanted of a fragment that holds one write
   abbrev wanted_of : (frag : FragKey) → HoldsOne spelled g m frag → List Version
@@ -98,7 +105,7 @@ module _ {F : Type 0} (forms : Forms F) (spelled : Spelled) (tracks : Tracking F
       → ((vs : List Version) → vs ≡ wanted_of frag one → Holds (on vs))
       → (s : Stepped F) → GoesWell (tracks r.frame one.schema one.piece (one.spells).look (want_of r (one.schema).attrs)) (wanted_of frag one) s → Holds (fetch_leads r opened schemas next frag got on s)
   step_claims next frag got on at one same_frame found rest (Asks f c) well =
-      (clean, at, (record { gathers = gathers; all_schemas = all_schemas; found = found }, record { one = one; same_frame = same_frame; way = well }))
+      (clean, at, (record { erasing = erasing; all_deletes = all_deletes; found = found }, record { one = one; same_frame = same_frame; way = well }))
   step_claims next frag got on at one same_frame found rest (Takes vs) well = rest vs well
   step_claims next frag got on at one same_frame found rest (Breaks part at_offset) well = absurd well
 
@@ -119,12 +126,16 @@ module _ {F : Type 0} (forms : Forms F) (spelled : Spelled) (tracks : Tracking F
     grows : (k : Key) (s : Schema) → schema_with g k ≡ Some s → schema_with h k ≡ Some s
     grows k s is = ap (λ x. schema_with x k) from_g.1 ∙ schema_with-append g from_g.0 k s is
 
+    -- a delete of that history is one of this
+    erases_grow : (x : Erasure) → Contains (erases g) x → Contains (erases h) x
+    erases_grow x at = subst (λ y. Contains (erases y) x) (sym from_g.1) (rw (erases-append g from_g.0) (Contains-append_left (erases g) (erases from_g.0) x at))
+
     -- what the read knows of schemas
     known_to : (w : Written) → Contains (writes g) w → is_within r.from r.to w.key ≡ true → known_attrs r schemas w.schema ≡ attrs_with g w.schema
     known_to w at within =
         let near = ((((gathers.opens).reads).at).listed).covered w at within in
         let o = map-Contains (λ o. o.frag) opened (frag_of w.key) (subst (λ fs. Contains fs (frag_of w.key)) (sym all_frags) near) in
-        knows_attrs forms spelled g h m r opened schemas grows ((((gathers.opens).reads).at).works).declared (gathers.opens).are_open gathers.gathered all_schemas w is_g at o.0 o.1 o.2
+        knows_attrs forms spelled g h m r opened schemas grows ((((gathers.opens).reads).at).works).declared (gathers.opens).are_open gathers.gathered erasing.all_schemas w is_g at o.0 o.1 o.2
 
     -- after the last fragment the answer is that of the history
     end_claims : (next : ℕ) (got : List Version) → drop next opened ≡ [] → IsFound next got → Holds (fetching forms r opened schemas next [] got)
@@ -134,15 +145,19 @@ module _ {F : Type 0} (forms : Forms F) (spelled : Spelled) (tracks : Tracking F
         let whole : take next r.near ≡ r.near = take_all next r.near (let all = gathers.all in omega arith) in (
           r.from,
           r.to,
+          reads.query,
           reads.reads,
           record {
             commits = ((reads.at).listed).commits;
             schemas = ((reads.at).works).schemas;
             between = (reads.at).between;
             order = (reads.at).order;
-            answers = answer_is g is_g r.from r.to r.near got (subst (λ fs. AreGot g r.from r.to fs got) whole found) ((reads.at).listed).covered r schemas known_to
-                (history_told jobs past (((reads.at).works).schemas).before) reads.framed
-                (subst (λ command. schema_there (history_told jobs past (((reads.at).works).schemas).before) (looks_at job command) ≡ Some r.there) reads.reads ((reads.at).works).holds);
+            answers = answer_is g is_g r.from r.to (r.ready).sub r.near got (subst (λ fs. AreGot g r.from r.to (r.ready).sub fs got) whole found) ((reads.at).listed).covered r schemas refl known_to
+                (erased_in spelled past jobs seen m number r.from r.to r.near r.deletes (reads.at).listed is_h erases_grow r.erased erasing.erases all_deletes)
+                (all_erased spelled past jobs seen m number r.from r.to r.near r.deletes (reads.at).listed is_h erases_grow r.erased erasing.erases all_deletes)
+                (history_told jobs past (((reads.at).works).schemas).before) reads.query reads.framed
+                (subst (λ command. schema_there (history_told jobs past (((reads.at).works).schemas).before) (looks_at job command) ≡ Some r.there) reads.reads ((reads.at).works).holds)
+                reads.is_ready;
           },
         )
 
@@ -157,7 +172,7 @@ module _ {F : Type 0} (forms : Forms F) (spelled : Spelled) (tracks : Tracking F
         let well : OpensWell forms (tracks r.frame one.schema one.piece (one.spells).look want) r.frame one.schema one.piece o.object want =
         laws.opens r.frame one.schema one.piece (one.spells).look want o.object (subst (λ frame. spelled frame one.schema one.piece (one.spells).look) opens.same_frame (one.spells).spells) opens.object in
         let begins : forms.opens r.frame one.schema o.frag o.object want ≡ Ok well.fetch = ap (λ f. forms.opens r.frame one.schema f o.object want) (sym (one.spells).named) ∙ well.opens in
-        let known = knows forms spelled g h m r opened schemas grows ((((gathers.opens).reads).at).works).declared (gathers.opens).are_open gathers.gathered all_schemas o there in
+        let known = knows forms spelled g h m r opened schemas grows ((((gathers.opens).reads).at).works).declared (gathers.opens).are_open gathers.gathered erasing.all_schemas o there in
         subst (λ s. Holds (fetches_one forms r opened schemas next o got on s)) (sym known)
         (subst (λ x. Holds (fetch_begins forms r opened schemas next o.frag got on x)) (sym begins)
         (step_claims next o.frag got on (frag_at next o at) one opens.same_frame found rest (forms.steps well.fetch reply.Start) well.starts))
@@ -167,8 +182,8 @@ module _ {F : Type 0} (forms : Forms F) (spelled : Spelled) (tracks : Tracking F
         → (vs : List Version) → vs ≡ wanted_of frag one → IsFound (suc next) (got ++ vs)
     found_more next frag got at one same_frame found vs all =
         let one_more : next + 1 ≡ suc next = omega arith in
-        subst (λ fs. AreGot g r.from r.to fs (got ++ vs)) (sym (take_next r.near next frag at) ∙ ap (λ n. take n r.near) one_more)
-        (subst (λ us. AreGot g r.from r.to (take next r.near ++ frag ∷ []) (got ++ us)) (sym all) (got_more spelled g is_g m frag one r same_frame (take next r.near) got found))
+        subst (λ fs. AreGot g r.from r.to (r.ready).sub fs (got ++ vs)) (sym (take_next r.near next frag at) ∙ ap (λ n. take n r.near) one_more)
+        (subst (λ us. AreGot g r.from r.to (r.ready).sub (take next r.near ++ frag ∷ []) (got ++ us)) (sym all) (got_more spelled g is_g m frag one r same_frame (take next r.near) got found))
 
     -- the fragments from a place on are fetched
     rest_claims : (rest : List Opened) (next : ℕ) (got : List Version) → drop next opened ≡ rest → IsFound next got → Holds (fetching forms r opened schemas next rest got)
@@ -238,10 +253,10 @@ module _ {F : Type 0} (forms : Forms F) (spelled : Spelled) (tracks : Tracking F
 pub fetching_claims : {F : Type 0} (forms : Forms F) (spelled : Spelled) (tracks : Tracking F) (past : History) (jobs : List Job) (seen : List Told) (m : Held) (number : ℕ) (job : Job)
     (r : Reading) (opened : List Opened) (schemas : List Schema) (next : ℕ) (got : List Version) → FormsLaws forms spelled tracks → Clean m (history_told jobs past seen) job
     → (fetches : Fetching forms spelled past jobs seen m number job r opened schemas next got)
-    → IsHistory (history_told jobs past ((((((fetches.gathers).opens).reads).at).listed).commits).before) → IsHistory (history_told jobs past seen)
+    → IsHistory (history_told jobs past (((((((fetches.erasing).gathers).opens).reads).at).listed).commits).before) → IsHistory (history_told jobs past seen)
     → Claims forms spelled tracks past jobs seen m number job (fetching forms r opened schemas next (drop next opened) got)
 fetching_claims forms spelled tracks past jobs seen m number job r opened schemas next got laws clean fetches is_g is_h =
-    rest_claims forms spelled tracks laws past jobs seen m number job clean r opened schemas fetches.gathers fetches.all_schemas is_g is_h (drop next opened) next got refl fetches.found
+    rest_claims forms spelled tracks laws past jobs seen m number job clean r opened schemas fetches.erasing fetches.all_deletes is_g is_h (drop next opened) next got refl fetches.found
 
 -- ---- what a call on a part tells
 
@@ -299,18 +314,18 @@ module _ {F : Type 0} (forms : Forms F) (spelled : Spelled) (tracks : Tracking F
       let later = fetching_stays spelled past jobs seen e m (after_told m e) job.id leads.leaves number forms job r opened schemas next got
       (λ own lists. subst (λ x. SpeaksOf x (name.Part (((way.one).piece).head).frag asks.part)) (sym is ∙ lists) asks.named) fetches in
       let on_way = on_way_stays spelled past jobs seen e m (after_told m e) job.id leads.leaves number tracks
-      (history_told jobs past ((((((fetches.gathers).opens).reads).at).listed).commits).before) r frag fetch c way in
+      (history_told jobs past (((((((fetches.erasing).gathers).opens).reads).at).listed).commits).before) r frag fetch c way in
       let one = on_way.one in
       let again = laws.asks r.frame one.schema one.piece (one.spells).look (want_of r (one.schema).attrs) fetch c on_way.way in
       let held : map.get m (name.Part frag again.part) ≡ Some again.bytes = subst (λ x. map.get x (name.Part frag again.part) ≡ Some again.bytes) same_held ((one.spells).held again.part again.bytes again.held) in
       let speaks : SpeaksOf c (name.Part frag again.part) = subst (λ f. SpeaksOf c (name.Part f again.part)) (one.spells).named again.named in
       let is_h : IsHistory (history_told jobs past seen) = (comes.stands).history in
-      let commits = (((((fetches.gathers).opens).reads).at).listed).commits in
+      let commits = ((((((fetches.erasing).gathers).opens).reads).at).listed).commits in
       let from_g = begins_now jobs past seen commits.before commits.listing commits.later commits.place in
       let is_g = IsHistory-front (history_told jobs past commits.before) from_g.0 (subst IsHistory from_g.1 is_h) in
       record {
         leads = leads;
-        own = reply_claims forms spelled tracks laws past jobs (seen ++ e ∷ []) (after_told m e) number job clean r opened schemas later.gathers later.all_schemas is_g (subst IsHistory (sym same_history) is_h)
+        own = reply_claims forms spelled tracks laws past jobs (seen ++ e ∷ []) (after_told m e) number job clean r opened schemas later.erasing later.all_deletes is_g (subst IsHistory (sym same_history) is_h)
             next frag got comes.claims.1 later.found fetch one on_way.same_frame c again.part again.bytes e.reply on_way.way again.held again.named
             (tells_of m (name.Part frag again.part) again.bytes held e c is speaks comes.replied);
       }

@@ -16,6 +16,8 @@ use Rattle.ts_base.specs.declared.heads.Version.{Version}
 use Rattle.ts_base.specs.Keys.{key_eq, key_cmp, frag_of, is_within}
 use Rattle.ts_base.specs.Exact.{key_total}
 use Rattle.ts_base.specs.Held.{Held}
+use Rattle.ts_domain.specs.declared.boxes.SubBox.{SubBox}
+use Rattle.ts_domain.specs.Boxes.{is_in_box}
 use Rattle.ts_schema.specs.declared.frames.Frame.{Frame}
 use Rattle.ts_schema.specs.declared.schemas.Schema.{Schema}
 use Rattle.ts_schema.specs.Wants.{taken}
@@ -30,7 +32,7 @@ use Rattle.ts_model.specs.Stands.{HoldsOne}
 use Rattle.ts_model.specs.States.{keys_named, known_schema, known_attrs, want_of}
 use Rattle.ts_model.specs.Kept.{AreGot, AreOpen, AreSchemas}
 use Rattle.ts_model.proofs.ListLemmas.{Contains-nil, Contains-cons, Contains-here, Contains-there, Contains-filter, find-append, find-Some, find_member, or_else}
-use Rattle.ts_model.proofs.KeyLemmas.{key_same, key_itself}
+use Rattle.ts_model.proofs.KeyLemmas.{key_of_frag, key_same, key_itself}
 use Rattle.ts_model.proofs.HistoryLaws.{one_write, write_follows, frame_in-append, schema_with-append}
 use Rattle.ts_model.proofs.TakenLaws.{taken_of_write}
 
@@ -55,10 +57,6 @@ module _ {X Y : Type 0} (f : X → Y) where
 
 -- ---- writes
 
--- a key makes one fragment
-pub key_of_frag : (k l : Key) → frag_of k ≡ frag_of l → k ≡ l
-key_of_frag k l same = λ i. record { t = (same i).t1; id = (same i).id }
-
 -- the fragment is that of the write that it holds
 pub frag_of_held : (spelled : Spelled) (h : History) (m : Held) (f : FragKey) (one : HoldsOne spelled h m f) → f ≡ frag_of (one.write).key
 frag_of_held spelled h m f one = sym (one.spells).named ∙ (one.holds).named
@@ -82,9 +80,9 @@ cells_fit h w frame s is at framed declared =
 -- ---- what was got
 
 -- before the first fetch nothing was got
-pub got_none : (h : History) (from to : ℕ) → AreGot h from to [] []
-got_none h from to = record {
-  of_each = λ w at here within c. absurd (Contains-nil (frag_of w.key) here);
+pub got_none : (h : History) (from to : ℕ) (sub : SubBox) → AreGot h from to sub [] []
+got_none h from to sub = record {
+  of_each = λ w at here within c inside. absurd (Contains-nil (frag_of w.key) here);
   of_others = λ k c v found. absurd (none-some v found);
 }
 
@@ -101,7 +99,7 @@ which_of None p true x e first second = second refl
 which_of None p false x e first second = absurd (none-some x e)
 
 module _ (spelled : Spelled) (h : History) (is : IsHistory h) (m : Held) (f : FragKey) (one : HoldsOne spelled h m f) (r : Reading) (same_frame : one.frame ≡ r.frame)
-    (fetched : List FragKey) (got : List Version) (are : AreGot h r.from r.to fetched got) where
+    (fetched : List FragKey) (got : List Version) (are : AreGot h r.from r.to (r.ready).sub fetched got) where
   -- the versions that were got, and those of the fragment
   abbrev more : List Version
   more = got ++ taken (want_of r (one.schema).attrs) (one.piece).versions
@@ -110,45 +108,51 @@ module _ (spelled : Spelled) (h : History) (is : IsHistory h) (m : Held) (f : Fr
   abbrev own_key : Key
   own_key = (one.write).key
 
-  -- the key is that of the write, and stamped in the interval
-  abbrev is_own : Key → Bool
-  is_own k = key_eq k own_key && is_within r.from r.to k
+  -- the key is that of the write, and stamped in the interval, and the cell lies in the box
+  abbrev is_own : Key → List ℤ → Bool
+  is_own k c = key_eq k own_key && (is_within r.from r.to k && is_in_box (r.ready).sub c)
 
   -- the cells of the write fit the frame and its schema
   fit : All (CellFits (r.frame).domain (one.schema).attrs) (one.write).cells
   fit = cells_fit h one.write r.frame one.schema is one.written (one.framed ∙ ap Some same_frame) one.declared
 
   -- a version of these is one that was got before, or one of the write
-  version_at_more : (k : Key) (c : List ℤ) → version_at more k c ≡ or_else (version_at got k c) (cond (is_own k) (version_of one.write c) None)
+  version_at_more : (k : Key) (c : List ℤ) → version_at more k c ≡ or_else (version_at got k c) (cond (is_own k c) (version_of one.write c) None)
   version_at_more k c = find-append _ got (taken (want_of r (one.schema).attrs) (one.piece).versions) ∙ ap (or_else (version_at got k c)) (taken_of_write r (one.schema).attrs one.write fit one.piece one.holds k c)
 
   -- the versions of a write that was fetched before
-  of_before : (w : Written) → Contains (writes h) w → Contains fetched (frag_of w.key) → is_within r.from r.to w.key ≡ true → (c : List ℤ) → version_at more w.key c ≡ version_of w c
-  of_before w at here within c =
-      version_at_more w.key c ∙ ap (λ o. or_else o (cond (is_own w.key) (version_of one.write c) None)) (are.of_each w at here within c)
-      ∙ first_stands (version_of w c) (version_of one.write c) (is_own w.key)
-      (λ tie. ap (λ u. version_of u c) (one_write h one.write w is one.written at (sym (key_same w.key own_key (and_parts (key_eq w.key own_key) (is_within r.from r.to w.key) tie).0))))
+  of_before : (w : Written) → Contains (writes h) w → Contains fetched (frag_of w.key) → is_within r.from r.to w.key ≡ true → (c : List ℤ) → is_in_box (r.ready).sub c ≡ true
+      → version_at more w.key c ≡ version_of w c
+  of_before w at here within c inside =
+      version_at_more w.key c ∙ ap (λ o. or_else o (cond (is_own w.key c) (version_of one.write c) None)) (are.of_each w at here within c inside)
+      ∙ first_stands (version_of w c) (version_of one.write c) (is_own w.key c)
+      (λ tie. ap (λ u. version_of u c) (one_write h one.write w is one.written at (sym (key_same w.key own_key (and_parts (key_eq w.key own_key) (is_within r.from r.to w.key && is_in_box (r.ready).sub c) tie).0))))
 
   -- the versions of the write of the fragment
-  of_this : (w : Written) → Contains (writes h) w → f ≡ frag_of w.key → is_within r.from r.to w.key ≡ true → (c : List ℤ) (o : Option Version) → version_at got w.key c ≡ o → version_at more w.key c ≡ version_of w c
-  of_this w at this within c (Some v) found = of_before w at (are.of_others w.key c v found).3 within c
-  of_this w at this within c None none =
+  of_this : (w : Written) → Contains (writes h) w → f ≡ frag_of w.key → is_within r.from r.to w.key ≡ true → (c : List ℤ) → is_in_box (r.ready).sub c ≡ true
+      → (o : Option Version) → version_at got w.key c ≡ o → version_at more w.key c ≡ version_of w c
+  of_this w at this within c inside (Some v) found = of_before w at (are.of_others w.key c v found).1.3 within c inside
+  of_this w at this within c inside None none =
       let same : one.write ≡ w = held_write spelled h m f one w is at this in
-      version_at_more w.key c ∙ ap (λ o. or_else o (cond (is_own w.key) (version_of one.write c) None)) none
-      ∙ ap (λ u. cond (key_eq w.key u.key && is_within r.from r.to w.key) (version_of u c) None) same
-      ∙ cond-true (key_eq w.key w.key && is_within r.from r.to w.key) (version_of w c) None (and_from (key_eq w.key w.key) (is_within r.from r.to w.key) (key_itself w.key) within)
+      version_at_more w.key c ∙ ap (λ o. or_else o (cond (is_own w.key c) (version_of one.write c) None)) none
+      ∙ ap (λ u. cond (key_eq w.key u.key && (is_within r.from r.to w.key && is_in_box (r.ready).sub c)) (version_of u c) None) same
+      ∙ cond-true (key_eq w.key w.key && (is_within r.from r.to w.key && is_in_box (r.ready).sub c)) (version_of w c) None
+      (and_from (key_eq w.key w.key) (is_within r.from r.to w.key && is_in_box (r.ready).sub c) (key_itself w.key) (and_from (is_within r.from r.to w.key) (is_in_box (r.ready).sub c) within inside))
 
   -- with one fragment more, the versions of its write were got too
-  pub got_more : AreGot h r.from r.to (fetched ++ f ∷ []) (got ++ taken (want_of r (one.schema).attrs) (one.piece).versions)
+  pub got_more : AreGot h r.from r.to (r.ready).sub (fetched ++ f ∷ []) (got ++ taken (want_of r (one.schema).attrs) (one.piece).versions)
   got_more = record {
-    of_each = λ w at here within c. elim (Contains-push_cases fetched f (frag_of w.key) here) [
-      | inl before ↦ of_before w at before within c
-      | inr this ↦ of_this w at this within c (version_at got w.key c) refl
+    of_each = λ w at here within c inside. elim (Contains-push_cases fetched f (frag_of w.key) here) [
+      | inl before ↦ of_before w at before within c inside
+      | inr this ↦ of_this w at this within c inside (version_at got w.key c) refl
     ];
-    of_others = λ k c v found. which_of (version_at got k c) (version_of one.write c) (is_own k) v (sym (version_at_more k c) ∙ found)
-        (λ first. let of = are.of_others k c v first in (of.0, of.1, of.2, Contains-append_left fetched (f ∷ []) (frag_of k) of.3, of.4))
-        (λ tie. let both = and_parts (key_eq k own_key) (is_within r.from r.to k) tie in let same = key_same k own_key both.0 in
-        (one.write, one.written, sym same, subst (Contains (fetched ++ f ∷ [])) (frag_of_held spelled h m f one ∙ ap frag_of (sym same)) (Contains-push fetched f), both.1));
+    of_others = λ k c v found. which_of (version_at got k c) (version_of one.write c) (is_own k c) v (sym (version_at_more k c) ∙ found)
+        (λ first. let of = are.of_others k c v first in (of.0, (of.1.0, of.1.1, of.1.2, Contains-append_left fetched (f ∷ []) (frag_of k) of.1.3, of.1.4)))
+        (λ tie.
+        let both = and_parts (key_eq k own_key) (is_within r.from r.to k && is_in_box (r.ready).sub c) tie in
+        let tests = and_parts (is_within r.from r.to k) (is_in_box (r.ready).sub c) both.1 in
+        let same = key_same k own_key both.0 in
+        (tests.1, (one.write, one.written, sym same, subst (Contains (fetched ++ f ∷ [])) (frag_of_held spelled h m f one ∙ ap frag_of (sym same)) (Contains-push fetched f), tests.0)));
   }
 
 -- ---- the schemas that a read knows

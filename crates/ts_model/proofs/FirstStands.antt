@@ -7,6 +7,7 @@ use Rattle.std.proofs.lemmas.Bool.{true≢false}
 use Rattle.std.proofs.lemmas.Option.{none-some}
 use Rattle.ts_base.specs.declared.names.Name.{Name}
 use Rattle.ts_base.specs.declared.names.Name.TheVariants as name
+use Rattle.ts_base.specs.declared.names.CommitKind.TheVariants.{Del}
 use Rattle.ts_base.specs.Names.{name_cmp, wrt_of}
 use Rattle.ts_base.specs.Held.{Held}
 use Rattle.ts_model.specs.declared.commands.Line.{Line}
@@ -41,8 +42,10 @@ nothing_stands spelled = record {
   history = tt;
   frame = none_there name.Domain;
   schemas = λ k. none_there (name.Schema k);
+  deletes = λ f. none_there (name.Commit f Del);
   short_frame = λ bytes is. absurd (none-some bytes (sym (none_there name.Domain) ∙ is));
   short_schemas = λ k bytes is. absurd (none-some bytes (sym (none_there (name.Schema k)) ∙ is));
+  short_deletes = λ f bytes is. absurd (none-some bytes (sym (none_there (name.Commit f Del)) ∙ is));
   whole = λ f committed. absurd (none_held (wrt_of f) committed);
   covered = λ w at. absurd (Contains-nil w at);
 }

@@ -7,21 +7,21 @@ use Rattle.ts_base.specs.declared.heads.Cell.{Cell}
 use Rattle.ts_base.specs.declared.keys.FragKey.{FragKey}
 use Rattle.ts_base.specs.declared.names.PartBytes.{PartBytes}
 use Rattle.ts_model.proofs.ListLemmas.{slice_get_push}
-use Rattle.ts_model.proofs.Stays.{absent_stays, clean_stays, end_stays, fetching_stays, frame_stays, gathering_stays, has_listed_stays, has_near_stays, new_stays, on_way_stays, opening_stays, works_stays}
+use Rattle.ts_model.proofs.Stays.{absent_stays, clean_stays, end_stays, erasing_stays, fetching_stays, frame_stays, gathering_stays, has_listed_stays, has_near_stays, new_stays, on_way_stays, opening_stays, works_stays}
 use Rattle.ts_model.specs.Commands.{frame_made, piece_of}
 use Rattle.ts_model.specs.Deeds.{History, frame_in}
 use Rattle.ts_model.specs.Forms.{Forms, Spelled, Tracking}
 use Rattle.ts_model.specs.Fresh.{id_in}
 use Rattle.ts_model.specs.Jobs.{frag_of_job, key_of, written_as}
 use Rattle.ts_model.specs.Kept.{Aims, Claims, Clean, Putting}
-use Rattle.ts_model.specs.States.{commit_of, list_schemas, part_objects, schema_object_of, write_objects}
+use Rattle.ts_model.specs.States.{commit_of, delete_object_of, list_schemas, part_objects, schema_object_of, write_objects}
 use Rattle.ts_model.specs.Steps.{Keeps}
 use Rattle.ts_model.specs.Told.{Told, after_told, history_told}
 use Rattle.ts_model.specs.declared.answers.Outcome.{Outcome}
 use Rattle.ts_model.specs.declared.commands.Job.{Job}
 use Rattle.ts_model.specs.declared.states.NewObject.{NewObject}
 use Rattle.ts_model.specs.declared.states.State.{State}
-use Rattle.ts_model.specs.declared.states.State.TheVariants.{ComparesFrame, Fetches, GetsFrame, GetsHeads, GetsSchema, GetsSchemas, ListsCommits, ListsDeclared, ListsSchemas, Over, Puts, PutsFrame}
+use Rattle.ts_model.specs.declared.states.State.TheVariants.{ComparesFrame, Fetches, GetsDeletes, GetsFrame, GetsHeads, GetsSchema, GetsSchemas, ListsCommits, ListsDeclared, ListsSchemas, Over, Puts, PutsFrame}
 use Rattle.ts_schema.specs.Evolutions.{evolved_attrs}
 use Rattle.ts_schema.specs.declared.frames.Frame.{Frame}
 use Rattle.ts_schema.specs.declared.schemas.Schema.{Schema}
@@ -71,6 +71,8 @@ aims-carry forms past jobs seen number job objects (outcome.Evolved k) (change, 
     subst (Carry job.id) (sym is) (carry_one job.id (schema_object_of job (evolved_attrs there.attrs change)) refl)
 aims-carry forms past jobs seen number job objects (outcome.Written f) (w, frame, there, cells, writes_them, same, is, framed, lays, works) =
     subst (Carry job.id) (sym is) (write_objects-carry forms frame there job cells)
+aims-carry forms past jobs seen number job objects (outcome.Deleted f) (text, frame, there, condition, deletes, same, is, framed, says, works) =
+    subst (Carry job.id) (sym is) (carry_one job.id (delete_object_of job condition) refl)
 aims-carry forms past jobs seen number job objects (outcome.Read answer) none = absurd none
 aims-carry forms past jobs seen number job objects (outcome.Refused r) none = absurd none
 aims-carry forms past jobs seen number job objects outcome.OutOfMemory none = absurd none
@@ -92,6 +94,8 @@ module _ {F : Type 0} (forms : Forms F) (spelled : Spelled) (tracks : Tracking F
       (change, frame, there, evolves, same, is, framed_stays frame framed, sound, works_stays spelled past jobs seen e m (after_told m e) id keeps number job there unlisted works)
   aims_stays objects (outcome.Written f) unlisted (w, frame, there, cells, writes_them, same, is, framed, lays, works) =
       (w, frame, there, cells, writes_them, same, is, framed_stays frame framed, lays, works_stays spelled past jobs seen e m (after_told m e) id keeps number job there unlisted works)
+  aims_stays objects (outcome.Deleted f) unlisted (text, frame, there, condition, deletes, same, is, framed, says, works) =
+      (text, frame, there, condition, deletes, same, is, framed_stays frame framed, says, works_stays spelled past jobs seen e m (after_told m e) id keeps number job there unlisted works)
   aims_stays objects (outcome.Read answer) unlisted is = is
   aims_stays objects (outcome.Refused r) unlisted is = is
   aims_stays objects outcome.OutOfMemory unlisted is = is
@@ -125,19 +129,20 @@ module _ {F : Type 0} (forms : Forms F) (spelled : Spelled) (tracks : Tracking F
     claims_stay_at ListsDeclared is = (cleans is.0, (is.1.0, is.1.1, is.1.2, framed_stays (frame_made is.1.0) is.1.3))
     claims_stay_at (Puts objects next end) is = putting_stays objects next end is
     claims_stay_at ListsCommits is = (cleans is.0, is.1)
-    claims_stay_at (ListsSchemas near) is = (cleans is.0, has_near_stays spelled past jobs seen e m (after_told m e) id keeps number job.command near is.1)
-    claims_stay_at (GetsSchema near there) is =
-        (cleans is.0, (is.1.0, is.1.1, has_listed_stays spelled past jobs seen e m (after_told m e) id keeps number job job.command near is.1.0 unlisted is.1.2))
-    claims_stay_at (GetsFrame near there) is = (cleans is.0, has_listed_stays spelled past jobs seen e m (after_told m e) id keeps number job job.command near there unlisted is.1)
-    claims_stay_at (GetsHeads r opened) is = (cleans is.0, opening_stays spelled past jobs seen e m (after_told m e) id keeps number forms job r opened unlisted is.1)
+    claims_stay_at (ListsSchemas listing) is = (cleans is.0, has_near_stays spelled past jobs seen e m (after_told m e) id keeps number job.command listing is.1)
+    claims_stay_at (GetsSchema listing there) is =
+        (cleans is.0, (is.1.0, is.1.1, has_listed_stays spelled past jobs seen e m (after_told m e) id keeps number job job.command listing is.1.0 unlisted is.1.2))
+    claims_stay_at (GetsFrame listing there) is = (cleans is.0, has_listed_stays spelled past jobs seen e m (after_told m e) id keeps number job job.command listing there unlisted is.1)
+    claims_stay_at (GetsHeads r opened) is = (cleans is.0, opening_stays spelled past jobs seen e m (after_told m e) id keeps number forms job r opened unlisted is.1, is.2)
     claims_stay_at (GetsSchemas r opened named schemas) is =
-        (cleans is.0, is.1, gathering_stays spelled past jobs seen e m (after_told m e) id keeps number forms job r opened schemas unlisted is.2)
+        (cleans is.0, is.1, gathering_stays spelled past jobs seen e m (after_told m e) id keeps number forms job r opened schemas unlisted is.2, is.3)
+    claims_stay_at (GetsDeletes r opened schemas) is = (cleans is.0, erasing_stays spelled past jobs seen e m (after_told m e) id keeps number forms job r opened schemas unlisted is.1)
     claims_stay_at (Fetches r opened schemas next frag got fetch c) is = (
       cleans is.0,
       is.1,
       (
         fetching_stays spelled past jobs seen e m (after_told m e) id keeps number forms job r opened schemas next got unlisted is.2.0,
-        on_way_stays spelled past jobs seen e m (after_told m e) id keeps number tracks (history_told jobs past ((((((is.2.0.gathers).opens).reads).at).listed).commits).before) r frag fetch c is.2.1,
+        on_way_stays spelled past jobs seen e m (after_told m e) id keeps number tracks (history_told jobs past (((((((is.2.0.erasing).gathers).opens).reads).at).listed).commits).before) r frag fetch c is.2.1,
       ),
     )
     claims_stay_at (Over end) is = end_stays past jobs seen e m (after_told m e) id keeps number job end other is

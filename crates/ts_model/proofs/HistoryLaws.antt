@@ -11,15 +11,18 @@ use Rattle.std.proofs.lemmas.Option.{none-some, same_Some}
 use Rattle.std.specs.List.{cons_option}
 use Rattle.std.specs.Prelude.{Contains, filter, filter_map, find, option_map, slice_get}
 use Rattle.ts_base.specs.Exact.{key_total}
-use Rattle.ts_base.specs.Keys.{key_eq, key_lt}
+use Rattle.ts_base.specs.Keys.{frag_eq, frag_of, key_eq, key_lt}
+use Rattle.ts_base.specs.declared.keys.FragKey.{FragKey}
 use Rattle.ts_base.specs.declared.keys.Key.{Key}
-use Rattle.ts_model.proofs.KeyLemmas.{IsGreatest, greatest-None, greatest-Some, key_itself, key_same, same_from_both}
+use Rattle.ts_cond.specs.CondTexts.{IsCond}
+use Rattle.ts_model.proofs.KeyLemmas.{IsGreatest, frag_itself, frag_same, greatest-None, greatest-Some, key_itself, key_of_frag, key_same, same_from_both}
 use Rattle.ts_model.proofs.ListLemmas.{Contains-cons, Contains-filter, Contains-filter_map, Contains-here, Contains-nil, Contains-slice_get, filter-Contains, find-Some, find-append, find_member, or_else, slice_get-Contains}
-use Rattle.ts_model.specs.Deeds.{Follow, History, IsHistory, IsKey, IsNewKey, MayFollow, SchemaFollows, WriteFollows, frame_in, has_key, key_in, keys, schema_in, schema_there, schema_with, schemas, write_in, writes}
+use Rattle.ts_model.specs.Deeds.{EraseFollows, Follow, History, IsHistory, IsKey, IsNewKey, MayFollow, SchemaFollows, WriteFollows, erase_in, erase_of, erases, frame_in, has_key, key_in, keys, schema_in, schema_there, schema_with, schemas, write_in, writes}
 use Rattle.ts_model.specs.Jobs.{AreApart, job_with}
 use Rattle.ts_model.specs.declared.commands.Job.{Job}
 use Rattle.ts_model.specs.declared.deeds.Deed.{Deed}
-use Rattle.ts_model.specs.declared.deeds.Deed.TheVariants.{Declared, Framed, Wrote}
+use Rattle.ts_model.specs.declared.deeds.Deed.TheVariants.{Declared, Erased, Framed, Wrote}
+use Rattle.ts_model.specs.declared.deeds.Erasure.{Erasure}
 use Rattle.ts_model.specs.declared.deeds.Written.{Written}
 use Rattle.ts_schema.specs.Evolutions.{schema_at}
 use Rattle.ts_schema.specs.FrameTexts.{IsFrame}
@@ -51,6 +54,10 @@ writes-append h g = filter_map-append write_in h g
 pub schemas-append : (h g : History) → schemas (h ++ g) ≡ schemas h ++ schemas g
 schemas-append h g = filter_map-append schema_in h g
 
+-- the deletes of two histories, one after the other
+pub erases-append : (h g : History) → erases (h ++ g) ≡ erases h ++ erases g
+erases-append h g = filter_map-append erase_in h g
+
 -- a key that is new to more deeds is new to fewer
 pub new_to_fewer : (h g : History) (k : Key) → IsNewKey (h ++ g) k → IsNewKey h k
 new_to_fewer h g k new = new_from_absent h k (λ at. absent_from_new (h ++ g) k new (rw keys-append (Contains-append_left (keys h) (keys g) k at)))
@@ -60,6 +67,7 @@ may_new : (before : History) (d : Deed) (k : Key) → MayFollow before d → key
 may_new before (Framed frame) k may is = absurd (none-some k is)
 may_new before (Declared s) k may is = rw (← same_Some s.key k is) may.new
 may_new before (Wrote w) k may is = rw (← same_Some w.key k is) may.new
+may_new before (Erased e) k may is = rw (← same_Some e.key k is) may.new
 
 -- ---- what deeds of one kind carry
 
@@ -68,12 +76,21 @@ write_keyed : (d : Deed) (w : Written) → write_in d ≡ Some w → key_in d �
 write_keyed (Framed frame) w e = absurd (none-some w e)
 write_keyed (Declared s) w e = absurd (none-some w e)
 write_keyed (Wrote v) w e = ap (λ u. Some u.key) (same_Some v w e)
+write_keyed (Erased x) w e = absurd (none-some w e)
 
 -- a schema has the key of its deed
 schema_keyed : (d : Deed) (s : Schema) → schema_in d ≡ Some s → key_in d ≡ Some s.key
 schema_keyed (Framed frame) s e = absurd (none-some s e)
 schema_keyed (Declared t) s e = ap (λ u. Some u.key) (same_Some t s e)
 schema_keyed (Wrote w) s e = absurd (none-some s e)
+schema_keyed (Erased x) s e = absurd (none-some s e)
+
+-- a delete has the key of its deed
+erase_keyed : (d : Deed) (x : Erasure) → erase_in d ≡ Some x → key_in d ≡ Some x.key
+erase_keyed (Framed frame) x e = absurd (none-some x e)
+erase_keyed (Declared s) x e = absurd (none-some x e)
+erase_keyed (Wrote w) x e = absurd (none-some x e)
+erase_keyed (Erased y) x e = ap (λ u. Some u.key) (same_Some y x e)
 
 -- a member is what may come first, or one of the rest
 cons_option-cases : {X : Type 0} (o : Option X) (xs : List X) (x : X) → Contains (cons_option o xs) x → (o ≡ Some x) ⊎ Contains xs x
@@ -129,6 +146,10 @@ one_write h w v is at too same = one_of write_in (λ w. w.key) write_keyed [] h 
 pub one_schema : (h : History) (s t : Schema) → IsHistory h → Contains (schemas h) s → Contains (schemas h) t → s.key ≡ t.key → s ≡ t
 one_schema h s t is at too same = one_of schema_in (λ s. s.key) schema_keyed [] h s t is at too same
 
+-- a history has one delete of a key
+pub one_erase : (h : History) (x y : Erasure) → IsHistory h → Contains (erases h) x → Contains (erases h) y → x.key ≡ y.key → x ≡ y
+one_erase h x y is at too same = one_of erase_in (λ x. x.key) erase_keyed [] h x y is at too same
+
 -- ---- fronts and pushes
 
 -- the front of deeds that follow is such
@@ -161,6 +182,7 @@ no_deeds [] is none = refl
 no_deeds (Framed frame ∷ h) is none = absurd (none-some frame (sym none))
 no_deeds (Declared s ∷ h) is none = no_first ((is.0).frame) ((is.0).framed)
 no_deeds (Wrote w ∷ h) is none = no_first ((is.0).frame) ((is.0).framed)
+no_deeds (Erased e ∷ h) is none = no_first ((is.0).frame) ((is.0).framed)
 
 -- the frame of a history is one that an array can have, and sparse
 pub frame_facts : (h : History) (frame : Frame) → IsHistory h → frame_in h ≡ Some frame → IsFrame frame × (frame.dense ≡ false)
@@ -168,12 +190,14 @@ frame_facts [] frame is framed = no_first frame framed
 frame_facts (Framed own ∷ h) frame is framed = rw (← same_Some own frame framed) ((is.0).is_frame, (is.0).sparse)
 frame_facts (Declared s ∷ h) frame is framed = no_first ((is.0).frame) ((is.0).framed)
 frame_facts (Wrote w ∷ h) frame is framed = no_first ((is.0).frame) ((is.0).framed)
+frame_facts (Erased e ∷ h) frame is framed = no_first ((is.0).frame) ((is.0).framed)
 
 -- a history that has a deed has a frame
 pub framed_by_deed : (d : Deed) (h : History) → IsHistory (d ∷ h) → (frame : Frame) × (frame_in (d ∷ h) ≡ Some frame)
 framed_by_deed (Framed frame) h is = (frame, refl)
 framed_by_deed (Declared s) h is = no_first ((is.0).frame) ((is.0).framed)
 framed_by_deed (Wrote w) h is = no_first ((is.0).frame) ((is.0).framed)
+framed_by_deed (Erased e) h is = no_first ((is.0).frame) ((is.0).framed)
 
 -- a history that has a schema has a frame
 pub framed_by_schema : (h : History) (k : Key) (s : Schema) → IsHistory h → schema_with h k ≡ Some s → (frame : Frame) × (frame_in h ≡ Some frame)
@@ -186,6 +210,7 @@ frame_in-append [] g frame is = no_first frame is
 frame_in-append (Framed own ∷ h) g frame is = is
 frame_in-append (Declared s ∷ h) g frame is = frame_in-append h g frame is
 frame_in-append (Wrote w ∷ h) g frame is = frame_in-append h g frame is
+frame_in-append (Erased e ∷ h) g frame is = frame_in-append h g frame is
 
 -- ---- schemas
 
@@ -228,6 +253,7 @@ schema_follows h s is at = let on = placed schema_in (λ s. s.key) schema_keyed 
         let same = same_Some t s is_it in
         (front, rest, parts ∙ ap (λ u. front ++ Declared u ∷ rest) same, subst (SchemaFollows front) same may)
     from_deed front (Wrote w) rest parts is_it may = absurd (none-some s is_it)
+    from_deed front (Erased e) rest parts is_it may = absurd (none-some s is_it)
 
 -- the write was committed after these deeds
 pub write_follows : (h : History) (w : Written) → IsHistory h → Contains (writes h) w → (before : History) × (rest : History) × (h ≡ before ++ Wrote w ∷ rest) × WriteFollows before w
@@ -240,12 +266,45 @@ write_follows h w is at = let on = placed write_in (λ w. w.key) write_keyed [] 
     from_deed front (Wrote v) rest parts is_it may =
         let same = same_Some v w is_it in
         (front, rest, parts ∙ ap (λ u. front ++ Wrote u ∷ rest) same, subst (WriteFollows front) same may)
+    from_deed front (Erased e) rest parts is_it may = absurd (none-some w is_it)
 
 -- the attributes of a schema are such as an array can have, and its key has its widths
 pub schema_facts : (h : History) (k : Key) (s : Schema) → IsHistory h → schema_with h k ≡ Some s → AreAttrs s.attrs × IsKey s.key
 schema_facts h k s is with =
     let follows = (schema_follows h s is (schema_with-is h k s with).0).3 in
     (follows.attrs, follows.key)
+
+-- ---- deletes
+
+-- the delete under a name is a deed, and has the name
+pub erase_of-is : (h : History) (f : FragKey) (x : Erasure) → erase_of h f ≡ Some x → Contains (erases h) x × (frag_of x.key ≡ f)
+erase_of-is h f x is =
+    let found = find-Some (λ y. frag_eq (frag_of y.key) f) (erases h) x is in
+    (found.0, frag_same (frag_of x.key) f found.1)
+
+-- each delete of a history is the one under its name
+pub erase_of_name : (h : History) (x : Erasure) → IsHistory h → Contains (erases h) x → erase_of h (frag_of x.key) ≡ Some x
+erase_of_name h x is at =
+    let found = find_member (λ y. frag_eq (frag_of y.key) (frag_of x.key)) (erases h) x at (frag_itself (frag_of x.key)) in
+    let member = erase_of-is h (frag_of x.key) found.0 found.1 in
+    found.1 ∙ ap Some (one_erase h found.0 x is member.0 at (key_of_frag (found.0).key x.key member.1))
+
+-- the delete was committed after these deeds
+pub erase_follows : (h : History) (x : Erasure) → IsHistory h → Contains (erases h) x → (before : History) × (rest : History) × (h ≡ before ++ Erased x ∷ rest) × EraseFollows before x
+erase_follows h x is at = let on = placed erase_in (λ x. x.key) erase_keyed [] h x is at in from_deed on.0 on.1 on.2 on.3 on.4 on.5
+  where
+    from_deed : (front : History) (d : Deed) (rest : History) → h ≡ front ++ d ∷ rest → erase_in d ≡ Some x → MayFollow front d
+        → (before : History) × (rest : History) × (h ≡ before ++ Erased x ∷ rest) × EraseFollows before x
+    from_deed front (Framed frame) rest parts is_it may = absurd (none-some x is_it)
+    from_deed front (Declared t) rest parts is_it may = absurd (none-some x is_it)
+    from_deed front (Wrote w) rest parts is_it may = absurd (none-some x is_it)
+    from_deed front (Erased y) rest parts is_it may =
+        let same = same_Some y x is_it in
+        (front, rest, parts ∙ ap (λ u. front ++ Erased u ∷ rest) same, subst (EraseFollows front) same may)
+
+-- the condition of a delete has an object, and its key has its widths
+pub erase_facts : (h : History) (x : Erasure) → IsHistory h → Contains (erases h) x → IsCond x.cond × IsKey x.key
+erase_facts h x is at = let follows = (erase_follows h x is at).3 in (follows.cond, follows.key)
 
 -- ---- the schema there, by keys alone
 

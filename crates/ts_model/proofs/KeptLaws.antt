@@ -6,9 +6,11 @@ use Rattle.std.proofs.lemmas.List.Elements.{All-contains, All-push, Contains-app
 use Rattle.std.proofs.lemmas.Option.{none-some, same_Some, slice_get_within}
 use Rattle.std.specs.Prelude.{Contains, IsSome, option_map, slice_get}
 use Rattle.ts_base.specs.Held.{Held}
+use Rattle.ts_base.specs.declared.names.CommitKind.TheVariants.{Del}
 use Rattle.ts_base.specs.declared.names.Name.{Name}
 use Rattle.ts_base.specs.declared.names.Prefix.{Prefix}
 use Rattle.ts_base.specs.declared.names.Prefix.TheVariants.{Commits, Schemas}
+use Rattle.ts_model.proofs.EraseSteps.{deletes_steps}
 use Rattle.ts_model.proofs.FetchSteps.{fetch_steps}
 use Rattle.ts_model.proofs.Frames.{aims-carry, claims_stay}
 use Rattle.ts_model.proofs.HistoryLaws.{job_of_id}
@@ -24,13 +26,13 @@ use Rattle.ts_model.specs.Forms.{Forms, FormsLaws, SpeaksOf, Spelled, Tracking}
 use Rattle.ts_model.specs.Fresh.{id_in}
 use Rattle.ts_model.specs.Jobs.{IsFit, job_with}
 use Rattle.ts_model.specs.Kept.{AreAllowed, Claims, IsAllowed, IsOfJobs, Kept}
-use Rattle.ts_model.specs.States.{asks, frame_put, get_head, get_schema, made_by, put_of, state_of, want_of}
+use Rattle.ts_model.specs.States.{asks, frame_put, get_delete, get_head, get_schema, made_by, put_of, state_of, want_of}
 use Rattle.ts_model.specs.Steps.{Advances, Comes}
 use Rattle.ts_model.specs.Told.{IsReplied, Replied, Told, after_told, held_told, trace_of}
 use Rattle.ts_model.specs.declared.answers.Outcome.{Outcome}
 use Rattle.ts_model.specs.declared.commands.Job.{Job}
 use Rattle.ts_model.specs.declared.states.State.{State}
-use Rattle.ts_model.specs.declared.states.State.TheVariants.{ComparesFrame, Fetches, GetsFrame, GetsHeads, GetsSchema, GetsSchemas, ListsCommits, ListsDeclared, ListsSchemas, Over, Puts, PutsFrame}
+use Rattle.ts_model.specs.declared.states.State.TheVariants.{ComparesFrame, Fetches, GetsDeletes, GetsFrame, GetsHeads, GetsSchema, GetsSchemas, ListsCommits, ListsDeclared, ListsSchemas, Over, Puts, PutsFrame}
 use Rattle.ts_schema.specs.FrameTexts.{frame_object}
 use Rattle.ts_store.specs.declared.call.Call.{Call}
 use Rattle.ts_store.specs.declared.call.Call.TheVariants as call
@@ -72,15 +74,18 @@ module _ {F : Type 0} (forms : Forms F) (spelled : Spelled) (tracks : Tracking F
       let o = asked_by put_of (slice_get objects next) (call.Put n bytes) asked in
       same_Some job.id id (sym (aims-carry forms past jobs seen number job objects end claims.aims next o.0 o.1) ∙ ap id_in (one_name (o.0).name n (o.0).bytes bytes o.2) ∙ carried)
   own_put number job ListsCommits n bytes id claims asked carried = absurd (no_listing Commits n bytes (same_Some _ _ asked))
-  own_put number job (ListsSchemas near) n bytes id claims asked carried = absurd (no_listing Schemas n bytes (same_Some _ _ asked))
-  own_put number job (GetsSchema near there) n bytes id claims asked carried = absurd (no_get (name.Schema there) 0 (2 ^ 64 - 1) n bytes (same_Some _ _ asked))
-  own_put number job (GetsFrame near there) n bytes id claims asked carried = absurd (no_get name.Domain 0 (2 ^ 64 - 1) n bytes (same_Some _ _ asked))
+  own_put number job (ListsSchemas listing) n bytes id claims asked carried = absurd (no_listing Schemas n bytes (same_Some _ _ asked))
+  own_put number job (GetsSchema listing there) n bytes id claims asked carried = absurd (no_get (name.Schema there) 0 (2 ^ 64 - 1) n bytes (same_Some _ _ asked))
+  own_put number job (GetsFrame listing there) n bytes id claims asked carried = absurd (no_get name.Domain 0 (2 ^ 64 - 1) n bytes (same_Some _ _ asked))
   own_put number job (GetsHeads r opened) n bytes id claims asked carried =
       let f = asked_by (get_head forms r) (slice_get r.near (length opened)) (call.Put n bytes) asked in
       absurd (no_get (name.Part f.0 (forms.head_part r.frame)) 0 (2 ^ 64 - 1) n bytes f.2)
   own_put number job (GetsSchemas r opened named schemas) n bytes id claims asked carried =
       let k = asked_by get_schema (slice_get named (length schemas)) (call.Put n bytes) asked in
       absurd (no_get (name.Schema k.0) 0 (2 ^ 64 - 1) n bytes k.2)
+  own_put number job (GetsDeletes r opened schemas) n bytes id claims asked carried =
+      let f = asked_by get_delete (slice_get r.deletes (length r.erased)) (call.Put n bytes) asked in
+      absurd (no_get (name.Commit f.0 Del) 0 (2 ^ 64 - 1) n bytes f.2)
   own_put number job (Fetches r opened schemas next frag got fetch c) n bytes id claims asked carried =
       let way = claims.2.1 in
       let held = laws.asks r.frame (way.one).schema (way.one).piece ((way.one).spells).look (want_of r ((way.one).schema).attrs) fetch c way.way in
@@ -165,11 +170,12 @@ module _ {F : Type 0} (forms : Forms F) (spelled : Spelled) (tracks : Tracking F
   own_step past jobs seen e m number job ListsDeclared comes = declared_steps forms spelled tracks past jobs seen e m number job laws comes
   own_step past jobs seen e m number job (Puts objects next end) comes = puts_steps forms spelled tracks past jobs seen e m number job objects next end laws comes
   own_step past jobs seen e m number job ListsCommits comes = commits_steps forms spelled tracks past jobs seen e m number job laws comes
-  own_step past jobs seen e m number job (ListsSchemas near) comes = schemas_steps forms spelled tracks past jobs seen e m number job laws near comes
-  own_step past jobs seen e m number job (GetsSchema near there) comes = schema_steps forms spelled tracks past jobs seen e m number job laws near there comes
-  own_step past jobs seen e m number job (GetsFrame near there) comes = framed_steps forms spelled tracks past jobs seen e m number job laws near there comes
+  own_step past jobs seen e m number job (ListsSchemas listing) comes = schemas_steps forms spelled tracks past jobs seen e m number job laws listing comes
+  own_step past jobs seen e m number job (GetsSchema listing there) comes = schema_steps forms spelled tracks past jobs seen e m number job laws listing there comes
+  own_step past jobs seen e m number job (GetsFrame listing there) comes = framed_steps forms spelled tracks past jobs seen e m number job laws listing there comes
   own_step past jobs seen e m number job (GetsHeads r opened) comes = heads_steps forms spelled tracks past jobs seen e m number job laws r opened comes
   own_step past jobs seen e m number job (GetsSchemas r opened named schemas) comes = further_steps forms spelled tracks past jobs seen e m number job laws r opened named schemas comes
+  own_step past jobs seen e m number job (GetsDeletes r opened schemas) comes = deletes_steps forms spelled tracks past jobs seen e m number job laws r opened schemas comes
   own_step past jobs seen e m number job (Fetches r opened schemas next frag got fetch c) comes =
       fetch_steps forms spelled tracks past jobs seen e m number job r opened schemas next frag got fetch c laws comes
   own_step past jobs seen e m number job (Over end) comes = absurd (none-some e.call comes.asked)

@@ -9,8 +9,9 @@ use Rattle.std.specs.FinMap.{IsAntisymmetric}
 use Rattle.std.proofs.lemmas.Cmp.{upto, tied_itself}
 use Rattle.std.proofs.lemmas.Bool.{true≢false, false_from_ne_true, cond-true, cond-false}
 use Rattle.ts_base.specs.declared.keys.Key.{Key}
-use Rattle.ts_base.specs.Keys.{key_cmp, key_eq, key_lt, greater, greatest}
-use Rattle.ts_base.specs.Exact.{key_total, key_exact}
+use Rattle.ts_base.specs.declared.keys.FragKey.{FragKey}
+use Rattle.ts_base.specs.Keys.{key_cmp, key_eq, key_lt, frag_eq, frag_of, greater, greatest}
+use Rattle.ts_base.specs.Exact.{key_total, key_exact, frag_total, frag_exact}
 use Rattle.ts_model.proofs.ListLemmas.{Contains-nil, Contains-cons, Contains-here, Contains-there}
 
 is_lt-reverse : (o : Ordering) → is_lt (ordering_reverse o) ≡ is_gt o
@@ -48,6 +49,16 @@ key_itself = tie_itself key_total key_exact
 
 pub key_other : (k l : Key) → (k ≡ l → ⊥) → key_eq k l ≡ false
 key_other = no_tie key_total key_exact
+
+pub frag_same : (f g : FragKey) → frag_eq f g ≡ true → f ≡ g
+frag_same = same_from_tie frag_total frag_exact
+
+pub frag_itself : (f : FragKey) → frag_eq f f ≡ true
+frag_itself = tie_itself frag_total frag_exact
+
+-- a key makes one fragment, and one name of a delete
+pub key_of_frag : (k l : Key) → frag_of k ≡ frag_of l → k ≡ l
+key_of_frag k l same = λ i. record { t = (same i).t1; id = (same i).id }
 
 -- ---- the order of keys
 

@@ -1,6 +1,6 @@
 -- What the listings of a job find, and where they lead.
-use Rattle.std.proofs.Common.{◌≡◌, ℕ, true, List, [], ◌∷◌, ◌++◌, Some, None, refl, sym, ◌∙◌, ap, subst, arith}
-use Rattle.std.specs.Prelude.{Contains, option_map}
+use Rattle.std.proofs.Common.{◌≡◌, ℕ, true, List, [], ◌∷◌, ◌++◌, Option, Some, None, refl, sym, ◌∙◌, ap, subst, arith}
+use Rattle.std.specs.Prelude.{Contains, filter, option_map}
 use Rattle.std.specs.FinMap as map
 use Rattle.std.proofs.lemmas.Option.{same_Some, none-some}
 use Rattle.ts_base.specs.declared.keys.Key.{Key}
@@ -18,28 +18,33 @@ use Rattle.ts_store.specs.declared.call.Call.TheVariants as call
 use Rattle.ts_store.specs.declared.call.Reply.{Reply}
 use Rattle.ts_store.specs.declared.call.Reply.TheVariants as reply
 use Rattle.ts_store.specs.Calls.{names_under}
+use Rattle.ts_cond.specs.CondTexts.{cond_object}
+use Rattle.ts_cond.specs.declared.query.Query.{Query}
 use Rattle.ts_schema.specs.declared.schemas.Schema.{Schema}
 use Rattle.ts_schema.specs.Evolutions.{schema_at}
 use Rattle.ts_schema.specs.SchemaTexts.{schema_object}
 use Rattle.ts_model.specs.declared.commands.Command.{Command}
-use Rattle.ts_model.specs.declared.commands.Command.TheVariants.{Create, Evolve, Write, Read}
+use Rattle.ts_model.specs.declared.commands.Command.TheVariants.{Create, Delete, Evolve, Write, Read}
 use Rattle.ts_model.specs.declared.commands.Job.{Job}
+use Rattle.ts_model.specs.declared.deeds.Erasure.{Erasure}
+use Rattle.ts_model.specs.declared.states.Listed.{Listed}
 use Rattle.ts_model.specs.declared.states.State.{State}
 use Rattle.ts_model.specs.declared.states.State.TheVariants.{ListsCommits, ListsSchemas}
-use Rattle.ts_model.specs.Deeds.{History, IsHistory, schemas, schema_with, schema_there}
+use Rattle.ts_model.specs.Deeds.{History, IsHistory, erases, erase_of, schemas, schema_with, schema_there}
 use Rattle.ts_model.specs.Forms.{Forms, FormsLaws, Spelled, Tracking}
 use Rattle.ts_model.specs.Jobs.{looked_at}
 use Rattle.ts_model.specs.Stands.{IsCommitted, HoldsOne, Stands}
-use Rattle.ts_model.specs.States.{wrt_in, committed_in, schema_key_in, schemas_in, meets, looked_into, list_commits, list_schemas, on_names, seeks}
+use Rattle.ts_model.specs.States.{wrt_in, committed_in, del_in, deletes_in, schema_key_in, schemas_in, meets, looked_into, list_commits, list_schemas, on_names, seeks}
 use Rattle.ts_model.specs.Told.{Told, trace_of, after_told, IsReplied, schemas_found, history_told}
 use Rattle.ts_model.specs.Ends.{IsUndone}
-use Rattle.ts_model.specs.Kept.{Clean, Works, Near, HasNear, HasListed, Claims}
+use Rattle.ts_model.specs.Kept.{Clean, Works, HasNear, HasListed, Claims}
 use Rattle.ts_model.specs.Steps.{Keeps, Leads, Advances, Comes}
 use Rattle.ts_model.proofs.ListLemmas.{Contains-filter, filter-Contains, Contains-filter_map, filter_map-Contains}
 use Rattle.ts_model.proofs.HeldLemmas.{Holds, Holds-from_get, listed_from_Holds, Holds-from_listed}
-use Rattle.ts_model.proofs.HistoryLaws.{schema_with-is, schema_of_key, there_is_with, there_by_keys}
+use Rattle.ts_model.proofs.HistoryLaws.{erase_of-is, erase_of_name, schema_with-is, schema_of_key, there_is_with, there_by_keys}
 use Rattle.ts_model.proofs.Traces.{schemas_found-own}
 use Rattle.ts_model.proofs.Effects.{IsLook, look_stays, look_leads, look_history, listed}
+use Rattle.ts_model.proofs.StandsLaws.{free_from_get}
 use Rattle.ts_model.proofs.Stays.{clean_look, listed_now, near_stays}
 
 -- ---- what a listing of the commits finds
@@ -55,13 +60,13 @@ wrt_in-some (name.Part g part) f e = absurd (none-some f e)
 wrt_in-some (name.Lease k mode) f e = absurd (none-some f e)
 
 -- a committed fragment whose span meets the interval is one that a read looks into
-pub looked_from_committed : (m : Held) (from to : ℕ) (f : FragKey) → IsCommitted m f → meets from to f ≡ true → Contains (looked_into (Read from to) (names_under Commits m)) f
+pub looked_from_committed : (m : Held) (from to : ℕ) (f : FragKey) → IsCommitted m f → meets from to f ≡ true → Contains (filter (meets from to) (committed_in (names_under Commits m))) f
 looked_from_committed m from to f committed within =
     Contains-filter (meets from to) (committed_in (names_under Commits m)) f
     (Contains-filter_map wrt_in (names_under Commits m) (wrt_of f) f (listed_from_Holds Commits m (wrt_of f) committed refl) refl) within
 
 -- a fragment that a read looks into is committed, and its span meets the interval
-pub committed_from_looked : (m : Held) (from to : ℕ) (f : FragKey) → Contains (looked_into (Read from to) (names_under Commits m)) f → IsCommitted m f × (meets from to f ≡ true)
+pub committed_from_looked : (m : Held) (from to : ℕ) (f : FragKey) → Contains (filter (meets from to) (committed_in (names_under Commits m))) f → IsCommitted m f × (meets from to f ≡ true)
 committed_from_looked m from to f at =
     let parts = filter-Contains (meets from to) (committed_in (names_under Commits m)) f at in
     let found = filter_map-Contains wrt_in (names_under Commits m) f parts.0 in
@@ -70,6 +75,57 @@ committed_from_looked m from to f at =
 -- the fragment of a write in the interval meets it
 meets_of_within : (from to : ℕ) (k : Key) → is_within from to k ≡ true → meets from to (frag_of k) ≡ true
 meets_of_within from to k within = grind arith
+
+-- an instant that meets the interval is stamped in it
+within_of_meets : (from to : ℕ) (k : Key) → meets from to (frag_of k) ≡ true → is_within from to k ≡ true
+within_of_meets from to k meet = grind arith
+
+-- ---- the deletes that a listing of the commits finds
+
+-- a name of a delete is its `.del`
+del_in-some : (n : Name) (f : FragKey) → del_in n ≡ Some f → n ≡ name.Commit f kind.Del
+del_in-some name.Domain f e = absurd (none-some f e)
+del_in-some (name.Schema k) f e = absurd (none-some f e)
+del_in-some (name.Commit g kind.Wrt) f e = absurd (none-some f e)
+del_in-some (name.Commit g kind.Del) f e = ap (λ x. name.Commit x kind.Del) (same_Some g f e)
+del_in-some (name.Commit g kind.Vac) f e = absurd (none-some f e)
+del_in-some (name.Part g part) f e = absurd (none-some f e)
+del_in-some (name.Lease k mode) f e = absurd (none-some f e)
+
+module _ (spelled : Spelled) (m : Held) (h : History) (stands : Stands spelled m h) (from to : ℕ) where
+  -- the deletes that a read looks into
+  abbrev dels : List FragKey
+  dels = filter (meets from to) (deletes_in (names_under Commits m))
+
+  -- a delete whose object is held is one of the history
+  erase_from_held : (f : FragKey) → Holds m (name.Commit f kind.Del) → (x : Erasure) × (erase_of h f ≡ Some x)
+  erase_from_held f held = by_found (erase_of h f) refl
+    where
+      lost : erase_of h f ≡ None → ⊥
+      lost none = free_from_get m (name.Commit f kind.Del) (stands.deletes f ∙ ap (option_map (λ x. cond_object x.cond)) none) held
+
+      by_found : (o : Option Erasure) → erase_of h f ≡ o → (x : Erasure) × (o ≡ Some x)
+      by_found None none = absurd (lost none)
+      by_found (Some x) some = (x, refl)
+
+  -- a delete that a read looks into is one of the history, and stamped in the interval
+  erase_from_looked : (f : FragKey) → Contains dels f → (x : Erasure) × Contains (erases h) x × (frag_of x.key ≡ f) × (is_within from to x.key ≡ true)
+  erase_from_looked f at =
+      let parts = filter-Contains (meets from to) (deletes_in (names_under Commits m)) f at in
+      let found = filter_map-Contains del_in (names_under Commits m) f parts.0 in
+      let held = subst (Holds m) (del_in-some found.0 f found.2) (Holds-from_listed Commits m found.0 found.1).0 in
+      let of = erase_from_held f held in
+      let is = erase_of-is h f of.0 of.1 in
+      (of.0, is.0, is.1, within_of_meets from to (of.0).key (ap (meets from to) is.1 ∙ parts.1))
+
+  -- a delete of the history that is stamped in the interval is one that a read looks into
+  looked_from_erase : (x : Erasure) → Contains (erases h) x → is_within from to x.key ≡ true → Contains dels (frag_of x.key)
+  looked_from_erase x at within =
+      let held : map.get m (name.Commit (frag_of x.key) kind.Del) ≡ Some (cond_object x.cond) = stands.deletes (frag_of x.key) ∙ ap (option_map (λ y. cond_object y.cond)) (erase_of_name h x stands.history at) in
+      Contains-filter (meets from to) (deletes_in (names_under Commits m)) (frag_of x.key)
+      (Contains-filter_map del_in (names_under Commits m) (name.Commit (frag_of x.key) kind.Del) (frag_of x.key)
+      (listed_from_Holds Commits m (name.Commit (frag_of x.key) kind.Del) (Holds-from_get m (name.Commit (frag_of x.key) kind.Del) (cond_object x.cond) held) refl) refl)
+      (meets_of_within from to x.key within)
 
 -- ---- what a listing of the schemas finds
 
@@ -175,23 +231,25 @@ module _ {F : Type 0} (forms : Forms F) (spelled : Spelled) (tracks : Tracking F
 
   -- ---- the listing of the commits
 
-  -- a read knows the fragments that it listed
-  near_listed : Stands spelled m h → e.job ≡ Some number → e.call ≡ list_commits → m' ≡ m → (from to : ℕ)
-      → Near spelled past jobs (seen ++ e ∷ []) m' number from to (looked_into (Read from to) (names_under Commits m))
-  near_listed stands own is same_held from to = record {
+  -- a read knows the fragments and the deletes that it listed
+  near_listed : Stands spelled m h → e.job ≡ Some number → e.call ≡ list_commits → m' ≡ m → (from to : ℕ) (query : Query)
+      → HasNear spelled past jobs (seen ++ e ∷ []) m' number (Read from to query) (looked_into (Read from to query) (names_under Commits m))
+  near_listed stands own is same_held from to query = record {
     commits = listed_now seen e number Commits own is;
     whole = λ f at. subst (λ n. HoldsOne spelled h n f) (sym same_held) (stands.whole f (committed_from_looked m from to f at).0);
     in_time = λ f at. (committed_from_looked m from to f at).1;
     covered = λ w at within. looked_from_committed m from to (frag_of w.key) (stands.covered w at) (meets_of_within from to w.key within);
+    erased = erase_from_looked spelled m h stands from to;
+    erasing = looked_from_erase spelled m h stands from to;
   }
 
-  -- the fragments are those of the command
-  near_in_command : Stands spelled m h → e.job ≡ Some number → e.call ≡ list_commits → m' ≡ m → (from to : ℕ) → job.command ≡ Read from to
+  -- they are those of the command
+  near_in_command : Stands spelled m h → e.job ≡ Some number → e.call ≡ list_commits → m' ≡ m → (from to : ℕ) (query : Query) → job.command ≡ Read from to query
       → (names : List Name) → names ≡ names_under Commits m → HasNear spelled past jobs (seen ++ e ∷ []) m' number job.command (looked_into job.command names)
-  near_in_command stands own is same_held from to reads names all =
+  near_in_command stands own is same_held from to query reads names all =
       subst (λ c. HasNear spelled past jobs (seen ++ e ∷ []) m' number c (looked_into c names)) (sym reads)
-      (subst (λ ns. HasNear spelled past jobs (seen ++ e ∷ []) m' number (Read from to) (looked_into (Read from to) ns)) (sym all)
-      (near_listed stands own is same_held from to))
+      (subst (λ ns. HasNear spelled past jobs (seen ++ e ∷ []) m' number (Read from to query) (looked_into (Read from to query) ns)) (sym all)
+      (near_listed stands own is same_held from to query))
 
   -- the listing of the commits leads a read to the listing of the schemas
   pub commits_steps : FormsLaws forms spelled tracks → ComesHere ListsCommits → AdvancesHere ListsCommits
@@ -202,7 +260,7 @@ module _ {F : Type 0} (forms : Forms F) (spelled : Spelled) (tracks : Tracking F
       record {
         leads = look.leads;
         own = names_lead Commits (λ names. ListsSchemas (looked_into job.command names)) e.reply
-            (λ names said. (look.clean, near_in_command comes.stands comes.own is look.same_held reads.0 reads.1 reads.2 names (listed m e Commits names is comes.replied said)))
+            (λ names said. (look.clean, near_in_command comes.stands comes.own is look.same_held reads.0 reads.1 reads.2 reads.3 names (listed m e Commits names is comes.replied said)))
             look.clean.undone;
       }
 
@@ -225,41 +283,42 @@ module _ {F : Type 0} (forms : Forms F) (spelled : Spelled) (tracks : Tracking F
   }
 
   -- what a job listed before goes on with the schema there
-  has_listed : Keeps m m' h h' job.id → (c : Command) (near : List FragKey) → HasNear spelled past jobs seen m number c near → (s : Schema) (works : Works past jobs (seen ++ e ∷ []) number job s)
-      → (works.schemas).before ≡ seen → HasListed spelled past jobs (seen ++ e ∷ []) m' number job c near s
-  has_listed keeps (Create f) near before s works at = before
-  has_listed keeps (Evolve change) near before s works at = works
-  has_listed keeps (Write w) near before s works at = works
-  has_listed keeps (Read from to) near before s works at = record {
-    listed = near_stays spelled past jobs seen e m m' job.id keeps number from to near before;
+  has_listed : Keeps m m' h h' job.id → (c : Command) (listed : Listed) → HasNear spelled past jobs seen m number c listed → (s : Schema) (works : Works past jobs (seen ++ e ∷ []) number job s)
+      → (works.schemas).before ≡ seen → HasListed spelled past jobs (seen ++ e ∷ []) m' number job c listed s
+  has_listed keeps (Create f) listed before s works at = before
+  has_listed keeps (Evolve change) listed before s works at = works
+  has_listed keeps (Write w) listed before s works at = works
+  has_listed keeps (Read from to query) listed before s works at = record {
+    listed = near_stays spelled past jobs seen e m m' job.id keeps number from to listed.near listed.deletes before;
     works = works;
     between = (before.commits).later;
     order = at ∙ (before.commits).place;
   }
+  has_listed keeps (Delete text) listed before s works at = works
 
   -- where the keys of the listing lead
-  sought : (near : List FragKey) → Stands spelled m h → Clean m' h' job → (names : List Name) → names ≡ names_under Schemas m
-      → ((s : Schema) → schema_there h (looked_at job) ≡ Some s → HasListed spelled past jobs (seen ++ e ∷ []) m' number job job.command near s)
-      → Led (seeks near (looked_at job) (schema_at (schemas_in names) (looked_at job)))
-  sought near stands clean names all with =
-      subst (λ o. Led (seeks near (looked_at job) o))
+  sought : (listing : Listed) → Stands spelled m h → Clean m' h' job → (names : List Name) → names ≡ names_under Schemas m
+      → ((s : Schema) → schema_there h (looked_at job) ≡ Some s → HasListed spelled past jobs (seen ++ e ∷ []) m' number job job.command listing s)
+      → Led (seeks listing (looked_at job) (schema_at (schemas_in names) (looked_at job)))
+  sought listing stands clean names all with =
+      subst (λ o. Led (seeks listing (looked_at job) o))
       (sym (ap (λ ns. schema_at (schemas_in ns) (looked_at job)) all ∙ there_from_listed spelled m h stands (looked_at job)))
-      (elim (schema_there h (looked_at job)) as (λ o. schema_there h (looked_at job) ≡ o → Led (seeks near (looked_at job) (option_map (λ s. s.key) o))) [
+      (elim (schema_there h (looked_at job)) as (λ o. schema_there h (looked_at job) ≡ o → Led (seeks listing (looked_at job) (option_map (λ s. s.key) o))) [
         | None ↦ λ _. clean.undone
         | Some s ↦ λ there. (clean, (s, refl, with s there))
       ] refl)
 
   -- the listing of the schemas leads a job to the get of the schema there, or to its end
-  pub schemas_steps : FormsLaws forms spelled tracks → (near : List FragKey) → ComesHere (ListsSchemas near) → AdvancesHere (ListsSchemas near)
-  schemas_steps laws near comes =
+  pub schemas_steps : FormsLaws forms spelled tracks → (listing : Listed) → ComesHere (ListsSchemas listing) → AdvancesHere (ListsSchemas listing)
+  schemas_steps laws listing comes =
       let is : e.call ≡ list_schemas = sym (same_Some list_schemas e.call comes.asked) in
       let look = looked spelled past jobs seen e m job list_schemas is tt comes.stands comes.replied comes.claims.0 in
       record {
         leads = look.leads;
-        own = names_lead Schemas (λ names. seeks near (looked_at job) (schema_at (schemas_in names) (looked_at job))) e.reply
+        own = names_lead Schemas (λ names. seeks listing (looked_at job) (schema_at (schemas_in names) (looked_at job))) e.reply
             (λ names said.
             let all = listed m e Schemas names is comes.replied said in
-            sought near comes.stands look.clean names all (λ s there.
-            has_listed look.leads.leaves job.command near comes.claims.1 s (works_listed comes.stands comes.own is look.same_history names said all s there) refl))
+            sought listing comes.stands look.clean names all (λ s there.
+            has_listed look.leads.leaves job.command listing comes.claims.1 s (works_listed comes.stands comes.own is look.same_history names said all s there) refl))
             look.clean.undone;
       }

@@ -6,6 +6,7 @@ use Rattle.std.proofs.lemmas.Option.{none-some, same_Some, slice_get-map}
 use Rattle.std.specs.Prelude.{option_map, slice_get}
 use Rattle.ts_base.specs.Held.{Held}
 use Rattle.ts_base.specs.Names.{wrt_of}
+use Rattle.ts_cond.specs.Tests.{Condition}
 use Rattle.ts_base.specs.declared.keys.FragKey.{FragKey}
 use Rattle.ts_base.specs.declared.names.Part.{Part}
 use Rattle.ts_base.specs.declared.names.PartBytes.{PartBytes}
@@ -15,7 +16,7 @@ use Rattle.ts_model.specs.Deeds.{History}
 use Rattle.ts_model.specs.Forms.{Forms}
 use Rattle.ts_model.specs.Fresh.{id_in}
 use Rattle.ts_model.specs.Kept.{Aims, Clean, Putting}
-use Rattle.ts_model.specs.States.{part_objects, schema_object_of}
+use Rattle.ts_model.specs.States.{delete_object_of, part_objects, schema_object_of}
 use Rattle.ts_model.specs.Told.{Told, history_told}
 use Rattle.ts_model.specs.declared.answers.Outcome.{Outcome}
 use Rattle.ts_model.specs.declared.commands.Job.{Job}
@@ -33,6 +34,11 @@ CarryAll id objects = (i : ℕ) (o : NewObject) → slice_get objects i ≡ Some
 pub schema_carries : (job : Job) (attrs : List Attr) → CarryAll job.id (schema_object_of job attrs ∷ [])
 schema_carries job attrs zero o at = ap (λ x. id_in x.name) (sym (same_Some (schema_object_of job attrs) o at))
 schema_carries job attrs (suc i) o at = absurd (none-some o at)
+
+-- the object of a delete job carries its identifier
+pub delete_carries : (job : Job) (condition : Condition) → CarryAll job.id (delete_object_of job condition ∷ [])
+delete_carries job condition zero o at = ap (λ x. id_in x.name) (sym (same_Some (delete_object_of job condition) o at))
+delete_carries job condition (suc i) o at = absurd (none-some o at)
 
 -- the object of a part
 abbrev pub part_object : FragKey → PartBytes → NewObject

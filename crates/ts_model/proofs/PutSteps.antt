@@ -1,4 +1,4 @@
--- The puts of schemas and of the objects of writes, and what an evolve and a write come to once they have the frame.
+-- The puts of schemas, of deletes and of the objects of writes, and what an evolve, a write and a delete come to once they have the frame.
 use Rattle.std.proofs.Common.{List, None, Ok, Option, Some, [], ap, arith, cond, false, inl, inr, length, nat_le, refl, subst, suc, sym, true, zero, ℕ, ◌++◌, ◌<◌, ◌∙◌, ◌∷◌, ◌≡◌, ◌≤◌}
 use Rattle.std.proofs.Math.Nat.{eq-or-lt_of_le}
 use Rattle.std.proofs.lemmas.Bool.{le-ltb, lt-ltb}
@@ -7,13 +7,15 @@ use Rattle.std.proofs.lemmas.List.Elements.{Contains-append_right}
 use Rattle.std.proofs.lemmas.Option.{none-some, same_Some, slice_get-get_or, slice_get_within}
 use Rattle.std.specs.Prelude.{Err, IsTrue, Result, nat_lt, option_and_then, option_map, slice_get, slice_index_or}
 use Rattle.ts_base.specs.Held.{Held}
-use Rattle.ts_base.specs.Names.{wrt_of}
+use Rattle.ts_base.specs.Names.{del_of, wrt_of}
 use Rattle.ts_base.specs.declared.heads.Cell.{Cell}
 use Rattle.ts_base.specs.declared.heads.Piece.{Piece}
 use Rattle.ts_base.specs.declared.keys.FragKey.{FragKey}
 use Rattle.ts_base.specs.declared.names.Name.{Name}
 use Rattle.ts_base.specs.declared.names.PartBytes.{PartBytes}
 use Rattle.ts_base.specs.declared.names.Prefix.TheVariants.{Schemas}
+use Rattle.ts_cond.specs.CondTexts.{cond_object}
+use Rattle.ts_cond.specs.Tests.{Condition}
 use Rattle.ts_schema.specs.Evolutions.{evolution_fault, evolved_attrs, schema_at}
 use Rattle.ts_schema.specs.FrameTexts.{IsFrame}
 use Rattle.ts_schema.specs.Parts.{IsShort, look_in}
@@ -25,37 +27,42 @@ use Rattle.ts_schema.specs.declared.frames.Frame.{Frame}
 use Rattle.ts_schema.specs.declared.schemas.Schema.{Schema}
 use Rattle.ts_store.specs.declared.call.Reply.{Reply}
 use Rattle.ts_model.specs.Commands.{create_refusal, fits, frame_made, laid, piece_of}
-use Rattle.ts_model.specs.Deeds.{History, IsHistory, IsKey, SchemaFollows, WriteFollows, frame_in, schema_there, schema_with, writes}
-use Rattle.ts_model.specs.Ends.{HasDeclared, IsTrueEnd, IsTrueRefusal, IsUndone, IsWritten}
+use Rattle.ts_model.specs.Deeds.{EraseFollows, History, IsHistory, IsKey, SchemaFollows, WriteFollows, erases, frame_in, schema_there, schema_with, writes}
+use Rattle.ts_model.specs.Ends.{HasDeclared, IsDeleted, IsTrueEnd, IsTrueRefusal, IsUndone, IsWritten, kind_of}
 use Rattle.ts_model.specs.Forms.{Forms, FormsLaws, Spelled, Tracking}
-use Rattle.ts_model.specs.Jobs.{AreApart, IsFit, frag_of_job, key_of, looked_at, looks_at, schema_of_job, written_as}
+use Rattle.ts_model.specs.Jobs.{AreApart, IsFit, erasure_as, frag_of_job, key_of, looked_at, looks_at, schema_of_job, written_as}
 use Rattle.ts_model.specs.Kept.{Claims, Clean, Putting, Works}
 use Rattle.ts_model.specs.Pieces.{HoldsWrite, IsOrdinary}
+use Rattle.ts_model.specs.Queries.{erasing_in}
 use Rattle.ts_model.specs.Stands.{Spells, Stands}
-use Rattle.ts_model.specs.States.{works as comes_to, goes, list_schemas, part_objects, put_of, puts_cells, puts_schema, putting, refuse, schema_name, schema_object_of, unless_refused, write_objects}
+use Rattle.ts_model.specs.States.{works as comes_to, delete_object_of, goes, list_schemas, part_objects, put_of, puts_cells, puts_delete, puts_schema, putting, refuse, schema_name, schema_object_of, unless_refused, write_objects}
 use Rattle.ts_model.specs.Steps.{Advances, Comes, Keeps, Leads}
-use Rattle.ts_model.specs.Told.{IsShortCall, Told, after_told, cells_of, declared_by, deed_of, deed_told, history_told, schema_used, schemas_found, trace_of, written_by, written_in}
+use Rattle.ts_model.specs.Told.{IsShortCall, Told, after_told, cells_of, condition_of, declared_by, deed_of, deed_told, erased_by, erased_in, history_told, schema_used, schemas_found, trace_of, written_by, written_in}
 use Rattle.ts_model.specs.declared.answers.Outcome.{Outcome}
 use Rattle.ts_model.specs.declared.answers.Refusal.{Refusal}
-use Rattle.ts_model.specs.declared.commands.Command.TheVariants.{Create, Evolve, Write}
+use Rattle.ts_model.specs.declared.commands.Command.TheVariants.{Create, Delete, Evolve, Write}
 use Rattle.ts_model.specs.declared.commands.FrameIn.{FrameIn}
 use Rattle.ts_model.specs.declared.commands.Job.{Job}
 use Rattle.ts_model.specs.declared.commands.WriteIn.{WriteIn}
-use Rattle.ts_model.specs.declared.deeds.Deed.TheVariants.{Declared, Wrote}
+use Rattle.ts_model.specs.declared.deeds.Deed.TheVariants.{Declared, Erased, Wrote}
+use Rattle.ts_model.specs.declared.deeds.Erasure.{Erasure}
 use Rattle.ts_model.specs.declared.deeds.Written.{Written}
+use Rattle.ts_model.specs.declared.states.Listed.{Listed}
 use Rattle.ts_model.specs.declared.states.NewObject.{NewObject}
 use Rattle.ts_model.specs.declared.states.State.{State}
 use Rattle.ts_model.specs.declared.states.State.TheVariants.{Over, Puts}
 use Rattle.ts_model.proofs.Declaring.{created_attrs, created_sound, evolved_are_attrs, evolved_sound}
+use Rattle.ts_model.proofs.Deletes.{erasing_spelled, schema_sound}
 use Rattle.ts_model.proofs.Effects.{Added, Still, put_went, still_leads}
 use Rattle.ts_model.proofs.HeldLemmas.{Holds, get_apart, get_put}
-use Rattle.ts_model.proofs.HistoryLaws.{frame_facts, schema_facts, schema_there-is, writes-append}
+use Rattle.ts_model.proofs.HistoryLaws.{erases-append, frame_facts, schema_facts, schema_there-is, writes-append}
 use Rattle.ts_model.proofs.LaidLaws.{written_held, written_ordinary}
 use Rattle.ts_model.proofs.LaidRefusals.{FailsByColumns, columns_true, laid_fails}
 use Rattle.ts_model.proofs.Laying.{laid_follows}
 use Rattle.ts_model.proofs.ListLemmas.{Contains-here, Contains-nil, Contains-only}
-use Rattle.ts_model.proofs.Objects.{ACommit, APart, begins_putting, last_at, look_finds, object_count, objects_apart, objects_of, part_count, part_here, part_object, put_at, schema_carries, write_carries}
-use Rattle.ts_model.proofs.StandsLaws.{declared_last, free_from_get, keeps_put, leads_at, stands_commit, stands_put, stands_schema}
+use Rattle.ts_model.proofs.Objects.{ACommit, APart, begins_putting, delete_carries, last_at, look_finds, object_count, objects_apart, objects_of, part_count, part_here, part_object, put_at, schema_carries, write_carries}
+use Rattle.ts_model.proofs.QueryRefusals.{FailsByQuery, erasing_fails, query_true}
+use Rattle.ts_model.proofs.StandsLaws.{declared_last, free_from_get, keeps_put, leads_at, stands_commit, stands_delete, stands_put, stands_schema}
 use Rattle.ts_model.proofs.Stays.{frame_stays, listed_stays, works_stays}
 use Rattle.ts_model.proofs.Traces.{deed_told_own, later_deed, later_no_deed, later_unchanged}
 use Rattle.ts_store.specs.declared.call.Call.TheVariants as call
@@ -163,10 +170,10 @@ module _ {F : Type 0} (forms : Forms F) (spelled : Spelled) (tracks : Tracking F
       (leads, ends leads.leaves (ap (λ g. schema_with g (key_of job)) same_history ∙ declared_last spelled m h (schema_of_job job attrs) free c.stands), inl refl))
 
   -- of one object only the first is put
-  first_only : (attrs : List Attr) (end : Outcome) → (ComesHere (Puts (schema_object_of job attrs ∷ []) 0 end) → AdvancesHere (Puts (schema_object_of job attrs ∷ []) 0 end))
-      → (next : ℕ) → ComesHere (Puts (schema_object_of job attrs ∷ []) next end) → AdvancesHere (Puts (schema_object_of job attrs ∷ []) next end)
-  first_only attrs end first zero c = first c
-  first_only attrs end first (suc next) c = let past_end = (c.claims).some in absurd (omega arith)
+  first_only : (o : NewObject) (end : Outcome) → (ComesHere (Puts (o ∷ []) 0 end) → AdvancesHere (Puts (o ∷ []) 0 end))
+      → (next : ℕ) → ComesHere (Puts (o ∷ []) next end) → AdvancesHere (Puts (o ∷ []) next end)
+  first_only o end first zero c = first c
+  first_only o end first (suc next) c = let past_end = (c.claims).some in absurd (omega arith)
 
   -- a create advances by the put of its schema
   create_puts : (f : FrameIn) → job.command ≡ Create f → create_refusal f ≡ None → frame_in h ≡ Some (frame_made f)
@@ -232,6 +239,80 @@ module _ {F : Type 0} (forms : Forms F) (spelled : Spelled) (tracks : Tracking F
 
       looks : looked_at job ≡ job.at
       looks = ap (looks_at job) evolves
+
+  -- ---- the put of a delete
+
+  module _ (text : List ℕ) (frame : Frame) (there : Schema) (condition : Condition)
+      (deletes : job.command ≡ Delete text) (framed : frame_in h ≡ Some frame) (says : erasing_in frame there.attrs text ≡ Ok condition) (works : Works past jobs seen number job there) where
+    -- what the job erases
+    abbrev own_erasure : Erasure
+    own_erasure = erasure_as job condition
+
+    -- what it puts
+    abbrev own_object : NewObject
+    own_object = delete_object_of job condition
+
+    -- how it ends
+    abbrev deleted : Outcome
+    deleted = outcome.Deleted (frag_of_job job)
+
+    -- a delete looks at its own stamp
+    delete_looks : looked_at job ≡ job.at
+    delete_looks = ap (looks_at job) deletes
+
+    -- the delete may follow
+    erasure_follows : IsFit job → IsHistory h → IsUndone h job → EraseFollows h own_erasure
+    erasure_follows fit is undone =
+        let facts = frame_facts h frame is framed in
+        record {
+          frame = frame;
+          framed = framed;
+          sparse = facts.1;
+          new = undone;
+          key = key_fits fit;
+          cond = erasing_spelled frame there.attrs text condition facts.0 (schema_facts h there.key there is works.declared).0
+              (schema_sound h there.key there frame is works.declared framed) facts.1 (subst (λ x. IsTrue (fits x)) deletes fit.command) says;
+        }
+
+    -- the deed of the `.del`
+    erasure_deed : e.job ≡ Some number → slice_get jobs number ≡ Some job → e.call ≡ put_of own_object → deed_told jobs h seen e ≡ Some (Erased own_erasure)
+    erasure_deed own at is =
+        deed_told_own jobs h seen e number job (put_of own_object) own at is
+        ∙ ap (λ x. option_map Erased (erased_by h job (schemas_found (trace_of number seen)) x)) deletes
+        ∙ ap (λ s. option_map Erased (erased_in job text s (frame_in h))) (used_is there delete_looks works)
+        ∙ ap (λ f. option_map Erased (erased_in job text (Some there) f)) framed
+        ∙ ap (λ r. option_map Erased (option_map (erasure_as job) (condition_of r))) says
+
+    -- the `.del` was put, and the job is over
+    erasure_came : (c : ComesHere (Puts (own_object ∷ []) 0 deleted)) → (Holds m (del_of (key_of job)) → ⊥) → m' ≡ map.insert m (del_of (key_of job)) (cond_object condition) → h' ≡ h ++ Erased own_erasure ∷ []
+        → Came (own_object ∷ []) 0 deleted own_object
+    erasure_came c free same_held same_history = (leads, (refl, erased), inl (refl, sym (ap kind_of deletes)))
+      where
+        leads : LeadsHere
+        leads = leads_at spelled past jobs seen e m job.id (map.insert m (del_of (key_of job)) (cond_object condition)) (h ++ Erased own_erasure ∷ []) same_held same_history
+            (stands_delete spelled m h own_erasure free (erasure_follows c.fit (c.stands).history (c.claims).undone)
+            (subst IsShortCall (put_asked (own_object ∷ []) 0 deleted own_object refl c) c.short) c.stands)
+            (keeps_put m h (del_of (key_of job)) (cond_object condition) job.id (Erased own_erasure ∷ []) free (inl refl) (λ k own. ap (λ l. l.id) (sym (Contains-only (key_of job) k own))))
+
+        erased : IsDeleted jobs past (seen ++ e ∷ []) number job
+        erased = record {
+          text = text;
+          deletes = deletes;
+          schemas = listed_stays seen e number Schemas works.schemas;
+          there = there;
+          holds = ap (schema_there (history_told jobs past (works.schemas).before)) (sym delete_looks) ∙ works.holds;
+          frame = frame;
+          framed = frame_stays m m' h h' job.id leads.leaves frame framed;
+          condition = condition;
+          says = says;
+          erased = rw (same_history, erases-append h (Erased own_erasure ∷ [])) (Contains-append_right (erases h) (own_erasure ∷ []) own_erasure (Contains-here own_erasure []));
+        }
+
+    -- a delete advances by the put of its `.del`
+    delete_puts : ComesHere (Puts (own_object ∷ []) 0 deleted) → AdvancesHere (Puts (own_object ∷ []) 0 deleted)
+    delete_puts c = puts_on (own_object ∷ []) 0 deleted own_object refl c (λ free same_held changed.
+        erasure_came c free same_held (later_deed jobs past seen e (Erased own_erasure)
+        (erasure_deed c.own c.is_job (put_asked (own_object ∷ []) 0 deleted own_object refl c)) changed))
 
   -- ---- the puts of a write
 
@@ -392,7 +473,7 @@ module _ {F : Type 0} (forms : Forms F) (spelled : Spelled) (tracks : Tracking F
     -- the `.wrt` was put, and the job is over
     commit_came : (c : ComesHere (Puts own_objects (length own_parts) own_end)) → (Holds m (wrt_of frag) → ⊥) → m' ≡ map.insert m (wrt_of frag) [] → h' ≡ h ++ Wrote own_write ∷ []
         → Came own_objects (length own_parts) own_end (record { name = wrt_of frag; bytes = [] })
-    commit_came c free same_held same_history = (leads, subst (λ b. ClaimsLater (cond b (Puts own_objects (suc (length own_parts)) own_end) (Over own_end))) (sym no_more) (refl, written), inl (refl, refl))
+    commit_came c free same_held same_history = (leads, subst (λ b. ClaimsLater (cond b (Puts own_objects (suc (length own_parts)) own_end) (Over own_end))) (sym no_more) (refl, written), inl (refl, sym (ap kind_of writes_them)))
       where
         leads : LeadsHere
         leads = leads_at spelled past jobs seen e m job.id (map.insert m (wrt_of frag) []) (h ++ Wrote own_write ∷ []) same_held same_history
@@ -451,29 +532,34 @@ module _ {F : Type 0} (forms : Forms F) (spelled : Spelled) (tracks : Tracking F
   puts_steps objects next outcome.Created laws c =
       let aims = (c.claims).aims in
       subst (λ os. ComesHere (Puts os next outcome.Created) → AdvancesHere (Puts os next outcome.Created)) (sym aims.2)
-      (first_only (aims.0).attrs outcome.Created (create_puts aims.0 aims.1 aims.3 aims.4) next) c
+      (first_only (schema_object_of job (aims.0).attrs) outcome.Created (create_puts aims.0 aims.1 aims.3 aims.4) next) c
   puts_steps objects next (outcome.Evolved k) laws c =
       let aims = (c.claims).aims in
       subst (λ l. ComesHere (Puts objects next (outcome.Evolved l)) → AdvancesHere (Puts objects next (outcome.Evolved l))) (sym aims.4)
       (subst (λ os. ComesHere (Puts os next (outcome.Evolved (key_of job))) → AdvancesHere (Puts os next (outcome.Evolved (key_of job)))) (sym aims.5)
-      (first_only (evolved_attrs (aims.2).attrs aims.0) (outcome.Evolved (key_of job)) (evolve_puts aims.0 aims.1 aims.2 aims.3 aims.6 aims.7 aims.8) next)) c
+      (first_only (schema_object_of job (evolved_attrs (aims.2).attrs aims.0)) (outcome.Evolved (key_of job)) (evolve_puts aims.0 aims.1 aims.2 aims.3 aims.6 aims.7 aims.8) next)) c
   puts_steps objects next (outcome.Written f) laws c =
       let aims = (c.claims).aims in
       subst (λ g. ComesHere (Puts objects next (outcome.Written g)) → AdvancesHere (Puts objects next (outcome.Written g))) (sym aims.5)
       (subst (λ os. ComesHere (Puts os next (outcome.Written (frag_of_job job))) → AdvancesHere (Puts os next (outcome.Written (frag_of_job job)))) (sym aims.6)
       (write_puts laws aims.0 aims.1 aims.2 aims.3 aims.4 aims.7 aims.8 aims.9 next)) c
+  puts_steps objects next (outcome.Deleted f) laws c =
+      let aims = (c.claims).aims in
+      subst (λ g. ComesHere (Puts objects next (outcome.Deleted g)) → AdvancesHere (Puts objects next (outcome.Deleted g))) (sym aims.5)
+      (subst (λ os. ComesHere (Puts os next (outcome.Deleted (frag_of_job job))) → AdvancesHere (Puts os next (outcome.Deleted (frag_of_job job)))) (sym aims.6)
+      (first_only (delete_object_of job aims.3) (outcome.Deleted (frag_of_job job)) (delete_puts aims.0 aims.1 aims.2 aims.3 aims.4 aims.7 aims.8 aims.9) next)) c
   puts_steps objects next _ laws c = absurd (c.claims).aims
 
--- ---- what an evolve and a write come to, once they have the frame
+-- ---- what an evolve, a write and a delete come to, once they have the frame
 
 module _ {F : Type 0} (forms : Forms F) (spelled : Spelled) (tracks : Tracking F) (past : History) (jobs : List Job) (seen : List Told) (m : Held) (number : ℕ) (job : Job) where
   -- an evolve puts its schema, or it is refused for it
-  pub works_evolve : (change : Evolution) (near : List FragKey) (frame : Frame) (there : Schema) → FormsLaws forms spelled tracks → IsFit job → AreApart jobs
+  pub works_evolve : (change : Evolution) (listed : Listed) (frame : Frame) (there : Schema) → FormsLaws forms spelled tracks → IsFit job → AreApart jobs
       → Clean m (history_told jobs past seen) job
       → Works past jobs seen number job there → frame_in (history_told jobs past seen) ≡ Some frame → IsHistory (history_told jobs past seen) → job.command ≡ Evolve change
-      → Claims forms spelled tracks past jobs seen m number job (comes_to forms job job.command near frame there)
-  works_evolve change near frame there laws fit apart clean at framed is evolves =
-      subst (λ c. Claims forms spelled tracks past jobs seen m number job (comes_to forms job c near frame there)) (sym evolves) (from (evolution_fault frame.domain there.attrs change) refl)
+      → Claims forms spelled tracks past jobs seen m number job (comes_to forms job job.command listed frame there)
+  works_evolve change listed frame there laws fit apart clean at framed is evolves =
+      subst (λ c. Claims forms spelled tracks past jobs seen m number job (comes_to forms job c listed frame there)) (sym evolves) (from (evolution_fault frame.domain there.attrs change) refl)
     where
       from : (o : Option SchemaFault) → evolution_fault frame.domain there.attrs change ≡ o
           → Claims forms spelled tracks past jobs seen m number job
@@ -485,11 +571,11 @@ module _ {F : Type 0} (forms : Forms F) (spelled : Spelled) (tracks : Tracking F
       from (Some fault) sound = clean.undone
 
   -- a write puts its parts, or it is refused for its columns
-  pub works_write : (w : WriteIn) (near : List FragKey) (frame : Frame) (there : Schema) → FormsLaws forms spelled tracks → IsFit job → AreApart jobs → Clean m (history_told jobs past seen) job
+  pub works_write : (w : WriteIn) (listed : Listed) (frame : Frame) (there : Schema) → FormsLaws forms spelled tracks → IsFit job → AreApart jobs → Clean m (history_told jobs past seen) job
       → Works past jobs seen number job there → frame_in (history_told jobs past seen) ≡ Some frame → IsHistory (history_told jobs past seen) → job.command ≡ Write w
-      → Claims forms spelled tracks past jobs seen m number job (comes_to forms job job.command near frame there)
-  works_write w near frame there laws fit apart clean at framed is writes_them =
-      subst (λ c. Claims forms spelled tracks past jobs seen m number job (comes_to forms job c near frame there)) (sym writes_them)
+      → Claims forms spelled tracks past jobs seen m number job (comes_to forms job job.command listed frame there)
+  works_write w listed frame there laws fit apart clean at framed is writes_them =
+      subst (λ c. Claims forms spelled tracks past jobs seen m number job (comes_to forms job c listed frame there)) (sym writes_them)
       (from (laid frame.domain there.attrs w.cols) refl (laid_fails frame.domain there.attrs w.cols))
     where
       from : (laying : Result (List Cell) Refusal) → laid frame.domain there.attrs w.cols ≡ laying → FailsByColumns laying
@@ -503,3 +589,17 @@ module _ {F : Type 0} (forms : Forms F) (spelled : Spelled) (tracks : Tracking F
           (begins_putting forms past jobs seen m number job (write_objects forms frame there job cells) (outcome.Written (frag_of_job job)) clean (write_carries (frag_of_job job) parts) some
           (w, frame, there, cells, writes_them, refl, refl, framed, lays, at))
       from (Err r) lays fails = columns_true (history_told jobs past seen) job r fails clean.undone
+
+  -- a delete puts its condition, or it is refused
+  pub works_delete : (text : List ℕ) (listed : Listed) (frame : Frame) (there : Schema) → FormsLaws forms spelled tracks → IsFit job → AreApart jobs → Clean m (history_told jobs past seen) job
+      → Works past jobs seen number job there → frame_in (history_told jobs past seen) ≡ Some frame → IsHistory (history_told jobs past seen) → job.command ≡ Delete text
+      → Claims forms spelled tracks past jobs seen m number job (comes_to forms job job.command listed frame there)
+  works_delete text listed frame there laws fit apart clean at framed is deletes =
+      subst (λ c. Claims forms spelled tracks past jobs seen m number job (comes_to forms job c listed frame there)) (sym deletes)
+      (from (erasing_in frame there.attrs text) refl (erasing_fails frame there.attrs text))
+    where
+      from : (found : Result Condition Refusal) → erasing_in frame there.attrs text ≡ found → FailsByQuery found → Claims forms spelled tracks past jobs seen m number job (puts_delete job found)
+      from (Ok condition) says fails =
+          begins_putting forms past jobs seen m number job (delete_object_of job condition ∷ []) (outcome.Deleted (frag_of_job job)) clean (delete_carries job condition) (omega arith)
+          (text, frame, there, condition, deletes, refl, refl, framed, says, at)
+      from (Err r) says fails = query_true (history_told jobs past seen) job r fails clean.undone

@@ -1,6 +1,6 @@
 -- The gets of a job that lists the schemas: the schema there, the frame, and what a read gets before it fetches.
 use Rattle.std.proofs.Common.{◌≡◌, ℕ, ◌-◌, ◌^◌, ◌≤◌, true, false, cond, inl, inr, List, [], ◌∷◌, ◌++◌, Option, Some, None, Ok, Result, length, take, refl, sym, ◌∙◌, ap, subst, arith}
-use Rattle.std.specs.Prelude.{Contains, option_map, filter, not, nat_lt, slice_get, map as list_map}
+use Rattle.std.specs.Prelude.{Contains, Err, option_map, filter, not, nat_lt, slice_get, map as list_map}
 use Rattle.std.specs.FinMap as map
 use Rattle.std.specs.Option.{is_some}
 use Rattle.std.proofs.lemmas.Bool.{true≢false, cond_both, ltb-false}
@@ -16,12 +16,13 @@ use Rattle.ts_base.specs.declared.names.Name.TheVariants as name
 use Rattle.ts_base.specs.declared.names.Place.TheVariants as place
 use Rattle.ts_base.specs.declared.names.Prefix.{Prefix}
 use Rattle.ts_base.specs.declared.heads.Head.{Head}
-use Rattle.ts_base.specs.Keys.{key_eq, key_cmp}
+use Rattle.ts_base.specs.Keys.{frag_of, key_eq, key_cmp}
 use Rattle.ts_base.specs.Held.{Held}
 use Rattle.ts_base.specs.Exact.{key_total}
 use Rattle.ts_store.specs.declared.call.Call.{Call}
 use Rattle.ts_store.specs.declared.call.Reply.{Reply}
 use Rattle.ts_store.specs.declared.call.Reply.TheVariants as reply
+use Rattle.ts_cond.specs.declared.query.Query.{Query}
 use Rattle.ts_schema.specs.declared.frames.Frame.{Frame}
 use Rattle.ts_schema.specs.declared.schemas.Schema.{Schema}
 use Rattle.ts_schema.specs.declared.attrs.Attr.{Attr}
@@ -30,20 +31,24 @@ use Rattle.ts_schema.specs.SchemaTexts.{schema_object, schema_of}
 use Rattle.ts_schema.specs.Parts.{IsShort}
 use Rattle.ts_model.specs.declared.answers.Refusal.TheVariants as refusal
 use Rattle.ts_model.specs.declared.commands.Command.{Command}
-use Rattle.ts_model.specs.declared.commands.Command.TheVariants.{Create, Evolve, Write, Read}
+use Rattle.ts_model.specs.declared.commands.Command.TheVariants.{Create, Delete, Evolve, Write, Read}
 use Rattle.ts_model.specs.declared.commands.Job.{Job}
+use Rattle.ts_model.specs.declared.answers.Refusal.{Refusal}
+use Rattle.ts_model.specs.declared.queries.Ready.{Ready}
+use Rattle.ts_model.specs.declared.states.Listed.{Listed}
 use Rattle.ts_model.specs.declared.states.State.{State}
-use Rattle.ts_model.specs.declared.states.State.TheVariants.{GetsSchema, GetsFrame, GetsHeads, GetsSchemas}
+use Rattle.ts_model.specs.declared.states.State.TheVariants.{GetsSchema, GetsFrame, GetsHeads, GetsSchemas, GetsDeletes}
 use Rattle.ts_model.specs.declared.states.Opened.{Opened}
 use Rattle.ts_model.specs.declared.states.Reading.{Reading}
 use Rattle.ts_model.specs.Deeds.{History, IsHistory, frame_in, schema_with}
 use Rattle.ts_model.specs.Forms.{Forms, FormsLaws, Spelled, Tracking}
 use Rattle.ts_model.specs.Jobs.{looked_at, IsFit, AreApart}
 use Rattle.ts_model.specs.Stands.{HoldsOne, Stands}
-use Rattle.ts_model.specs.States.{list_schemas, get_all, get_frame, get_head, get_schema, on_bytes, on_read, keys_named, fetching, gathering, opening, works, after_head, after_schema, with_item}
+use Rattle.ts_model.specs.States.{list_schemas, get_all, get_frame, get_head, get_schema, on_bytes, on_read, keys_named, fetching, erasing, gathering, opening, reading_of, asks_for, works, after_head, after_schema, with_item}
 use Rattle.ts_model.specs.Told.{Told, after_told, IsReplied, history_told}
 use Rattle.ts_model.specs.Ends.{IsTrueRefusal, IsUndone, ListedAt}
-use Rattle.ts_model.specs.Kept.{Clean, Works, HasListed, IsOpen, Opening, Gathering, Claims}
+use Rattle.ts_model.specs.Kept.{AreErasures, Clean, Works, HasListed, ReadsAt, IsOpen, Opening, Gathering, Erasing, Claims}
+use Rattle.ts_model.specs.Queries.{ready_in}
 use Rattle.ts_model.specs.Steps.{Advances, Comes}
 use Rattle.ts_model.proofs.ListLemmas.{Contains-nil, Contains-here, Contains-there, filter-Contains, Contains-slice_get, take_next}
 use Rattle.ts_model.proofs.KeyLemmas.{key_same}
@@ -51,7 +56,8 @@ use Rattle.ts_model.proofs.HistoryLaws.{IsHistory-front, frame_facts, framed_by_
 use Rattle.ts_model.proofs.Traces.{history_told_grows}
 use Rattle.ts_model.proofs.Declaring.{frame_again, attrs_again}
 use Rattle.ts_model.proofs.Effects.{got}
-use Rattle.ts_model.proofs.PutSteps.{works_evolve, works_write}
+use Rattle.ts_model.proofs.PutSteps.{works_delete, works_evolve, works_write}
+use Rattle.ts_model.proofs.QueryRefusals.{FailsByQuery, query_true, ready_fails}
 use Rattle.ts_model.proofs.Fetches.{got_none}
 use Rattle.ts_model.proofs.FetchSteps.{fetching_claims}
 use Rattle.ts_model.proofs.ListSteps.{looked}
@@ -85,13 +91,13 @@ as_many : {X Y : Type 0} (f : X → Y) (xs : List X) (ys : List Y) → list_map 
 as_many f xs ys are enough = sym (length-map xs f) ∙ ap length (are ∙ take_all (length xs) ys enough)
 
 -- one item more where the first so many of all are they
-push_next : {X Y : Type 0} (f : X → Y) (xs : List X) (x : X) (ys : List Y) → list_map f xs ≡ take (length xs) ys → slice_get ys (length xs) ≡ Some (f x)
+pub push_next : {X Y : Type 0} (f : X → Y) (xs : List X) (x : X) (ys : List Y) → list_map f xs ≡ take (length xs) ys → slice_get ys (length xs) ≡ Some (f x)
     → list_map f (xs ++ x ∷ []) ≡ take (length (xs ++ x ∷ [])) ys
 push_next f xs x ys are next =
     map-append f xs (x ∷ []) ∙ ap (λ zs. zs ++ f x ∷ []) are ∙ sym (take_next ys (length xs) (f x) next) ∙ ap (λ n. take n ys) (sym (length_push xs x))
 
 -- what a job asks for next is at its place
-asked_of : {A : Type 0} (ask : A → Call) (o : Option A) (c : Call) → option_map ask o ≡ Some c → (x : A) × (o ≡ Some x) × (c ≡ ask x)
+pub asked_of : {A : Type 0} (ask : A → Call) (o : Option A) (c : Call) → option_map ask o ≡ Some c → (x : A) × (o ≡ Some x) × (c ≡ ask x)
 asked_of ask None c is = absurd (none-some c is)
 asked_of ask (Some x) c is = (x, refl, sym (same_Some (ask x) c is))
 
@@ -126,29 +132,43 @@ module _ {F : Type 0} (forms : Forms F) (spelled : Spelled) (tracks : Tracking F
       let then = history_at work.schemas is in
       framed_by_schema (history_told jobs past (work.schemas).before) there.key there then (there_is_with (history_told jobs past (work.schemas).before) (looked_at job) there then work.holds)
 
-  -- a read gets the next further schema, or begins to fetch
-  gathering_claims : FormsLaws forms spelled tracks → Clean m now job → IsHistory now → (r : Reading) (opened : List Opened) (schemas : List Schema)
-      → Gathering forms spelled past jobs seen m number job r opened schemas → Claimed (gathering forms r opened (keys_named r opened) schemas)
-  gathering_claims laws clean is r opened schemas gathers =
-      elim (nat_lt (length schemas) (length (keys_named r opened))) as (λ b. nat_lt (length schemas) (length (keys_named r opened)) ≡ b
-      → Claimed (cond b (GetsSchemas r opened (keys_named r opened) schemas) (fetching forms r opened schemas 0 opened []))) [
-        | true ↦ λ _. (clean, refl, gathers)
+  -- a read gets the next delete, or begins to fetch
+  pub erasing_claims : FormsLaws forms spelled tracks → Clean m now job → IsHistory now → (r : Reading) (opened : List Opened) (schemas : List Schema)
+      → Erasing forms spelled past jobs seen m number job r opened schemas → Claimed (erasing forms r opened schemas)
+  erasing_claims laws clean is r opened schemas erases =
+      elim (nat_lt (length r.erased) (length r.deletes)) as (λ b. nat_lt (length r.erased) (length r.deletes) ≡ b
+      → Claimed (cond b (GetsDeletes r opened schemas) (fetching forms r opened schemas 0 opened []))) [
+        | true ↦ λ _. (clean, erases)
         | false ↦ λ end. fetching_claims forms spelled tracks past jobs seen m number job r opened schemas 0 [] laws clean
             (record {
-              gathers = gathers;
-              all_schemas = as_many (λ s. s.key) schemas (keys_named r opened) gathers.gathered.keys_are (ltb-false (length schemas) (length (keys_named r opened)) end);
-              found = got_none (history_told jobs past (((((gathers.opens).reads).at).listed).commits).before) r.from r.to;
+              erasing = erases;
+              all_deletes = as_many (λ x. frag_of x.key) r.erased r.deletes erases.erases.names_are (ltb-false (length r.erased) (length r.deletes) end);
+              found = got_none (history_told jobs past ((((((erases.gathers).opens).reads).at).listed).commits).before) r.from r.to (r.ready).sub;
             })
-            (history_at (((gathers.opens.reads).at).listed).commits is) is
+            (history_at ((((erases.gathers).opens.reads).at).listed).commits is) is
+      ] refl
+
+  -- a read gets the next further schema, or goes on to the deletes, of which it has none
+  gathering_claims : FormsLaws forms spelled tracks → Clean m now job → IsHistory now → (r : Reading) (opened : List Opened) (schemas : List Schema) → r.erased ≡ []
+      → Gathering forms spelled past jobs seen m number job r opened schemas → Claimed (gathering forms r opened (keys_named r opened) schemas)
+  gathering_claims laws clean is r opened schemas none gathers =
+      elim (nat_lt (length schemas) (length (keys_named r opened))) as (λ b. nat_lt (length schemas) (length (keys_named r opened)) ≡ b
+      → Claimed (cond b (GetsSchemas r opened (keys_named r opened) schemas) (erasing forms r opened schemas))) [
+        | true ↦ λ _. (clean, refl, gathers, none)
+        | false ↦ λ end. erasing_claims laws clean is r opened schemas (record {
+          gathers = gathers;
+          all_schemas = as_many (λ s. s.key) schemas (keys_named r opened) gathers.gathered.keys_are (ltb-false (length schemas) (length (keys_named r opened)) end);
+          erases = subst (AreErasures now r.deletes) (sym none) (record { names_are = refl; each = λ x at. absurd (Contains-nil x at) });
+        })
       ] refl
 
   -- a read opens the next fragment, or goes on once all are open
-  opening_claims : FormsLaws forms spelled tracks → Clean m now job → IsHistory now → (r : Reading) (opened : List Opened)
+  opening_claims : FormsLaws forms spelled tracks → Clean m now job → IsHistory now → (r : Reading) (opened : List Opened) → r.erased ≡ []
       → Opening forms spelled past jobs seen m number job r opened → Claimed (opening forms r opened)
-  opening_claims laws clean is r opened opens =
+  opening_claims laws clean is r opened none opens =
       elim (nat_lt (length opened) (length r.near)) as (λ b. nat_lt (length opened) (length r.near) ≡ b → Claimed (cond b (GetsHeads r opened) (gathering forms r opened (keys_named r opened) []))) [
-        | true ↦ λ _. (clean, opens)
-        | false ↦ λ end. gathering_claims laws clean is r opened [] (record {
+        | true ↦ λ _. (clean, opens, none)
+        | false ↦ λ end. gathering_claims laws clean is r opened [] none (record {
           opens = opens;
           all = as_many (λ o. o.frag) opened r.near opens.are_open.frags (ltb-false (length opened) (length r.near) end);
           gathered = record { keys_are = refl; each = λ s at. absurd (Contains-nil s at) };
@@ -191,7 +211,7 @@ module _ {F : Type 0} (forms : Forms F) (spelled : Spelled) (tracks : Tracking F
   bytes_lead n on _ found held fault = tt
 
   -- a get of all of a short object that is held leads on with its bytes
-  whole_lead : (n : Name) (object : List ℕ) (on : List ℕ → State F) → e.call ≡ get_all n → IsReplied m e → map.get m n ≡ Some object → IsShort object
+  pub whole_lead : (n : Name) (object : List ℕ) (on : List ℕ → State F) → e.call ≡ get_all n → IsReplied m e → map.get m n ≡ Some object → IsShort object
       → IsTrueRefusal h' job (refusal.StoreFault (place.Name n)) → Led (on object) → Led (on_bytes (get_all n) on e.reply)
   whole_lead n object on is replied held short fault goes_on =
       let tells = got m e n 0 (2 ^ 64 - 1) is replied in
@@ -204,18 +224,19 @@ module _ {F : Type 0} (forms : Forms F) (spelled : Spelled) (tracks : Tracking F
       fault
 
   -- what an object spells leads on
-  read_lead : {A : Type 0} (n : Name) (on : A → State F) (x : A) (o : Result A ℕ) → o ≡ Ok x → Led (on x) → Led (on_read n on o)
+  pub read_lead : {A : Type 0} (n : Name) (on : A → State F) (x : A) (o : Result A ℕ) → o ≡ Ok x → Led (on x) → Led (on_read n on o)
   read_lead n on x o is goes_on = subst (λ o. Led (on_read n on o)) (sym is) goes_on
 
   -- what a job listed before tells that its schema is a deed
-  works_of : (c : Command) (near : List FragKey) (s : Schema) → HasListed spelled past jobs seen m number job c near s → Works past jobs seen number job s
-  works_of (Create f) near s is = absurd is
-  works_of (Evolve change) near s is = is
-  works_of (Write w) near s is = is
-  works_of (Read from to) near s is = is.works
+  works_of : (c : Command) (listing : Listed) (s : Schema) → HasListed spelled past jobs seen m number job c listing s → Works past jobs seen number job s
+  works_of (Create f) listing s is = absurd is
+  works_of (Evolve change) listing s is = is
+  works_of (Write w) listing s is = is
+  works_of (Read from to query) listing s is = is.works
+  works_of (Delete text) listing s is = is
 
   -- a get is no listing
-  no_listing : (n : Name) → e.call ≡ get_all n → e.job ≡ Some number → e.call ≡ list_schemas → ⊥
+  pub no_listing : (n : Name) → e.call ≡ get_all n → e.job ≡ Some number → e.call ≡ list_schemas → ⊥
   no_listing n is own lists = get_lists (sym is ∙ lists)
     where
       get_lists : get_all n ≡ list_schemas → ⊥
@@ -233,67 +254,72 @@ module _ {F : Type 0} (forms : Forms F) (spelled : Spelled) (tracks : Tracking F
       (read_lead (name.Schema k) on s.attrs (schema_of (schema_object s.attrs)) (attrs_again s.attrs (schema_facts h k s stands.history declared).0 short) goes_on)
 
   -- the get of the schema there leads a job to the get of the frame
-  pub schema_steps : FormsLaws forms spelled tracks → (near : List FragKey) (there : Key) → ComesHere (GetsSchema near there) → AdvancesHere (GetsSchema near there)
-  schema_steps laws near there comes =
+  pub schema_steps : FormsLaws forms spelled tracks → (listing : Listed) (there : Key) → ComesHere (GetsSchema listing there) → AdvancesHere (GetsSchema listing there)
+  schema_steps laws listing there comes =
       let is : e.call ≡ get_schema there = sym (same_Some (get_schema there) e.call comes.asked) in
       let look = looked spelled past jobs seen e m job (get_schema there) is tt comes.stands comes.replied comes.claims.0 in
       let s = comes.claims.1.0 in
       let same : s.key ≡ there = comes.claims.1.1 in
-      let declared : schema_with h there ≡ Some s = subst (λ k. schema_with h k ≡ Some s) same (works_of job.command near s comes.claims.1.2).declared in
+      let declared : schema_with h there ≡ Some s = subst (λ k. schema_with h k ≡ Some s) same (works_of job.command listing s comes.claims.1.2).declared in
       record {
         leads = look.leads;
-        own = schema_lead comes.stands there s (λ attrs. GetsFrame near (record { key = there; attrs = attrs })) declared is comes.replied look.clean.undone
-            (subst (λ k. Led (GetsFrame near (record { key = k; attrs = s.attrs }))) same
-            (look.clean, has_listed_stays spelled past jobs seen e m m' job.id look.leads.leaves number job job.command near s (no_listing (name.Schema there) is) comes.claims.1.2));
+        own = schema_lead comes.stands there s (λ attrs. GetsFrame listing (record { key = there; attrs = attrs })) declared is comes.replied look.clean.undone
+            (subst (λ k. Led (GetsFrame listing (record { key = k; attrs = s.attrs }))) same
+            (look.clean, has_listed_stays spelled past jobs seen e m m' job.id look.leads.leaves number job job.command listing s (no_listing (name.Schema there) is) comes.claims.1.2));
       }
 
   -- ---- the frame
 
+  -- a read opens its fragments, or it is refused for its query
+  asks_lead : FormsLaws forms spelled tracks → Clean m' h' job → IsHistory h' → (from to : ℕ) (query : Query) (listing : Listed) (frame : Frame) (there : Schema)
+      → (at : ReadsAt spelled past jobs (seen ++ e ∷ []) m' number job from to listing.near listing.deletes there) → frame_in (history_told jobs past ((at.works).schemas).before) ≡ Some frame
+      → job.command ≡ Read from to query → (o : Result Ready Refusal) → ready_in frame there.attrs query ≡ o → FailsByQuery o → Led (asks_for forms from to listing frame there o)
+  asks_lead laws clean is from to query listing frame there at framed command (Err r) asked fails = query_true h' job r fails clean.undone
+  asks_lead laws clean is from to query listing frame there at framed command (Ok ready) asked fails =
+      opening_claims forms spelled tracks past jobs (seen ++ e ∷ []) m' number job laws clean is (reading_of from to listing frame there ready) [] refl (record {
+        reads = record { query = query; reads = command; at = at; framed = framed; is_ready = asked };
+        are_open = record { frags = refl; each = λ o at. absurd (Contains-nil o at) };
+      })
+
   -- a job works in the schema there once it has the frame
   works_lead : FormsLaws forms spelled tracks → IsFit job → AreApart jobs → Clean m' h' job → IsHistory h' → (c : Command) → job.command ≡ c
-      → (near : List FragKey) (frame : Frame) (there : Schema)
-      → frame_in h' ≡ Some frame → HasListed spelled past jobs (seen ++ e ∷ []) m' number job c near there → Led (works forms job job.command near frame there)
-  works_lead laws fit apart clean is (Create f) command near frame there framed listed = absurd listed
-  works_lead laws fit apart clean is (Evolve change) command near frame there framed listed =
-      works_evolve forms spelled tracks past jobs (seen ++ e ∷ []) m' number job change near frame there laws fit apart clean listed framed is command
-  works_lead laws fit apart clean is (Write w) command near frame there framed listed =
-      works_write forms spelled tracks past jobs (seen ++ e ∷ []) m' number job w near frame there laws fit apart clean listed framed is command
-  works_lead laws fit apart clean is (Read from to) command near frame there framed listed =
+      → (listing : Listed) (frame : Frame) (there : Schema)
+      → frame_in h' ≡ Some frame → HasListed spelled past jobs (seen ++ e ∷ []) m' number job c listing there → Led (works forms job job.command listing frame there)
+  works_lead laws fit apart clean is (Create f) command listing frame there framed listed = absurd listed
+  works_lead laws fit apart clean is (Evolve change) command listing frame there framed listed =
+      works_evolve forms spelled tracks past jobs (seen ++ e ∷ []) m' number job change listing frame there laws fit apart clean listed framed is command
+  works_lead laws fit apart clean is (Write w) command listing frame there framed listed =
+      works_write forms spelled tracks past jobs (seen ++ e ∷ []) m' number job w listing frame there laws fit apart clean listed framed is command
+  works_lead laws fit apart clean is (Read from to query) command listing frame there framed listed =
       let then = framed_there forms spelled tracks past jobs (seen ++ e ∷ []) m' number job there listed.works is in
       let same : then.0 ≡ frame = same_Some then.0 frame
       (sym (frame_at forms spelled tracks past jobs (seen ++ e ∷ []) m' number job ((listed.works).schemas) then.0 then.1) ∙ framed) in
-      subst (λ c. Led (works forms job c near frame there)) (sym command)
-      (opening_claims forms spelled tracks past jobs (seen ++ e ∷ []) m' number job laws clean is
-      (record { from = from; to = to; frame = frame; there = there; near = near }) [] (record {
-        reads = record {
-          reads = command;
-          at = listed;
-          framed = then.1 ∙ ap Some same;
-        };
-        are_open = record { frags = refl; each = λ o at. absurd (Contains-nil o at) };
-      }))
+      subst (λ c. Led (works forms job c listing frame there)) (sym command)
+      (asks_lead laws clean is from to query listing frame there listed (then.1 ∙ ap Some same) command (ready_in frame there.attrs query) refl (ready_fails frame there.attrs query))
+  works_lead laws fit apart clean is (Delete text) command listing frame there framed listed =
+      works_delete forms spelled tracks past jobs (seen ++ e ∷ []) m' number job text listing frame there laws fit apart clean listed framed is command
 
   -- the get of the frame leads a job to its work in the schema there
-  pub framed_steps : FormsLaws forms spelled tracks → (near : List FragKey) (there : Schema) → ComesHere (GetsFrame near there) → AdvancesHere (GetsFrame near there)
-  framed_steps laws near there comes =
+  pub framed_steps : FormsLaws forms spelled tracks → (listing : Listed) (there : Schema) → ComesHere (GetsFrame listing there) → AdvancesHere (GetsFrame listing there)
+  framed_steps laws listing there comes =
       let is : e.call ≡ get_frame = sym (same_Some get_frame e.call comes.asked) in
       let look = looked spelled past jobs seen e m job get_frame is tt comes.stands comes.replied comes.claims.0 in
-      let framed = framed_by_schema h there.key there comes.stands.history (works_of job.command near there comes.claims.1).declared in
+      let framed = framed_by_schema h there.key there comes.stands.history (works_of job.command listing there comes.claims.1).declared in
       let held : map.get m name.Domain ≡ Some (frame_object framed.0) = comes.stands.frame ∙ ap (option_map frame_object) framed.1 in
       let short = comes.stands.short_frame (frame_object framed.0) held in
-      let on : Frame → State F = λ frame. works forms job job.command near frame there in
+      let on : Frame → State F = λ frame. works forms job job.command listing frame there in
       record {
         leads = look.leads;
         own = whole_lead name.Domain (frame_object framed.0) (λ bytes. on_read name.Domain on (frame_of bytes)) is comes.replied held short look.clean.undone
             (read_lead name.Domain on framed.0 (frame_of (frame_object framed.0)) (frame_again framed.0 (frame_facts h framed.0 comes.stands.history framed.1).0 short)
-            (works_lead laws comes.fit comes.apart look.clean look.history job.command refl near framed.0 there (ap frame_in look.same_history ∙ framed.1)
-            (has_listed_stays spelled past jobs seen e m m' job.id look.leads.leaves number job job.command near there (no_listing name.Domain is) comes.claims.1)));
+            (works_lead laws comes.fit comes.apart look.clean look.history job.command refl listing framed.0 there (ap frame_in look.same_history ∙ framed.1)
+            (has_listed_stays spelled past jobs seen e m m' job.id look.leads.leaves number job job.command listing there (no_listing name.Domain is) comes.claims.1)));
       }
 
   -- ---- the heads
 
   module _ (laws : FormsLaws forms spelled tracks) (r : Reading) (opened : List Opened) (f : FragKey) (next : slice_get r.near (length opened) ≡ Some f)
-      (opens : Opening forms spelled past jobs (seen ++ e ∷ []) m' number job r opened) where
+      (opens : Opening forms spelled past jobs (seen ++ e ∷ []) m' number job r opened) (none : r.erased ≡ []) where
     -- the history at the listing of the commits
     abbrev g : History
     g = history_told jobs past (((opens.reads.at).listed).commits).before
@@ -346,7 +372,7 @@ module _ {F : Type 0} (forms : Forms F) (spelled : Spelled) (tracks : Tracking F
         (ap (λ n. map.get n (name.Part f (forms.head_part r.frame))) (sym same_held) ∙ one.spells.held (forms.head_part r.frame) found.0 at_part)
         (one.spells.short (forms.head_part r.frame) found.0 at_part) clean.undone
         (read_lead (name.Part f (forms.head_part r.frame)) on (one.piece).head (forms.head r.frame f found.0) read
-        (opening_claims forms spelled tracks past jobs (seen ++ e ∷ []) m' number job laws clean history r (opened ++ more ∷ []) opened_more))
+        (opening_claims forms spelled tracks past jobs (seen ++ e ∷ []) m' number job laws clean history r (opened ++ more ∷ []) none opened_more))
 
   -- the get of a head leads a read to the next one, or on
   pub heads_steps : FormsLaws forms spelled tracks → (r : Reading) (opened : List Opened) → ComesHere (GetsHeads r opened) → AdvancesHere (GetsHeads r opened)
@@ -358,7 +384,7 @@ module _ {F : Type 0} (forms : Forms F) (spelled : Spelled) (tracks : Tracking F
       record {
         leads = look.leads;
         own = subst (λ o. Led (with_item (λ f. on_bytes (get_head forms r f) (after_head forms r opened f) e.reply) o)) (sym next.1)
-            (head_lead laws r opened next.0 next.1 opens next.2 comes.replied look.same_held look.clean look.history);
+            (head_lead laws r opened next.0 next.1 opens comes.claims.2 next.2 comes.replied look.same_held look.clean look.history);
       }
 
   -- ---- the further schemas
@@ -395,7 +421,7 @@ module _ {F : Type 0} (forms : Forms F) (spelled : Spelled) (tracks : Tracking F
             (schema_lead comes.stands k s (λ attrs. gathering forms r opened named (schemas ++ record { key = k; attrs = attrs } ∷ [])) declared.1 next.2 comes.replied look.clean.undone
             (subst (λ l. Led (gathering forms r opened named (schemas ++ record { key = l; attrs = s.attrs } ∷ []))) keyed
             (subst (λ ks. Led (gathering forms r opened ks (schemas ++ s ∷ []))) (sym comes.claims.1)
-            (gathering_claims forms spelled tracks past jobs (seen ++ e ∷ []) m' number job laws look.clean look.history r opened (schemas ++ s ∷ []) (record {
+            (gathering_claims forms spelled tracks past jobs (seen ++ e ∷ []) m' number job laws look.clean look.history r opened (schemas ++ s ∷ []) comes.claims.3 (record {
               opens = gathers.opens;
               all = gathers.all;
               gathered = record {

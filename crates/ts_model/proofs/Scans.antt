@@ -1,6 +1,6 @@
 -- Scans of a history: one more deed or cell is looked at, and at the end all of them were.
 use Rattle.std.proofs.Common.{◌≡◌, ℕ, ℤ, Bool, true, false, cond, ◌&&◌, ◌⊎◌, inl, inr, List, [], ◌∷◌, ◌++◌, Option, Some, None, refl, sym, ◌∙◌, ap, subst, append_assoc, append-nil}
-use Rattle.std.specs.Prelude.{filter, nat_le}
+use Rattle.std.specs.Prelude.{filter, nat_le, Result, Ok, Err, IfOk}
 use Rattle.std.specs.Option.{is_some}
 use Rattle.std.specs.Ordering.{int_cmp}
 use Rattle.std.specs.Cmp.Lexicographic.{slice_cmp}
@@ -15,13 +15,17 @@ use Rattle.ts_base.specs.Keys.{is_within, greater, greatest}
 use Rattle.ts_schema.specs.declared.schemas.Schema.{Schema}
 use Rattle.ts_model.specs.declared.deeds.Written.{Written}
 use Rattle.ts_model.specs.declared.deeds.Deed.{Deed}
-use Rattle.ts_model.specs.declared.deeds.Deed.TheVariants.{Framed, Declared, Wrote}
+use Rattle.ts_model.specs.declared.deeds.Deed.TheVariants.{Framed, Declared, Wrote, Erased}
 use Rattle.ts_model.specs.Deeds.{History, frame_in, write_in, writes, schema_in, schemas, schema_there, row_at, has_cell, last_write}
 use Rattle.ts_schema.specs.declared.frames.Frame.{Frame}
-use Rattle.ts_model.specs.declared.answers.Answer.{Answer}
-use Rattle.ts_model.specs.Answers.{Cells, shown_in, shown_at, types_of, IsAnswer}
+use Rattle.ts_cond.specs.declared.query.Query.{Query}
+use Rattle.ts_domain.specs.Boxes.{is_in_box}
+use Rattle.ts_model.specs.declared.answers.Outcome.{Outcome}
+use Rattle.ts_model.specs.declared.answers.Outcome.TheVariants as outcome
+use Rattle.ts_model.specs.declared.queries.Ready.{Ready}
+use Rattle.ts_model.specs.Answers.{Cells, shown_in, shown_inside}
 use Rattle.std.specs.Option.{option_and_then}
-use Rattle.ts_model.specs.Scans.{with_shown, cells_of_deed, cells_of_deeds, Shows, AreShown, AreRows}
+use Rattle.ts_model.specs.Scans.{with_shown, cells_of_deed, cells_of_deeds, Shows, AreInside, IsAsked, IsReferred}
 use Rattle.ts_model.proofs.Newest.{greater_assoc, coords_total, coords_same, coords_tie}
 
 -- ---- the greatest of two lists
@@ -115,6 +119,7 @@ no_writes : (h : History) (a b : ℕ) (c : List ℤ) → row_at c (cells_of_deed
 no_writes [] a b c is = refl
 no_writes (Framed frame ∷ h) a b c is = no_writes h a b c is
 no_writes (Declared s ∷ h) a b c is = no_writes h a b c is
+no_writes (Erased e ∷ h) a b c is = no_writes h a b c is
 no_writes (Wrote w ∷ h) a b c is =
     let p : Written → Bool = λ v. is_within a b v.key && has_cell c v in
     let no_cell : has_cell c w ≡ false = ap is_some (absent_left c w.cells (cells_of_deeds h) is) in
@@ -125,16 +130,45 @@ no_writes (Wrote w ∷ h) a b c is =
     neither true = refl
     neither false = refl
 
--- once all deeds were looked at the map has what is shown at each coordinate
-pub all_shown : (h : History) (there : Schema) (a b : ℕ) (m : Cells) → Shows (shown_at h there a b) m (cells_of_deeds h) → AreShown (shown_at h there a b) m
-all_shown h there a b m shows c = by_case (shows c)
+-- once all deeds were looked at the map has what is shown at each coordinate of the box
+pub all_shown : (h : History) (there : Schema) (ready : Ready) (a b : ℕ) (m : Cells) → Shows (shown_inside h there ready a b) m (cells_of_deeds h) → AreInside h there ready a b m
+all_shown h there ready a b m shows c = by_case (shows c)
   where
-    by_case : (map.get m c ≡ shown_at h there a b c) ⊎ ((map.get m c ≡ None) × (row_at c (cells_of_deeds h) ≡ None)) → map.get m c ≡ shown_at h there a b c
-    by_case (inl same) = same
-    by_case (inr none) = none.0 ∙ sym (ap (λ ws. option_and_then (shown_in h there c) (greatest (λ w. w.key) ws)) (no_writes h a b c none.1))
+    nothing : (t : Bool) (o : Option (List Val)) → cond t o o ≡ o
+    nothing true o = refl
+    nothing false o = refl
 
--- the rows with the types of the frame and of the schema there are an answer
-pub is_answer : (h later : History) (frame : Frame) (there : Schema) (a b : ℕ) (answer : Answer) → frame_in later ≡ Some frame → schema_there later b ≡ Some there
-    → answer.types ≡ types_of frame.domain there.attrs → AreRows h there a b answer.rows → IsAnswer h later a b answer
-is_answer h later frame there a b answer framed holds types rows =
-    record { frame = frame; framed = framed; there = there; holds = holds; cells = rows.cells; each = rows.each; rows = rows.same; types = types }
+    by_case : (map.get m c ≡ shown_inside h there ready a b c) ⊎ ((map.get m c ≡ None) × (row_at c (cells_of_deeds h) ≡ None)) → map.get m c ≡ shown_inside h there ready a b c
+    by_case (inl same) = same
+    by_case (inr none) =
+        none.0
+        ∙ sym (ap (λ ws. cond (is_in_box ready.sub c) (option_and_then (shown_in h there a b c) (greatest (λ w. w.key) ws)) None) (no_writes h a b c none.1) ∙ nothing (is_in_box ready.sub c) None)
+
+-- what is asked through the frame and the schema of the later history is referred
+pub referred : (seen later : History) (frame : Frame) (there : Schema) (a b : ℕ) (query : Query) (end : Outcome) → frame_in later ≡ Some frame → schema_there later b ≡ Some there
+    → IsAsked seen frame there a b query end → IsReferred seen later a b query end
+referred seen later frame there a b query (outcome.Read answer) framed holds asked =
+    record {
+      frame = frame;
+      framed = framed;
+      there = there;
+      holds = holds;
+      ready = asked.0;
+      is_ready = asked.1;
+      cells = asked.3.cells;
+      each = asked.3.each;
+      rows = asked.3.same;
+      types = asked.2;
+    }
+referred seen later frame there a b query (outcome.Refused r) framed holds asked = inr (frame, there, framed, holds, asked)
+referred seen later frame there a b query outcome.Created framed holds asked = absurd asked
+referred seen later frame there a b query (outcome.Evolved key) framed holds asked = absurd asked
+referred seen later frame there a b query (outcome.Written frag) framed holds asked = absurd asked
+referred seen later frame there a b query (outcome.Deleted frag) framed holds asked = absurd asked
+referred seen later frame there a b query outcome.OutOfMemory framed holds asked = absurd asked
+
+-- so it is where there may be want of memory
+pub referred_or : {E : Type 0} (seen later : History) (frame : Frame) (there : Schema) (a b : ℕ) (query : Query) (r : Result Outcome E) → frame_in later ≡ Some frame → schema_there later b ≡ Some there
+    → IfOk r (IsAsked seen frame there a b query) → IfOk r (IsReferred seen later a b query)
+referred_or seen later frame there a b query (Ok end) framed holds asked = referred seen later frame there a b query end framed holds asked
+referred_or seen later frame there a b query (Err e) framed holds asked = tt

@@ -15,6 +15,7 @@ use Rattle.ts_base.specs.declared.keys.Key.{Key}
 use Rattle.ts_base.specs.declared.names.Name.{Name}
 use Rattle.ts_base.specs.declared.names.Prefix.{Prefix}
 use Rattle.ts_base.specs.declared.names.Prefix.TheVariants.{Commits, Schemas}
+use Rattle.ts_cond.specs.Tests.{Condition}
 use Rattle.ts_domain.specs.Dims.{domain_fault}
 use Rattle.ts_domain.specs.declared.dims.DomainFault.{DomainFault}
 use Rattle.ts_model.proofs.HeldLemmas.{Holds-from_get}
@@ -22,30 +23,33 @@ use Rattle.ts_model.proofs.HistoryLaws.{keys-append, new_from_absent}
 use Rattle.ts_model.proofs.ListLemmas.{Contains-nil, Contains-only, filter_map-Contains, find-append, or_else, slice_get_push}
 use Rattle.ts_model.specs.Answers.{IsAnswer}
 use Rattle.ts_model.specs.Commands.{create_refusal, frame_made, laid}
-use Rattle.ts_model.specs.Deeds.{History, IsNewKey, frame_in, key_in, keys, schema_there, schema_with, writes}
+use Rattle.ts_model.specs.Deeds.{History, IsNewKey, erases, frame_in, key_in, keys, schema_there, schema_with, writes}
 use Rattle.ts_model.specs.Ends.{HasDeclared, IsCreated, IsTrueEnd, IsTrueRefusal, IsUndone, ListedAt}
 use Rattle.ts_model.specs.Forms.{Forms, Spelled, Tracking}
 use Rattle.ts_model.specs.Fresh.{IsCarried, IsNewId, id_in}
-use Rattle.ts_model.specs.Jobs.{AreApart, IsFit, job_with, key_of, looked_at, schema_of_job, written_as}
-use Rattle.ts_model.specs.Kept.{Aims, AreGot, AreOpen, AreSchemas, Claims, Clean, Fetching, Gathering, HasListed, HasNear, IsOfJobs, Kept, Near, OnWay, Opening, Putting, ReadsAt, ReadsIn, Works}
+use Rattle.ts_model.specs.Jobs.{AreApart, IsFit, erasure_as, job_with, key_of, looked_at, schema_of_job, written_as}
+use Rattle.ts_model.specs.Kept.{Aims, AreErasures, AreGot, AreOpen, AreSchemas, Claims, Clean, Erasing, Fetching, Gathering, HasListed, HasNear, IsOfJobs, Kept, Near, OnWay, Opening, Putting, ReadsAt, ReadsIn, Works}
 use Rattle.ts_model.specs.Stands.{HoldsOne, Stands}
 use Rattle.ts_model.specs.States.{begun, keys_named, made_by, state_of, unless_refused}
-use Rattle.ts_model.specs.Told.{Told, cells_of, declared_by, deed_in, deed_of, deed_told, grown, history_from, history_told, is_by, schema_used, schemas_found, trace_of, written_by, written_in}
+use Rattle.ts_model.specs.Told.{Told, cells_of, condition_of, declared_by, deed_in, deed_of, deed_told, erased_by, erased_in, grown, history_from, history_told, is_by, schema_used, schemas_found, trace_of, written_by, written_in}
 use Rattle.ts_model.specs.declared.answers.Outcome.{Outcome}
 use Rattle.ts_model.specs.declared.answers.Refusal.{Refusal}
 use Rattle.ts_model.specs.declared.commands.ColIn.{ColIn}
 use Rattle.ts_model.specs.declared.commands.Command.{Command}
-use Rattle.ts_model.specs.declared.commands.Command.TheVariants.{Create, Evolve, Read, Write}
+use Rattle.ts_model.specs.declared.commands.Command.TheVariants.{Create, Delete, Evolve, Read, Write}
 use Rattle.ts_model.specs.declared.commands.FrameIn.{FrameIn}
 use Rattle.ts_model.specs.declared.commands.Job.{Job}
 use Rattle.ts_model.specs.declared.deeds.Deed.{Deed}
-use Rattle.ts_model.specs.declared.deeds.Deed.TheVariants.{Declared, Framed, Wrote}
+use Rattle.ts_model.specs.declared.deeds.Deed.TheVariants.{Declared, Erased, Framed, Wrote}
+use Rattle.ts_model.specs.declared.deeds.Erasure.{Erasure}
 use Rattle.ts_model.specs.declared.deeds.Written.{Written}
+use Rattle.ts_model.specs.Queries.{erasing_in}
+use Rattle.ts_model.specs.declared.states.Listed.{Listed}
 use Rattle.ts_model.specs.declared.states.NewObject.{NewObject}
 use Rattle.ts_model.specs.declared.states.Opened.{Opened}
 use Rattle.ts_model.specs.declared.states.Reading.{Reading}
 use Rattle.ts_model.specs.declared.states.State.{State}
-use Rattle.ts_model.specs.declared.states.State.TheVariants.{ComparesFrame, Fetches, GetsFrame, GetsHeads, GetsSchema, GetsSchemas, ListsCommits, ListsDeclared, ListsSchemas, Over, Puts, PutsFrame}
+use Rattle.ts_model.specs.declared.states.State.TheVariants.{ComparesFrame, Fetches, GetsDeletes, GetsFrame, GetsHeads, GetsSchema, GetsSchemas, ListsCommits, ListsDeclared, ListsSchemas, Over, Puts, PutsFrame}
 use Rattle.ts_schema.specs.Evolutions.{evolved_attrs}
 use Rattle.ts_schema.specs.Faults.{schema_fault}
 use Rattle.ts_schema.specs.declared.faults.SchemaFault.{SchemaFault}
@@ -70,7 +74,8 @@ declared_key_is h job found (Evolve change) s is = of_used (schema_used h job fo
     of_used None e = absurd (none-some s e)
     of_used (Some t) e = ap (λ t. t.key) (sym (same_Some (schema_of_job job (evolved_attrs t.attrs change)) s e))
 declared_key_is h job found (Write w) s is = absurd (none-some s is)
-declared_key_is h job found (Read from to) s is = absurd (none-some s is)
+declared_key_is h job found (Read from to query) s is = absurd (none-some s is)
+declared_key_is h job found (Delete text) s is = absurd (none-some s is)
 
 -- what columns write has the key of the job
 written_in_key_is : (job : Job) (cols : List ColIn) (o : Option Schema) (q : Option Frame) (w : Written) → written_in job cols o q ≡ Some w → w.key ≡ key_of job
@@ -87,7 +92,26 @@ pub written_key_is : (h : History) (job : Job) (found : Option (List Key)) (c : 
 written_key_is h job found (Create f) w is = absurd (none-some w is)
 written_key_is h job found (Evolve change) w is = absurd (none-some w is)
 written_key_is h job found (Write v) w is = written_in_key_is job v.cols (schema_used h job found) (frame_in h) w is
-written_key_is h job found (Read from to) w is = absurd (none-some w is)
+written_key_is h job found (Read from to query) w is = absurd (none-some w is)
+written_key_is h job found (Delete text) w is = absurd (none-some w is)
+
+-- what a text erases has the key of the job
+erased_in_key_is : (job : Job) (text : List ℕ) (o : Option Schema) (q : Option Frame) (x : Erasure) → erased_in job text o q ≡ Some x → x.key ≡ key_of job
+erased_in_key_is job text None q x is = absurd (none-some x is)
+erased_in_key_is job text (Some s) None x is = absurd (none-some x is)
+erased_in_key_is job text (Some s) (Some frame) x is = of_condition (condition_of (erasing_in frame s.attrs text)) is
+  where
+    of_condition : (o : Option Condition) → option_map (erasure_as job) o ≡ Some x → x.key ≡ key_of job
+    of_condition None e = absurd (none-some x e)
+    of_condition (Some condition) e = ap (λ y. y.key) (sym (same_Some (erasure_as job condition) x e))
+
+-- what a job erases has its key
+erased_key_is : (h : History) (job : Job) (found : Option (List Key)) (c : Command) (x : Erasure) → erased_by h job found c ≡ Some x → x.key ≡ key_of job
+erased_key_is h job found (Create f) x is = absurd (none-some x is)
+erased_key_is h job found (Evolve change) x is = absurd (none-some x is)
+erased_key_is h job found (Write v) x is = absurd (none-some x is)
+erased_key_is h job found (Read from to query) x is = absurd (none-some x is)
+erased_key_is h job found (Delete text) x is = erased_in_key_is job text (schema_used h job found) (frame_in h) x is
 
 -- what is made of something that has a key
 made_key : {A : Type 0} (make : A → Deed) (key : A → Key) (o : Option A) (own : Key) → ((a : A) → key_in (make a) ≡ Some (key a)) → ((a : A) → o ≡ Some a → key a ≡ own)
@@ -107,6 +131,8 @@ deed_of_key h job found (name.Schema l) d k is has =
     made_key Declared (λ s. s.key) (declared_by h job found job.command) (key_of job) (λ s. refl) (λ s e. declared_key_is h job found job.command s e) d k is has
 deed_of_key h job found (name.Commit f kind.Wrt) d k is has =
     made_key Wrote (λ w. w.key) (written_by h job found job.command) (key_of job) (λ w. refl) (λ w e. written_key_is h job found job.command w e) d k is has
+deed_of_key h job found (name.Commit f kind.Del) d k is has =
+    made_key Erased (λ x. x.key) (erased_by h job found job.command) (key_of job) (λ x. refl) (λ x e. erased_key_is h job found job.command x e) d k is has
 deed_of_key h job found _ d k is has = absurd (none-some d is)
 
 -- the key of a deed of a job's call is the job's
@@ -199,7 +225,8 @@ module _ {F : Type 0} (forms : Forms F) (spelled : Spelled) (tracks : Tracking F
       (λ r e. domain_refusal f (domain_fault f.dims) r e) (λ r e. schema_refusal f (schema_fault f.dims f.attrs) r e)
   begun_claims (Evolve change) is = (clean, rw is tt)
   begun_claims (Write w) is = (clean, rw is tt)
-  begun_claims (Read from to) is = (clean, (from, to, is))
+  begun_claims (Read from to query) is = (clean, (from, to, query, is))
+  begun_claims (Delete text) is = (clean, rw is tt)
 
 -- ---- the start
 
@@ -307,43 +334,51 @@ module _ (jobs : List Job) (job : Job) where
     }
 
     -- what a read listed is the same among all
-    abbrev near_more : (from to : ℕ) (near : List FragKey) → Near spelled past jobs seen m number from to near → Near spelled past all seen m number from to near
-    near_more from to near is = record {
+    abbrev near_more : (from to : ℕ) (near deletes : List FragKey) → Near spelled past jobs seen m number from to near deletes → Near spelled past all seen m number from to near deletes
+    near_more from to near deletes is = record {
       commits = is.commits;
       whole = λ f at. subst (λ g. HoldsOne spelled g m f) (listed_more Commits is.commits) (is.whole f at);
       in_time = is.in_time;
       covered = λ w at within. is.covered w (subst (λ g. Contains (writes g) w) (sym (listed_more Commits is.commits)) at) within;
+      erased = λ f at. let found = is.erased f at in (found.0, subst (λ g. Contains (erases g) found.0) (listed_more Commits is.commits) found.1, found.2, found.3);
+      erasing = λ x at within. is.erasing x (subst (λ g. Contains (erases g) x) (sym (listed_more Commits is.commits)) at) within;
     }
 
     -- what a job listed before the schemas is the same among all
-    has_near_more : (command : Command) (near : List FragKey) → HasNear spelled past jobs seen m number command near → HasNear spelled past all seen m number command near
-    has_near_more (Create f) near is = is
-    has_near_more (Evolve change) near is = is
-    has_near_more (Write w) near is = is
-    has_near_more (Read from to) near is = near_more from to near is
+    has_near_more : (command : Command) (listed : Listed) → HasNear spelled past jobs seen m number command listed → HasNear spelled past all seen m number command listed
+    has_near_more (Create f) listed is = is
+    has_near_more (Evolve change) listed is = is
+    has_near_more (Write w) listed is = is
+    has_near_more (Read from to query) listed is = near_more from to listed.near listed.deletes is
+    has_near_more (Delete text) listed is = is
 
     -- what a read listed, and then the schemas, is the same among all
-    abbrev reads_at_more : (from to : ℕ) (near : List FragKey) (there : Schema) → ReadsAt spelled past jobs seen m number j from to near there → ReadsAt spelled past all seen m number j from to near there
-    reads_at_more from to near there is = record {
-      listed = near_more from to near is.listed;
+    abbrev reads_at_more : (from to : ℕ) (near deletes : List FragKey) (there : Schema)
+        → ReadsAt spelled past jobs seen m number j from to near deletes there → ReadsAt spelled past all seen m number j from to near deletes there
+    reads_at_more from to near deletes there is = record {
+      listed = near_more from to near deletes is.listed;
       works = works_more there is.works;
       between = is.between;
       order = is.order;
     }
 
     -- what a job listed before it gets the schema there is the same among all
-    has_listed_more : (command : Command) (near : List FragKey) (there : Schema) → HasListed spelled past jobs seen m number j command near there → HasListed spelled past all seen m number j command near there
-    has_listed_more (Create f) near there is = is
-    has_listed_more (Evolve change) near there is = works_more there is
-    has_listed_more (Write w) near there is = works_more there is
-    has_listed_more (Read from to) near there is = reads_at_more from to near there is
+    has_listed_more : (command : Command) (listed : Listed) (there : Schema)
+        → HasListed spelled past jobs seen m number j command listed there → HasListed spelled past all seen m number j command listed there
+    has_listed_more (Create f) listed there is = is
+    has_listed_more (Evolve change) listed there is = works_more there is
+    has_listed_more (Write w) listed there is = works_more there is
+    has_listed_more (Read from to query) listed there is = reads_at_more from to listed.near listed.deletes there is
+    has_listed_more (Delete text) listed there is = works_more there is
 
     -- what a read knows is the same among all
     abbrev reads_in_more : (r : Reading) → ReadsIn spelled past jobs seen m number j r → ReadsIn spelled past all seen m number j r
     reads_in_more r is = record {
+      query = is.query;
       reads = is.reads;
-      at = reads_at_more r.from r.to r.near r.there is.at;
+      at = reads_at_more r.from r.to r.near r.deletes r.there is.at;
       framed = subst (λ g. frame_in g ≡ Some r.frame) (listed_more Schemas ((is.at).works).schemas) is.framed;
+      is_ready = is.is_ready;
     }
 
     -- a read that opens is such among all
@@ -362,13 +397,22 @@ module _ (jobs : List Job) (job : Job) where
       gathered = subst (λ g. AreSchemas g (keys_named r opened) schemas) now is.gathered;
     }
 
+    -- a read that gets deletes is such among all
+    abbrev erasing_more : (r : Reading) (opened : List Opened) (schemas : List Schema)
+        → Erasing forms spelled past jobs seen m number j r opened schemas → Erasing forms spelled past all seen m number j r opened schemas
+    erasing_more r opened schemas is = record {
+      gathers = gathering_more r opened schemas is.gathers;
+      all_schemas = is.all_schemas;
+      erases = subst (λ g. AreErasures g r.deletes r.erased) now is.erases;
+    }
+
     -- a read that fetches is such among all
     abbrev fetching_more : (r : Reading) (opened : List Opened) (schemas : List Schema) (next : ℕ) (got : List Version)
         → Fetching forms spelled past jobs seen m number j r opened schemas next got → Fetching forms spelled past all seen m number j r opened schemas next got
     fetching_more r opened schemas next got is = record {
-      gathers = gathering_more r opened schemas is.gathers;
-      all_schemas = is.all_schemas;
-      found = subst (λ g. AreGot g r.from r.to (take next r.near) got) (listed_more Commits (((((is.gathers).opens).reads).at).listed).commits) is.found;
+      erasing = erasing_more r opened schemas is.erasing;
+      all_deletes = is.all_deletes;
+      found = subst (λ g. AreGot g r.from r.to (r.ready).sub (take next r.near) got) (listed_more Commits ((((((is.erasing).gathers).opens).reads).at).listed).commits) is.found;
     }
 
     -- what the last put of a job makes of it is the same among all
@@ -378,6 +422,8 @@ module _ (jobs : List Job) (job : Job) where
         (change, frame, there, evolves, same, is, framed_more frame framed, sound, works_more there works)
     aims_more objects (outcome.Written f) (w, frame, there, cells, writes_them, same, is, framed, lays, works) =
         (w, frame, there, cells, writes_them, same, is, framed_more frame framed, lays, works_more there works)
+    aims_more objects (outcome.Deleted f) (text, frame, there, condition, deletes, same, is, framed, says, works) =
+        (text, frame, there, condition, deletes, same, is, framed_more frame framed, says, works_more there works)
     aims_more objects (outcome.Read answer) is = is
     aims_more objects (outcome.Refused r) is = is
     aims_more objects outcome.OutOfMemory is = is
@@ -422,17 +468,33 @@ module _ (jobs : List Job) (job : Job) where
         written = subst (λ g. Contains (writes g) (written_as j (is.there).key is.cells)) now is.written;
       },
     )
-    end_more (outcome.Read answer) (from, to, reads, is) = (
+    end_more (outcome.Deleted f) (same, is) = (
+      same,
+      record {
+        text = is.text;
+        deletes = is.deletes;
+        schemas = is.schemas;
+        there = is.there;
+        holds = subst (λ g. schema_there g j.at ≡ Some is.there) (listed_more Schemas is.schemas) is.holds;
+        frame = is.frame;
+        framed = framed_more is.frame is.framed;
+        condition = is.condition;
+        says = is.says;
+        erased = subst (λ g. Contains (erases g) (erasure_as j is.condition)) now is.erased;
+      },
+    )
+    end_more (outcome.Read answer) (from, to, query, reads, is) = (
       from,
       to,
+      query,
       reads,
       record {
         commits = is.commits;
         schemas = is.schemas;
         between = is.between;
         order = is.order;
-        answers = subst (λ g. IsAnswer g (history_told all past (is.schemas).before) from to answer) (listed_more Commits is.commits)
-            (subst (λ g. IsAnswer (history_told jobs past (is.commits).before) g from to answer) (listed_more Schemas is.schemas) is.answers);
+        answers = subst (λ g. IsAnswer g (history_told all past (is.schemas).before) from to query answer) (listed_more Commits is.commits)
+            (subst (λ g. IsAnswer (history_told jobs past (is.commits).before) g from to query answer) (listed_more Schemas is.schemas) is.answers);
       },
     )
     end_more (outcome.Refused r) is = subst (λ g. IsTrueRefusal g j r) now is
@@ -445,17 +507,18 @@ module _ (jobs : List Job) (job : Job) where
     claims_more ListsDeclared is = (clean_more is.0, (is.1.0, is.1.1, is.1.2, framed_more (frame_made is.1.0) is.1.3))
     claims_more (Puts objects next end) is = putting_more objects next end is
     claims_more ListsCommits is = (clean_more is.0, is.1)
-    claims_more (ListsSchemas near) is = (clean_more is.0, has_near_more j.command near is.1)
-    claims_more (GetsSchema near there) is = (clean_more is.0, (is.1.0, is.1.1, has_listed_more j.command near is.1.0 is.1.2))
-    claims_more (GetsFrame near there) is = (clean_more is.0, has_listed_more j.command near there is.1)
-    claims_more (GetsHeads r opened) is = (clean_more is.0, opening_more r opened is.1)
-    claims_more (GetsSchemas r opened named schemas) is = (clean_more is.0, is.1, gathering_more r opened schemas is.2)
+    claims_more (ListsSchemas listed) is = (clean_more is.0, has_near_more j.command listed is.1)
+    claims_more (GetsSchema listed there) is = (clean_more is.0, (is.1.0, is.1.1, has_listed_more j.command listed is.1.0 is.1.2))
+    claims_more (GetsFrame listed there) is = (clean_more is.0, has_listed_more j.command listed there is.1)
+    claims_more (GetsHeads r opened) is = (clean_more is.0, opening_more r opened is.1, is.2)
+    claims_more (GetsSchemas r opened named schemas) is = (clean_more is.0, is.1, gathering_more r opened schemas is.2, is.3)
+    claims_more (GetsDeletes r opened schemas) is = (clean_more is.0, erasing_more r opened schemas is.1)
     claims_more (Fetches r opened schemas next frag got fetch c) is = (
       clean_more is.0,
       is.1,
       (
         fetching_more r opened schemas next got is.2.0,
-        subst (λ g. OnWay spelled tracks g m r frag fetch c) (listed_more Commits ((((((is.2.0).gathers).opens).reads).at).listed).commits) is.2.1,
+        subst (λ g. OnWay spelled tracks g m r frag fetch c) (listed_more Commits (((((((is.2.0).erasing).gathers).opens).reads).at).listed).commits) is.2.1,
       ),
     )
     claims_more (Over end) is = end_more end is

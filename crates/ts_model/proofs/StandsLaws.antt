@@ -14,8 +14,9 @@ use Rattle.ts_base.specs.declared.names.Name.{Name}
 use Rattle.ts_base.specs.declared.names.Name.TheVariants as name
 use Rattle.ts_base.specs.declared.names.Part.{Part}
 use Rattle.ts_base.specs.declared.heads.Piece.{Piece}
-use Rattle.ts_base.specs.Keys.{key_eq, frag_of}
-use Rattle.ts_base.specs.Names.{name_cmp, wrt_of}
+use Rattle.ts_base.specs.declared.names.CommitKind.TheVariants.{Del}
+use Rattle.ts_base.specs.Keys.{key_eq, frag_eq, frag_of}
+use Rattle.ts_base.specs.Names.{name_cmp, wrt_of, del_of}
 use Rattle.ts_base.specs.Held.{Held}
 use Rattle.ts_base.specs.Exact.{name_total, name_exact}
 use Rattle.ts_schema.specs.declared.frames.Frame.{Frame}
@@ -23,9 +24,11 @@ use Rattle.ts_schema.specs.declared.schemas.Schema.{Schema}
 use Rattle.ts_schema.specs.FrameTexts.{frame_object, IsFrame}
 use Rattle.ts_schema.specs.SchemaTexts.{schema_object}
 use Rattle.ts_schema.specs.Parts.{IsShort}
+use Rattle.ts_cond.specs.CondTexts.{cond_object}
 use Rattle.ts_model.specs.declared.deeds.Written.{Written}
-use Rattle.ts_model.specs.declared.deeds.Deed.TheVariants.{Framed, Declared, Wrote}
-use Rattle.ts_model.specs.Deeds.{History, schema_in, frame_in, schemas, writes, keys, schema_with, SchemaFollows, WriteFollows, IsHistory}
+use Rattle.ts_model.specs.declared.deeds.Erasure.{Erasure}
+use Rattle.ts_model.specs.declared.deeds.Deed.TheVariants.{Framed, Declared, Wrote, Erased}
+use Rattle.ts_model.specs.Deeds.{History, schema_in, erase_in, frame_in, schemas, writes, erases, keys, schema_with, erase_of, SchemaFollows, WriteFollows, EraseFollows, IsHistory}
 use Rattle.ts_model.specs.Pieces.{HoldsWrite}
 use Rattle.ts_model.specs.Forms.{Spelled}
 use Rattle.ts_model.specs.Stands.{IsCommitted, Spells, HoldsOne, Stands}
@@ -34,7 +37,7 @@ use Rattle.ts_model.specs.Steps.{Keeps, Leads}
 use Rattle.ts_model.specs.declared.commands.Job.{Job}
 use Rattle.ts_model.specs.Told.{Told, after_told, history_told}
 use Rattle.ts_model.proofs.ListLemmas.{Contains-nil, Contains-here, Contains-only, or_else, find-append}
-use Rattle.ts_model.proofs.KeyLemmas.{key_itself, key_same, same_from_tie}
+use Rattle.ts_model.proofs.KeyLemmas.{frag_itself, frag_same, key_itself, key_same, same_from_tie}
 use Rattle.ts_model.proofs.HistoryLaws.{writes-append, frame_in-append, schema_with-append, IsHistory-push, no_deeds}
 use Rattle.ts_model.proofs.HeldLemmas.{Holds, Holds-from_get, get_put, get_apart, held_before, stays_held, holds_stays}
 
@@ -46,6 +49,12 @@ frame_in-unframed [] g none = none
 frame_in-unframed (Framed f ∷ h) g none = refl
 frame_in-unframed (Declared s ∷ h) g none = frame_in-unframed h g none
 frame_in-unframed (Wrote w ∷ h) g none = frame_in-unframed h g none
+frame_in-unframed (Erased x ∷ h) g none = frame_in-unframed h g none
+
+-- nothing else is found where nothing comes behind
+or_none : {A : Type 0} (o : Option A) → or_else o None ≡ o
+or_none None = refl
+or_none (Some x) = refl
 
 -- a schema is looked for among earlier deeds first
 schema_with-or : (h g : History) (k : Key) → schema_with (h ++ g) k ≡ or_else (schema_with h k) (schema_with g k)
@@ -54,6 +63,14 @@ schema_with-or h g k = ap (find (λ s. key_eq s.key k)) (filter_map-append schem
 -- deeds that declare nothing add no schema
 schema_with-undeclared : (h g : History) (k : Key) → schemas g ≡ [] → schema_with (h ++ g) k ≡ schema_with h k
 schema_with-undeclared h g k none = ap (find (λ s. key_eq s.key k)) (filter_map-append schema_in h g ∙ ap (λ ss. schemas h ++ ss) none ∙ append-nil (schemas h))
+
+-- a delete is looked for among earlier deeds first
+erase_of-or : (h g : History) (f : FragKey) → erase_of (h ++ g) f ≡ or_else (erase_of h f) (erase_of g f)
+erase_of-or h g f = ap (find (λ x. frag_eq (frag_of x.key) f)) (filter_map-append erase_in h g) ∙ find-append (λ x. frag_eq (frag_of x.key) f) (erases h) (erases g)
+
+-- deeds that erase nothing add no delete
+erase_of-unerased : (h g : History) (f : FragKey) → erases g ≡ [] → erase_of (h ++ g) f ≡ erase_of h f
+erase_of-unerased h g f none = ap (find (λ x. frag_eq (frag_of x.key) f)) (filter_map-append erase_in h g ∙ ap (λ xs. erases h ++ xs) none ∙ append-nil (erases h))
 
 -- ---- what is held after a put
 
@@ -140,6 +157,10 @@ module _ (spelled : Spelled) (m : Held) (h : History) (n : Name) (bytes : List �
   schema_grows : (k : Key) → (name.Schema k ≡ n → ⊥) → schema_with (h ++ more) k ≡ schema_with h k → map.get later (name.Schema k) ≡ option_map (λ s. schema_object s.attrs) (schema_with (h ++ more) k)
   schema_grows k other same = get_apart m n bytes (name.Schema k) other ∙ stands.schemas k ∙ ap (option_map (λ s. schema_object s.attrs)) (sym same)
 
+  -- a delete goes on standing where it is not the one that is put
+  delete_grows : (f : FragKey) → (name.Commit f Del ≡ n → ⊥) → erase_of (h ++ more) f ≡ erase_of h f → map.get later (name.Commit f Del) ≡ option_map (λ x. cond_object x.cond) (erase_of (h ++ more) f)
+  delete_grows f other same = get_apart m n bytes (name.Commit f Del) other ∙ stands.deletes f ∙ ap (option_map (λ x. cond_object x.cond)) (sym same)
+
   -- a frame stays short where what is put is so
   short_frame_grows : IsShort bytes → (kept : List ℕ) → map.get later name.Domain ≡ Some kept → IsShort kept
   short_frame_grows short kept e = elim (get_before m n bytes name.Domain kept e) [
@@ -154,6 +175,13 @@ module _ (spelled : Spelled) (m : Held) (h : History) (n : Name) (bytes : List �
     | inr same ↦ subst IsShort same.1 short
   ]
 
+  -- deletes stay short where what is put is so
+  short_deletes_grow : IsShort bytes → (f : FragKey) (kept : List ℕ) → map.get later (name.Commit f Del) ≡ Some kept → IsShort kept
+  short_deletes_grow short f kept e = elim (get_before m n bytes (name.Commit f Del) kept e) [
+    | inl before ↦ stands.short_deletes f kept before
+    | inr same ↦ subst IsShort same.1 short
+  ]
+
 -- ---- a part
 
 -- a part that is put stands for no deed
@@ -163,8 +191,10 @@ stands_put spelled m h f part bytes free short stands = subst (Stands spelled (m
   history = subst IsHistory (sym (append-nil h)) stands.history;
   frame = frame_grows spelled m h (name.Part f part) bytes [] free stands (λ e. cc) refl;
   schemas = λ k. schema_grows spelled m h (name.Part f part) bytes [] free stands k (λ e. cc) (ap (λ g. schema_with g k) (append-nil h));
+  deletes = λ g. delete_grows spelled m h (name.Part f part) bytes [] free stands g (λ e. cc) (ap (λ k. erase_of k g) (append-nil h));
   short_frame = short_frame_grows spelled m h (name.Part f part) bytes [] free stands short;
   short_schemas = short_schemas_grow spelled m h (name.Part f part) bytes [] free stands short;
+  short_deletes = short_deletes_grow spelled m h (name.Part f part) bytes [] free stands short;
   whole = λ g committed. whole_grows spelled m h (name.Part f part) bytes [] free stands g committed (λ e. cc);
   covered = λ w at. covered_grows spelled m h (name.Part f part) bytes [] free stands w at (λ none. absurd (Contains-nil w none));
 })
@@ -194,8 +224,10 @@ stands_frame spelled m h frame free is sparse short stands = record {
   history = IsHistory-push h (Framed frame) stands.history (record { first = first_deed spelled m h free stands; is_frame = is; sparse = sparse });
   frame = get_put m name.Domain (frame_object frame) ∙ ap (λ g. option_map frame_object (frame_in (g ++ Framed frame ∷ []))) (sym (first_deed spelled m h free stands));
   schemas = λ k. schema_grows spelled m h name.Domain (frame_object frame) (Framed frame ∷ []) free stands k (λ e. cc) (schema_with-undeclared h (Framed frame ∷ []) k refl);
+  deletes = λ f. delete_grows spelled m h name.Domain (frame_object frame) (Framed frame ∷ []) free stands f (λ e. cc) (erase_of-unerased h (Framed frame ∷ []) f refl);
   short_frame = short_frame_grows spelled m h name.Domain (frame_object frame) (Framed frame ∷ []) free stands short;
   short_schemas = short_schemas_grow spelled m h name.Domain (frame_object frame) (Framed frame ∷ []) free stands short;
+  short_deletes = short_deletes_grow spelled m h name.Domain (frame_object frame) (Framed frame ∷ []) free stands short;
   whole = λ f committed. whole_grows spelled m h name.Domain (frame_object frame) (Framed frame ∷ []) free stands f committed (λ e. cc);
   covered = λ w at. covered_grows spelled m h name.Domain (frame_object frame) (Framed frame ∷ []) free stands w at (λ none. absurd (Contains-nil w none));
 }
@@ -226,18 +258,16 @@ stands_schema spelled m h s free follows short stands = record {
             (λ e. true≢false (sym (key_itself s.key) ∙ ap (key_eq s.key) (sym (same_key k e)) ∙ other))
             (schema_with-or h (Declared s ∷ []) k ∙ ap (λ b. or_else (schema_with h k) (cond b (Some s) None)) other ∙ or_none (schema_with h k))
       ] refl;
+  deletes = λ f. delete_grows spelled m h (name.Schema s.key) (schema_object s.attrs) (Declared s ∷ []) free stands f (λ e. cc) (erase_of-unerased h (Declared s ∷ []) f refl);
   short_frame = short_frame_grows spelled m h (name.Schema s.key) (schema_object s.attrs) (Declared s ∷ []) free stands short;
   short_schemas = short_schemas_grow spelled m h (name.Schema s.key) (schema_object s.attrs) (Declared s ∷ []) free stands short;
+  short_deletes = short_deletes_grow spelled m h (name.Schema s.key) (schema_object s.attrs) (Declared s ∷ []) free stands short;
   whole = λ f committed. whole_grows spelled m h (name.Schema s.key) (schema_object s.attrs) (Declared s ∷ []) free stands f committed (λ e. cc);
   covered = λ w at. covered_grows spelled m h (name.Schema s.key) (schema_object s.attrs) (Declared s ∷ []) free stands w at (λ none. absurd (Contains-nil w none));
 }
   where
     same_key : (k : Key) → name.Schema k ≡ name.Schema s.key → k ≡ s.key
     same_key k e = cc
-
-    or_none : (o : Option Schema) → or_else o None ≡ o
-    or_none None = refl
-    or_none (Some t) = refl
 
     at_key : (k : Key) → s.key ≡ k → map.get (map.insert m (name.Schema s.key) (schema_object s.attrs)) (name.Schema k) ≡ option_map (λ t. schema_object t.attrs) (schema_with (h ++ Declared s ∷ []) k)
     at_key k same =
@@ -262,8 +292,10 @@ stands_commit spelled m h w frame schema p free follows framed declared spells h
   history = IsHistory-push h (Wrote w) stands.history follows;
   frame = frame_grows spelled m h (wrt_of (frag_of w.key)) [] (Wrote w ∷ []) free stands (λ e. cc) refl;
   schemas = λ k. schema_grows spelled m h (wrt_of (frag_of w.key)) [] (Wrote w ∷ []) free stands k (λ e. cc) (schema_with-undeclared h (Wrote w ∷ []) k refl);
+  deletes = λ f. delete_grows spelled m h (wrt_of (frag_of w.key)) [] (Wrote w ∷ []) free stands f (λ e. cc) (erase_of-unerased h (Wrote w ∷ []) f refl);
   short_frame = short_frame_grows spelled m h (wrt_of (frag_of w.key)) [] (Wrote w ∷ []) free stands short_nothing;
   short_schemas = short_schemas_grow spelled m h (wrt_of (frag_of w.key)) [] (Wrote w ∷ []) free stands short_nothing;
+  short_deletes = short_deletes_grow spelled m h (wrt_of (frag_of w.key)) [] (Wrote w ∷ []) free stands short_nothing;
   whole = λ f committed. whole_grows spelled m h (wrt_of (frag_of w.key)) [] (Wrote w ∷ []) free stands f committed
       (λ same. subst (HoldsOne spelled (h ++ Wrote w ∷ []) (map.insert m (wrt_of (frag_of w.key)) [])) (sym (frag_of_wrt f (frag_of w.key) same)) new_one);
   covered = λ v at. covered_grows spelled m h (wrt_of (frag_of w.key)) [] (Wrote w ∷ []) free stands v at
@@ -289,6 +321,48 @@ stands_commit spelled m h w frame schema p free follows framed declared spells h
       };
       holds = holds;
     }
+
+-- ---- a delete
+
+-- a delete whose object was not held is the one under its name
+erased_last : (spelled : Spelled) (m : Held) (h : History) (x : Erasure) → (Holds m (del_of x.key) → ⊥) → Stands spelled m h → erase_of (h ++ Erased x ∷ []) (frag_of x.key) ≡ Some x
+erased_last spelled m h x free stands =
+    erase_of-or h (Erased x ∷ []) (frag_of x.key)
+    ∙ ap (λ o. or_else o (cond (frag_eq (frag_of x.key) (frag_of x.key)) (Some x) None)) (unerased (erase_of h (frag_of x.key)) (sym (stands.deletes (frag_of x.key)) ∙ get_free m (del_of x.key) free))
+    ∙ ap (λ b. cond b (Some x) None) (frag_itself (frag_of x.key))
+  where
+    unerased : (o : Option Erasure) → option_map (λ y. cond_object y.cond) o ≡ None → o ≡ None
+    unerased None e = refl
+    unerased (Some y) e = absurd (none-some (cond_object y.cond) (sym e))
+
+-- the delete that is put is a deed
+pub stands_delete : (spelled : Spelled) (m : Held) (h : History) (x : Erasure) → (Holds m (del_of x.key) → ⊥) → EraseFollows h x → IsShort (cond_object x.cond) → Stands spelled m h
+    → Stands spelled (map.insert m (del_of x.key) (cond_object x.cond)) (h ++ Erased x ∷ [])
+stands_delete spelled m h x free follows short stands = record {
+  history = IsHistory-push h (Erased x) stands.history follows;
+  frame = frame_grows spelled m h (del_of x.key) (cond_object x.cond) (Erased x ∷ []) free stands (λ e. cc) refl;
+  schemas = λ k. schema_grows spelled m h (del_of x.key) (cond_object x.cond) (Erased x ∷ []) free stands k (λ e. cc) (schema_with-undeclared h (Erased x ∷ []) k refl);
+  deletes = λ f. elim (frag_eq (frag_of x.key) f) as (λ b. frag_eq (frag_of x.key) f ≡ b
+      → map.get (map.insert m (del_of x.key) (cond_object x.cond)) (name.Commit f Del) ≡ option_map (λ y. cond_object y.cond) (erase_of (h ++ Erased x ∷ []) f)) [
+        | true ↦ λ same. at_name f (frag_same (frag_of x.key) f same)
+        | false ↦ λ other. delete_grows spelled m h (del_of x.key) (cond_object x.cond) (Erased x ∷ []) free stands f
+            (λ e. true≢false (sym (frag_itself (frag_of x.key)) ∙ ap (frag_eq (frag_of x.key)) (sym (same_name f e)) ∙ other))
+            (erase_of-or h (Erased x ∷ []) f ∙ ap (λ b. or_else (erase_of h f) (cond b (Some x) None)) other ∙ or_none (erase_of h f))
+      ] refl;
+  short_frame = short_frame_grows spelled m h (del_of x.key) (cond_object x.cond) (Erased x ∷ []) free stands short;
+  short_schemas = short_schemas_grow spelled m h (del_of x.key) (cond_object x.cond) (Erased x ∷ []) free stands short;
+  short_deletes = short_deletes_grow spelled m h (del_of x.key) (cond_object x.cond) (Erased x ∷ []) free stands short;
+  whole = λ f committed. whole_grows spelled m h (del_of x.key) (cond_object x.cond) (Erased x ∷ []) free stands f committed (λ e. cc);
+  covered = λ w at. covered_grows spelled m h (del_of x.key) (cond_object x.cond) (Erased x ∷ []) free stands w at (λ none. absurd (Contains-nil w none));
+}
+  where
+    same_name : (f : FragKey) → name.Commit f Del ≡ del_of x.key → f ≡ frag_of x.key
+    same_name f e = cc
+
+    at_name : (f : FragKey) → frag_of x.key ≡ f → map.get (map.insert m (del_of x.key) (cond_object x.cond)) (name.Commit f Del) ≡ option_map (λ y. cond_object y.cond) (erase_of (h ++ Erased x ∷ []) f)
+    at_name f same =
+        subst (λ g. map.get (map.insert m (del_of x.key) (cond_object x.cond)) (name.Commit g Del) ≡ option_map (λ y. cond_object y.cond) (erase_of (h ++ Erased x ∷ []) g)) same
+        (get_put m (del_of x.key) (cond_object x.cond) ∙ ap (option_map (λ y. cond_object y.cond)) (sym (erased_last spelled m h x free stands)))
 
 -- ---- where a call leads
 

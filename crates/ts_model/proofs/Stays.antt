@@ -10,15 +10,15 @@ use Rattle.ts_base.specs.declared.keys.Key.{Key}
 use Rattle.ts_base.specs.declared.names.Name.{Name}
 use Rattle.ts_base.specs.declared.names.Prefix.{Prefix}
 use Rattle.ts_base.specs.declared.names.Prefix.TheVariants.{Commits, Schemas}
-use Rattle.ts_model.proofs.HistoryLaws.{absent_from_new, frame_in-append, keys-append, new_from_absent, schema_with-append, writes-append}
+use Rattle.ts_model.proofs.HistoryLaws.{absent_from_new, erases-append, frame_in-append, keys-append, new_from_absent, schema_with-append, writes-append}
 use Rattle.ts_model.proofs.Traces.{schemas_found-stays}
 use Rattle.ts_model.specs.Commands.{frame_made}
-use Rattle.ts_model.specs.Deeds.{History, IsNewKey, frame_in, keys, schema_with, writes}
+use Rattle.ts_model.specs.Deeds.{History, IsNewKey, erases, frame_in, keys, schema_with, writes}
 use Rattle.ts_model.specs.Ends.{HasDeclared, IsTrueEnd, IsTrueRefusal, ListedAt}
 use Rattle.ts_model.specs.Forms.{Forms, Spelled, Tracking}
 use Rattle.ts_model.specs.Fresh.{id_in}
-use Rattle.ts_model.specs.Jobs.{key_of, schema_of_job, written_as}
-use Rattle.ts_model.specs.Kept.{AreOpen, AreSchemas, Clean, Fetching, Gathering, HasListed, HasNear, IsOpen, Near, OnWay, Opening, ReadsAt, ReadsIn, Works}
+use Rattle.ts_model.specs.Jobs.{erasure_as, key_of, schema_of_job, written_as}
+use Rattle.ts_model.specs.Kept.{AreErasures, AreOpen, AreSchemas, Clean, Erasing, Fetching, Gathering, HasListed, HasNear, IsOpen, Near, OnWay, Opening, ReadsAt, ReadsIn, Works}
 use Rattle.ts_model.specs.Stands.{HoldsOne}
 use Rattle.ts_model.specs.States.{keys_named, list_schemas}
 use Rattle.ts_model.specs.Steps.{Keeps}
@@ -26,9 +26,11 @@ use Rattle.ts_model.specs.Told.{Told, history_told}
 use Rattle.ts_model.specs.declared.answers.Outcome.{Outcome}
 use Rattle.ts_model.specs.declared.answers.Refusal.{Refusal}
 use Rattle.ts_model.specs.declared.commands.Command.{Command}
-use Rattle.ts_model.specs.declared.commands.Command.TheVariants.{Create, Evolve, Read, Write}
+use Rattle.ts_model.specs.declared.commands.Command.TheVariants.{Create, Delete, Evolve, Read, Write}
 use Rattle.ts_model.specs.declared.commands.Job.{Job}
+use Rattle.ts_model.specs.declared.deeds.Erasure.{Erasure}
 use Rattle.ts_model.specs.declared.deeds.Written.{Written}
+use Rattle.ts_model.specs.declared.states.Listed.{Listed}
 use Rattle.ts_model.specs.declared.states.Opened.{Opened}
 use Rattle.ts_model.specs.declared.states.Reading.{Reading}
 use Rattle.ts_schema.specs.Evolutions.{evolved_attrs}
@@ -57,6 +59,10 @@ module _ (m m' : Held) (h h' : History) (id : ℕ) (keeps : Keeps m m' h h' id) 
   -- a write stays
   pub write_stays : (w : Written) → Contains (writes h) w → Contains (writes h') w
   write_stays w at = rw (keeps.grows, writes-append h keeps.more) (Contains-append_left (writes h) (writes keeps.more) w at)
+
+  -- a delete stays
+  pub erase_stays : (x : Erasure) → Contains (erases h) x → Contains (erases h') x
+  erase_stays x at = rw (keeps.grows, erases-append h keeps.more) (Contains-append_left (erases h) (erases keeps.more) x at)
 
   -- a new key of another job stays new
   pub new_stays : (k : Key) → (k.id ≡ id → ⊥) → IsNewKey h k → IsNewKey h' k
@@ -143,20 +149,23 @@ module _ (spelled : Spelled) (past : History) (jobs : List Job) (seen : List Tol
   Unlisted = e.job ≡ Some number → e.call ≡ list_schemas → ⊥
 
   -- what a read listed stays
-  abbrev pub near_stays : (from to : ℕ) (near : List FragKey) → Near spelled past jobs seen m number from to near → Near spelled past jobs (seen ++ e ∷ []) m' number from to near
-  near_stays from to near is = record {
+  abbrev pub near_stays : (from to : ℕ) (near deletes : List FragKey) → Near spelled past jobs seen m number from to near deletes → Near spelled past jobs (seen ++ e ∷ []) m' number from to near deletes
+  near_stays from to near deletes is = record {
     commits = listed_stays seen e number Commits is.commits;
     whole = λ f at. holds_one_stays m m' (history_told jobs past seen) (history_told jobs past (seen ++ e ∷ [])) id keeps spelled (history_told jobs past (is.commits).before) f (is.whole f at);
     in_time = is.in_time;
     covered = is.covered;
+    erased = is.erased;
+    erasing = is.erasing;
   }
 
   -- what a job listed before the schemas stays
-  pub has_near_stays : (command : Command) (near : List FragKey) → HasNear spelled past jobs seen m number command near → HasNear spelled past jobs (seen ++ e ∷ []) m' number command near
-  has_near_stays (Create f) near is = is
-  has_near_stays (Evolve change) near is = is
-  has_near_stays (Write w) near is = is
-  has_near_stays (Read from to) near is = near_stays from to near is
+  pub has_near_stays : (command : Command) (listed : Listed) → HasNear spelled past jobs seen m number command listed → HasNear spelled past jobs (seen ++ e ∷ []) m' number command listed
+  has_near_stays (Create f) listed is = is
+  has_near_stays (Evolve change) listed is = is
+  has_near_stays (Write w) listed is = is
+  has_near_stays (Read from to query) listed is = near_stays from to listed.near listed.deletes is
+  has_near_stays (Delete text) listed is = is
 
   -- the schema that a job works in stays
   abbrev pub works_stays : (job : Job) (there : Schema) → Unlisted → Works past jobs seen number job there → Works past jobs (seen ++ e ∷ []) number job there
@@ -170,29 +179,32 @@ module _ (spelled : Spelled) (past : History) (jobs : List Job) (seen : List Tol
   }
 
   -- what a read listed, and then the schemas, stays
-  abbrev pub reads_at_stays : (job : Job) (from to : ℕ) (near : List FragKey) (there : Schema) → Unlisted
-      → ReadsAt spelled past jobs seen m number job from to near there → ReadsAt spelled past jobs (seen ++ e ∷ []) m' number job from to near there
-  reads_at_stays job from to near there unlisted is = record {
-    listed = near_stays from to near is.listed;
+  abbrev pub reads_at_stays : (job : Job) (from to : ℕ) (near deletes : List FragKey) (there : Schema) → Unlisted
+      → ReadsAt spelled past jobs seen m number job from to near deletes there → ReadsAt spelled past jobs (seen ++ e ∷ []) m' number job from to near deletes there
+  reads_at_stays job from to near deletes there unlisted is = record {
+    listed = near_stays from to near deletes is.listed;
     works = works_stays job there unlisted is.works;
     between = is.between;
     order = is.order;
   }
 
   -- what a job listed before it gets the schema there stays
-  pub has_listed_stays : (job : Job) (command : Command) (near : List FragKey) (there : Schema) → Unlisted
-      → HasListed spelled past jobs seen m number job command near there → HasListed spelled past jobs (seen ++ e ∷ []) m' number job command near there
-  has_listed_stays job (Create f) near there unlisted is = is
-  has_listed_stays job (Evolve change) near there unlisted is = works_stays job there unlisted is
-  has_listed_stays job (Write w) near there unlisted is = works_stays job there unlisted is
-  has_listed_stays job (Read from to) near there unlisted is = reads_at_stays job from to near there unlisted is
+  pub has_listed_stays : (job : Job) (command : Command) (listed : Listed) (there : Schema) → Unlisted
+      → HasListed spelled past jobs seen m number job command listed there → HasListed spelled past jobs (seen ++ e ∷ []) m' number job command listed there
+  has_listed_stays job (Create f) listed there unlisted is = is
+  has_listed_stays job (Evolve change) listed there unlisted is = works_stays job there unlisted is
+  has_listed_stays job (Write w) listed there unlisted is = works_stays job there unlisted is
+  has_listed_stays job (Read from to query) listed there unlisted is = reads_at_stays job from to listed.near listed.deletes there unlisted is
+  has_listed_stays job (Delete text) listed there unlisted is = works_stays job there unlisted is
 
   -- what a read knows stays
   abbrev pub reads_in_stays : (job : Job) (r : Reading) → Unlisted → ReadsIn spelled past jobs seen m number job r → ReadsIn spelled past jobs (seen ++ e ∷ []) m' number job r
   reads_in_stays job r unlisted is = record {
+    query = is.query;
     reads = is.reads;
-    at = reads_at_stays job r.from r.to r.near r.there unlisted is.at;
+    at = reads_at_stays job r.from r.to r.near r.deletes r.there unlisted is.at;
     framed = is.framed;
+    is_ready = is.is_ready;
   }
 
   module _ {F : Type 0} (forms : Forms F) where
@@ -219,6 +231,13 @@ module _ (spelled : Spelled) (past : History) (jobs : List Job) (seen : List Tol
       each = λ s at. schema_stays m m' (history_told jobs past seen) (history_told jobs past (seen ++ e ∷ [])) id keeps s.key s (is.each s at);
     }
 
+    -- the deletes of a read stay
+    pub are_erasures_stays : (deletes : List FragKey) (erased : List Erasure) → AreErasures (history_told jobs past seen) deletes erased → AreErasures (history_told jobs past (seen ++ e ∷ [])) deletes erased
+    are_erasures_stays deletes erased is = record {
+      names_are = is.names_are;
+      each = λ x at. erase_stays m m' (history_told jobs past seen) (history_told jobs past (seen ++ e ∷ [])) id keeps x (is.each x at);
+    }
+
     -- a read that opens goes on as it was
     abbrev pub opening_stays : (job : Job) (r : Reading) (opened : List Opened) → Unlisted
         → Opening forms spelled past jobs seen m number job r opened → Opening forms spelled past jobs (seen ++ e ∷ []) m' number job r opened
@@ -236,12 +255,21 @@ module _ (spelled : Spelled) (past : History) (jobs : List Job) (seen : List Tol
       gathered = are_schemas_stays (keys_named r opened) schemas is.gathered;
     }
 
+    -- a read that gets deletes goes on as it was
+    abbrev pub erasing_stays : (job : Job) (r : Reading) (opened : List Opened) (schemas : List Schema) → Unlisted
+        → Erasing forms spelled past jobs seen m number job r opened schemas → Erasing forms spelled past jobs (seen ++ e ∷ []) m' number job r opened schemas
+    erasing_stays job r opened schemas unlisted is = record {
+      gathers = gathering_stays job r opened schemas unlisted is.gathers;
+      all_schemas = is.all_schemas;
+      erases = are_erasures_stays r.deletes r.erased is.erases;
+    }
+
     -- a read that fetches goes on as it was
     abbrev pub fetching_stays : (job : Job) (r : Reading) (opened : List Opened) (schemas : List Schema) (next : ℕ) (got : List Version) → Unlisted
         → Fetching forms spelled past jobs seen m number job r opened schemas next got → Fetching forms spelled past jobs (seen ++ e ∷ []) m' number job r opened schemas next got
     fetching_stays job r opened schemas next got unlisted is = record {
-      gathers = gathering_stays job r opened schemas unlisted is.gathers;
-      all_schemas = is.all_schemas;
+      erasing = erasing_stays job r opened schemas unlisted is.erasing;
+      all_deletes = is.all_deletes;
       found = is.found;
     }
 
@@ -295,9 +323,25 @@ module _ (past : History) (jobs : List Job) (seen : List Told) (e : Told) (m m' 
       written = write_stays m m' (history_told jobs past seen) (history_told jobs past (seen ++ e ∷ [])) id keeps (written_as job (is.there).key is.cells) is.written;
     },
   )
-  end_stays (outcome.Read answer) other (from, to, reads, is) = (
+  end_stays (outcome.Deleted f) other (same, is) = (
+    same,
+    record {
+      text = is.text;
+      deletes = is.deletes;
+      schemas = listed_stays seen e number Schemas is.schemas;
+      there = is.there;
+      holds = is.holds;
+      frame = is.frame;
+      framed = frame_stays m m' (history_told jobs past seen) (history_told jobs past (seen ++ e ∷ [])) id keeps is.frame is.framed;
+      condition = is.condition;
+      says = is.says;
+      erased = erase_stays m m' (history_told jobs past seen) (history_told jobs past (seen ++ e ∷ [])) id keeps (erasure_as job is.condition) is.erased;
+    },
+  )
+  end_stays (outcome.Read answer) other (from, to, query, reads, is) = (
     from,
     to,
+    query,
     reads,
     record {
       commits = listed_stays seen e number Commits is.commits;

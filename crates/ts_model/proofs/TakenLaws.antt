@@ -1,4 +1,4 @@
--- What a fetch takes of a piece: the versions of its write that are stamped in the interval, each with its whole row.
+-- What a fetch takes of a piece: the versions of its write that are stamped in the interval and lie in the box, each with its whole row.
 use Rattle.std.proofs.Common.{◌≡◌, ℕ, suc, zero, ℤ, Bool, true, false, cond, ◌&&◌, List, [], ◌∷◌, Option, Some, None, length, refl, ◌∙◌, ap, subst}
 use Rattle.std.specs.Prelude.{Contains, All, filter, find, option_map, map as list_map}
 use Rattle.std.proofs.lemmas.Bool.{and_parts}
@@ -12,7 +12,6 @@ use Rattle.ts_base.specs.declared.values.Val.{Val}
 use Rattle.ts_base.specs.Keys.{key_eq, is_within}
 use Rattle.ts_base.specs.Coords.{coords_eq}
 use Rattle.ts_domain.specs.Boxes.{is_in_box}
-use Rattle.ts_domain.specs.Domains.{is_in_domain}
 use Rattle.ts_schema.specs.declared.attrs.Attr.{Attr}
 use Rattle.ts_schema.specs.declared.wants.Want.{Want}
 use Rattle.ts_schema.specs.Wants.{value_of, cut_row, cut, is_wanted, taken}
@@ -20,7 +19,8 @@ use Rattle.ts_model.specs.declared.deeds.Written.{Written}
 use Rattle.ts_model.specs.declared.states.Reading.{Reading}
 use Rattle.ts_model.specs.Deeds.{row_at, RowFits, CellFits}
 use Rattle.ts_model.specs.Pieces.{version_at, version_of, HoldsWrite}
-use Rattle.ts_model.specs.States.{numbers_from, want_of}
+use Rattle.ts_model.specs.Queries.{numbers_from}
+use Rattle.ts_model.specs.States.{want_of}
 use Rattle.ts_model.proofs.ListLemmas.{Contains-here, Contains-there, find-filter}
 use Rattle.ts_model.proofs.KeyLemmas.{key_same}
 use Rattle.ts_model.proofs.Newest.{coords_same}
@@ -105,29 +105,26 @@ module _ (r : Reading) (attrs : List Attr) (w : Written) (fit : All (CellFits r.
   abbrev made : List ℤ → List Val → Version
   made c row = record { key = w.key; schema = w.schema; coords = c; row = row }
 
-  -- the row of a cell that fits is left whole, and the cell lies in the domain
-  left_whole : (c : List ℤ) (row : List Val) → row_at c w.cells ≡ Some row → (is_in_domain r.frame.domain c ≡ true) × (cut want (made c row) ≡ made c row)
+  -- the row of a cell that fits is left whole
+  left_whole : (c : List ℤ) (row : List Val) → row_at c w.cells ≡ Some row → cut want (made c row) ≡ made c row
   left_whole c row found =
       let cell = cell_of_row c w.cells row found in
-      let fits = All-contains (CellFits r.frame.domain attrs) w.cells cell.0 fit cell.1 in (
-        subst (λ d. is_in_domain r.frame.domain d ≡ true) cell.2 fits.inside,
-        ap (made c) (whole_row attrs row (subst (RowFits attrs) cell.3 fits.row)),
-      )
+      let fits = All-contains (CellFits r.frame.domain attrs) w.cells cell.0 fit cell.1 in
+      ap (made c) (whole_row attrs row (subst (RowFits attrs) cell.3 fits.row))
 
   -- what is taken at a coordinate, by the row that the write has there
-  by_row : (c : List ℤ) (own within : Bool) (o : Option (List Val)) → row_at c w.cells ≡ o
-      → option_map (cut want) (cond (within && is_in_box want.sub c) (cond own (option_map (made c) o) None) None) ≡ cond (own && within) (option_map (made c) o) None
-  by_row c true true None found = elim (is_in_box want.sub c) as (λ b. option_map (cut want) (cond b None None) ≡ None) [ true ↦ refl | false ↦ refl ]
-  by_row c true true (Some row) found =
-      let whole = left_whole c row found in
-      ap (λ b. option_map (cut want) (cond b (Some (made c row)) None)) whole.0 ∙ ap Some whole.1
+  by_row : (c : List ℤ) (own here : Bool) (o : Option (List Val)) → row_at c w.cells ≡ o
+      → option_map (cut want) (cond here (cond own (option_map (made c) o) None) None) ≡ cond (own && here) (option_map (made c) o) None
+  by_row c true true None found = refl
+  by_row c true true (Some row) found = ap Some (left_whole c row found)
   by_row c true false o found = refl
-  by_row c false true o found = elim (is_in_box want.sub c) as (λ b. option_map (cut want) (cond b None None) ≡ None) [ true ↦ refl | false ↦ refl ]
+  by_row c false true o found = refl
   by_row c false false o found = refl
 
-  -- of a piece that holds the write its versions are taken where they are stamped in the interval, and no others
-  pub taken_of_write : (p : Piece) → HoldsWrite w p → (k : Key) (c : List ℤ) → version_at (taken (want_of r attrs) p.versions) k c ≡ cond (key_eq k w.key && is_within r.from r.to k) (version_of w c) None
+  -- of a piece that holds the write its versions are taken where they are stamped in the interval and lie in the box, and no others
+  pub taken_of_write : (p : Piece) → HoldsWrite w p → (k : Key) (c : List ℤ)
+      → version_at (taken (want_of r attrs) p.versions) k c ≡ cond (key_eq k w.key && (is_within r.from r.to k && is_in_box (r.ready).sub c)) (version_of w c) None
   taken_of_write p holds k c =
       version_taken want p.versions k c
-      ∙ ap (λ o. option_map (cut want) (cond (is_within r.from r.to k && is_in_box want.sub c) o None)) (holds.versions k c)
-      ∙ by_row c (key_eq k w.key) (is_within r.from r.to k) (row_at c w.cells) refl
+      ∙ ap (λ o. option_map (cut want) (cond (is_within r.from r.to k && is_in_box (r.ready).sub c) o None)) (holds.versions k c)
+      ∙ by_row c (key_eq k w.key) (is_within r.from r.to k && is_in_box (r.ready).sub c) (row_at c w.cells) refl

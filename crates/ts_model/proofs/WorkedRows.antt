@@ -1,5 +1,5 @@
 -- The definitions on worked rows: each row computes, so that a reader can see what a definition says.
-use Rattle.std.proofs.Common.{Ok, Err, ◌≡◌, ℕ, ℤ, ◌+◌, ◌*◌, ◌^◌, true, false, List, [], ◌∷◌, Some, None, refl}
+use Rattle.std.proofs.Common.{Ok, Err, ◌≡◌, ℕ, ℤ, ◌+◌, ◌*◌, ◌^◌, true, false, List, [], ◌∷◌, ◌++◌, Option, Some, None, refl}
 use Rattle.std.specs.Prelude.{pos, map}
 use Rattle.ts_base.specs.declared.heads.Stop.TheVariants.{Never}
 use Rattle.ts_base.specs.declared.values.Val.{Val}
@@ -20,9 +20,16 @@ use Rattle.ts_model.specs.declared.commands.ColIn.{ColIn}
 use Rattle.ts_model.specs.declared.commands.Job.{Job}
 use Rattle.ts_model.specs.declared.answers.Refusal.TheVariants as refusal
 use Rattle.ts_model.specs.declared.deeds.Deed.{Deed}
-use Rattle.ts_model.specs.declared.deeds.Deed.TheVariants.{Framed, Declared, Wrote}
+use Rattle.ts_model.specs.declared.deeds.Deed.TheVariants.{Framed, Declared, Wrote, Erased}
 use Rattle.ts_model.specs.Deeds.{History, schema_there}
 use Rattle.ts_model.specs.Answers.{shown_at}
+use Rattle.ts_model.specs.Queries.{attr_field, ready_in, passes, items_at, fields_of}
+use Rattle.ts_cond.specs.declared.nodes.CondOp.TheVariants as op
+use Rattle.ts_cond.specs.declared.query.NamedBox.{NamedBox}
+use Rattle.ts_cond.specs.declared.query.Query.{Query}
+use Rattle.ts_cond.specs.Tests.{Condition}
+use Rattle.ts_cond.specs.Tests as tree
+use Rattle.ts_domain.specs.declared.orders.Layout.TheVariants as layout
 use Rattle.ts_model.specs.Commands.{laid}
 use Rattle.ts_model.specs.States.{commit_of, list_schemas}
 use Rattle.ts_model.specs.Told.{Told, history_told}
@@ -112,6 +119,119 @@ greater_shows = refl
 greater_first_shows : shown_at (with_deeds (wrote 4 3 first (pos 5) (Int (pos 30) ∷ []) ∷ wrote 4 2 first (pos 5) (Int (pos 20) ∷ []) ∷ [])) first 0 9 (pos 5 ∷ []) ≡ Some (Int (pos 30) ∷ [])
 greater_first_shows = refl
 
+-- ---- what deletes erase
+
+-- the condition that the attribute a is this number
+abbrev is_a : ℤ → Condition
+is_a n = record { fields = attr_field (attr 97 (pos 0)) ∷ []; root = tree.Compare op.Equal 0 (Int n) }
+
+-- the condition that the attribute b is this number, whose fill is recorded with it
+abbrev is_b : ℤ → Condition
+is_b n = record { fields = attr_field (attr 98 (pos 7)) ∷ []; root = tree.Compare op.Equal 0 (Int n) }
+
+-- a delete, with a stamp, an identifier and its condition
+abbrev erased : ℕ → ℕ → Condition → Deed
+erased at id c = Erased (record { key = record { t = at; id = id }; cond = c })
+
+-- the cell 5 with this value of a, written with a stamp and an identifier
+abbrev five : ℕ → ℕ → ℤ → Deed
+five at id n = wrote at id first (pos 5) (Int n ∷ [])
+
+-- what a read of [a, b] shows at the cell 5
+abbrev at_five : List Deed → ℕ → ℕ → Option (List Val)
+at_five deeds a b = shown_at (with_deeds deeds) first a b (pos 5 ∷ [])
+
+-- of a delete at the write's own stamp the greater identifier erases
+greater_erases : at_five (five 4 2 (pos 10) ∷ erased 4 3 (is_a (pos 10)) ∷ []) 0 9 ≡ None
+greater_erases = refl
+
+-- so it does where it was committed first
+greater_first_erases : at_five (erased 4 3 (is_a (pos 10)) ∷ five 4 2 (pos 10) ∷ []) 0 9 ≡ None
+greater_first_erases = refl
+
+-- the lesser identifier does not
+lesser_erases_not : at_five (five 4 3 (pos 10) ∷ erased 4 2 (is_a (pos 10)) ∷ []) 0 9 ≡ Some (Int (pos 10) ∷ [])
+lesser_erases_not = refl
+
+-- a cell that does not match stays
+other_stays : at_five (five 2 2 (pos 10) ∷ erased 4 4 (is_a (pos 11)) ∷ []) 0 9 ≡ Some (Int (pos 10) ∷ [])
+other_stays = refl
+
+-- an erased cell shows no older write
+no_older_shows : at_five (five 2 2 (pos 7) ∷ five 3 3 (pos 10) ∷ erased 4 4 (is_a (pos 10)) ∷ []) 0 9 ≡ None
+no_older_shows = refl
+
+-- a delete that matches an older write alone erases nothing
+older_erases_not : at_five (five 2 2 (pos 7) ∷ five 3 3 (pos 10) ∷ erased 4 4 (is_a (pos 7)) ∷ []) 0 9 ≡ Some (Int (pos 10) ∷ [])
+older_erases_not = refl
+
+-- a read before the delete shows the cell
+before_shows : at_five (five 2 2 (pos 7) ∷ five 3 3 (pos 10) ∷ erased 4 4 (is_a (pos 10)) ∷ []) 0 3 ≡ Some (Int (pos 10) ∷ [])
+before_shows = refl
+
+-- so does one whose interval begins after the delete, of a write that came later
+after_shows : at_five (erased 4 4 (is_a (pos 10)) ∷ five 5 5 (pos 10) ∷ []) 5 9 ≡ Some (Int (pos 10) ∷ [])
+after_shows = refl
+
+-- a later write shows again, though it has the same value
+again_shows : at_five (five 2 2 (pos 10) ∷ erased 4 4 (is_a (pos 10)) ∷ five 5 5 (pos 10) ∷ []) 0 9 ≡ Some (Int (pos 10) ∷ [])
+again_shows = refl
+
+-- a row that was written before an attribute was added matches by the fill that the condition records
+fill_erases : shown_at (evolved ++ erased 5 5 (is_b (pos 7)) ∷ []) second 0 9 (pos 5 ∷ []) ≡ None
+fill_erases = refl
+
+-- so it does by another fill than the one that shows
+recorded_fill_erases : shown_at (evolved ++ erased 5 5 (record { fields = attr_field (attr 98 (pos 8)) ∷ []; root = tree.Compare op.Equal 0 (Int (pos 8)) }) ∷ []) second 0 9 (pos 5 ∷ []) ≡ None
+recorded_fill_erases = refl
+
+-- the row of the other cell has its own value
+own_value_stays : shown_at (evolved ++ erased 5 5 (is_b (pos 7)) ∷ []) second 0 9 (pos 6 ∷ []) ≡ Some (Int (pos 20) ∷ Int (pos 30) ∷ [])
+own_value_stays = refl
+
+-- the row counts as it was written: also a value that does not show through the schema there
+hidden_erases : shown_at (evolved ++ erased 5 5 (is_b (pos 30)) ∷ []) first 0 9 (pos 6 ∷ []) ≡ None
+hidden_erases = refl
+
+-- ---- what queries select
+
+-- a query of everything
+abbrev all_of_it : Query
+all_of_it = record { sub = []; fields = []; filter = None; layout = layout.Row }
+
+-- bounds of the dimension with a name
+abbrev bounds : ℕ → ℤ → ℤ → NamedBox
+bounds letter low high = record { name = letter ∷ []; low = low; high = high }
+
+-- it shows all fields of the whole domain
+all_ready : ready_in frame second.attrs all_of_it ≡ Ok (record { sub = record { low = pos 0 ∷ []; high = pos 9 ∷ [] }; fields = 0 ∷ 1 ∷ 2 ∷ []; filter = None; layout = layout.Row })
+all_ready = refl
+
+-- a field may be named twice
+twice_ready : ready_in frame second.attrs (record { sub = bounds 120 (pos 2) (pos 3) ∷ []; fields = (98 ∷ []) ∷ (120 ∷ []) ∷ (98 ∷ []) ∷ []; filter = None; layout = layout.Col })
+    ≡ Ok (record { sub = record { low = pos 2 ∷ []; high = pos 3 ∷ [] }; fields = 2 ∷ 0 ∷ 2 ∷ []; filter = None; layout = layout.Col })
+twice_ready = refl
+
+-- no dimension is named a: that comes before the bound 10, which lies outside
+unknown_before_outside : ready_in frame first.attrs (record { sub = bounds 120 (pos 0) (pos 10) ∷ bounds 97 (pos 0) (pos 1) ∷ []; fields = []; filter = None; layout = layout.Row }) ≡ Err (refusal.UnknownField (97 ∷ []))
+unknown_before_outside = refl
+
+-- so does the name of a field that is not there
+unknown_field_first : ready_in frame first.attrs (record { sub = bounds 120 (pos 0) (pos 10) ∷ []; fields = (98 ∷ []) ∷ []; filter = None; layout = layout.Row }) ≡ Err (refusal.UnknownField (98 ∷ []))
+unknown_field_first = refl
+
+-- the bound 10 lies outside
+bound_outside : ready_in frame first.attrs (record { sub = bounds 120 (pos 0) (pos 10) ∷ []; fields = []; filter = None; layout = layout.Row }) ≡ Err (refusal.Domain 0 (pos 10))
+bound_outside = refl
+
+-- the filter counts before the fields are cut
+filter_before_fields : passes (Some (is_a (pos 10))) first.attrs (pos 5 ∷ []) (Int (pos 10) ∷ []) ≡ true
+filter_before_fields = refl
+
+-- fields are shown in the order of their places, each as often as it is named
+fields_twice : items_at (1 ∷ 0 ∷ 1 ∷ []) (fields_of (pos 5 ∷ [], Int (pos 10) ∷ [])) ≡ Int (pos 10) ∷ Int (pos 5) ∷ Int (pos 10) ∷ []
+fields_twice = refl
+
 -- ---- what columns lay
 
 -- a column with a name
@@ -154,5 +274,5 @@ write_is_deed : history_told (a_write ∷ []) (with_deeds []) (told_listing ∷ 
 write_is_deed = refl
 
 -- the identifiers of a script's commands: the seed, the lane 0, and the number of the command from 1
-ids : map (λ job. job.id) (jobs_of 7 (record { command = Read 0 5; at = 1 } ∷ record { command = Read 0 9; at = 9 } ∷ [])) ≡ (7 * 2 ^ 64 + 1) ∷ (7 * 2 ^ 64 + 2) ∷ []
+ids : map (λ job. job.id) (jobs_of 7 (record { command = Read 0 5 all_of_it; at = 1 } ∷ record { command = Read 0 9 all_of_it; at = 9 } ∷ [])) ≡ (7 * 2 ^ 64 + 1) ∷ (7 * 2 ^ 64 + 2) ∷ []
 ids = refl

@@ -1,47 +1,62 @@
 -- What a read answers.
-use Rattle.std.specs.Prelude.{◌≡◌, ℕ, ℤ, List, ◌++◌, Option, Some, option_map, option_and_then, map as list_map}
+use Rattle.std.specs.Prelude.{◌≡◌, ℕ, ℤ, Bool, cond, ◌&&◌, List, Option, Some, None, Ok, option_map, option_and_then}
+use Rattle.std.specs.List.{list_any}
 use Rattle.ts_base.specs.declared.values.Val.{Val}
-use Rattle.ts_base.specs.declared.values.ValType.{ValType}
+use Rattle.ts_base.specs.Keys.{is_within, key_lt}
 use Rattle.ts_model.specs.declared.answers.Answer.{Answer}
 use Rattle.ts_model.specs.declared.deeds.Written.{Written}
+use Rattle.ts_model.specs.declared.deeds.Erasure.{Erasure}
+use Rattle.ts_model.specs.declared.queries.Ready.{Ready}
+use Rattle.ts_domain.specs.Boxes.{is_in_box}
 use Rattle.ts_schema.specs.declared.frames.Frame.{Frame}
 use Rattle.ts_schema.specs.declared.schemas.Schema.{Schema}
 use Rattle.ts_schema.specs.declared.attrs.Attr.{Attr}
-use Rattle.ts_domain.specs.declared.dims.Dim.{Dim}
+use Rattle.ts_schema.specs.Attrs.{shown_row}
+use Rattle.ts_cond.specs.declared.query.Query.{Query}
+use Rattle.ts_cond.specs.Picks.{matches}
 use Rattle.std.specs.Ordering.{int_cmp}
 use Rattle.std.specs.Cmp.Lexicographic.{slice_cmp}
-use Rattle.ts_schema.specs.Attrs.{shown_row}
-use Rattle.ts_base.specs.declared.values.Val.TheVariants.{Int}
-use Rattle.ts_model.specs.Deeds.{History, frame_in, attrs_with, schema_there, row_at, last_write}
+use Rattle.ts_model.specs.Deeds.{History, frame_in, attrs_with, schema_there, row_at, last_write, erases}
+use Rattle.ts_model.specs.Queries.{attr_fields, ready_in, selected, types_shown}
 use Rattle.std.specs.FinMap as map
 
 -- the rows of cells by their coordinates, in row order
 abbrev pub Cells : Type 0
 Cells = map.FinMap (slice_cmp int_cmp) (List Val)
 
--- the cell of a write at a coordinate, as it shows through a schema
-abbrev pub shown_in : History → Schema → List ℤ → Written → Option (List Val)
-shown_in h there c w = option_map (λ row. shown_row (attrs_with h w.schema) row there.attrs) (row_at c w.cells)
+-- a delete erases a cell with a row of these attributes: it matches, and has a greater key than the cell's last write
+abbrev pub erases_cell : Written → List Attr → List ℤ → List Val → Erasure → Bool
+erases_cell w attrs c row e = key_lt w.key e.key && matches e.cond c (attr_fields attrs) row
 
--- what a read of [a, b] shows at a coordinate through a schema: the cell of the last write there, or nothing
+-- the cell of its last write is erased in [a, b]: a delete that is stamped there and has a greater key matches it, under the write's own schema
+abbrev pub is_erased : History → ℕ → ℕ → List ℤ → Written → List Val → Bool
+is_erased h a b c w row = list_any (λ e. is_within a b e.key && erases_cell w (attrs_with h w.schema) c row e) (erases h)
+
+-- the row of a write at a coordinate, unless it is erased
+abbrev pub row_left : History → ℕ → ℕ → List ℤ → Written → Option (List Val)
+row_left h a b c w = option_and_then (λ row. cond (is_erased h a b c w row) None (Some row)) (row_at c w.cells)
+
+-- what is left of a write at a coordinate, as it shows through a schema
+abbrev pub shown_in : History → Schema → ℕ → ℕ → List ℤ → Written → Option (List Val)
+shown_in h there a b c w = option_map (λ row. shown_row (attrs_with h w.schema) row there.attrs) (row_left h a b c w)
+
+-- what a read of [a, b] shows at a coordinate through a schema: the cell of the last write there, if it is not erased; no older write comes to light
 abbrev pub shown_at : History → Schema → ℕ → ℕ → List ℤ → Option (List Val)
-shown_at h there a b c = option_and_then (shown_in h there c) (last_write h a b c)
+shown_at h there a b c = option_and_then (shown_in h there a b c) (last_write h a b c)
 
--- the fields of a cell: its coordinates, and then its values
-abbrev pub fields_of : List ℤ × List Val → List Val
-fields_of e = list_map Int e.0 ++ e.1
+-- the same at the coordinates of a box, and nothing elsewhere
+abbrev pub shown_inside : History → Schema → Ready → ℕ → ℕ → List ℤ → Option (List Val)
+shown_inside h there ready a b c = cond (is_in_box ready.sub c) (shown_at h there a b c) None
 
--- the types of the fields: those of all dimensions, and then of all attributes
-abbrev pub types_of : List Dim → List Attr → List ValType
-types_of dims attrs = list_map (λ d. d.ty) dims ++ list_map (λ a. a.ty) attrs
-
--- the answer to a read of [a, b]: its cells are those of the history at the listing of the commits, shown through the schema there of the history at the listing of the schemas
-pub record IsAnswer (h : History) (later : History) (a b : ℕ) (answer : Answer) : Type 0 where
+-- the answer to a read of [a, b]: of the cells of its box, as the history at the listing of the commits has them, shown through the schema there of the history at the listing of the schemas, its query selects the rows
+pub record IsAnswer (h : History) (later : History) (a b : ℕ) (query : Query) (answer : Answer) : Type 0 where
   pub frame : Frame
   pub framed : frame_in later ≡ Some frame
   pub there : Schema
   pub holds : schema_there later b ≡ Some there
+  pub ready : Ready
+  pub is_ready : ready_in frame there.attrs query ≡ Ok ready
   pub cells : Cells
-  pub each : (c : List ℤ) → map.get cells c ≡ shown_at h there a b c
-  pub rows : answer.rows ≡ list_map fields_of (map.entries cells)
-  pub types : answer.types ≡ types_of frame.domain there.attrs
+  pub each : (c : List ℤ) → map.get cells c ≡ shown_inside h there ready a b c
+  pub rows : answer.rows ≡ selected frame there.attrs ready (map.entries cells)
+  pub types : answer.types ≡ types_shown frame there.attrs ready

@@ -28,7 +28,9 @@ use Rattle.ts_order.specs.Orders.{global_cmp}
 use Rattle.ts_schema.specs.Attrs.{same_name, has_attr}
 use Rattle.ts_schema.specs.Faults.{schema_fault}
 use Rattle.ts_schema.specs.FrameTexts.{is_capacity, is_bound}
-use Rattle.ts_model.specs.declared.commands.Command.TheVariants.{Create, Evolve, Write, Read}
+use Rattle.ts_cond.specs.declared.query.NamedBox.{NamedBox}
+use Rattle.ts_cond.specs.declared.query.Query.{Query}
+use Rattle.ts_model.specs.declared.commands.Command.TheVariants.{Create, Evolve, Write, Read, Delete}
 use Rattle.ts_base.specs.declared.values.Val.TheVariants.{Int, Bytes, Null}
 use Rattle.ts_base.specs.declared.values.ValType.TheVariants.{Blob}
 use Rattle.ts_model.specs.Deeds.{row_at, are_apart, CellFits}
@@ -236,9 +238,22 @@ is_spelled_dim d = is_label d.name && (is_integer d.ty && (is_bound d.low && (is
 abbrev pub is_spelled_col : ColIn → Bool
 is_spelled_col c = is_label c.name && (nat_lt 0 (length c.values) && (nat_lt (length c.values) (2 ^ 64) && list_all is_spelled_val c.values))
 
+-- the text is one of bytes, so many that their number has 64 bits
+abbrev pub is_text : List ℕ → Bool
+is_text text = nat_lt (length text) (2 ^ 64) && list_all is_byte text
+
+-- the name is a label, and the low bound is at most the high one, which both lie between -2^64 and 2^64
+abbrev pub is_spelled_box : NamedBox → Bool
+is_spelled_box b = is_label b.name && (is_bound b.low && (is_bound b.high && int_le b.low b.high))
+
+-- the names are labels, the bounds are bounds, and the filter is a text
+abbrev pub is_spelled_query : Query → Bool
+is_spelled_query q = list_all is_spelled_box q.sub && (list_all is_label q.fields && option_map_or is_text q.filter true)
+
 -- the command is one that there can be: its names are labels, its numbers lie in their ranges, and an array has a dimension and a capacity
 abbrev pub fits : Command → Bool
 fits (Create f) = nat_lt 0 (length f.dims) && (list_all is_spelled_dim f.dims && (is_capacity f.capacity && list_all is_spelled_attr f.attrs))
 fits (Evolve change) = list_all is_spelled_attr change.add
 fits (Write w) = list_all is_spelled_col w.cols
-fits (Read from to) = nat_lt from (2 ^ 64) && nat_lt to (2 ^ 64)
+fits (Read from to query) = nat_lt from (2 ^ 64) && (nat_lt to (2 ^ 64) && is_spelled_query query)
+fits (Delete text) = is_text text

@@ -1,9 +1,11 @@
 -- Deeds, histories, and what is found in a history.
 use Rattle.std.specs.Prelude.{◌≡◌, ℕ, ℤ, ◌^◌, ◌<◌, ◌≤◌, Bool, true, false, cond, not, ◌&&◌, List, [], ◌∷◌, ◌++◌, Option, Some, None, filter, filter_map, length, nat_le, IsTrue, All, ⊤, find, is_some}
 use Rattle.ts_base.specs.declared.keys.Key.{Key}
+use Rattle.ts_base.specs.declared.keys.FragKey.{FragKey}
 use Rattle.ts_base.specs.declared.heads.Cell.{Cell}
 use Rattle.ts_base.specs.declared.values.Val.{Val}
 use Rattle.ts_model.specs.declared.deeds.Written.{Written}
+use Rattle.ts_model.specs.declared.deeds.Erasure.{Erasure}
 use Rattle.ts_model.specs.declared.deeds.Deed.{Deed}
 use Rattle.ts_schema.specs.declared.frames.Frame.{Frame}
 use Rattle.ts_schema.specs.declared.schemas.Schema.{Schema}
@@ -11,7 +13,7 @@ use Rattle.ts_schema.specs.declared.attrs.Attr.{Attr}
 use Rattle.ts_domain.specs.declared.dims.Dim.{Dim}
 use Rattle.std.specs.List.{list_any}
 use Rattle.std.specs.Option.{option_map_or}
-use Rattle.ts_base.specs.Keys.{key_eq, is_within, greatest}
+use Rattle.ts_base.specs.Keys.{key_eq, frag_eq, frag_of, is_within, greatest}
 use Rattle.ts_base.specs.Coords.{coords_eq}
 use Rattle.ts_wire.specs.Fields.{FitsVal}
 use Rattle.ts_value.specs.Fits.{fits_of}
@@ -19,7 +21,8 @@ use Rattle.ts_domain.specs.Domains.{is_in_domain}
 use Rattle.ts_schema.specs.Faults.{schema_fault}
 use Rattle.ts_schema.specs.FrameTexts.{IsFrame}
 use Rattle.ts_schema.specs.SchemaTexts.{AreAttrs}
-use Rattle.ts_model.specs.declared.deeds.Deed.TheVariants.{Framed, Declared, Wrote}
+use Rattle.ts_cond.specs.CondTexts.{IsCond}
+use Rattle.ts_model.specs.declared.deeds.Deed.TheVariants.{Framed, Declared, Wrote, Erased}
 
 -- a history: deeds in the order of their commits
 abbrev pub History : Type 0
@@ -40,11 +43,17 @@ abbrev pub write_in : Deed → Option Written
 write_in (Wrote w) = Some w
 write_in _ = None
 
+-- what a deed erased
+abbrev pub erase_in : Deed → Option Erasure
+erase_in (Erased e) = Some e
+erase_in _ = None
+
 -- the key of a deed; a frame has none
 abbrev pub key_in : Deed → Option Key
 key_in (Framed frame) = None
 key_in (Declared s) = Some s.key
 key_in (Wrote w) = Some w.key
+key_in (Erased e) = Some e.key
 
 -- the first frame of a history
 abbrev pub frame_in : History → Option Frame
@@ -60,6 +69,10 @@ schemas h = filter_map schema_in h
 abbrev pub writes : History → List Written
 writes h = filter_map write_in h
 
+-- the deletes of a history, in order
+abbrev pub erases : History → List Erasure
+erases h = filter_map erase_in h
+
 -- the keys of a history, in order
 abbrev pub keys : History → List Key
 keys h = filter_map key_in h
@@ -71,6 +84,10 @@ has_key h k = list_any (key_eq k) (keys h)
 -- the schema of a key
 abbrev pub schema_with : History → Key → Option Schema
 schema_with h k = find (λ s. key_eq s.key k) (schemas h)
+
+-- the delete under a name
+abbrev pub erase_of : History → FragKey → Option Erasure
+erase_of h f = find (λ e. frag_eq (frag_of e.key) f) (erases h)
 
 -- the attributes of the schema of a key, and none where there is no such schema
 abbrev pub attrs_with : History → Key → List Attr
@@ -149,11 +166,21 @@ pub record WriteFollows (before : History) (w : Written) : Type 0 where
   pub apart : IsTrue (are_apart w.cells)
   pub fit : All (CellFits frame.domain schema.attrs) w.cells
 
+-- a delete may follow these deeds: the array is sparse, and the condition has a spelling
+pub record EraseFollows (before : History) (e : Erasure) : Type 0 where
+  pub frame : Frame
+  pub framed : frame_in before ≡ Some frame
+  pub sparse : frame.dense ≡ false
+  pub new : IsNewKey before e.key
+  pub key : IsKey e.key
+  pub cond : IsCond e.cond
+
 -- the deed may follow these deeds
 abbrev pub MayFollow : History → Deed → Type 0
 MayFollow before (Framed frame) = FrameFollows before frame
 MayFollow before (Declared s) = SchemaFollows before s
 MayFollow before (Wrote w) = WriteFollows before w
+MayFollow before (Erased e) = EraseFollows before e
 
 -- each of the deeds may follow those before it
 abbrev pub Follow : History → History → Type 0

@@ -2,6 +2,7 @@
 use Rattle.std.specs.Prelude.{◌≡◌, ℕ, List, ◌∷◌, ◌++◌, Some, Ok, IsTrue, Contains, ⊤, ◌⊎◌}
 use Rattle.ts_base.specs.declared.names.Prefix.{Prefix}
 use Rattle.ts_base.specs.declared.heads.Cell.{Cell}
+use Rattle.ts_model.specs.declared.commands.Command.{Command}
 use Rattle.ts_model.specs.declared.commands.Job.{Job}
 use Rattle.ts_model.specs.declared.commands.FrameIn.{FrameIn}
 use Rattle.ts_model.specs.declared.commands.WriteIn.{WriteIn}
@@ -13,12 +14,16 @@ use Rattle.ts_schema.specs.declared.schemas.Schema.{Schema}
 use Rattle.ts_schema.specs.declared.attrs.Attr.{Attr}
 use Rattle.ts_schema.specs.declared.evolution.Evolution.{Evolution}
 use Rattle.ts_schema.specs.Evolutions.{evolved_attrs}
-use Rattle.ts_model.specs.declared.commands.Command.TheVariants.{Create, Evolve, Write, Read}
-use Rattle.ts_base.specs.declared.names.CommitKind.TheVariants.{Wrt}
+use Rattle.ts_model.specs.declared.commands.Command.TheVariants.{Create, Evolve, Write, Read, Delete}
+use Rattle.ts_base.specs.declared.names.CommitKind.{CommitKind}
+use Rattle.ts_base.specs.declared.names.CommitKind.TheVariants.{Wrt, Del}
 use Rattle.ts_base.specs.declared.names.Prefix.TheVariants.{Commits, Schemas}
 use Rattle.ts_model.specs.Told.{Told, history_told}
-use Rattle.ts_model.specs.Jobs.{key_of, frag_of_job, schema_of_job, written_as}
-use Rattle.ts_model.specs.Deeds.{History, frame_in, writes, has_key, schema_with, schema_there, IsNewKey}
+use Rattle.ts_cond.specs.declared.query.Query.{Query}
+use Rattle.ts_cond.specs.Tests.{Condition}
+use Rattle.ts_model.specs.Queries.{erasing_in}
+use Rattle.ts_model.specs.Jobs.{key_of, frag_of_job, schema_of_job, written_as, erasure_as}
+use Rattle.ts_model.specs.Deeds.{History, frame_in, writes, erases, has_key, schema_with, schema_there, IsNewKey}
 use Rattle.ts_model.specs.Commands.{frame_made, laid}
 use Rattle.ts_model.specs.Answers.{IsAnswer}
 use Rattle.ts_base.specs.declared.names.Name.TheVariants as name
@@ -37,12 +42,12 @@ pub record ListedAt (told : List Told) (number : ℕ) (prefix : Prefix) : Type 0
   pub lists : listing.call ≡ call.List prefix
 
 -- the answer of a read is that of the history at its listing of the commits, shown through the history at its later listing of the schemas
-pub record AnswersAt (jobs : List Job) (past : History) (told : List Told) (number from to : ℕ) (answer : Answer) : Type 0 where
+pub record AnswersAt (jobs : List Job) (past : History) (told : List Told) (number from to : ℕ) (query : Query) (answer : Answer) : Type 0 where
   pub commits : ListedAt told number Commits
   pub schemas : ListedAt told number Schemas
   pub between : List Told
   pub order : schemas.before ≡ commits.before ++ commits.listing ∷ between
-  pub answers : IsAnswer (history_told jobs past commits.before) (history_told jobs past schemas.before) from to answer
+  pub answers : IsAnswer (history_told jobs past commits.before) (history_told jobs past schemas.before) from to query answer
 
 -- a deed of the history has the key of a job
 abbrev pub IsDone : History → Job → Type 0
@@ -85,12 +90,30 @@ pub record IsWritten (jobs : List Job) (past : History) (told : List Told) (numb
   pub lays : laid frame.domain there.attrs cells_in.cols ≡ Ok cells
   pub written : Contains (writes (history_told jobs past told)) (written_as job there.key cells)
 
--- what a refusal tells of the history: no object is missing, damaged or taken, and a refused job has no deed under its key, but perhaps where the put of its own `.wrt` or schema failed
+-- the delete of a job is a deed: its condition is that of its text, in the schema that holds at its stamp of those that it listed
+pub record IsDeleted (jobs : List Job) (past : History) (told : List Told) (number : ℕ) (job : Job) : Type 0 where
+  pub text : List ℕ
+  pub deletes : job.command ≡ Delete text
+  pub schemas : ListedAt told number Schemas
+  pub there : Schema
+  pub holds : schema_there (history_told jobs past schemas.before) job.at ≡ Some there
+  pub frame : Frame
+  pub framed : frame_in (history_told jobs past told) ≡ Some frame
+  pub condition : Condition
+  pub says : erasing_in frame there.attrs text ≡ Ok condition
+  pub erased : Contains (erases (history_told jobs past told)) (erasure_as job condition)
+
+-- the kind of the commit by which a command's deed comes: a `.del` for a delete, else a `.wrt`
+abbrev pub kind_of : Command → CommitKind
+kind_of (Delete text) = Del
+kind_of _ = Wrt
+
+-- what a refusal tells of the history: no object is missing, damaged or taken, and a refused job has no deed under its key, but perhaps where the put of its own `.wrt`, `.del` or schema failed
 abbrev pub IsTrueRefusal : History → Job → Refusal → Type 0
 IsTrueRefusal h job (refusal.Missing n) = ⊥
 IsTrueRefusal h job (refusal.Damaged n at) = ⊥
 IsTrueRefusal h job (refusal.Taken n) = ⊥
-IsTrueRefusal h job (refusal.StoreFault (place.Name (name.Commit f kind))) = (f ≡ frag_of_job job) × (kind ≡ Wrt) ⊎ IsUndone h job
+IsTrueRefusal h job (refusal.StoreFault (place.Name (name.Commit f kind))) = (f ≡ frag_of_job job) × (kind ≡ kind_of job.command) ⊎ IsUndone h job
 IsTrueRefusal h job (refusal.StoreFault (place.Name (name.Schema k))) = (k ≡ key_of job) ⊎ IsUndone h job
 IsTrueRefusal h job r = IsUndone h job
 
@@ -99,6 +122,7 @@ abbrev pub IsTrueEnd : List Job → History → List Told → ℕ → Job → Ou
 IsTrueEnd jobs past told number job outcome.Created = IsCreated (history_told jobs past told) job
 IsTrueEnd jobs past told number job (outcome.Evolved k) = (k ≡ key_of job) × IsEvolved jobs past told number job
 IsTrueEnd jobs past told number job (outcome.Written f) = (f ≡ frag_of_job job) × IsWritten jobs past told number job
-IsTrueEnd jobs past told number job (outcome.Read answer) = (from : ℕ) × (to : ℕ) × (job.command ≡ Read from to) × AnswersAt jobs past told number from to answer
+IsTrueEnd jobs past told number job (outcome.Deleted f) = (f ≡ frag_of_job job) × IsDeleted jobs past told number job
+IsTrueEnd jobs past told number job (outcome.Read answer) = (from : ℕ) × (to : ℕ) × (query : Query) × (job.command ≡ Read from to query) × AnswersAt jobs past told number from to query answer
 IsTrueEnd jobs past told number job (outcome.Refused r) = IsTrueRefusal (history_told jobs past told) job r
 IsTrueEnd jobs past told number job outcome.OutOfMemory = ⊤

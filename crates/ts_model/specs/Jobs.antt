@@ -8,6 +8,8 @@ use Rattle.ts_model.specs.declared.commands.Job.{Job}
 use Rattle.ts_model.specs.declared.commands.Line.{Line}
 use Rattle.ts_model.specs.declared.answers.Refusal.{Refusal}
 use Rattle.ts_model.specs.declared.deeds.Written.{Written}
+use Rattle.ts_model.specs.declared.deeds.Erasure.{Erasure}
+use Rattle.ts_cond.specs.Tests.{Condition}
 use Rattle.ts_schema.specs.declared.schemas.Schema.{Schema}
 use Rattle.ts_schema.specs.declared.attrs.Attr.{Attr}
 use Rattle.ts_base.specs.Keys.{frag_of}
@@ -18,7 +20,7 @@ use Rattle.ts_model.specs.Commands.{create_refusal, fits}
 abbrev pub key_of : Job → Key
 key_of job = record { t = job.at; id = job.id }
 
--- the fragment of a write job
+-- the fragment of a write job, and the name of a delete job
 abbrev pub frag_of_job : Job → FragKey
 frag_of_job job = frag_of (key_of job)
 
@@ -29,6 +31,10 @@ schema_of_job job attrs = record { key = key_of job; attrs = attrs }
 -- what a write job writes, of these cells in the schema of a key
 abbrev pub written_as : Job → Key → List Cell → Written
 written_as job schema cells = record { key = key_of job; schema = schema; cells = cells }
+
+-- what a delete job erases, by this condition
+abbrev pub erasure_as : Job → Condition → Erasure
+erasure_as job condition = record { key = key_of job; cond = condition }
 
 -- a job that there can be: its stamp has 64 bits and its identifier 128, and its command is one that there can be
 pub record IsFit (job : Job) : Type 0 where
@@ -56,7 +62,7 @@ refused_before _ = None
 
 -- where the schema of a job's work is looked for: a read at the end of its interval, another job at its stamp
 abbrev pub looks_at : Job → Command → ℕ
-looks_at job (Read from to) = to
+looks_at job (Read from to query) = to
 looks_at job _ = job.at
 
 abbrev pub looked_at : Job → ℕ

@@ -3,6 +3,9 @@ pub mod Answers
 pub mod Jobs
 pub mod Commands
 pub mod Pieces
+pub mod Queries
+pub mod Places
+pub mod Selections
 pub mod Forms
 pub mod Stands
 pub mod States

@@ -24,12 +24,17 @@ use Rattle.std.specs.Result.{result_err}
 use Rattle.ts_schema.specs.Evolutions.{evolved_attrs, evolution_fault, schema_at}
 use Rattle.ts_schema.specs.FrameTexts.{frame_of}
 use Rattle.ts_schema.specs.SchemaTexts.{schema_of}
-use Rattle.ts_model.specs.declared.commands.Command.TheVariants.{Create, Evolve, Write, Read}
+use Rattle.ts_model.specs.declared.commands.Command.TheVariants.{Create, Evolve, Write, Read, Delete}
 use Rattle.ts_model.specs.Stops.{cuts, Uncut}
-use Rattle.ts_model.specs.States.{schemas_in, place_of, get_all, put_of, made_by, frame_put, schema_object_of, write_objects, is_own_frame, get_frame, list_schemas, list_commits, want_of, Exchange}
+use Rattle.ts_model.specs.States.{schemas_in, place_of, get_all, put_of, made_by, frame_put, schema_object_of, write_objects, is_own_frame, get_frame, list_schemas, list_commits, delete_object_of, wanted, Exchange}
 use Rattle.ts_model.specs.Forms.{Forms, Asks, Breaks, is_look}
 use Rattle.ts_model.specs.Jobs.{key_of, frag_of_job, refused_before, looked_at}
 use Rattle.ts_model.specs.Commands.{laid}
+use Rattle.ts_model.specs.Queries.{box_of, erasing_in, ready_in}
+use Rattle.ts_cond.specs.CondTexts.{cond_of}
+use Rattle.ts_cond.specs.Tests.{Condition}
+use Rattle.ts_cond.specs.declared.query.Query.{Query}
+use Rattle.ts_base.specs.declared.names.CommitKind.TheVariants.{Del}
 use Rattle.ts_base.specs.declared.names.Name.TheVariants as name
 use Rattle.ts_base.specs.declared.names.Place.TheVariants as place
 use Rattle.ts_store.specs.declared.call.Call.TheVariants as call
@@ -51,12 +56,18 @@ abbrev pub cell_puts : {F : Type 0} → Forms F → Job → Found → Result (Li
 cell_puts forms job found (Ok cells) = list_map put_of (write_objects forms found.frame found.there job cells)
 cell_puts forms job found (Err r) = []
 
+-- the put of a delete, where no refusal stands against its condition
+abbrev pub delete_puts : Job → Result Condition Refusal → List Call
+delete_puts job (Ok condition) = put_of (delete_object_of job condition) ∷ []
+delete_puts job (Err r) = []
+
 -- the puts and listings of a job, in order
 abbrev pub row_by : {F : Type 0} → Forms F → Job → Found → Command → List Call
 row_by forms job found (Create f) = frame_put f ∷ (cond found.taken (list_schemas ∷ []) [] ++ put_of (schema_object_of job f.attrs) ∷ [])
 row_by forms job found (Evolve change) = list_schemas ∷ put_of (schema_object_of job (evolved_attrs (found.there).attrs change)) ∷ []
 row_by forms job found (Write w) = list_schemas ∷ cell_puts forms job found (laid (found.frame).domain (found.there).attrs w.cols)
-row_by forms job found (Read from to) = list_commits ∷ list_schemas ∷ []
+row_by forms job found (Read from to query) = list_commits ∷ list_schemas ∷ []
+row_by forms job found (Delete text) = list_schemas ∷ delete_puts job (erasing_in found.frame (found.there).attrs text)
 
 abbrev pub row_of : {F : Type 0} → Forms F → Job → Found → List Call
 row_of forms job found = row_by forms job found job.command
@@ -81,6 +92,8 @@ SaysThere found (Evolve change) (call.Get (name.Schema k) from len) (reply.Bytes
 SaysThere found (Evolve change) (call.Get name.Domain from len) (reply.Bytes bytes) = IsFrameIn found.frame (frame_of bytes)
 SaysThere found (Write w) (call.Get (name.Schema k) from len) (reply.Bytes bytes) = IsSchemaIn found.there k (schema_of bytes)
 SaysThere found (Write w) (call.Get name.Domain from len) (reply.Bytes bytes) = IsFrameIn found.frame (frame_of bytes)
+SaysThere found (Delete text) (call.Get (name.Schema k) from len) (reply.Bytes bytes) = IsSchemaIn found.there k (schema_of bytes)
+SaysThere found (Delete text) (call.Get name.Domain from len) (reply.Bytes bytes) = IsFrameIn found.frame (frame_of bytes)
 SaysThere found command c r = ⊤
 
 -- a job was told bytes that spell a schema
@@ -134,21 +147,24 @@ pub record EndsAt (row : List Call) (trace : List Exchange) (last : Exchange) : 
 
 -- ---- refusals
 
--- why a write or an evolve is refused where it found this
+-- why a job is refused where it found this
 abbrev pub refused_in : Found → Command → Option Refusal
 refused_in found (Evolve change) = option_map refusal.SchemaBad (evolution_fault (found.frame).domain (found.there).attrs change)
 refused_in found (Write w) = result_err (laid (found.frame).domain (found.there).attrs w.cols)
+refused_in found (Read from to query) = result_err (ready_in found.frame (found.there).attrs query)
+refused_in found (Delete text) = result_err (erasing_in found.frame (found.there).attrs text)
 refused_in found _ = None
 
 -- what a read wants of a fragment whose attributes are those of a schema, in the array that it found
-abbrev pub wanted_in : Found → ℕ → ℕ → Schema → Want
-wanted_in found from to s = want_of (record { from = from; to = to; frame = found.frame; there = found.there; near = [] }) s.attrs
+abbrev pub wanted_in : Found → ℕ → ℕ → Query → Schema → Want
+wanted_in found from to query s = wanted (box_of query.sub (found.frame).domain) from to s.attrs
 
 -- a read opened a fragment, whose head it got, in the schema that the head names and that it got too, and the fetch began so
 pub record IsOpened {F : Type 0} (forms : Forms F) (job : Job) (found : Found) (trace : List Exchange) (frag : FragKey) (opening : Result F ℕ) : Type 0 where
   pub from : ℕ
   pub to : ℕ
-  pub is_read : job.command ≡ Read from to
+  pub query : Query
+  pub is_read : job.command ≡ Read from to query
   pub object : List ℕ
   pub got : Contains trace (record { call = get_all (name.Part frag (forms.head_part found.frame)); reply = reply.Bytes object })
   pub head : Head
@@ -156,7 +172,7 @@ pub record IsOpened {F : Type 0} (forms : Forms F) (job : Job) (found : Found) (
   pub schema : Schema
   pub schema_got : GotSchema trace schema
   pub named : schema.key ≡ head.schema
-  pub opens : forms.opens found.frame schema frag object (wanted_in found from to schema) ≡ opening
+  pub opens : forms.opens found.frame schema frag object (wanted_in found from to query schema) ≡ opening
 
 -- a fetch that waited for the reply to a call came by these replies, each to the call that it asked for, to wait for the reply to another
 abbrev pub IsFetched : {F : Type 0} → Forms F → List Exchange → F → Call → List Reply → F → Call → Type 0
@@ -183,11 +199,12 @@ BreaksPart {F} forms job found trace last f part at =
 abbrev pub BreaksFetch : {F : Type 0} → Forms F → Job → Found → List Exchange → Exchange → Name → ℕ → Type 0
 BreaksFetch forms job found trace last n at = (f : FragKey) × (part : Part) × (n ≡ name.Part f part) × IsGot job found trace × BreaksPart forms job found trace last f part at
 
--- the bytes of an object break its layout at an offset: a schema, the frame, or the head of a fragment in an array of the frame that the job got
+-- the bytes of an object break its layout at an offset: a schema, the frame, a delete, or the head of a fragment in an array of the frame that the job got
 abbrev pub BreaksAt : {F : Type 0} → Forms F → Job → Found → List Exchange → Name → List ℕ → ℕ → Type 0
 BreaksAt forms job found trace (name.Schema k) bytes at = schema_of bytes ≡ Err at
 BreaksAt forms job found trace name.Domain bytes at = frame_of bytes ≡ Err at
 BreaksAt forms job found trace (name.Part f part) bytes at = IsGot job found trace × (part ≡ forms.head_part found.frame) × (forms.head found.frame f bytes ≡ Err at)
+BreaksAt forms job found trace (name.Commit f Del) bytes at = cond_of bytes ≡ Err at
 BreaksAt forms job found trace n bytes at = ⊥
 
 -- an array is there already: its frame is another one than a create makes, or it has a schema
@@ -217,7 +234,8 @@ EndsAlong forms job found row trace outcome.OutOfMemory = ((left : List Call) ×
 EndsAlong forms job found row trace outcome.Created = Along row trace [] × ((f : FrameIn) × (job.command ≡ Create f))
 EndsAlong forms job found row trace (outcome.Evolved k) = Along row trace [] × ((change : Evolution) × (job.command ≡ Evolve change)) × (k ≡ key_of job) × IsGot job found trace × (refused_in found job.command ≡ None)
 EndsAlong forms job found row trace (outcome.Written f) = Along row trace [] × ((w : WriteIn) × (job.command ≡ Write w)) × (f ≡ frag_of_job job) × IsGot job found trace × (refused_in found job.command ≡ None)
-EndsAlong forms job found row trace (outcome.Read answer) = Along row trace [] × ((from : ℕ) × (to : ℕ) × (job.command ≡ Read from to)) × IsGot job found trace
+EndsAlong forms job found row trace (outcome.Deleted f) = Along row trace [] × ((text : List ℕ) × (job.command ≡ Delete text)) × (f ≡ frag_of_job job) × IsGot job found trace × (refused_in found job.command ≡ None)
+EndsAlong forms job found row trace (outcome.Read answer) = Along row trace [] × ((from : ℕ) × (to : ℕ) × (query : Query) × (job.command ≡ Read from to query)) × IsGot job found trace × (refused_in found job.command ≡ None)
 
 -- how a job may end: one that is refused before its first call makes none
 abbrev pub MayEndAs : {F : Type 0} → Forms F → Job → Found → List Exchange → Outcome → Option Refusal → Type 0

@@ -9,13 +9,15 @@ use Rattle.ts_schema.specs.declared.frames.Frame.{Frame}
 use Rattle.ts_schema.specs.declared.schemas.Schema.{Schema}
 use Rattle.ts_base.specs.Keys.{frag_of}
 use Rattle.ts_base.specs.Held.{Held}
+use Rattle.ts_base.specs.declared.names.CommitKind.TheVariants.{Del}
 use Rattle.ts_base.specs.Names.{wrt_of}
 use Rattle.ts_schema.specs.FrameTexts.{frame_object}
 use Rattle.ts_schema.specs.SchemaTexts.{schema_object}
 use Rattle.ts_schema.specs.Parts.{Look, IsShort}
 use Rattle.ts_model.specs.Pieces.{HoldsWrite}
 use Rattle.ts_model.specs.Forms.{Spelled}
-use Rattle.ts_model.specs.Deeds.{History, frame_in, writes, schema_with, IsHistory}
+use Rattle.ts_cond.specs.CondTexts.{cond_object}
+use Rattle.ts_model.specs.Deeds.{History, frame_in, writes, schema_with, erase_of, IsHistory}
 use Rattle.ts_base.specs.declared.names.Name.TheVariants as name
 use Rattle.std.specs.FinMap as map
 
@@ -50,9 +52,12 @@ pub record Stands (spelled : Spelled) (m : Held) (h : History) : Type 0 where
   pub frame : map.get m name.Domain ≡ option_map frame_object (frame_in h)
   -- the schemas that are held are those of the history, each spelling its attributes
   pub schemas : (k : Key) → map.get m (name.Schema k) ≡ option_map (λ s. schema_object s.attrs) (schema_with h k)
+  -- the deletes that are held are those of the history, each spelling its condition
+  pub deletes : (f : FragKey) → map.get m (name.Commit f Del) ≡ option_map (λ e. cond_object e.cond) (erase_of h f)
   -- each is so short that one get can ask for all of it
   pub short_frame : (bytes : List ℕ) → map.get m name.Domain ≡ Some bytes → IsShort bytes
   pub short_schemas : (k : Key) (bytes : List ℕ) → map.get m (name.Schema k) ≡ Some bytes → IsShort bytes
+  pub short_deletes : (f : FragKey) (bytes : List ℕ) → map.get m (name.Commit f Del) ≡ Some bytes → IsShort bytes
   -- each committed fragment holds one write of the history
   pub whole : (f : FragKey) → IsCommitted m f → HoldsOne spelled h m f
   -- the fragment of each write is committed

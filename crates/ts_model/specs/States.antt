@@ -1,5 +1,5 @@
 -- How a job goes: the call that it makes next, and where a reply leads it.
-use Rattle.std.specs.Prelude.{ℕ, ◌-◌, ◌^◌, Bool, false, cond, not, ◌&&◌, if◌then◌else◌, List, [], ◌∷◌, ◌++◌, Option, Some, None, option_map, filter, filter_map, length, nat_le, nat_lt, nat_eq, slice_get, Result, Ok, Err, find, drop, suc, zero, map as list_map}
+use Rattle.std.specs.Prelude.{ℕ, ℤ, ◌-◌, ◌^◌, Bool, false, cond, not, ◌&&◌, if◌then◌else◌, List, [], ◌∷◌, ◌++◌, Option, Some, None, option_map, filter, filter_map, length, nat_le, nat_lt, nat_eq, slice_get, Result, Ok, Err, find, drop, suc, zero, map as list_map}
 use Rattle.ts_base.specs.declared.keys.Key.{Key}
 use Rattle.ts_base.specs.declared.keys.FragKey.{FragKey}
 use Rattle.ts_base.specs.declared.names.Name.{Name}
@@ -20,29 +20,36 @@ use Rattle.ts_model.specs.declared.states.State.{State}
 use Rattle.ts_model.specs.declared.states.NewObject.{NewObject}
 use Rattle.ts_model.specs.declared.states.Opened.{Opened}
 use Rattle.ts_model.specs.declared.states.Reading.{Reading}
+use Rattle.ts_model.specs.declared.states.Listed.{Listed}
+use Rattle.ts_model.specs.declared.deeds.Erasure.{Erasure}
+use Rattle.ts_model.specs.declared.queries.Ready.{Ready}
 use Rattle.ts_schema.specs.declared.frames.Frame.{Frame}
 use Rattle.ts_schema.specs.declared.schemas.Schema.{Schema}
 use Rattle.ts_schema.specs.declared.attrs.Attr.{Attr}
 use Rattle.ts_schema.specs.declared.wants.Want.{Want}
+use Rattle.std.specs.List.{list_any}
 use Rattle.std.specs.Option.{option_map_or}
 use Rattle.std.specs.Str.{bytes_eq}
-use Rattle.ts_base.specs.Keys.{key_eq, key_cmp}
-use Rattle.ts_base.specs.Names.{wrt_of}
-use Rattle.ts_domain.specs.Domains.{whole_domain}
+use Rattle.ts_base.specs.Keys.{key_eq, key_cmp, key_lt}
+use Rattle.ts_base.specs.Names.{wrt_of, del_of}
+use Rattle.ts_domain.specs.declared.boxes.SubBox.{SubBox}
+use Rattle.ts_cond.specs.CondTexts.{cond_object, cond_of}
+use Rattle.ts_cond.specs.Picks.{matches}
+use Rattle.ts_cond.specs.Tests.{Condition}
 use Rattle.ts_schema.specs.Attrs.{shown_row}
 use Rattle.ts_schema.specs.Evolutions.{evolved_attrs, evolution_fault, schema_at}
 use Rattle.ts_schema.specs.FrameTexts.{frame_object, frame_of}
 use Rattle.ts_schema.specs.SchemaTexts.{schema_object, schema_of}
-use Rattle.ts_model.specs.declared.commands.Command.TheVariants.{Create, Evolve, Write, Read}
-use Rattle.ts_model.specs.declared.states.State.TheVariants.{PutsFrame, ComparesFrame, ListsDeclared, Puts, ListsCommits, ListsSchemas, GetsSchema, GetsFrame, GetsHeads, GetsSchemas, Fetches, Over}
-use Rattle.ts_base.specs.declared.names.CommitKind.TheVariants.{Wrt}
+use Rattle.ts_model.specs.declared.commands.Command.TheVariants.{Create, Evolve, Write, Read, Delete}
+use Rattle.ts_model.specs.declared.states.State.TheVariants.{PutsFrame, ComparesFrame, ListsDeclared, Puts, ListsCommits, ListsSchemas, GetsSchema, GetsFrame, GetsHeads, GetsSchemas, GetsDeletes, Fetches, Over}
+use Rattle.ts_base.specs.declared.names.CommitKind.TheVariants.{Wrt, Del}
 use Rattle.ts_base.specs.declared.names.Prefix.TheVariants.{Commits, Schemas}
 use Rattle.ts_model.specs.Pieces.{newest_of}
 use Rattle.ts_model.specs.Forms.{Stepped, Forms, Asks, Takes, Breaks}
 use Rattle.ts_model.specs.Jobs.{key_of, frag_of_job, written_as, refused_before, looked_at}
 use Rattle.ts_model.specs.Deeds.{schemas, keys}
 use Rattle.ts_model.specs.Commands.{frame_made, laid, piece_of}
-use Rattle.ts_model.specs.Answers.{fields_of, types_of}
+use Rattle.ts_model.specs.Queries.{attr_fields, numbers_from, erasing_in, ready_in, selected, types_shown}
 use Rattle.ts_base.specs.declared.names.Name.TheVariants as name
 use Rattle.ts_base.specs.declared.names.Place.TheVariants as place
 use Rattle.ts_store.specs.declared.call.Call.TheVariants as call
@@ -70,6 +77,15 @@ wrt_in _ = None
 abbrev pub committed_in : List Name → List FragKey
 committed_in names = filter_map wrt_in names
 
+-- the delete whose object has the name
+abbrev pub del_in : Name → Option FragKey
+del_in (name.Commit f Del) = Some f
+del_in _ = None
+
+-- the deletes of a listing, in its order
+abbrev pub deletes_in : List Name → List FragKey
+deletes_in names = filter_map del_in names
+
 -- the key of a schema object
 abbrev pub schema_key_in : Name → Option Key
 schema_key_in (name.Schema k) = Some k
@@ -83,10 +99,14 @@ schemas_in names = filter_map schema_key_in names
 abbrev pub meets : ℕ → ℕ → FragKey → Bool
 meets a b f = nat_le a b && (nat_le f.t1 b && nat_le a f.t2)
 
--- the fragments that a read looks into: the committed ones of its listing whose span meets the interval
-abbrev pub looked_into : Command → List Name → List FragKey
-looked_into (Read from to) names = filter (meets from to) (committed_in names)
-looked_into _ names = []
+-- nothing to look into
+abbrev pub nothing_listed : Listed
+nothing_listed = record { near = []; deletes = [] }
+
+-- what a read looks into: of its listing the committed fragments whose span meets the interval, and the deletes that are stamped in it
+abbrev pub looked_into : Command → List Name → Listed
+looked_into (Read from to query) names = record { near = filter (meets from to) (committed_in names); deletes = filter (meets from to) (deletes_in names) }
+looked_into _ names = nothing_listed
 
 -- ---- how jobs end
 
@@ -151,6 +171,10 @@ abbrev pub write_objects : {F : Type 0} → Forms F → Frame → Schema → Job
 write_objects forms frame s job cells =
     part_objects (frag_of_job job) (forms.parts frame s (piece_of frame (written_as job s.key cells))) ++ record { name = commit_of job; bytes = [] } ∷ []
 
+-- the object of a delete job with this condition
+abbrev pub delete_object_of : Job → Condition → NewObject
+delete_object_of job condition = record { name = del_of (key_of job); bytes = cond_object condition }
+
 -- ---- puts
 
 -- a job puts objects from a place on, and ends after the last
@@ -180,25 +204,32 @@ known_attrs r schemas k = option_map_or (λ s. s.attrs) (known_schema r schemas 
 abbrev pub keys_named : Reading → List Opened → List Key
 keys_named r opened = map.keys (map.from_entries {R = key_cmp} (list_map (λ o. (o.head.schema, o.head.schema)) (filter (λ o. not (key_eq o.head.schema r.there.key)) opened)))
 
--- the row of a version, as it shows through the schema there
-abbrev pub row_shown : Reading → List Schema → Version → List Val
-row_shown r schemas v = fields_of (v.coords, shown_row (known_attrs r schemas v.schema) v.row r.there.attrs)
+-- a version is erased by these deletes: one with a greater key matches it, under the version's own schema
+abbrev pub is_erased_by : Reading → List Schema → List Erasure → Version → Bool
+is_erased_by r schemas erased v = list_any (λ e. key_lt v.key e.key && matches e.cond v.coords (attr_fields (known_attrs r schemas v.schema)) v.row) erased
+
+-- a version's coordinates, and its row as it shows through the schema there
+abbrev pub cell_shown : Reading → List Schema → Version → List ℤ × List Val
+cell_shown r schemas v = (v.coords, shown_row (known_attrs r schemas v.schema) v.row r.there.attrs)
+
+-- the cells of a read that got these versions: the newest version of each, unless it is erased
+abbrev pub cells_shown : Reading → List Schema → List Version → List (List ℤ × List Val)
+cells_shown r schemas got = list_map (cell_shown r schemas) (filter (λ v. not (is_erased_by r schemas r.erased v)) (map.values (newest_of got)))
 
 -- the answer of a read that got these versions
 abbrev pub answer_of : Reading → List Schema → List Version → Answer
 answer_of r schemas got = record {
-  types = types_of r.frame.domain r.there.attrs;
-  rows = list_map (λ e. row_shown r schemas e.1) (map.entries (newest_of got));
+  types = types_shown r.frame (r.there).attrs r.ready;
+  rows = selected r.frame (r.there).attrs r.ready (cells_shown r schemas got);
 }
 
--- the numbers from one on, so many
-abbrev pub numbers_from : ℕ → ℕ → List ℕ
-numbers_from first zero = []
-numbers_from first (suc more) = first ∷ numbers_from (suc first) more
+-- what is wanted of a fragment with so many attributes: the cells of a box that are stamped in [a, b], with all their values
+abbrev pub wanted : SubBox → ℕ → ℕ → List Attr → Want
+wanted sub a b attrs = record { sub = sub; attrs = numbers_from 0 (length attrs); a = a; b = b }
 
--- what is wanted of a fragment with so many attributes: all cells of the domain that are stamped in the interval, with all their values
+-- what a read wants of a fragment
 abbrev pub want_of : Reading → List Attr → Want
-want_of r attrs = record { sub = whole_domain r.frame.domain; attrs = numbers_from 0 (length attrs); a = r.from; b = r.to }
+want_of r attrs = wanted (r.ready).sub r.from r.to attrs
 
 -- where a step of a fetch leads: to a call, on with the versions, or to an end
 abbrev pub fetch_leads : {F : Type 0} → Reading → List Opened → List Schema → ℕ → FragKey → List Version → (List Version → State F) → Stepped F → State F
@@ -221,9 +252,13 @@ abbrev pub fetching : {F : Type 0} → Forms F → Reading → List Opened → L
 fetching forms r opened schemas next [] got = Over (outcome.Read (answer_of r schemas got))
 fetching forms r opened schemas next (o ∷ rest) got = fetches_one forms r opened schemas next o got (λ vs. fetching forms r opened schemas (suc next) rest (got ++ vs)) (known_schema r schemas o.head.schema)
 
--- a read gets the next further schema, or begins to fetch
+-- a read gets the next delete, or begins to fetch
+abbrev pub erasing : {F : Type 0} → Forms F → Reading → List Opened → List Schema → State F
+erasing forms r opened schemas = cond (nat_lt (length r.erased) (length r.deletes)) (GetsDeletes r opened schemas) (fetching forms r opened schemas 0 opened [])
+
+-- a read gets the next further schema, or goes on to the deletes
 abbrev pub gathering : {F : Type 0} → Forms F → Reading → List Opened → List Key → List Schema → State F
-gathering forms r opened keys schemas = cond (nat_lt (length schemas) (length keys)) (GetsSchemas r opened keys schemas) (fetching forms r opened schemas 0 opened [])
+gathering forms r opened keys schemas = cond (nat_lt (length schemas) (length keys)) (GetsSchemas r opened keys schemas) (erasing forms r opened schemas)
 
 -- a read opens the next fragment, or goes on once all are open
 abbrev pub opening : {F : Type 0} → Forms F → Reading → List Opened → State F
@@ -236,12 +271,27 @@ abbrev pub puts_cells : {F : Type 0} → Forms F → Job → Frame → Schema �
 puts_cells forms job frame s (Ok cells) = putting (write_objects forms frame s job cells) 0 (outcome.Written (frag_of_job job))
 puts_cells forms job frame s (Err r) = refuse r
 
+-- a delete puts its condition, or is refused
+abbrev pub puts_delete : {F : Type 0} → Job → Result Condition Refusal → State F
+puts_delete job (Ok condition) = putting (delete_object_of job condition ∷ []) 0 (outcome.Deleted (frag_of_job job))
+puts_delete job (Err r) = refuse r
+
+-- what a read reads, before it got any delete
+abbrev pub reading_of : ℕ → ℕ → Listed → Frame → Schema → Ready → Reading
+reading_of from to listed frame s ready = record { from = from; to = to; ready = ready; frame = frame; there = s; near = listed.near; deletes = listed.deletes; erased = [] }
+
+-- a read opens its fragments, or is refused
+abbrev pub asks_for : {F : Type 0} → Forms F → ℕ → ℕ → Listed → Frame → Schema → Result Ready Refusal → State F
+asks_for forms from to listed frame s (Ok ready) = opening forms (reading_of from to listed frame s ready) []
+asks_for forms from to listed frame s (Err r) = refuse r
+
 -- what a job does once it has the schema there and the frame
-abbrev pub works : {F : Type 0} → Forms F → Job → Command → List FragKey → Frame → Schema → State F
-works forms job (Create f) near frame s = Over outcome.OutOfMemory
-works forms job (Evolve change) near frame s = unless_refused (puts_schema job (evolved_attrs s.attrs change) (outcome.Evolved (key_of job))) (option_map refusal.SchemaBad (evolution_fault frame.domain s.attrs change))
-works forms job (Write w) near frame s = puts_cells forms job frame s (laid frame.domain s.attrs w.cols)
-works forms job (Read from to) near frame s = opening forms (record { from = from; to = to; frame = frame; there = s; near = near }) []
+abbrev pub works : {F : Type 0} → Forms F → Job → Command → Listed → Frame → Schema → State F
+works forms job (Create f) listed frame s = Over outcome.OutOfMemory
+works forms job (Evolve change) listed frame s = unless_refused (puts_schema job (evolved_attrs s.attrs change) (outcome.Evolved (key_of job))) (option_map refusal.SchemaBad (evolution_fault frame.domain s.attrs change))
+works forms job (Write w) listed frame s = puts_cells forms job frame s (laid frame.domain s.attrs w.cols)
+works forms job (Read from to query) listed frame s = asks_for forms from to listed frame s (ready_in frame s.attrs query)
+works forms job (Delete text) listed frame s = puts_delete job (erasing_in frame s.attrs text)
 
 -- ---- where replies lead
 
@@ -276,9 +326,9 @@ is_own_frame None bytes = false
 is_own_frame (Some f) bytes = bytes_eq (frame_object (frame_made f)) bytes
 
 -- where the schemas of a listing lead: to the schema there, if there is one
-abbrev pub seeks : {F : Type 0} → List FragKey → ℕ → Option Key → State F
-seeks near at None = refuse (refusal.NoSchema at)
-seeks near at (Some k) = GetsSchema near k
+abbrev pub seeks : {F : Type 0} → Listed → ℕ → Option Key → State F
+seeks listed at None = refuse (refusal.NoSchema at)
+seeks listed at (Some k) = GetsSchema listed k
 
 -- where the reply to a fetch's call leads: bytes and lengths are for the fetch
 abbrev pub after_fetched : {F : Type 0} → Forms F → Reading → List Opened → List Schema → ℕ → FragKey → List Version → F → Call → Reply → State F
@@ -298,6 +348,19 @@ abbrev pub after_schema : {F : Type 0} → Forms F → Reading → List Opened �
 after_schema forms r opened keys schemas k bytes =
     on_read (name.Schema k) (λ attrs. gathering forms r opened keys (schemas ++ record { key = k; attrs = attrs } ∷ [])) (schema_of bytes)
 
+-- with a delete more
+abbrev pub with_erased : Reading → Erasure → Reading
+with_erased r e = record { from = r.from; to = r.to; ready = r.ready; frame = r.frame; there = r.there; near = r.near; deletes = r.deletes; erased = r.erased ++ e ∷ [] }
+
+-- the delete under a name with this condition
+abbrev pub erasure_of : FragKey → Condition → Erasure
+erasure_of f condition = record { key = record { t = f.t1; id = f.id }; cond = condition }
+
+-- where a delete leads
+abbrev pub after_delete : {F : Type 0} → Forms F → Reading → List Opened → List Schema → FragKey → List ℕ → State F
+after_delete forms r opened schemas f bytes =
+    on_read (name.Commit f Del) (λ condition. erasing forms (with_erased r (erasure_of f condition)) opened schemas) (cond_of bytes)
+
 -- with the item at a place; a job never asks past the last
 abbrev pub with_item : {F A : Type 0} → (A → State F) → Option A → State F
 with_item on (Some x) = on x
@@ -308,9 +371,10 @@ with_item on None = Over outcome.OutOfMemory
 -- where a command begins: one that is refused before its first call is over
 abbrev pub begins : {F : Type 0} → Command → State F
 begins (Create f) = PutsFrame
-begins (Evolve change) = ListsSchemas []
-begins (Write w) = ListsSchemas []
-begins (Read from to) = ListsCommits
+begins (Evolve change) = ListsSchemas nothing_listed
+begins (Write w) = ListsSchemas nothing_listed
+begins (Read from to query) = ListsCommits
+begins (Delete text) = ListsSchemas nothing_listed
 
 abbrev pub begun : {F : Type 0} → Command → State F
 begun command = unless_refused (begins command) (refused_before command)
@@ -322,6 +386,10 @@ get_head forms r f = get_all (name.Part f (forms.head_part r.frame))
 -- the get of a schema
 abbrev pub get_schema : Key → Call
 get_schema k = get_all (name.Schema k)
+
+-- the get of a delete
+abbrev pub get_delete : FragKey → Call
+get_delete f = get_all (name.Commit f Del)
 
 -- the get of the frame
 abbrev pub get_frame : Call
@@ -342,11 +410,12 @@ asks forms job ComparesFrame = Some get_frame
 asks forms job ListsDeclared = Some list_schemas
 asks forms job (Puts objects next end) = option_map put_of (slice_get objects next)
 asks forms job ListsCommits = Some list_commits
-asks forms job (ListsSchemas near) = Some list_schemas
-asks forms job (GetsSchema near there) = Some (get_schema there)
-asks forms job (GetsFrame near there) = Some get_frame
+asks forms job (ListsSchemas listed) = Some list_schemas
+asks forms job (GetsSchema listed there) = Some (get_schema there)
+asks forms job (GetsFrame listed there) = Some get_frame
 asks forms job (GetsHeads r opened) = option_map (get_head forms r) (slice_get r.near (length opened))
 asks forms job (GetsSchemas r opened keys schemas) = option_map get_schema (slice_get keys (length schemas))
+asks forms job (GetsDeletes r opened schemas) = option_map get_delete (slice_get r.deletes (length r.erased))
 asks forms job (Fetches r opened schemas next frag got f c) = Some c
 asks forms job (Over o) = None
 
@@ -357,11 +426,12 @@ goes forms job ComparesFrame r = on_bytes get_frame (λ bytes. cond (is_own_fram
 goes forms job ListsDeclared r = on_names list_schemas (λ names. cond (nat_eq (length names) 0) (puts_first job (made_by job.command)) (refuse refusal.ArrayExists)) r
 goes forms job (Puts objects next end) r = with_item (λ o. on_made (put_of o) (putting objects (suc next) end) r) (slice_get objects next)
 goes forms job ListsCommits r = on_names list_commits (λ names. ListsSchemas (looked_into job.command names)) r
-goes forms job (ListsSchemas near) r = on_names list_schemas (λ names. seeks near (looked_at job) (schema_at (schemas_in names) (looked_at job))) r
-goes forms job (GetsSchema near there) r = on_bytes (get_schema there) (λ bytes. on_read (name.Schema there) (λ attrs. GetsFrame near (record { key = there; attrs = attrs })) (schema_of bytes)) r
-goes forms job (GetsFrame near there) r = on_bytes get_frame (λ bytes. on_read name.Domain (λ frame. works forms job job.command near frame there) (frame_of bytes)) r
+goes forms job (ListsSchemas listed) r = on_names list_schemas (λ names. seeks listed (looked_at job) (schema_at (schemas_in names) (looked_at job))) r
+goes forms job (GetsSchema listed there) r = on_bytes (get_schema there) (λ bytes. on_read (name.Schema there) (λ attrs. GetsFrame listed (record { key = there; attrs = attrs })) (schema_of bytes)) r
+goes forms job (GetsFrame listed there) r = on_bytes get_frame (λ bytes. on_read name.Domain (λ frame. works forms job job.command listed frame there) (frame_of bytes)) r
 goes forms job (GetsHeads r opened) r' = with_item (λ f. on_bytes (get_head forms r f) (after_head forms r opened f) r') (slice_get r.near (length opened))
 goes forms job (GetsSchemas r opened keys schemas) r' = with_item (λ k. on_bytes (get_schema k) (after_schema forms r opened keys schemas k) r') (slice_get keys (length schemas))
+goes forms job (GetsDeletes r opened schemas) r' = with_item (λ f. on_bytes (get_delete f) (after_delete forms r opened schemas f) r') (slice_get r.deletes (length r.erased))
 goes forms job (Fetches r opened schemas next frag got f c) r' = after_fetched forms r opened schemas next frag got f c r'
 goes forms job (Over o) r = Over o
 

@@ -12,6 +12,7 @@ use Rattle.ts_model.specs.declared.commands.Job.{Job}
 use Rattle.ts_model.specs.declared.commands.ColIn.{ColIn}
 use Rattle.ts_model.specs.declared.answers.Refusal.{Refusal}
 use Rattle.ts_model.specs.declared.deeds.Written.{Written}
+use Rattle.ts_model.specs.declared.deeds.Erasure.{Erasure}
 use Rattle.ts_model.specs.declared.deeds.Deed.{Deed}
 use Rattle.ts_schema.specs.declared.frames.Frame.{Frame}
 use Rattle.ts_schema.specs.declared.schemas.Schema.{Schema}
@@ -19,14 +20,16 @@ use Rattle.ts_base.specs.Held.{Held}
 use Rattle.ts_schema.specs.Evolutions.{evolved_attrs, schema_at}
 use Rattle.ts_schema.specs.Parts.{IsShort}
 use Rattle.ts_store.specs.Calls.{took_effect, after, reply_of, is_no_memory, FitsCall}
-use Rattle.ts_model.specs.declared.commands.Command.TheVariants.{Create, Evolve, Write}
-use Rattle.ts_model.specs.declared.deeds.Deed.TheVariants.{Framed, Declared, Wrote}
-use Rattle.ts_base.specs.declared.names.CommitKind.TheVariants.{Wrt}
+use Rattle.ts_model.specs.declared.commands.Command.TheVariants.{Create, Evolve, Write, Delete}
+use Rattle.ts_model.specs.declared.deeds.Deed.TheVariants.{Framed, Declared, Wrote, Erased}
+use Rattle.ts_base.specs.declared.names.CommitKind.TheVariants.{Wrt, Del}
 use Rattle.ts_base.specs.declared.names.Prefix.TheVariants.{Schemas}
 use Rattle.ts_model.specs.States.{schemas_in, made_by, Exchange}
-use Rattle.ts_model.specs.Jobs.{schema_of_job, written_as}
+use Rattle.ts_model.specs.Jobs.{schema_of_job, written_as, erasure_as}
 use Rattle.ts_model.specs.Deeds.{History, frame_in, schema_with}
 use Rattle.ts_model.specs.Commands.{frame_made, laid}
+use Rattle.ts_model.specs.Queries.{erasing_in}
+use Rattle.ts_cond.specs.Tests.{Condition}
 use Rattle.ts_base.specs.declared.names.Name.TheVariants as name
 use Rattle.ts_store.specs.declared.call.Call.TheVariants as call
 use Rattle.ts_store.specs.declared.call.Reply.TheVariants as reply
@@ -142,11 +145,27 @@ abbrev pub written_by : History → Job → Option (List Key) → Command → Op
 written_by h job found (Write w) = written_in job w.cols (schema_used h job found) (frame_in h)
 written_by h job found _ = None
 
--- the deed of an object that a job puts: of the frame, of a schema, or of a `.wrt`
+-- the condition, if no refusal stands against it
+abbrev pub condition_of : Result Condition Refusal → Option Condition
+condition_of (Ok condition) = Some condition
+condition_of (Err r) = None
+
+-- what a text erases in a schema of an array with a frame
+abbrev pub erased_in : Job → List ℕ → Option Schema → Option Frame → Option Erasure
+erased_in job text (Some s) (Some frame) = option_map (erasure_as job) (condition_of (erasing_in frame s.attrs text))
+erased_in job text _ _ = None
+
+-- what a job erases
+abbrev pub erased_by : History → Job → Option (List Key) → Command → Option Erasure
+erased_by h job found (Delete text) = erased_in job text (schema_used h job found) (frame_in h)
+erased_by h job found _ = None
+
+-- the deed of an object that a job puts: of the frame, of a schema, of a `.wrt`, or of a `.del`
 abbrev pub deed_of : History → Job → Option (List Key) → Name → Option Deed
 deed_of h job found name.Domain = option_map (λ f. Framed (frame_made f)) (made_by job.command)
 deed_of h job found (name.Schema k) = option_map Declared (declared_by h job found job.command)
 deed_of h job found (name.Commit f Wrt) = option_map Wrote (written_by h job found job.command)
+deed_of h job found (name.Commit f Del) = option_map Erased (erased_by h job found job.command)
 deed_of h job found _ = None
 
 -- the deed of a call of a job

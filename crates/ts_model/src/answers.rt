@@ -1,6 +1,7 @@
 //! How a command ends: its answer, or why it was refused.
 
 use ts_base::{FragKey, Key, Label, Name, Place, RowList, Sequence, ValType};
+use ts_cond::CondFault;
 use ts_domain::DomainFault;
 use ts_schema::SchemaFault;
 
@@ -10,11 +11,10 @@ pub type TypeList = Sequence<ValType>;
 /// What a read found.
 #[derive(Debug, Drop, PartialEq, Eq)]
 pub struct Answer {
-    /// The types of the fields: of all dimensions, and then of all attributes of the schema that
-    /// holds at the end of the interval.
+    /// The types of the fields that are shown.
     pub types: TypeList,
-    /// A row for each cell that has a value, in row order of the coordinates: the coordinates, and
-    /// then the value of each attribute.
+    /// A row for each cell of the box that has a value and passes the filter, in the layout that
+    /// was asked for: the value of each field that is shown.
     pub rows: RowList,
 }
 
@@ -29,6 +29,8 @@ pub enum Outcome {
     Written(FragKey),
     /// A read was answered.
     Read(Answer),
+    /// A delete is committed by the `.del` object of this key.
+    Deleted(FragKey),
     /// The command was refused, and no deed has its key. But where the call that failed was the put
     /// of its own schema or of its own commit, that may have been done all the same.
     Refused(Refusal),
@@ -53,6 +55,15 @@ pub enum Refusal {
     Domain { dim: u8, value: i128 },
     /// The cell with this index, counted from 0, has coordinates that came earlier.
     DuplicateCell { index: u64 },
+    /// A read of a dense array has this many cells in its box, more than 2^20; 2^64 - 1 stands for
+    /// more.
+    TooMany { cells: u64 },
+    /// Nothing is deleted from a dense array.
+    DenseArray,
+    /// The array has no dimension of this name, which a box names, or no field, which is to be shown.
+    UnknownField { field: Label },
+    /// The text of a condition has this fault. The fault is never want of memory.
+    Condition(CondFault),
     /// An object of this name was there already when the command put it.
     Taken(Name),
     /// The call on this object, or on what is below this prefix, failed.

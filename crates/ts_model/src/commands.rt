@@ -1,7 +1,8 @@
 //! What a lane is asked to do.
 
 use std::alloc::Global;
-use ts_base::{Duplicate, Label, OutOfMemory, Row, Sequence, Stop};
+use ts_base::{ByteList, Duplicate, Label, OutOfMemory, Row, Sequence, Stop};
+use ts_cond::Query;
 use ts_domain::{DimList, Order};
 use ts_schema::{AttrList, Evolution};
 
@@ -77,9 +78,19 @@ pub enum Command {
     Evolve(Evolution),
     /// Writes cells, in the schema that holds at the stamp.
     Write(WriteIn),
-    /// Reads the whole domain in the interval from `from` to `to`, in milliseconds since 1970-01-01,
-    /// both ends included, through the schema that holds at `to`.
-    Read { from: u64, to: u64 },
+    /// Reads in the interval from `from` to `to`, in milliseconds since 1970-01-01, both ends
+    /// included, through the schema that holds at `to`.
+    Read {
+        /// The least timestamp.
+        from: u64,
+        /// The greatest timestamp.
+        to: u64,
+        /// What is asked for.
+        query: Query,
+    },
+    /// Deletes, at the stamp, each cell whose last write matches the condition with this text, over
+    /// the fields of the schema that holds at the stamp. Older writes do not come to light.
+    Delete(ByteList),
 }
 
 impl Duplicate for Command {
@@ -88,10 +99,12 @@ impl Duplicate for Command {
             Command::Create(frame) => Ok(Command::Create(frame.copy(alloc)?)),
             Command::Evolve(change) => Ok(Command::Evolve(change.copy(alloc)?)),
             Command::Write(cells) => Ok(Command::Write(cells.copy(alloc)?)),
-            Command::Read { from, to } => Ok(Command::Read {
+            Command::Read { from, to, query } => Ok(Command::Read {
                 from: *from,
                 to: *to,
+                query: query.copy(alloc)?,
             }),
+            Command::Delete(text) => Ok(Command::Delete(text.copy(alloc)?)),
         }
     }
 }

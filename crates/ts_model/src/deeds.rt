@@ -1,7 +1,7 @@
 //! Deeds and histories: what was done to the array, in the order of its commits.
 
-use std::alloc::Global;
-use ts_base::{CellList, Duplicate, Key, OutOfMemory, Sequence};
+use ts_base::{CellList, Key, Sequence};
+use ts_cond::Cond;
 use ts_schema::{Frame, Schema};
 
 /// What a write did.
@@ -15,18 +15,20 @@ pub struct Written {
     pub cells: CellList,
 }
 
-impl Duplicate for Written {
-    fn copy(&self, alloc: Global) -> Result<Written, OutOfMemory> {
-        Ok(Written {
-            key: self.key,
-            schema: self.schema,
-            cells: self.cells.copy(alloc)?,
-        })
-    }
+/// What a delete did.
+#[derive(Debug, Drop)]
+pub struct Erasure {
+    /// The key of the delete: its stamp, and the identifier of its job.
+    pub key: Key,
+    /// It erases each cell whose last write has a lesser key and matches this condition.
+    pub cond: Cond,
 }
 
+/// A list of deletes.
+pub type ErasureList = Sequence<Erasure>;
+
 /// A deed: a step that a reader of the array can tell from what came before.
-#[derive(Debug, Drop, PartialEq, Eq)]
+#[derive(Debug, Drop)]
 pub enum Deed {
     /// The array got its frame.
     Framed(Frame),
@@ -34,16 +36,8 @@ pub enum Deed {
     Declared(Schema),
     /// A write was committed.
     Wrote(Written),
-}
-
-impl Duplicate for Deed {
-    fn copy(&self, alloc: Global) -> Result<Deed, OutOfMemory> {
-        match self {
-            Deed::Framed(frame) => Ok(Deed::Framed(*frame)),
-            Deed::Declared(schema) => Ok(Deed::Declared(schema.copy(alloc)?)),
-            Deed::Wrote(write) => Ok(Deed::Wrote(write.copy(alloc)?)),
-        }
-    }
+    /// A delete was committed.
+    Erased(Erasure),
 }
 
 /// A history: deeds in the order of their commits.

@@ -6,14 +6,28 @@
 
 mod answers;
 mod blobs;
+mod checking;
 mod commands;
 mod deeds;
+mod erasures;
+mod fields;
+mod finding;
+mod places;
+mod queries;
 mod scan;
+mod selection;
 mod states;
+#[cfg(test)]
+mod tests;
 
 pub use answers::{Answer, Driven, Outcome, Refusal, TypeList};
 pub use blobs::blob_bytes;
+pub use checking::{check_delete, check_query};
 pub use commands::{ColIn, ColInList, Command, FrameIn, Job, JobList, Line, LineList, WriteIn};
-pub use deeds::{Deed, History, Written};
+pub use deeds::{Deed, Erasure, ErasureList, History, Written};
+pub use fields::{attr_fields, fields_in};
+pub use places::{GlobalPlace, place_in, place_of};
+pub use queries::{PlaceList, QueryFault, Ready, Shown, ShownList};
 pub use scan::reference;
-pub use states::{NewObject, NewObjectList, Opened, OpenedList, Reading, State};
+pub use selection::{rows_of, types_shown};
+pub use states::{Listed, NewObject, NewObjectList, Opened, OpenedList, Reading, State};

@@ -1,122 +1,149 @@
 //! Reading a history by looking through all its deeds: slow and plain, for other ways to read to be
 //! compared with.
-ghost use Rattle.std.specs.Prelude.{◌≡◌, ◌&&◌, ◌⊎◌, ℤ, List, [], ◌∷◌, ◌++◌, Some, None, find, map, IfOk, OnOk, MatchOption};
-ghost use Rattle.std.specs.Option.{option_copied};
+ghost use Rattle.std.specs.Prelude.{◌≡◌, ◌++◌, List, map, All, IfOk, OnOk};
 ghost use Rattle.std.specs.Ordering.{int_cmp};
 ghost use Rattle.std.specs.Cmp.Lexicographic.{slice_cmp};
 ghost use Rattle.std.specs.BTreeMap.{IsOrdered};
-ghost use Rattle.ts_base.specs.Keys.{greater, is_within, key_eq};
 ghost use Rattle.ts_base.specs.declared.heads.Cell.{Cell as AnyCell};
+ghost use Rattle.ts_domain.specs.Bounds.{is_between};
+ghost use Rattle.ts_domain.specs.Boxes.{is_in_box};
+ghost use Rattle.ts_domain.specs.Domains.{LiesInDomain};
 ghost use Rattle.ts_schema.specs.Attrs.{shown_row};
-ghost use Rattle.ts_model.specs.Answers.{fields_of, shown_at, types_of, IsAnswer};
-ghost use Rattle.ts_model.specs.Deeds.{attrs_with, frame_in, has_cell, last_write, row_at, schema_there, schema_with};
-ghost use Rattle.ts_model.specs.Scans.{cells_in, cells_of_deed, with_shown, Shows, AreShown, AreRows};
+ghost use Rattle.ts_schema.specs.FrameTexts.{IsFrame};
+ghost use Rattle.ts_schema.specs.SchemaTexts.{AreAttrs};
+ghost use Rattle.ts_model.specs.Answers.{shown_at};
+ghost use Rattle.ts_model.specs.Deeds.{IsHistory, attrs_with};
+ghost use Rattle.ts_model.specs.Queries.{types_shown};
+ghost use Rattle.ts_model.specs.Scans.{cells_in, cells_of_deed, with_shown, Shows, AreShown, AreRows, IsAsked, IsReferred, shown_by, shown_of};
+ghost use Rattle.ts_model.specs.Selections.{IsNamedBox};
 
-use crate::answers::{Answer, TypeList};
-use crate::deeds::{Deed, History, Written};
+use crate::answers::{Answer, Outcome, Refusal};
+use crate::checking::check_query;
+use crate::deeds::{Deed, History};
+use crate::erasures::is_erased;
+use crate::finding::{find_row, frame_in, latest, schema_there, schema_with};
+use crate::queries::{QueryFault, Ready, Shown, ShownList};
+use crate::selection::{rows_of, types_shown};
 use std::alloc::Global;
 use std::collections::BTreeMap;
-use ts_base::{Cell, Coords, Duplicate, Key, OutOfMemory, Row, RowList, Val};
-use ts_domain::Domain;
+use ts_base::{Cell, Coords, Duplicate, Key, OutOfMemory, Row};
+use ts_cond::Query;
+use ts_domain::SubBox;
 use ts_schema::{AttrList, Frame, Schema, show_row};
 
-/// What a read shows whose listing of the commits saw the history `seen`, and whose later listing of
+/// How a read ends whose listing of the commits saw the history `seen`, and whose later listing of
 /// the schemas saw the history `later`.
 ///
-/// Of each cell it has the last write among those stamped from `from` to `to`, in milliseconds since
-/// 1970-01-01, both included, shown through the schema that holds at `to`. It is None where `later`
-/// has no frame or no schema that is stamped at `to` or before. For want of memory for the answer
-/// there is an error.
+/// Of each cell of the box it has the last write among those stamped from `from` to `to`, in
+/// milliseconds since 1970-01-01, both included, unless a delete with a greater key that is stamped
+/// there matches it, shown through the schema that holds at `to`. It is refused with `NoSchema` where
+/// no schema of `later` is stamped at `to` or before, and else for what its query is refused for. For
+/// want of memory for the answer there is an error.
 pub fn reference(
     alloc: Global,
     seen: &History,
     later: &History,
     from: u64,
     to: u64,
-) -> Result<Option<Answer>, OutOfMemory>
-    ensures { IfOk result (λ found. MatchOption found ((frame_in later.now ≡ None) ⊎ (schema_there later.now to ≡ None)) (λ answer. IsAnswer seen.now later.now from to answer)) }
+    query: &Query,
+) -> Result<Outcome, OutOfMemory>
+    requires history { IsHistory later.now }
+    requires bounds { All IsNamedBox query.now.sub }
+    ensures { IfOk result (λ end. IsReferred seen.now later.now from to query.now end) }
 {
-    match frame_in(later.as_slice()) {
-        None => Ok(None),
-        Some(frame) => match schema_there(later.as_slice(), to) {
-            None => Ok(None),
-            Some(there) => Ok(Some(answer(alloc, seen.as_slice(), frame, there, from, to)?)),
+    match schema_there(later.as_slice(), to) {
+        None => Ok(Outcome::Refused(Refusal::NoSchema { at: to })),
+        Some(there) => match frame_in(later.as_slice()) {
+            None => unreachable!(),
+            Some(frame) => ask(alloc, seen.as_slice(), frame, there, from, to, query),
         },
     }
 }
 
-// The answer through a schema of an array with a frame.
-fn answer(
+// How a read ends of an array with a frame through a schema.
+fn ask(
     alloc: Global,
     deeds: &[Deed],
     frame: &Frame,
     there: &Schema,
     from: u64,
     to: u64,
-) -> Result<Answer, OutOfMemory>
-    ensures types { IfOk result (λ answer. answer.types ≡ types_of (frame.now).domain (there.now).attrs) }
-    ensures rows { IfOk result (λ answer. AreRows deeds.now there.now from to answer.rows) }
+    query: &Query,
+) -> Result<Outcome, OutOfMemory>
+    requires frame { IsFrame frame.now }
+    requires attrs { AreAttrs there.now.attrs }
+    requires bounds { All IsNamedBox query.now.sub }
+    ensures { IfOk result (λ end. IsAsked deeds.now frame.now there.now from to query.now end) }
 {
-    let cells = shown_cells(alloc, deeds, there, from, to)?;
+    match check_query(alloc, frame, there, query) {
+        Err(QueryFault::OutOfMemory) => Err(OutOfMemory),
+        Err(QueryFault::Refused(refusal)) => Ok(Outcome::Refused(refusal)),
+        Ok(ready) => {
+            let scan = Scan {
+                deeds,
+                there,
+                ready: &ready,
+                from,
+                to,
+            };
+            Ok(Outcome::Read(answer(alloc, &scan, frame)?))
+        }
+    }
+}
+
+// What is looked for, and where.
+#[derive(Clone, Copy, Drop)]
+struct Scan<'a> {
+    // The deeds of the history.
+    deeds: &'a [Deed],
+    // The schema through which rows show.
+    there: &'a Schema,
+    // What is asked for.
+    ready: &'a Ready,
+    // The least timestamp.
+    from: u64,
+    // The greatest timestamp.
+    to: u64,
+}
+
+// The answer of an array with a frame.
+fn answer(alloc: Global, scan: &Scan, frame: &Frame) -> Result<Answer, OutOfMemory>
+    requires frame { IsFrame frame.now }
+    requires attrs { AreAttrs scan.now.there.now.attrs }
+    requires inside { LiesInDomain frame.now.domain scan.now.ready.now.sub }
+    ensures types { IfOk result (λ answer. answer.types ≡ types_shown frame.now scan.now.there.now.attrs scan.now.ready.now) }
+    ensures rows { IfOk result (λ answer. AreRows scan.now.deeds.now frame.now scan.now.there.now scan.now.ready.now scan.now.from scan.now.to answer.rows) }
+{
+    let cells = shown_cells(alloc, scan)?;
+    let listed = listed(alloc, &cells)?;
     Ok(Answer {
-        types: types_of(alloc, &frame.domain, &there.attrs)?,
-        rows: rows_of(alloc, &cells)?,
+        types: types_shown(alloc, frame, scan.there, scan.ready)?,
+        rows: rows_of(alloc, frame, scan.there, scan.ready, listed)?,
     })
 }
 
-// The types of the fields: those of all dimensions, and then of all attributes.
-fn types_of(alloc: Global, domain: &Domain, attrs: &AttrList) -> Result<TypeList, OutOfMemory>
-    ensures { IfOk result (λ types. types ≡ types_of domain.now attrs.now) }
-{
-    let mut types = TypeList::new(alloc);
-    for dim in domain.as_slice() {
-        types.push(dim.ty)?;
-    }
-    for attr in attrs.as_slice() {
-        types.push(attr.ty)?;
-    }
-    Ok(types)
-}
-
-// The rows of cells by their coordinates, in row order.
-fn rows_of(alloc: Global, cells: &BTreeMap<Coords, Row>) -> Result<RowList, OutOfMemory>
-    ensures rows { IfOk result (λ rows. rows ≡ map fields_of (cells.now).entries) }
+// The cells in row order.
+fn listed(alloc: Global, cells: &BTreeMap<Coords, Row>) -> Result<ShownList, OutOfMemory>
+    ensures cells { IfOk result (λ list. list ≡ map shown_of cells.now.entries) }
     ensures ordered { IsOrdered (slice_cmp int_cmp) cells.now }
 {
-    let mut rows = RowList::new(alloc);
+    let mut list = ShownList::new(alloc);
     for (coords, row) in cells.iter() {
-        rows.push(fields_of(alloc, coords, row)?)?;
+        list.push(Shown {
+            coords: *coords,
+            row: row.copy(alloc)?,
+        })?;
     }
-    Ok(rows)
-}
-
-// The fields of a cell: its coordinates, and then its values.
-fn fields_of(alloc: Global, coords: &Coords, row: &Row) -> Result<Row, OutOfMemory>
-    ensures { IfOk result (λ fields. fields ≡ fields_of (coords.now, row.now)) }
-{
-    let mut fields = Row::new(alloc);
-    for number in coords.as_slice() {
-        fields.push(Val::Int(*number))?;
-    }
-    for val in row.as_slice() {
-        fields.push(val.copy(alloc)?)?;
-    }
-    Ok(fields)
+    Ok(list)
 }
 
 // What the deeds show at each coordinate.
-fn shown_cells(
-    alloc: Global,
-    deeds: &[Deed],
-    there: &Schema,
-    from: u64,
-    to: u64,
-) -> Result<BTreeMap<Coords, Row>, OutOfMemory>
-    ensures { IfOk result (λ cells. AreShown (shown_at deeds.now there.now from to) (cells_in cells)) }
+fn shown_cells(alloc: Global, scan: &Scan) -> Result<BTreeMap<Coords, Row>, OutOfMemory>
+    ensures { IfOk result (λ cells. AreShown (shown_by scan.now) (cells_in cells)) }
 {
     let mut cells = BTreeMap::new(alloc);
-    for deed in deeds {
-        add_deed(alloc, &mut cells, deed, deeds, there, from, to)?;
+    for deed in scan.deeds {
+        add_deed(alloc, &mut cells, deed, scan)?;
     }
     Ok(cells)
 }
@@ -126,23 +153,12 @@ fn add_deed(
     alloc: Global,
     cells: &mut BTreeMap<Coords, Row>,
     deed: &Deed,
-    deeds: &[Deed],
-    there: &Schema,
-    from: u64,
-    to: u64,
+    scan: &Scan,
 ) -> Result<(), OutOfMemory>
-    ensures { OnOk result ((before : List AnyCell) → Shows (shown_at deeds.now there.now from to) (cells_in cells.old) before → Shows (shown_at deeds.now there.now from to) (cells_in cells.new) (before ++ cells_of_deed deed.now)) }
+    ensures { OnOk result ((before : List AnyCell) → Shows (shown_by scan.now) (cells_in cells.old) before → Shows (shown_by scan.now) (cells_in cells.new) (before ++ cells_of_deed deed.now)) }
 {
     match deed {
-        Deed::Wrote(write) => add_cells(
-            alloc,
-            cells,
-            write.cells.as_slice(),
-            deeds,
-            there,
-            from,
-            to,
-        ),
+        Deed::Wrote(write) => add_cells(alloc, cells, write.cells.as_slice(), scan),
         _ => Ok(()),
     }
 }
@@ -152,15 +168,12 @@ fn add_cells(
     alloc: Global,
     cells: &mut BTreeMap<Coords, Row>,
     some: &[Cell],
-    deeds: &[Deed],
-    there: &Schema,
-    from: u64,
-    to: u64,
+    scan: &Scan,
 ) -> Result<(), OutOfMemory>
-    ensures { OnOk result ((before : List AnyCell) → Shows (shown_at deeds.now there.now from to) (cells_in cells.old) before → Shows (shown_at deeds.now there.now from to) (cells_in cells.new) (before ++ some.now)) }
+    ensures { OnOk result ((before : List AnyCell) → Shows (shown_by scan.now) (cells_in cells.old) before → Shows (shown_by scan.now) (cells_in cells.new) (before ++ some.now)) }
 {
     for cell in some {
-        let shown = shown_at(alloc, &cell.coords, deeds, there, from, to)?;
+        let shown = shown_inside(alloc, scan, &cell.coords)?;
         add(cells, cell.coords, shown)?;
     }
     Ok(())
@@ -176,7 +189,40 @@ fn add(cells: &mut BTreeMap<Coords, Row>, at: Coords, shown: Option<Row>) -> Res
     Ok(())
 }
 
-// What a read shows at a coordinate: the cell of its last write, if it has one.
+// What a read shows at a coordinate of the box, and nothing elsewhere.
+fn shown_inside(alloc: Global, scan: &Scan, at: &Coords) -> Result<Option<Row>, OutOfMemory>
+    ensures { IfOk result (λ shown. shown ≡ shown_by scan.now at.now) }
+{
+    if is_in_box(&scan.ready.sub, at) {
+        shown_at(alloc, at, scan.deeds, scan.there, scan.from, scan.to)
+    } else {
+        Ok(None)
+    }
+}
+
+fn is_in_box(sub: &SubBox, at: &Coords) -> bool
+    ensures { result ≡ is_in_box sub.now at.now }
+{
+    is_between(sub.low.as_slice(), sub.high.as_slice(), at.as_slice())
+}
+
+// Whether each coordinate lies between its bounds.
+fn is_between(low: &[i128], high: &[i128], coords: &[i128]) -> bool
+    ensures { result ≡ is_between low.now high.now coords.now }
+{
+    match low {
+        [] => high.is_empty() && coords.is_empty(),
+        [l, lows @ ..] => match high {
+            [] => false,
+            [h, highs @ ..] => match coords {
+                [] => false,
+                [x, others @ ..] => *l <= *x && *x <= *h && is_between(lows, highs, others),
+            },
+        },
+    }
+}
+
+// What a read shows at a coordinate: the cell of its last write, if it has one that is not erased.
 fn shown_at(
     alloc: Global,
     at: &Coords,
@@ -191,7 +237,13 @@ fn shown_at(
         None => Ok(None),
         Some(write) => match find_row(at, write.cells.as_slice()) {
             None => Ok(None),
-            Some(row) => Ok(Some(shown(alloc, deeds, write.schema, row, there)?)),
+            Some(row) => {
+                if is_erased(alloc, at, write, row, deeds, from, to)? {
+                    Ok(None)
+                } else {
+                    Ok(Some(shown(alloc, deeds, write.schema, row, there)?))
+                }
+            }
         },
     }
 }
@@ -209,226 +261,5 @@ fn shown(
     match schema_with(deeds, schema) {
         Some(written) => show_row(alloc, &written.attrs, row, &there.attrs),
         None => show_row(alloc, &AttrList::new(alloc), row, &there.attrs),
-    }
-}
-
-// The first frame of the deeds.
-fn frame_in(deeds: &[Deed]) -> Option<&Frame>
-    ensures { option_copied result ≡ frame_in deeds.now }
-{
-    for deed in deeds {
-        if let Deed::Framed(frame) = deed {
-            return Some(frame);
-        }
-    }
-    None
-}
-
-// The schema of a key.
-fn schema_with(deeds: &[Deed], key: Key) -> Option<&Schema>
-    ensures { option_copied result ≡ schema_with deeds.now key }
-{
-    for deed in deeds {
-        if let Deed::Declared(schema) = deed {
-            if schema.key == key {
-                return Some(schema);
-            }
-        }
-    }
-    None
-}
-
-// The schema that holds at a timestamp.
-fn schema_there(deeds: &[Deed], b: u64) -> Option<&Schema>
-    ensures { option_copied result ≡ schema_there deeds.now b }
-{
-    let mut last = None;
-    for deed in deeds {
-        last = there_with(last, deed, b);
-    }
-    last
-}
-
-// The schema that holds, where one more deed is looked at.
-fn there_with<'a>(last: Option<&'a Schema>, deed: &'a Deed, b: u64) -> Option<&'a Schema>
-    ensures { option_copied result ≡ greater (λ s. s.key) (option_copied last.entry) (schema_there (deed.now ∷ []) b) }
-{
-    match deed {
-        Deed::Declared(schema) if schema.key.t <= b => later_schema(last, schema),
-        _ => last,
-    }
-}
-
-// A schema where it has a greater key than the one before it, and else that one.
-fn later_schema<'a>(last: Option<&'a Schema>, schema: &'a Schema) -> Option<&'a Schema>
-    ensures { option_copied result ≡ greater (λ s. s.key) (option_copied last.entry) (Some schema.now) }
-{
-    match last {
-        Some(other) if !(other.key < schema.key) => last,
-        _ => Some(schema),
-    }
-}
-
-// The last write of a coordinate in an interval.
-fn latest<'a>(at: &Coords, deeds: &'a [Deed], from: u64, to: u64) -> Option<&'a Written>
-    ensures { option_copied result ≡ last_write deeds.now from to at.now }
-{
-    let mut last = None;
-    for deed in deeds {
-        last = latest_with(at, last, deed, from, to);
-    }
-    last
-}
-
-// The last write of a coordinate, where one more deed is looked at.
-fn latest_with<'a>(
-    at: &Coords,
-    last: Option<&'a Written>,
-    deed: &'a Deed,
-    from: u64,
-    to: u64,
-) -> Option<&'a Written>
-    ensures { option_copied result ≡ greater (λ w. w.key) (option_copied last.entry) (last_write (deed.now ∷ []) from to at.now) }
-{
-    match deed {
-        Deed::Wrote(write) if counts(at, write, from, to) => later(last, write),
-        _ => last,
-    }
-}
-
-// Whether a write is stamped in an interval and has a cell at a coordinate.
-fn counts(at: &Coords, write: &Written, from: u64, to: u64) -> bool
-    ensures { result ≡ (is_within from to write.now.key && has_cell at.now write.now) }
-{
-    from <= write.key.t && write.key.t <= to && find_row(at, write.cells.as_slice()).is_some()
-}
-
-// A write where it has a greater key than the one before it, and else that one.
-fn later<'a>(last: Option<&'a Written>, write: &'a Written) -> Option<&'a Written>
-    ensures { option_copied result ≡ greater (λ w. w.key) (option_copied last.entry) (Some write.now) }
-{
-    match last {
-        Some(other) if !(other.key < write.key) => last,
-        _ => Some(write),
-    }
-}
-
-// The row at a coordinate among these cells.
-fn find_row<'a>(at: &Coords, cells: &'a [Cell]) -> Option<&'a Row>
-    ensures { option_copied result ≡ row_at at.now cells.now }
-{
-    for cell in cells {
-        if cell.coords == *at {
-            return Some(&cell.row);
-        }
-    }
-    None
-}
-
-#[cfg(test)]
-mod tests {
-    use super::*;
-    use std::test::Fail;
-    use ts_base::{CellList, Label, ValType};
-    use ts_domain::{Dim, Order};
-    use ts_schema::Attr;
-
-    // An attribute of integers.
-    fn attr(name: &str, fill: i128) -> Result<Attr, Fail> {
-        Ok(Attr {
-            name: Label::new(name).ok_or("no label")?,
-            ty: ValType::I64,
-            nullable: false,
-            fill: Val::Int(fill),
-        })
-    }
-
-    // The row of these integers.
-    fn row(alloc: Global, numbers: &[i128]) -> Result<Row, Fail> {
-        let mut row = Row::new(alloc);
-        for number in numbers {
-            row.push(Val::Int(*number))?;
-        }
-        Ok(row)
-    }
-
-    // The write of one cell in the schema that has its stamp for an identifier.
-    fn wrote(alloc: Global, at: u64, schema: u64, x: i128, numbers: &[i128]) -> Result<Deed, Fail> {
-        let mut cells = CellList::new(alloc);
-        cells.push(Cell {
-            coords: Coords::new(&[x]),
-            row: row(alloc, numbers)?,
-        })?;
-        Ok(Deed::Wrote(Written {
-            key: key(at),
-            schema: key(schema),
-            cells,
-        }))
-    }
-
-    // The key with a stamp.
-    fn key(at: u64) -> Key {
-        Key {
-            t: at,
-            id: at as u128,
-        }
-    }
-
-    // The first schema has the attribute a, the second b also, which is filled with 7.
-    fn history(alloc: Global) -> Result<History, Fail> {
-        let x = Dim {
-            name: Label::new("x").ok_or("no label")?,
-            ty: ValType::I64,
-            low: 0,
-            high: 9,
-            extent: 5,
-        };
-        let mut deeds = History::new(alloc);
-        deeds.push(Deed::Framed(Frame {
-            dense: false,
-            domain: Domain::new(&[x]).ok().ok_or("no domain")?,
-            cell: Order::Row,
-            tile: Order::Row,
-            capacity: 4,
-        }))?;
-        let mut attrs = AttrList::new(alloc);
-        attrs.push(attr("a", 0)?)?;
-        deeds.push(Deed::Declared(Schema {
-            key: key(1),
-            attrs: attrs.copy(alloc)?,
-        }))?;
-        deeds.push(wrote(alloc, 2, 1, 5, &[10])?)?;
-        attrs.push(attr("b", 7)?)?;
-        deeds.push(Deed::Declared(Schema { key: key(3), attrs }))?;
-        deeds.push(wrote(alloc, 4, 3, 0, &[20, 30])?)?;
-        Ok(deeds)
-    }
-
-    #[test]
-    fn a_row_shows_the_fill_of_an_attribute_that_was_added_later(
-        rt: HostRuntime,
-    ) -> Result<(), Fail> {
-        let alloc = rt.alloc();
-        let deeds = history(alloc)?;
-        let answer = reference(alloc, &deeds, &deeds, 0, 9)?.ok_or("no answer")?;
-        assert_eq!(rt; answer.types.len(), 3);
-        let rows = answer.rows.as_slice();
-        assert_eq!(rt; rows.len(), 2);
-        assert_eq!(rt; rows[0], row(alloc, &[0, 20, 30])?);
-        assert_eq!(rt; rows[1], row(alloc, &[5, 10, 7])?);
-        Ok(())
-    }
-
-    #[test]
-    fn an_earlier_interval_shows_what_was_written_then(rt: HostRuntime) -> Result<(), Fail> {
-        let alloc = rt.alloc();
-        let deeds = history(alloc)?;
-        let answer = reference(alloc, &deeds, &deeds, 0, 2)?.ok_or("no answer")?;
-        let rows = answer.rows.as_slice();
-        assert_eq!(rt; rows.len(), 1);
-        assert_eq!(rt; rows[0], row(alloc, &[5, 10])?);
-        assert!(rt; reference(alloc, &deeds, &deeds, 0, 0)?.is_none());
-        assert_eq!(rt; deeds.copy(alloc)?, deeds);
-        Ok(())
     }
 }

@@ -1,6 +1,8 @@
 //! How far a job has come.
 
 use crate::answers::Outcome;
+use crate::deeds::ErasureList;
+use crate::queries::Ready;
 use std::alloc::Global;
 use ts_base::{
     ByteList, Duplicate, FragKey, FragList, Head, Key, KeyList, Name, OutOfMemory, Sequence,
@@ -54,26 +56,43 @@ impl Duplicate for Opened {
     }
 }
 
-/// What a read knows before it opens a fragment.
+/// What a read looks into, of those that it found in its listing of the commits.
 #[derive(Debug, Drop, PartialEq, Eq)]
+pub struct Listed {
+    /// The committed fragments whose span meets the interval, ascending.
+    pub near: FragList,
+    /// The names of the deletes that are stamped in the interval, ascending: a delete is named as the
+    /// fragment of a write with its key would be.
+    pub deletes: FragList,
+}
+
+/// What a read knows of the array, and what it asks of it.
+#[derive(Debug, Drop)]
 pub struct Reading {
     /// The least timestamp of the interval, in milliseconds since 1970-01-01.
     pub from: u64,
     /// The greatest timestamp of the interval, in milliseconds since 1970-01-01.
     pub to: u64,
+    /// What is asked for.
+    pub ready: Ready,
     /// The frame of the array.
     pub frame: Frame,
     /// The schema that holds at `to`.
     pub there: Schema,
     /// The committed fragments whose span meets the interval, ascending.
     pub near: FragList,
+    /// The names of the deletes that are stamped in the interval, ascending: a delete is named as the
+    /// fragment of a write with its key would be.
+    pub deletes: FragList,
+    /// The deletes under the first of these names, as many as it got.
+    pub erased: ErasureList,
 }
 
 /// How far a job has come: which call it makes next, with what it found so far.
 ///
 /// `F` is how far the fetch of a fragment has come, which differs with the way in which fragments
 /// are written.
-#[derive(Debug, Drop, PartialEq, Eq)]
+#[derive(Debug, Drop)]
 pub enum State<F> {
     /// A create puts the frame.
     PutsFrame,
@@ -92,22 +111,22 @@ pub enum State<F> {
     },
     /// A read lists the commits.
     ListsCommits,
-    /// An evolve, a write or a read lists the schemas.
+    /// An evolve, a write, a delete or a read lists the schemas.
     ListsSchemas {
-        /// The committed fragments that a read looks into, ascending; none of another job.
-        near: FragList,
+        /// What a read looks into; another job looks into nothing.
+        listed: Listed,
     },
     /// The same job gets the schema that holds at its stamp, or at the end of the interval.
     GetsSchema {
-        /// The same fragments.
-        near: FragList,
+        /// The same.
+        listed: Listed,
         /// The key of the schema.
         there: Key,
     },
     /// The same job gets the frame.
     GetsFrame {
-        /// The same fragments.
-        near: FragList,
+        /// The same.
+        listed: Listed,
         /// The schema.
         there: Schema,
     },
@@ -127,6 +146,15 @@ pub enum State<F> {
         /// The keys of the schemas, ascending.
         keys: KeyList,
         /// The schemas of the keys before the next one.
+        schemas: SchemaList,
+    },
+    /// A read gets the deletes, one after the other.
+    GetsDeletes {
+        /// What it reads, with the deletes before the next one.
+        reading: Reading,
+        /// The fragments.
+        opened: OpenedList,
+        /// The schemas that the heads name.
         schemas: SchemaList,
     },
     /// A read fetches one fragment after the other.

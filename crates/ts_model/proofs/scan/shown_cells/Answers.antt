@@ -6,29 +6,28 @@ use Rattle.std.specs.Cmp.Lexicographic.{slice_cmp}
 use Rattle.std.proofs.lemmas.List.{take_more, take_all}
 use Rattle.ts_base.specs.declared.heads.Cell.{Cell}
 use Rattle.ts_model.specs.declared.deeds.Deed.{Deed}
-use Rattle.ts_model.specs.Answers.{shown_at}
-use Rattle.ts_model.specs.Scans.{cells_in, cells_of_deeds, Shows}
+use Rattle.ts_model.specs.Scans.{cells_in, cells_of_deeds, Shows, shown_by}
 use Rattle.ts_model.proofs.Scans.{shows-none, cells_of_deeds-push, all_shown}
 use Rattle.ts_model.proofs.scan.shown_cells.Goals as goal
 
 pub loop-deed-init : goal.loop-deed-init
 loop-deed-init c =
-    let f = shown_at c.args.deeds.now c.args.there.now c.args.from c.args.to in
+    let f = shown_by c.args.scan.now in
     subst (λ es. Shows f (finite.from_entries {R = slice_cmp int_cmp} es) []) (sym c.new-cells.ensures.empty) (shows-none f)
 
 pub loop-deed-preserved : goal.loop-deed-preserved
 loop-deed-preserved c =
-    let f = shown_at c.args.deeds.now c.args.there.now c.args.from c.args.to in
+    let f = shown_by c.args.scan.now in
     let d = c.deed-item.result in
-    let so_far = take c.loop-deed.deed-index c.args.deeds.now in
+    let so_far = take c.loop-deed.deed-index c.args.scan.now.deeds.now in
     let longer =
     sym (cells_of_deeds-push so_far d) ∙ ap (λ (e : Deed). cells_of_deeds (so_far ++ e ∷ [])) c.deed-item.is
-    ∙ ap cells_of_deeds (sym (take_more c.args.deeds.now c.loop-deed.deed-index d c.loop-deed-test.true)) in
+    ∙ ap cells_of_deeds (sym (take_more c.args.scan.now.deeds.now c.loop-deed.deed-index d c.loop-deed-test.true)) in
     subst (λ (cs : List Cell). Shows f (cells_in c.add_deed.new.cells) cs) longer (c.in_ok-add_deed.ensures (cells_of_deeds so_far) c.loop-deed.invariant)
 
 pub returns : goal.returns
 returns c =
-    let deeds = c.args.deeds.now in
+    let deeds = c.args.scan.now.deeds.now in
     let past : length deeds ≤ c.loop-deed.deed-index = c.loop-deed-test.false in
-    all_shown deeds c.args.there.now c.args.from c.args.to (cells_in c.loop-deed.cells)
-    (subst (λ (ds : List Deed). Shows (shown_at deeds c.args.there.now c.args.from c.args.to) (cells_in c.loop-deed.cells) (cells_of_deeds ds)) (take_all c.loop-deed.deed-index deeds past) c.loop-deed.invariant)
+    all_shown deeds c.args.scan.now.there.now c.args.scan.now.ready.now c.args.scan.now.from c.args.scan.now.to (cells_in c.loop-deed.cells)
+    (subst (λ (ds : List Deed). Shows (shown_by c.args.scan.now) (cells_in c.loop-deed.cells) (cells_of_deeds ds)) (take_all c.loop-deed.deed-index deeds past) c.loop-deed.invariant)

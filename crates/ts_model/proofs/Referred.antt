@@ -1,0 +1,142 @@
+-- The end of a scan: the cells of its box lie in the domain, they are those in row order, and the later history has a frame.
+use Rattle.std.proofs.Common.{◌≡◌, ℕ, ℤ, Bool, true, false, cond, ◌&&◌, List, [], ◌∷◌, map, length, Option, Some, None, Ok, Result, refl, sym, ◌∙◌, ap, subst, suc, arith}
+use Rattle.std.specs.Prelude.{IsTrue, int_le, option_map}
+use Rattle.std.specs.Option.{option_or, IsSome}
+use Rattle.std.specs.BTreeMap.{BTreeMap}
+use Rattle.std.specs.List.{All}
+use Rattle.std.specs.Map.{keys_of}
+use Rattle.std.proofs.lemmas.Bool.{and_parts, and_from}
+use Rattle.std.proofs.lemmas.Int.{ints}
+use Rattle.std.proofs.lemmas.Cmp.{eq_by_cmp_equiv}
+use Rattle.std.proofs.lemmas.List.Elements.{All-nil, All-cons, All-head, All-tail}
+use Rattle.std.proofs.lemmas.Map.Views.{All-keys_from_lookup}
+use Rattle.std.proofs.lemmas.Option.{none-some}
+use Rattle.ts_base.specs.declared.values.Val.{Val}
+use Rattle.ts_cond.specs.declared.query.Query.{Query}
+use Rattle.ts_cond.specs.Tests.{Condition}
+use Rattle.ts_domain.specs.declared.dims.Dim.{Dim}
+use Rattle.ts_domain.specs.Bounds.{is_between}
+use Rattle.ts_domain.specs.Boxes.{is_in_box}
+use Rattle.ts_domain.specs.Domains.{is_in_domain, LiesInDomain, first_bound_outside}
+use Rattle.ts_domain.proofs.Between.{within_parts, within_from}
+use Rattle.ts_domain.proofs.DomainLemmas.{first_bound_outside-none, is_in_domain-first_outside}
+use Rattle.ts_schema.specs.declared.attrs.Attr.{Attr}
+use Rattle.ts_schema.specs.declared.frames.Frame.{Frame}
+use Rattle.ts_schema.specs.declared.schemas.Schema.{Schema}
+use Rattle.ts_schema.specs.FrameTexts.{IsFrame}
+use Rattle.ts_schema.specs.SchemaTexts.{AreAttrs}
+use Rattle.ts_store.proofs.Trees.{get-tree}
+use Rattle.ts_model.specs.declared.answers.Refusal.{Refusal}
+use Rattle.ts_model.specs.declared.queries.Ready.{Ready}
+use Rattle.ts_model.specs.declared.queries.Shown.{Shown}
+use Rattle.ts_model.specs.Answers.{shown_at, shown_inside}
+use Rattle.ts_model.specs.Deeds.{History, IsHistory, frame_in, schema_there}
+use Rattle.ts_model.specs.Queries.{box_of, low_of, high_of, too_many, query_refusal, filter_in, ready_with, ready_in}
+use Rattle.ts_model.specs.Scans.{cells_in, shown_of, AreInside}
+use Rattle.ts_model.specs.Selections.{placed}
+use Rattle.ts_model.proofs.HistoryLaws.{there_is_with, framed_by_schema, frame_facts, schema_facts}
+use Rattle.ts_model.proofs.Newest.{coords_total}
+use Rattle.ts_model.proofs.QueryRefusals.{ready_box}
+
+-- ---- the box lies in the domain
+
+-- where neither of two is there the second is not
+second_none : {A : Type 0} (a b : Option A) → option_or a b ≡ None → b ≡ None
+second_none (Some x) b is = absurd (none-some x (sym is))
+second_none None b is = is
+
+-- where the first of two is not there it is not
+first_none : {A : Type 0} (a b : Option A) → option_or a b ≡ None → a ≡ None
+first_none (Some x) b is = absurd (none-some x (sym is))
+first_none None b is = refl
+
+-- what is not there after a change was not there before it
+none_before : {A B : Type 0} (f : A → B) (a : Option A) → option_map f a ≡ None → a ≡ None
+none_before f (Some x) is = absurd (none-some (f x) (sym is))
+none_before f None is = refl
+
+-- a query that is ready is not refused
+ready_unrefused : (frame : Frame) (attrs : List Attr) (q : Query) (r : Option Refusal) (filter : Result (Option Condition) Refusal) (ready : Ready) → ready_with frame attrs q r filter ≡ Ok ready → r ≡ None
+ready_unrefused frame attrs q (Some r) filter ready is = cc
+ready_unrefused frame attrs q None filter ready is = refl
+
+corners_long : (f g : Dim → ℤ) (dims : List Dim) → (length (map f dims) ≡ length dims) × (length (map g dims) ≡ length (map f dims))
+corners_long f g [] = (refl, refl)
+corners_long f g (d ∷ dims) = let rest = corners_long f g dims in (ap suc rest.0, ap suc rest.1)
+
+-- its box lies in the domain
+pub ready_inside : (frame : Frame) (attrs : List Attr) (q : Query) (ready : Ready) → ready_in frame attrs q ≡ Ok ready → LiesInDomain frame.domain ready.sub
+ready_inside frame attrs q ready is =
+    let dims = frame.domain in
+    let refused : query_refusal frame attrs q ≡ None = ready_unrefused frame attrs q (query_refusal frame attrs q) (filter_in dims attrs q.filter) ready is in
+    let bounds = first_none _ (too_many frame (box_of q.sub dims)) (second_none _ _ refused) in
+    let inside : first_bound_outside dims (box_of q.sub dims) ≡ None = none_before _ (first_bound_outside dims (box_of q.sub dims)) bounds in
+    let long = corners_long (low_of q.sub) (high_of q.sub) dims in
+    let corners = first_bound_outside-none 0 dims (map (low_of q.sub) dims) (map (high_of q.sub) dims) long.1 inside in
+    subst (LiesInDomain dims) (sym (ready_box frame attrs q ready is)) (
+      is_in_domain-first_outside 0 dims (map (low_of q.sub) dims) long.0 corners.0,
+      is_in_domain-first_outside 0 dims (map (high_of q.sub) dims) (long.1 ∙ long.0) corners.1,
+    )
+
+-- ---- the cells of the box
+
+-- what lies between two corners that lie between two others lies between these
+between_inner : (os qs ls hs xs : List ℤ) → IsTrue (is_between os qs ls) → IsTrue (is_between os qs hs) → IsTrue (is_between ls hs xs) → IsTrue (is_between os qs xs)
+between_inner [] [] [] [] xs a b t = t
+between_inner [] [] [] (h ∷ hs) xs a b t = cc
+between_inner [] [] (l ∷ ls) hs xs a b t = cc
+between_inner [] (q ∷ qs) ls hs xs a b t = cc
+between_inner (o ∷ os) [] ls hs xs a b t = cc
+between_inner (o ∷ os) (q ∷ qs) [] hs xs a b t = cc
+between_inner (o ∷ os) (q ∷ qs) (l ∷ ls) [] xs a b t = cc
+between_inner (o ∷ os) (q ∷ qs) (l ∷ ls) (h ∷ hs) [] a b t = cc
+between_inner (o ∷ os) (q ∷ qs) (l ∷ ls) (h ∷ hs) (x ∷ xs) a b t =
+    let first = and_parts (int_le o l && int_le l q) (is_between os qs ls) a in
+    let second = and_parts (int_le o h && int_le h q) (is_between os qs hs) b in
+    let parts = and_parts (int_le l x && int_le x h) (is_between ls hs xs) t in
+    let from_low = within_parts o q l first.0 in
+    let to_high = within_parts o q h second.0 in
+    let within = within_parts l h x parts.0 in
+    and_from (int_le o x && int_le x q) (is_between os qs xs) (within_from o q x (omega (arith, ints)) (omega (arith, ints))) (between_inner os qs ls hs xs first.1 second.1 parts.1)
+
+-- a coordinate at which something is shown lies in the box
+shown_in_box : (h : History) (there : Schema) (ready : Ready) (a b : ℕ) (c : List ℤ) → IsSome (shown_inside h there ready a b c) → IsTrue (is_in_box ready.sub c)
+shown_in_box h there ready a b c some = by_test (is_in_box ready.sub c) some
+  where
+    by_test : (t : Bool) → IsSome (cond t (shown_at h there a b c) None) → t ≡ true
+    by_test true is = refl
+    by_test false is = cc
+
+-- what holds of each key holds of the coordinates of each cell
+cells_all : (P : List ℤ → Type 0) (es : List (List ℤ × List Val)) → All P (keys_of es) → All (λ (cell : Shown). P cell.coords) (map shown_of es)
+cells_all P [] all = All-nil (λ (cell : Shown). P cell.coords)
+cells_all P (e ∷ es) all = All-cons (λ (cell : Shown). P cell.coords) (shown_of e) (map shown_of es) (All-head P e.0 (keys_of es) all) (cells_all P es (All-tail P e.0 (keys_of es) all))
+
+-- the cells that are found lie in the domain
+pub cells_inside : (dims : List Dim) (h : History) (there : Schema) (ready : Ready) (a b : ℕ) (m : BTreeMap (List ℤ) (List Val)) → LiesInDomain dims ready.sub → AreInside h there ready a b (cells_in m)
+    → All (λ (cell : Shown). IsTrue (is_in_domain dims cell.coords)) (map shown_of m.entries)
+cells_inside dims h there ready a b m lies each =
+    cells_all (λ c. IsTrue (is_in_domain dims c)) m.entries (All-keys_from_lookup (eq_by_cmp_equiv coords_total) (λ c. IsTrue (is_in_domain dims c)) m.entries (λ c some.
+    between_inner (map (λ (d : Dim). d.low) dims) (map (λ (d : Dim). d.high) dims) ready.sub.low ready.sub.high c lies.0 lies.1
+    (shown_in_box h there ready a b c (subst IsSome (sym (get-tree coords_total m c) ∙ each c) some))))
+
+-- a cell is a pair of its coordinates and its row
+pub placed_back : (es : List (List ℤ × List Val)) → map placed (map shown_of es) ≡ es
+placed_back [] = refl
+placed_back (e ∷ es) = ap (λ xs. e ∷ xs) (placed_back es)
+
+-- ---- the later history
+
+-- a history with a schema that holds has a frame
+pub there_is_frame : (h : History) (b : ℕ) (s : Schema) → IsHistory h → schema_there h b ≡ Some s → frame_in h ≡ None → ⊥
+there_is_frame h b s is holds none =
+    let framed = framed_by_schema h s.key s is (there_is_with h b s is holds) in
+    none-some framed.0 (sym none ∙ framed.1)
+
+-- and the attributes of that schema are such as an array can have
+pub there_attrs : (h : History) (b : ℕ) (s : Schema) → IsHistory h → schema_there h b ≡ Some s → AreAttrs s.attrs
+there_attrs h b s is holds = (schema_facts h s.key s is (there_is_with h b s is holds)).0
+
+-- its frame is one
+pub framed_is : (h : History) (frame : Frame) → IsHistory h → frame_in h ≡ Some frame → IsFrame frame
+framed_is h frame is framed = (frame_facts h frame is framed).0

@@ -1,0 +1,11 @@
+-- The box of a query that is ready lies in the domain.
+use Rattle.std.proofs.Common.{subst}
+use Rattle.ts_model.specs.Queries.{ready_in}
+use Rattle.ts_model.specs.Selections.{IsChecked}
+use Rattle.ts_model.proofs.Referred.{ready_inside}
+use Rattle.ts_model.proofs.scan.ask.Goals as goal
+
+pub answer-requires-clause-inside : goal.answer-requires-clause-inside
+answer-requires-clause-inside c =
+    let wanted = ready_in c.args.frame.now c.args.there.now.attrs c.args.query.now in
+    ready_inside c.args.frame.now c.args.there.now.attrs c.args.query.now c.in-Ok.ready (subst (λ r. IsChecked r wanted) c.in-Ok.is c.check_query.ensures)
