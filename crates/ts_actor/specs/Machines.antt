@@ -1,12 +1,16 @@
 -- Machines of jobs: what each has come to by its calls.
-use Rattle.std.specs.Prelude.{◌≡◌, ◌≢◌, ℕ, suc, None}
+use Rattle.std.specs.Prelude.{◌≡◌, ◌≢◌, ℕ, suc, List, None, Result, Ok, Err}
 use Rattle.ts_model.specs.declared.commands.Job.{Job}
 use Rattle.ts_model.specs.declared.states.State.{State}
 use Rattle.ts_model.specs.Forms.{Forms}
 use Rattle.ts_model.specs.States.{asks, begun, state_from}
 use Rattle.ts_actor.specs.declared.machine.Phase.{Phase}
 use Rattle.ts_actor.specs.declared.machine.Phase.TheVariants.{New, Going, Ended}
-use Rattle.ts_actor.specs.Traces.{Trace, start}
+use Rattle.ts_actor.specs.Traces.{Trace, asking, start}
+use Rattle.ts_store.specs.declared.call.Call.{Call}
+use Rattle.ts_model.specs.declared.answers.Outcome.{Outcome}
+use Rattle.ts_model.specs.Driven.{EndsFrom}
+use Rattle.ts_model.specs.States.{Exchange}
 
 -- the calls have led the job to the state, where it asks for the call that has no reply yet
 pub record IsAt {F : Type 0} (forms : Forms F) (job : Job) (s : State F) (t : Trace) : Type 0 where
@@ -25,3 +29,8 @@ abbrev pub calls_left : {F : Type 0} → (State F → ℕ) → Job → Phase F �
 calls_left left job New = suc (left (begun job.command))
 calls_left left job (Going s) = left s
 calls_left left job Ended = 0
+
+-- after these calls the job asks for one more, in a state that the automaton knows, or it has come to its end
+abbrev pub Advances : {F : Type 0} → Forms F → (Job → Type 0) → (Job → State F → Type 0) → Job → List Exchange → Result (State F × Call) Outcome → Type 0
+Advances forms serves may job past (Ok next) = Follows forms serves may job (Going next.0) (asking past next.1)
+Advances forms serves may job past (Err end) = EndsFrom forms job (begun job.command) past end

@@ -1,13 +1,18 @@
--- What the grammar of the parts says of one piece, and of the objects that are refused.
-use Rattle.std.specs.Prelude.{◌≡◌, ℕ, true, List, [], ◌∷◌, Ok, Err}
+-- What the grammar of the parts says of one piece, and of the objects that are refused; and where the versions lie that a fetch takes.
+use Rattle.std.specs.Prelude.{◌≡◌, ℕ, true, List, [], ◌∷◌, Ok, Err, IsTrue, All}
 use Rattle.ts_base.specs.declared.keys.FragKey.{FragKey}
 use Rattle.ts_base.specs.declared.names.Part.{Part}
 use Rattle.ts_base.specs.declared.heads.Piece.{Piece}
+use Rattle.ts_base.specs.declared.heads.Version.{Version}
+use Rattle.ts_domain.specs.declared.boxes.SubBox.{SubBox}
+use Rattle.ts_domain.specs.Boxes.{is_in_box}
+use Rattle.ts_store.specs.declared.call.Call.{Call}
+use Rattle.ts_store.specs.declared.call.Reply.{Reply}
 use Rattle.ts_schema.specs.declared.frames.Frame.{Frame}
 use Rattle.ts_schema.specs.declared.schemas.Schema.{Schema}
 use Rattle.ts_schema.specs.declared.wants.Want.{Want}
 use Rattle.ts_schema.specs.Parts.{Look, Got, Sized}
-use Rattle.ts_model.specs.Forms.{Forms, Spelled}
+use Rattle.ts_model.specs.Forms.{Forms, Spelled, Asks, Takes}
 
 -- what was got of the parts, and the sizes that were told, break the grammar first in a part at an offset
 abbrev pub Off : Type 1
@@ -34,3 +39,16 @@ pub record RefusesBroken {F : Type 0} (forms : Forms F) (off : Off) : Type 0 whe
 abbrev pub OpensUnbroken : {F : Type 0} → Forms F → Off → Type 0
 OpensUnbroken {F} forms off = (frame : Frame) (s : Schema) (frag : FragKey) (object : List ℕ) (want : Want) (part : Part) (at : ℕ) (fetch : F)
     → off frame s frag (whole_got (forms.head_part frame) object) [] part at → forms.opens frame s frag object want ≡ Ok fetch → ⊥
+
+-- a fetch of what is wanted in a box: it began so, and went on over whatever replies
+pub data IsFetchIn {F : Type 0} (forms : Forms F) (sub : SubBox) : F → Type 0 where
+  Begun : (frame : Frame) (s : Schema) (frag : FragKey) (object : List ℕ) (want : Want) (f : F) → want.sub ≡ sub → forms.opens frame s frag object want ≡ Ok f → IsFetchIn forms sub f
+  Went : (f : F) (r : Reply) (g : F) (c : Call) → IsFetchIn forms sub f → forms.steps f r ≡ Asks g c → IsFetchIn forms sub g
+
+-- the versions lie in the box
+abbrev pub AreInBox : SubBox → List Version → Type 0
+AreInBox sub versions = All (λ v. IsTrue (is_in_box sub v.coords)) versions
+
+-- whatever the replies are, the versions that a fetch takes lie in the box that was wanted
+abbrev pub TakesInside : {F : Type 0} → Forms F → Type 0
+TakesInside {F} forms = (sub : SubBox) (f : F) (r : Reply) (versions : List Version) → IsFetchIn forms sub f → forms.steps f r ≡ Takes versions → AreInBox sub versions

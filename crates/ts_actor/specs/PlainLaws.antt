@@ -2,13 +2,19 @@
 use Rattle.std.proofs.Common.{◌≡◌, ℕ, zero, suc, true, List, [], ◌∷◌, slice_get, Some, Result, Ok, Err, refl, sym, ap, ◌∙◌, subst, arith}
 use Rattle.std.specs.List.{All}
 use Rattle.std.proofs.lemmas.Option.{same_Some}
-use Rattle.std.proofs.lemmas.List.Elements.{All-nil, All-cons, All-head, All-contains}
+use Rattle.std.specs.Prelude.{IsTrue, filter}
+use Rattle.std.proofs.lemmas.Bool.{and_parts}
+use Rattle.std.proofs.lemmas.List.Elements.{All-nil, All-cons, All-head, All-contains, All-map, All-weaker, filter_passes}
 use Rattle.ts_base.specs.declared.names.Part.TheVariants as part
 use Rattle.ts_base.specs.declared.names.PartBytes.{PartBytes}
 use Rattle.ts_base.specs.declared.keys.FragKey.{FragKey}
 use Rattle.ts_base.specs.declared.heads.Piece.{Piece}
 use Rattle.ts_base.specs.declared.heads.Version.{Version}
+use Rattle.ts_domain.specs.declared.boxes.SubBox.{SubBox}
+use Rattle.ts_domain.specs.Boxes.{is_in_box}
+use Rattle.ts_base.specs.Keys.{is_within}
 use Rattle.ts_store.specs.declared.call.Call.{Call}
+use Rattle.ts_store.specs.declared.call.Reply.{Reply}
 use Rattle.ts_wire.specs.declared.kinds.Kind.TheVariants as kind
 use Rattle.ts_wire.specs.declared.faults.ReadFault.TheVariants as fault
 use Rattle.ts_wire.specs.Place.{◌>>=◌}
@@ -19,7 +25,7 @@ use Rattle.ts_schema.specs.declared.frames.Frame.{Frame}
 use Rattle.ts_schema.specs.declared.schemas.Schema.{Schema}
 use Rattle.ts_schema.specs.declared.wants.Want.{Want}
 use Rattle.ts_schema.specs.Parts.{Look, Got, look_in, IsShort}
-use Rattle.ts_schema.specs.Wants.{taken}
+use Rattle.ts_schema.specs.Wants.{taken, cut, is_wanted}
 use Rattle.ts_plain.specs.Plain.{plain_bytes}
 use Rattle.ts_plain.specs.Pieces.{plain_piece, IsPlainObject, IsPlain}
 use Rattle.ts_plain.specs.Writes.{stored_for}
@@ -27,7 +33,7 @@ use Rattle.ts_plain.proofs.PlainPieces.{piece_again, head_again, one_plain, brok
 use Rattle.ts_model.specs.Forms.{FormsLaws, OpensWell, Asks, Takes}
 use Rattle.ts_model.specs.Pieces.{IsOrdinary}
 use Rattle.ts_actor.specs.PlainForms.{plain_object, plain_parts, plain_forms, NeverWaits, IsPlainBroken}
-use Rattle.ts_actor.specs.PieceLaws.{whole_got, SpellsOne, RefusesBroken, OpensUnbroken}
+use Rattle.ts_actor.specs.PieceLaws.{whole_got, SpellsOne, RefusesBroken, OpensUnbroken, IsFetchIn, Begun, Went, AreInBox, TakesInside}
 use Rattle.ts_actor.specs.PlainWrites.{ordinary_fits, ordinary_back}
 
 -- the object of a piece that one write makes holds it, where it is short enough to be got at once
@@ -116,3 +122,22 @@ plain_whole frame s frag object want named at fetch is h =
   where
     same : (is.got).bytes ≡ object
     same = let P : Got → Type 0 = λ g. g.bytes ≡ object in All-contains P (whole_got part.Plain object) is.got (All-cons P _ [] refl (All-nil P)) is.was_got
+
+-- ---- where the versions lie
+
+-- what is wanted of versions lies in the box
+taken_inside : (want : Want) (versions : List Version) → AreInBox want.sub (taken want versions)
+taken_inside want versions =
+    let P : Version → Type 0 = λ v. IsTrue (is_in_box want.sub v.coords) in
+    let W : Version → Type 0 = λ v. is_wanted want v ≡ true in
+    All-map P (cut want) (filter (is_wanted want) versions)
+    (All-weaker W P (λ v is. (and_parts (is_within want.a want.b v.key) (is_in_box want.sub v.coords) is).1) (filter (is_wanted want) versions) (filter_passes (is_wanted want) versions))
+
+-- a fetch takes what it found when it began
+pub plain_inside : TakesInside plain_forms
+plain_inside sub f r versions (Begun frame s frag object want g same opens) takes =
+    let b = bound (plain_piece frame s.attrs frag object) (λ p. Ok (taken want p.versions)) g opens in
+    let found : taken want b.first.versions ≡ g = cc (b.next) in
+    let took : g ≡ versions = cc in
+    subst (λ box. AreInBox box versions) same (subst (AreInBox want.sub) (found ∙ took) (taken_inside want b.first.versions))
+plain_inside sub f r versions (Went g r' h c is asked) takes = absurd (takes_all g h c asked)

@@ -7,7 +7,7 @@ ghost use Rattle.ts_model.specs.declared.states.State.TheVariants.{Over};
 ghost use Rattle.ts_model.specs.Forms.{Forms};
 ghost use Rattle.ts_model.specs.States.{asks, begun, goes, state_from};
 ghost use Rattle.ts_model.specs.Driven.{EndsFrom};
-ghost use Rattle.ts_actor.specs.Machines.{Follows, calls_left};
+ghost use Rattle.ts_actor.specs.Machines.{Advances, Follows, calls_left};
 ghost use Rattle.ts_actor.specs.Traces.{CanCome, Expects, Trace, filled, start};
 
 use crate::actor::{Actor, Step};
@@ -72,7 +72,7 @@ pub trait Automaton {
 }
 
 /// How far a machine has come.
-#[derive(Debug, Drop, PartialEq, Eq)]
+#[derive(Debug, Drop)]
 pub enum Phase<F> {
     /// It waits for its first reply, `Start`.
     New,
@@ -120,17 +120,37 @@ impl<K: Automaton> Actor for Machine<K> {
 
     fn next<R: Threads + Sync>(&mut self, _rt: &R, alloc: Global, reply: Reply) -> Step<Outcome> {
         let phase = mem::replace(&mut self.phase, Phase::Ended);
-        let Ok(state) = led::<K>(alloc, &self.job, phase, reply) else {
-            return Step::Done(Outcome::OutOfMemory);
-        };
-        let Ok(asked) = K::ask(alloc, &self.job, &state) else {
-            return Step::Done(Outcome::OutOfMemory);
-        };
-        let Some(call) = asked else {
-            return Step::Done(end_of(state));
-        };
-        self.phase = Phase::Going(state);
-        Step::Ask(call)
+        match advance::<K>(alloc, &self.job, phase, reply) {
+            Ok((state, call)) => {
+                self.phase = Phase::Going(state);
+                Step::Ask(call)
+            }
+            Err(end) => Step::Done(end),
+        }
+    }
+}
+
+// Where a reply leads a job that has come so far: to a state and the call that it asks for there, or
+// to its end.
+fn advance<K: Automaton>(
+    alloc: Global,
+    job: &Job,
+    phase: Phase<K::Fetch>,
+    reply: Reply,
+) -> Result<(State<K::Fetch>, Call), Outcome>
+    requires due { Expects (Follows K.forms K.serves K.may job.now phase) reply }
+    requires reply_spelled { IsSpelledReply reply }
+    ensures goes { (t : Trace) → Follows K.forms K.serves K.may job.now phase t → CanCome t.asked reply → Advances K.forms K.serves K.may job.now (filled t reply) result }
+    ensures fewer { IfOk result (λ next. K.left next.0 < calls_left K.left job.now phase) }
+    ensures spelled { IfOk result (λ next. IsSpelledCall next.1) }
+{
+    let Ok(state) = led::<K>(alloc, job, phase, reply) else {
+        return Err(Outcome::OutOfMemory);
+    };
+    match K::ask(alloc, job, &state) {
+        Ok(Some(call)) => Ok((state, call)),
+        Ok(None) => Err(end_of(state)),
+        Err(_) => Err(Outcome::OutOfMemory),
     }
 }
 

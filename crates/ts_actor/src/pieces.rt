@@ -12,7 +12,7 @@ ghost use Rattle.ts_store.specs.declared.call.Call.{Call as AnyCall};
 ghost use Rattle.ts_model.specs.Forms.{Forms, FormsLaws};
 ghost use Rattle.ts_model.specs.Pieces.{IsOrdinary};
 ghost use Rattle.ts_actor.specs.Fetches.{IsStep, FallsAtAsk, AsksSpelled};
-ghost use Rattle.ts_actor.specs.PieceLaws.{SpellsOne, RefusesBroken, OpensUnbroken};
+ghost use Rattle.ts_actor.specs.PieceLaws.{SpellsOne, RefusesBroken, OpensUnbroken, TakesInside};
 
 use std::alloc::Global;
 use ts_base::{
@@ -113,4 +113,7 @@ pub trait Pieces: Spelling {
 
     /// An object that breaks the grammar is not read as if it were whole.
     ghost whole: { OpensUnbroken forms Self.off };
+
+    /// Whatever the replies are, the versions that a fetch takes lie in the box that was wanted.
+    ghost inside: { TakesInside forms };
 }

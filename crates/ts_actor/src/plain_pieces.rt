@@ -1,7 +1,7 @@
 //! Pieces that are written whole, in one object.
 ghost use Rattle.ts_plain.specs.Pieces.{IsPlain};
 ghost use Rattle.ts_actor.specs.PlainForms.{plain_forms, IsPlainBroken, NeverWaits};
-ghost use Rattle.ts_actor.specs.PlainLaws.{plain_laws, plain_one, plain_broken, plain_whole};
+ghost use Rattle.ts_actor.specs.PlainLaws.{plain_laws, plain_one, plain_broken, plain_whole, plain_inside};
 
 use crate::pieces::{Fetched, Pieces};
 use std::alloc::Global;
@@ -43,6 +43,8 @@ impl Pieces for PlainPieces {
     ghost broken = { plain_broken };
 
     ghost whole = { plain_whole };
+
+    ghost inside = { plain_inside };
 
     fn parts(
         alloc: Global,
