@@ -1,0 +1,45 @@
+-- The printed text of ends.
+use Rattle.std.specs.Prelude.{ℕ, List, [], ◌++◌, length, codes, decimal, Option, Some, None}
+use Rattle.ts_base.specs.Spelling.{frag_text, stamp_text}
+use Rattle.ts_model.specs.declared.commands.Command.{Command}
+use Rattle.ts_model.specs.declared.commands.Command.TheVariants as command
+use Rattle.ts_model.specs.declared.answers.Outcome.{Outcome}
+use Rattle.ts_model.specs.declared.answers.Outcome.TheVariants as outcome
+use Rattle.ts_query.specs.Refusals.{refusal_text}
+use Rattle.ts_query.specs.Rows.{rows_text}
+
+-- how a command ended, but for the rows of a read; no fragment is clipped from it yet
+unfoldable pub outcome_text : Outcome → List ℕ
+outcome_text outcome.Created = codes "ok\n"
+outcome_text (outcome.Evolved key) = codes "ok\t" ++ stamp_text key ++ codes "\n"
+outcome_text (outcome.Written frag) = codes "ok\t" ++ frag_text frag ++ codes "\n"
+outcome_text (outcome.Read answer) = codes "ok\t" ++ decimal (length answer.rows) ++ codes "\t0\n"
+outcome_text (outcome.Deleted frag) = codes "ok\t" ++ frag_text frag ++ codes "\n"
+outcome_text (outcome.Refused refusal) = codes "refused\t" ++ refusal_text refusal ++ codes "\n"
+outcome_text outcome.OutOfMemory = codes "memory\n"
+
+-- the rows that follow it
+abbrev pub shown_text : Option Outcome → List ℕ
+shown_text (Some (outcome.Read answer)) = rows_text answer.types answer.rows
+shown_text _ = []
+
+-- the name of a command
+abbrev pub command_name : Command → List ℕ
+command_name (command.Create made) = codes "create"
+command_name (command.Evolve change) = codes "evolve"
+command_name (command.Write cells) = codes "write"
+command_name (command.Read from to query) = codes "read"
+command_name (command.Delete text) = codes "delete"
+
+-- how a command came out: its end, or that it was stopped
+unfoldable pub result_text : Option Outcome → List ℕ
+result_text (Some end) = outcome_text end
+result_text None = codes "stopped\n"
+
+-- how the command with this number in its lane came out, but for the rows of a read
+unfoldable pub end_text : ℕ → ℕ → Command → Option Outcome → List ℕ
+end_text lane number command result = decimal lane ++ codes "." ++ decimal number ++ codes "\t" ++ command_name command ++ codes "\t" ++ result_text result
+
+-- how it came out, with the rows of a read
+abbrev pub text_of : ℕ → ℕ → Command → Option Outcome → List ℕ
+text_of lane number command result = end_text lane number command result ++ shown_text result

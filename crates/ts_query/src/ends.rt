@@ -1,0 +1,121 @@
+//! The printed text of ends: a line for each, and behind that of a read a line for each row.
+ghost use Rattle.std.specs.Prelude.{◌≡◌, ◌++◌, codes, string_bytes, IfOk, OnOk, option_map};
+ghost use Rattle.ts_query.specs.Ends.{command_name, end_text, outcome_text, result_text, shown_text, text_of};
+
+use crate::refusals::print_refusal;
+use crate::rows::print_rows;
+use std::alloc::Global;
+use ts_base::{ByteList, OutOfMemory};
+use ts_model::{Command, Outcome};
+
+/// The text of one end, each line of it with its line feed.
+///
+/// `lane` and `number` are those of the command, which is counted in its lane. No outcome stands for
+/// a command that was stopped before its end.
+pub fn print_outcome(
+    alloc: Global,
+    lane: u32,
+    number: u32,
+    command: &Command,
+    outcome: Option<&Outcome>,
+) -> Result<ByteList, OutOfMemory>
+    ensures { IfOk result (λ text. text ≡ text_of lane number command.now (option_map (λ outcome. outcome.now) outcome.entry)) }
+{
+    let mut text = String::new(alloc);
+    print_end(&mut text, lane, number, command, outcome)?;
+    let mut bytes = text.into_bytes();
+    if let Some(Outcome::Read(answer)) = outcome {
+        print_rows(&mut bytes, answer.types.as_slice(), answer.rows.as_slice())?;
+    }
+    Ok(ByteList::from_vec(bytes))
+}
+
+/// Adds how a command came out, but for the rows of a read.
+#[tactic(auto, unfolding(crate::specs::Ends::end_text))]
+fn print_end(
+    text: &mut String,
+    lane: u32,
+    number: u32,
+    command: &Command,
+    outcome: Option<&Outcome>,
+) -> Result<(), OutOfMemory>
+    ensures { OnOk result (string_bytes text.new
+        ≡ string_bytes text.old ++ end_text lane number command.now (option_map (λ outcome. outcome.now) outcome.entry)) }
+{
+    let name = command_name(command);
+    write!(text, "{lane}.{number}\t{name}\t")?;
+    print_result(text, outcome)
+}
+
+/// The name of a command, as scripts and answers have it.
+fn command_name(command: &Command) -> &'static str
+    ensures { result.now ≡ command_name command.now }
+{
+    match command {
+        Command::Create(_) => "create",
+        Command::Evolve(_) => "evolve",
+        Command::Write(_) => "write",
+        Command::Read { .. } => "read",
+        Command::Delete(_) => "delete",
+    }
+}
+
+/// Adds how a command ended, or that it was stopped.
+#[tactic(auto, unfolding(crate::specs::Ends::result_text))]
+fn print_result(text: &mut String, outcome: Option<&Outcome>) -> Result<(), OutOfMemory>
+    ensures { OnOk result (string_bytes text.new ≡ string_bytes text.old ++ result_text (option_map (λ outcome. outcome.now) outcome.entry)) }
+{
+    match outcome {
+        Some(end) => print_how(text, end),
+        None => {
+            text.push_str("stopped\n")?;
+            Ok(())
+        }
+    }
+}
+
+/// Adds how a command ended, but for the rows of a read.
+#[tactic(auto, unfolding(crate::specs::Ends::outcome_text))]
+fn print_how(text: &mut String, end: &Outcome) -> Result<(), OutOfMemory>
+    ensures { OnOk result (string_bytes text.new ≡ string_bytes text.old ++ outcome_text end.now) }
+{
+    match end {
+        Outcome::Created => {
+            text.push_str("ok\n")?;
+            Ok(())
+        }
+        Outcome::Evolved(key) => {
+            let spelled = key.spell_stamp();
+            let name = spelled.text();
+            write!(text, "ok\t{name}\n")?;
+            Ok(())
+        }
+        Outcome::Written(frag) => {
+            let spelled = frag.spell();
+            let name = spelled.text();
+            write!(text, "ok\t{name}\n")?;
+            Ok(())
+        }
+        Outcome::Read(answer) => {
+            let count = answer.rows.len();
+            write!(text, "ok\t{count}\t0\n")?;
+            Ok(())
+        }
+        Outcome::Deleted(frag) => {
+            let spelled = frag.spell();
+            let name = spelled.text();
+            write!(text, "ok\t{name}\n")?;
+            Ok(())
+        }
+        Outcome::Refused(refusal) => {
+            text.push_str("refused\t")?;
+            print_refusal(text, refusal)?;
+            text.push_str("\n")?;
+            Ok(())
+        }
+        Outcome::OutOfMemory => {
+            text.push_str("memory\n")?;
+            Ok(())
+        }
+    }
+}

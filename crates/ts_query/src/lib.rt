@@ -1,0 +1,12 @@
+//! What is said to whoever asks: queries that are known to fit, the rows that they select, and the
+//! printed text of each end.
+#![tactic(auto)]
+
+mod ends;
+mod refusals;
+mod rows;
+#[cfg(test)]
+mod tests;
+
+pub use ends::print_outcome;
+pub use ts_model::{QueryFault, Ready, Shown, ShownList, check_query, rows_of};
