@@ -2,7 +2,7 @@
 use Rattle.std.proofs.Common.{◌≡◌, ◌≢◌, ◌<◌, inl, inr, None, option_map, length, Result, Ok, Err, IfOk, ℕ, suc, ◌-◌, ◌^◌, List, Some, slice_get, refl, sym, ap, ◌∙◌}
 use Rattle.std.proofs.lemmas.Option.{slice_get_cases}
 use Rattle.ts_base.specs.declared.keys.Key.{Key}
-use Rattle.ts_base.specs.declared.keys.FragKey.{FragKey}
+use Rattle.ts_model.specs.declared.states.Listed.{Listed}
 use Rattle.ts_base.specs.declared.names.Name.{Name}
 use Rattle.ts_schema.specs.declared.schemas.Schema.{Schema}
 use Rattle.ts_store.specs.declared.call.Call.{Call}
@@ -10,7 +10,7 @@ use Rattle.ts_store.specs.declared.call.Reply.{Reply}
 use Rattle.ts_store.specs.declared.call.Reply.TheVariants as reply
 use Rattle.ts_model.specs.declared.commands.Job.{Job}
 use Rattle.ts_model.specs.declared.states.State.{State}
-use Rattle.ts_model.specs.declared.states.State.TheVariants.{PutsFrame, ComparesFrame, ListsDeclared, Puts, ListsCommits, ListsSchemas, GetsSchema, GetsFrame, GetsHeads, GetsSchemas, Fetches, Over}
+use Rattle.ts_model.specs.declared.states.State.TheVariants.{PutsFrame, ComparesFrame, ListsDeclared, Puts, ListsCommits, ListsSchemas, GetsSchema, GetsFrame, GetsHeads, GetsSchemas, GetsDeletes, Fetches, Over}
 use Rattle.ts_model.specs.States.{asks, on_made, on_bytes, on_names, ended, with_item, after_frame, frame_put, made_by, goes, get_frame, get_schema, put_of, putting}
 use Rattle.ts_model.specs.declared.states.NewObject.{NewObject}
 use Rattle.ts_model.specs.declared.answers.Outcome.{Outcome}
@@ -20,7 +20,7 @@ use Rattle.ts_schema.specs.FrameTexts.{frame_object}
 use Rattle.ts_base.specs.declared.names.Name.TheVariants as name
 use Rattle.ts_store.specs.declared.call.Call.TheVariants as call
 use Rattle.ts_model.specs.declared.commands.Command.{Command}
-use Rattle.ts_model.specs.declared.commands.Command.TheVariants.{Create, Evolve, Write, Read}
+use Rattle.ts_model.specs.declared.commands.Command.TheVariants.{Create, Evolve, Write, Read, Delete}
 use Rattle.ts_writer.specs.Writing.{IsCreate, IsOver, IsPutState, IsCreateState, IsLaterState, calls_left}
 
 -- a put that did not make its object ends the job
@@ -70,11 +70,12 @@ none_left ComparesFrame over = absurd over
 none_left ListsDeclared over = absurd over
 none_left ListsCommits over = absurd over
 none_left (Puts objects next end) over = absurd over
-none_left (ListsSchemas near) over = absurd over
-none_left (GetsSchema near there) over = absurd over
-none_left (GetsFrame near there) over = absurd over
+none_left (ListsSchemas listed) over = absurd over
+none_left (GetsSchema listed there) over = absurd over
+none_left (GetsFrame listed there) over = absurd over
 none_left (GetsHeads r opened) over = absurd over
 none_left (GetsSchemas r opened keys schemas) over = absurd over
+none_left (GetsDeletes r opened schemas) over = absurd over
 none_left (Fetches r opened schemas next frag got f c) over = absurd over
 
 -- each job can be over
@@ -85,11 +86,12 @@ over_puts ComparesFrame over = over
 over_puts ListsDeclared over = over
 over_puts ListsCommits over = over
 over_puts (Puts objects next end) over = absurd over
-over_puts (ListsSchemas near) over = over
-over_puts (GetsSchema near there) over = over
-over_puts (GetsFrame near there) over = over
+over_puts (ListsSchemas listed) over = over
+over_puts (GetsSchema listed there) over = over
+over_puts (GetsFrame listed there) over = over
 over_puts (GetsHeads r opened) over = over
 over_puts (GetsSchemas r opened keys schemas) over = over
+over_puts (GetsDeletes r opened schemas) over = over
 over_puts (Fetches r opened schemas next frag got f c) over = over
 
 -- a create can put its objects
@@ -100,11 +102,12 @@ create_puts job PutsFrame may = absurd may
 create_puts job ComparesFrame may = absurd may
 create_puts job ListsDeclared may = absurd may
 create_puts job ListsCommits may = may
-create_puts job (ListsSchemas near) may = may
-create_puts job (GetsSchema near there) may = may
-create_puts job (GetsFrame near there) may = may
+create_puts job (ListsSchemas listed) may = may
+create_puts job (GetsSchema listed there) may = may
+create_puts job (GetsFrame listed there) may = may
 create_puts job (GetsHeads r opened) may = may
 create_puts job (GetsSchemas r opened keys schemas) may = may
+create_puts job (GetsDeletes r opened schemas) may = may
 create_puts job (Fetches r opened schemas next frag got f c) may = may
 
 -- an evolve and a write can put their objects
@@ -115,11 +118,12 @@ later_puts PutsFrame may = may
 later_puts ComparesFrame may = may
 later_puts ListsDeclared may = may
 later_puts ListsCommits may = may
-later_puts (ListsSchemas near) may = absurd may
-later_puts (GetsSchema near there) may = absurd may
-later_puts (GetsFrame near there) may = absurd may
+later_puts (ListsSchemas listed) may = absurd may
+later_puts (GetsSchema listed there) may = absurd may
+later_puts (GetsFrame listed there) may = absurd may
 later_puts (GetsHeads r opened) may = may
 later_puts (GetsSchemas r opened keys schemas) may = may
+later_puts (GetsDeletes r opened schemas) may = may
 later_puts (Fetches r opened schemas next frag got f c) may = may
 
 -- the put of the frame that neither made it nor found its name taken ends a create
@@ -140,7 +144,8 @@ frame_in_other : {F : Type 0} (job : Job) (command : Command) (s : State F) (r :
 frame_in_other job (Create f) s r is made taken e = e (frame_object (frame_made f)) ∙ sym (frame_kept job (frame_put f) r made taken)
 frame_in_other job (Evolve change) s r is made taken e = absurd is
 frame_in_other job (Write w) s r is made taken e = absurd is
-frame_in_other job (Read from to) s r is made taken e = absurd is
+frame_in_other job (Read from to query) s r is made taken e = absurd is
+frame_in_other job (Delete text) s r is made taken e = absurd is
 
 -- so it does in the words of a create's state
 pub frame_other : {F : Type 0} (forms : Forms F) (job : Job) (s : State F) (r : Reply) → IsCreate job.command → (r ≡ reply.Made → ⊥) → (r ≡ reply.Taken → ⊥) → ((bytes : List ℕ) → s ≡ ended (call.Put name.Domain bytes) r)
@@ -161,8 +166,8 @@ pub schema_other : {F : Type 0} (there : Key) (on : List ℕ → State F) (s : S
 schema_other there on s r other e = e 0 (2 ^ 64 - 1) ∙ sym (bytes_other (get_schema there) on r other)
 
 -- the get of the frame that has no bytes ends an evolve and a write
-pub frame_absent : {F : Type 0} (forms : Forms F) (job : Job) (near : List FragKey) (there : Schema) (s : State F) (r : Reply) → ((bytes : List ℕ) → r ≡ reply.Bytes bytes → ⊥) → ((from len : ℕ) → s ≡ ended (call.Get name.Domain from len) r) → s ≡ goes forms job (GetsFrame near there) r
-frame_absent forms job near there s r other e = e 0 (2 ^ 64 - 1) ∙ sym (bytes_other get_frame _ r other)
+pub frame_absent : {F : Type 0} (forms : Forms F) (job : Job) (listed : Listed) (there : Schema) (s : State F) (r : Reply) → ((bytes : List ℕ) → r ≡ reply.Bytes bytes → ⊥) → ((from len : ℕ) → s ≡ ended (call.Get name.Domain from len) r) → s ≡ goes forms job (GetsFrame listed there) r
+frame_absent forms job listed there s r other e = e 0 (2 ^ 64 - 1) ∙ sym (bytes_other get_frame _ r other)
 
 -- what holds for each of an answer holds for one
 pub ok_at : {A B E : Type 0} (P : A → B → Type 0) (a : A) (result : Result B E) → IfOk result (λ y. (x : A) → P x y) → IfOk result (P a)

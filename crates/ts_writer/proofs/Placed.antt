@@ -16,8 +16,9 @@ use Rattle.ts_schema.specs.declared.frames.Frame.{Frame}
 use Rattle.ts_order.proofs.OrderLemmas.{global_total}
 use Rattle.ts_model.specs.declared.deeds.Written.{Written}
 use Rattle.ts_model.specs.Commands.{global_order, in_global_order, version_in, piece_of}
-use Rattle.ts_writer.specs.declared.places.GlobalPlace.{GlobalPlace}
-use Rattle.ts_writer.specs.Places.{place_of, place_cmp, placed_behind, head_in}
+use Rattle.ts_model.specs.declared.places.GlobalPlace.{GlobalPlace}
+use Rattle.ts_model.specs.Places.{place_of, place_cmp}
+use Rattle.ts_writer.specs.Places.{placed_behind, head_in}
 
 -- places are compared as their coordinates in global order
 place_cmp-global : (frame : Frame) (a b : List ℤ) → place_cmp (place_of frame a) (place_of frame b) ≡ global_order frame a b

@@ -1,5 +1,6 @@
 pub mod Writing
 pub mod Creators
+pub mod Deleters
 pub mod Evolvers
 pub mod Laying
 pub mod Places

@@ -1,26 +1,16 @@
--- The places of cells in global order, and versions by their places.
-use Rattle.std.specs.Prelude.{ℤ, false, List, [], ◌∷◌, length}
+-- Versions by the places of their cells in global order.
+use Rattle.std.specs.Prelude.{false, List, [], ◌∷◌, length}
 use Rattle.std.specs.BTreeMap.{insert_entry}
-use Rattle.std.specs.declared.cmp.Ordering.{Ordering}
 use Rattle.ts_base.specs.declared.keys.Key.{Key}
 use Rattle.ts_base.specs.declared.heads.Cell.{Cell}
 use Rattle.ts_base.specs.declared.heads.Head.{Head}
 use Rattle.ts_base.specs.declared.heads.Version.{Version}
 use Rattle.ts_base.specs.Keys.{frag_of}
-use Rattle.ts_order.specs.Orders.{turned, tile_numbers}
 use Rattle.ts_schema.specs.declared.frames.Frame.{Frame}
 use Rattle.ts_model.specs.declared.deeds.Written.{Written}
 use Rattle.ts_model.specs.Commands.{low_of_cells, high_of_cells, version_in}
-use Rattle.ts_writer.specs.declared.places.GlobalPlace.{GlobalPlace}
-use Rattle.ts_writer.specs.contracts.places.GlobalPlaceOrd.TheImpl as place_order
-
--- the place of coordinates
-abbrev pub place_of : Frame → List ℤ → GlobalPlace
-place_of frame at = record { tile = turned frame.tile (tile_numbers frame.domain at); cell = turned frame.cell at }
-
--- places are compared by their tiles, then by their cells
-abbrev pub place_cmp : GlobalPlace → GlobalPlace → Ordering
-place_cmp = (place_order.ghosts).cmp
+use Rattle.ts_model.specs.declared.places.GlobalPlace.{GlobalPlace}
+use Rattle.ts_model.specs.Places.{place_of, place_cmp}
 
 -- the versions of cells, by their places, put in from the last cell to the first, behind those that are there
 abbrev pub placed_behind : Frame → Key → Key → List Cell → List (GlobalPlace × Version) → List (GlobalPlace × Version)

@@ -4,7 +4,7 @@ use Rattle.ts_base.specs.Names.{IsSpelled}
 use Rattle.ts_schema.specs.SchemaTexts.{AreAttrs}
 use Rattle.ts_base.specs.declared.heads.Stop.TheVariants.{Never}
 use Rattle.ts_model.specs.declared.commands.Command.{Command}
-use Rattle.ts_model.specs.declared.commands.Command.TheVariants.{Create, Evolve, Write}
+use Rattle.ts_model.specs.declared.commands.Command.TheVariants.{Create, Evolve, Write, Delete}
 use Rattle.ts_model.specs.declared.commands.ColIn.{ColIn}
 use Rattle.ts_model.specs.declared.commands.Job.{Job}
 use Rattle.ts_model.specs.declared.states.NewObject.{NewObject}
@@ -27,6 +27,11 @@ abbrev pub IsWrite : Command → Type 0
 IsWrite (Write w) = ⊤
 IsWrite _ = ⊥
 
+-- the command is a delete
+abbrev pub IsDelete : Command → Type 0
+IsDelete (Delete text) = ⊤
+IsDelete _ = ⊥
+
 -- the job is a create that there can be
 pub record IsCreateJob (job : Job) : Type 0 where
   pub fit : IsFit job
@@ -41,6 +46,11 @@ pub record IsEvolveJob (job : Job) : Type 0 where
 pub record IsWriteJob (job : Job) : Type 0 where
   pub fit : IsFit job
   pub kind : IsWrite job.command
+
+-- the job is a delete that there can be
+pub record IsDeleteJob (job : Job) : Type 0 where
+  pub fit : IsFit job
+  pub kind : IsDelete job.command
 
 -- the command writes these columns
 abbrev pub Columns : Command → List ColIn → Type 0
@@ -69,11 +79,11 @@ IsCreateState job ComparesFrame = refused_before job.command ≡ None
 IsCreateState job ListsDeclared = ⊤
 IsCreateState job s = IsPutState s
 
--- an evolve or a write can be in the state
+-- an evolve, a write or a delete can be in the state
 abbrev pub IsLaterState : {F : Type 0} → State F → Type 0
-IsLaterState (ListsSchemas near) = ⊤
-IsLaterState (GetsSchema near there) = ⊤
-IsLaterState (GetsFrame near there) = AreAttrs there.attrs
+IsLaterState (ListsSchemas listed) = ⊤
+IsLaterState (GetsSchema listed there) = ⊤
+IsLaterState (GetsFrame listed there) = AreAttrs there.attrs
 IsLaterState s = IsPutState s
 
 -- the most calls that a job makes from a state on: those before its first put of many, and then its puts
@@ -81,9 +91,9 @@ abbrev pub calls_left : {F : Type 0} → State F → ℕ
 calls_left PutsFrame = 2 ^ 64 + 3
 calls_left ComparesFrame = 2 ^ 64 + 2
 calls_left ListsDeclared = 2 ^ 64 + 1
-calls_left (ListsSchemas near) = 2 ^ 64 + 3
-calls_left (GetsSchema near there) = 2 ^ 64 + 2
-calls_left (GetsFrame near there) = 2 ^ 64 + 1
+calls_left (ListsSchemas listed) = 2 ^ 64 + 3
+calls_left (GetsSchema listed there) = 2 ^ 64 + 2
+calls_left (GetsFrame listed there) = 2 ^ 64 + 1
 calls_left (Puts objects next end) = length objects - next
 calls_left _ = 0
 

@@ -1,7 +1,6 @@
 //! How an evolve goes: the call that it makes next, and where the reply leads it.
 ghost use Rattle.std.specs.Prelude.{◌≡◌, ◌≢◌, ◌<◌, ◌^◌, ◌+◌, None, IfOk};
-ghost use Rattle.ts_base.specs.declared.keys.FragKey.{FragKey as AnyFrag};
-ghost use Rattle.std.specs.Prelude.{List};
+ghost use Rattle.ts_model.specs.declared.states.Listed.{Listed as AnyListed};
 ghost use Rattle.ts_store.specs.Calls.{IsSpelledReply};
 ghost use Rattle.ts_schema.specs.FrameTexts.{frame_of};
 ghost use Rattle.ts_model.specs.declared.commands.Command.TheVariants.{Evolve};
@@ -10,11 +9,11 @@ ghost use Rattle.ts_writer.specs.Writing.{IsEvolve, IsEvolveJob, IsLaterState, c
 
 use crate::ends::{get_ended, refuse};
 use crate::puts::{after_put, key_of, put_schema};
-use crate::there::{after_schema, after_schemas, ask_later, stamp_of};
+use crate::there::{after_schema, after_schemas, ask_later, nothing_listed, stamp_of};
 use std::alloc::Global;
 use std::marker::PhantomData;
 use ts_actor::{Automaton, Pieces};
-use ts_base::{FragList, Name, OutOfMemory};
+use ts_base::{Name, OutOfMemory};
 use ts_model::{Command, Job, Outcome, Refusal, State};
 use ts_schema::{Evolution, Frame, Schema, SchemaFault};
 use ts_store::{Call, Reply};
@@ -39,7 +38,7 @@ impl<P: Pieces> Automaton for Evolves<P> {
     fn begin(alloc: Global, job: &Job) -> State<P::Fetch> {
         match &job.command {
             Command::Evolve(_) => State::ListsSchemas {
-                near: FragList::new(alloc),
+                listed: nothing_listed(alloc),
             },
             _ => unreachable!(),
         }
@@ -67,9 +66,9 @@ impl<P: Pieces> Automaton for Evolves<P> {
         ensures fewer { IfOk result (λ next. asks P.forms job.now state ≢ None → calls_left next < calls_left state) }
     {
         match state {
-            State::ListsSchemas { near } => after_schemas(alloc, stamp_of(job), near, &reply),
-            State::GetsSchema { near, there } => after_schema(alloc, near, there, &reply),
-            State::GetsFrame { near: _, there } => after_frame::<P>(alloc, job, &there, &reply),
+            State::ListsSchemas { listed } => after_schemas(alloc, stamp_of(job), listed, &reply),
+            State::GetsSchema { listed, there } => after_schema(alloc, listed, there, &reply),
+            State::GetsFrame { listed: _, there } => after_frame::<P>(alloc, job, &there, &reply),
             State::Puts { objects, next, end } => Ok(after_put(objects, next, end, &reply)),
             State::Over(end) => Ok(State::Over(end)),
             _ => unreachable!(),
@@ -96,7 +95,7 @@ fn after_frame<P: Pieces>(
     reply: &Reply,
 ) -> Result<State<P::Fetch>, OutOfMemory>
     requires { IsEvolveJob job.now }
-    ensures is { IfOk result (λ state. (near : List AnyFrag) → state ≡ goes P.forms job.now (State.GetsFrame near there.now) reply.now) }
+    ensures is { IfOk result (λ state. (listed : AnyListed) → state ≡ goes P.forms job.now (State.GetsFrame listed there.now) reply.now) }
     ensures may { IfOk result IsLaterState }
     ensures fewer { IfOk result (λ state. calls_left state < 2 ^ 64 + 1) }
 {
@@ -114,7 +113,7 @@ fn read_frame<P: Pieces>(
     bytes: &[u8],
 ) -> Result<State<P::Fetch>, OutOfMemory>
     requires { IsEvolveJob job.now }
-    ensures is { IfOk result (λ state. (near : List AnyFrag) → state ≡ on_read Name.Domain (λ frame. works P.forms job.now job.now.command near frame there.now) (frame_of bytes.now)) }
+    ensures is { IfOk result (λ state. (listed : AnyListed) → state ≡ on_read Name.Domain (λ frame. works P.forms job.now job.now.command listed frame there.now) (frame_of bytes.now)) }
     ensures may { IfOk result IsLaterState }
     ensures fewer { IfOk result (λ state. calls_left state < 2 ^ 64 + 1) }
 {
@@ -135,7 +134,7 @@ fn evolve<P: Pieces>(
     there: &Schema,
 ) -> Result<State<P::Fetch>, OutOfMemory>
     requires { IsEvolveJob job.now }
-    ensures is { IfOk result (λ state. (near : List AnyFrag) → state ≡ works P.forms job.now job.now.command near frame.now there.now) }
+    ensures is { IfOk result (λ state. (listed : AnyListed) → state ≡ works P.forms job.now job.now.command listed frame.now there.now) }
     ensures may { IfOk result IsLaterState }
     ensures fewer { IfOk result (λ state. calls_left state < 2 ^ 64 + 1) }
 {

@@ -1,16 +1,17 @@
-//! Writing: the machines of the jobs that make an array, declare a schema or write cells.
+//! Writing: the machines of the jobs that make an array, declare a schema, write cells or delete.
 #![tactic(auto)]
 
 mod cells;
 mod columns;
 mod creating;
 mod creator;
+mod deleter;
+mod deleting;
 mod ends;
 mod evolver;
 mod evolving;
 mod laying;
 mod pieces;
-mod places;
 mod puts;
 mod there;
 mod values;
@@ -19,6 +20,8 @@ mod writing;
 
 pub use creating::Creates;
 pub use creator::Creator;
+pub use deleter::Deleter;
+pub use deleting::Deletes;
 pub use evolver::Evolver;
 pub use evolving::Evolves;
 pub use writer::Writer;

@@ -7,13 +7,13 @@ ghost use Rattle.ts_domain.specs.Domains.{is_in_domain};
 ghost use Rattle.ts_model.specs.Commands.{low_of_cells, high_of_cells, version_in, in_global_order, piece_of};
 ghost use Rattle.ts_writer.specs.Places.{placed_behind, head_in};
 
-use crate::places::{GlobalPlace, place_of};
 use std::alloc::{AllocError, Global};
 use std::collections::BTreeMap;
 use ts_base::{
     Cell, CellList, Coords, FragKey, Head, Key, KeyList, OutOfMemory, Piece, Version, VersionList,
 };
 use ts_domain::{Domain, SubBox};
+use ts_model::{GlobalPlace, place_of};
 use ts_schema::Frame;
 
 /// The piece of a write with this key, whose cells follow the schema of another.

@@ -2,13 +2,14 @@
 ghost use Rattle.std.specs.Prelude.{◌≡◌, ◌<◌, ◌^◌, suc, ◌-◌, [], ◌∷◌, length, slice_get, option_map, IfOk, IfSome};
 ghost use Rattle.ts_store.specs.Calls.{IsSpelledCall};
 ghost use Rattle.ts_model.specs.Deeds.{IsKey};
-ghost use Rattle.ts_model.specs.Jobs.{key_of};
+ghost use Rattle.ts_model.specs.Jobs.{frag_of_job, key_of};
+ghost use Rattle.ts_base.specs.Names.{IsSpelledFrag};
 ghost use Rattle.ts_model.specs.States.{on_made, put_of, puts_schema, putting, with_item};
 ghost use Rattle.ts_writer.specs.Writing.{AreSpelled, IsPutState, calls_left};
 
 use crate::ends::put_ended;
 use std::alloc::Global;
-use ts_base::{Duplicate, Key, Name, OutOfMemory};
+use ts_base::{Duplicate, FragKey, Key, Name, OutOfMemory};
 use ts_model::{Job, NewObject, NewObjectList, Outcome, State};
 use ts_schema::Schema;
 use ts_store::{Call, Reply};
@@ -19,6 +20,19 @@ pub(crate) fn key_of(job: &Job) -> Key
     ensures key { IsKey result }
 {
     key_with(job.at, job.id)
+}
+
+/// The fragment of what a job writes, which is the name of what it deletes too.
+pub(crate) fn frag_of(job: &Job) -> FragKey
+    ensures is { result ≡ frag_of_job job.now }
+    ensures spelled { IsSpelledFrag result }
+{
+    FragKey {
+        t1: job.at,
+        t2: job.at,
+        id: job.id,
+        v: 1,
+    }
 }
 
 /// The key of these numbers, which have their widths.

@@ -1,11 +1,11 @@
-//! How an evolve and a write find the schema that holds at their stamp, and the frame.
+//! How an evolve, a write and a delete find the schema that holds at their stamp, and the frame.
 ghost use Rattle.std.specs.Prelude.{◌≡◌, ◌++◌, ◌<◌, ◌^◌, ◌+◌, option_to_list, IfOk, IfSome, OnOk};
 ghost use Rattle.ts_store.specs.Calls.{IsSpelledCall};
 ghost use Rattle.ts_schema.specs.Evolutions.{schema_at};
 ghost use Rattle.ts_schema.specs.SchemaTexts.{schema_of};
 ghost use Rattle.ts_model.specs.Forms.{Forms};
 ghost use Rattle.ts_model.specs.Jobs.{looked_at};
-ghost use Rattle.ts_model.specs.States.{asks, get_schema, list_schemas, on_bytes, on_names, on_read, seeks, schema_key_in, schemas_in};
+ghost use Rattle.ts_model.specs.States.{asks, get_schema, list_schemas, nothing_listed, on_bytes, on_names, on_read, seeks, schema_key_in, schemas_in};
 ghost use Rattle.ts_model.specs.declared.commands.Job.{Job as AnyJob};
 ghost use Rattle.ts_writer.specs.Writing.{IsLaterState, calls_left};
 
@@ -13,23 +13,26 @@ use crate::ends::{get_ended, list_ended, refuse};
 use crate::puts::next_put;
 use std::alloc::Global;
 use ts_base::{ByteList, FragList, Key, KeyList, Name, NameList, OutOfMemory, Prefix};
-use ts_model::{Command, Job, Refusal, State};
+use ts_model::{Command, Job, Listed, Refusal, State};
 use ts_schema::{Frame, Schema, schema_at};
 use ts_store::{Call, Reply};
 use ts_wire::ReadFault;
 
-/// The next call of an evolve or of a write, if it is not over.
+/// The next call of an evolve, a write or a delete, if it is not over.
 pub(crate) fn ask_later<F>(alloc: Global, state: &State<F>) -> Result<Option<Call>, OutOfMemory>
     requires { IsLaterState state.now }
     ensures is { IfOk result (λ call. (forms : Forms F) (job : AnyJob) → call ≡ asks forms job state.now) }
     ensures spelled { IfOk result (λ call. IfSome call IsSpelledCall) }
 {
     match state {
-        State::ListsSchemas { near: _ } => Ok(Some(Call::List(Prefix::Schemas))),
-        State::GetsSchema { near: _, there } => {
+        State::ListsSchemas { listed: _ } => Ok(Some(Call::List(Prefix::Schemas))),
+        State::GetsSchema { listed: _, there } => {
             Ok(Some(Call::Get(Name::Schema(*there), 0, u64::MAX)))
         }
-        State::GetsFrame { near: _, there: _ } => Ok(Some(Call::Get(Name::Domain, 0, u64::MAX))),
+        State::GetsFrame {
+            listed: _,
+            there: _,
+        } => Ok(Some(Call::Get(Name::Domain, 0, u64::MAX))),
         State::Puts {
             objects,
             next,
@@ -40,12 +43,22 @@ pub(crate) fn ask_later<F>(alloc: Global, state: &State<F>) -> Result<Option<Cal
     }
 }
 
+/// Nothing to look into.
+pub(crate) fn nothing_listed(alloc: Global) -> Listed
+    ensures { result ≡ nothing_listed }
+{
+    Listed {
+        near: FragList::new(alloc),
+        deletes: FragList::new(alloc),
+    }
+}
+
 /// The timestamp at which a job looks for its schema.
 pub(crate) fn stamp_of(job: &Job) -> u64
     ensures { result ≡ looked_at job.now }
 {
     match &job.command {
-        Command::Read { from: _, to } => *to,
+        Command::Read { to, .. } => *to,
         _ => job.at,
     }
 }
@@ -72,50 +85,50 @@ fn schemas_in(alloc: Global, names: &[Name]) -> Result<KeyList, OutOfMemory>
 }
 
 // Where the schemas of a listing lead: to the one there, if there is one.
-fn seek<F>(near: FragList, at: u64, found: Option<Key>) -> State<F>
-    ensures is { result ≡ seeks near at found }
+fn seek<F>(listed: Listed, at: u64, found: Option<Key>) -> State<F>
+    ensures is { result ≡ seeks listed at found }
     ensures may { IsLaterState result }
     ensures fewer { calls_left result < 2 ^ 64 + 3 }
 {
     match found {
         None => refuse(Refusal::NoSchema { at }),
-        Some(there) => State::GetsSchema { near, there },
+        Some(there) => State::GetsSchema { listed, there },
     }
 }
 
-/// Where the listing of the schemas leads an evolve or a write stamped `at`.
+/// Where the listing of the schemas leads an evolve, a write or a delete stamped `at`.
 pub(crate) fn after_schemas<F>(
     alloc: Global,
     at: u64,
-    near: FragList,
+    listed: Listed,
     reply: &Reply,
 ) -> Result<State<F>, OutOfMemory>
-    ensures is { IfOk result (λ state. state ≡ on_names list_schemas (λ names. seeks near at (schema_at (schemas_in names) at)) reply.now) }
+    ensures is { IfOk result (λ state. state ≡ on_names list_schemas (λ names. seeks listed at (schema_at (schemas_in names) at)) reply.now) }
     ensures may { IfOk result IsLaterState }
     ensures fewer { IfOk result (λ state. calls_left state < 2 ^ 64 + 3) }
 {
     match reply {
         Reply::Names(names) => {
             let keys = schemas_in(alloc, names.as_slice())?;
-            Ok(seek(near, at, schema_at(&keys, at)))
+            Ok(seek(listed, at, schema_at(&keys, at)))
         }
         _ => Ok(list_ended(Prefix::Schemas, reply)),
     }
 }
 
-/// Where the object of the schema leads an evolve or a write.
+/// Where the object of the schema leads an evolve, a write or a delete.
 pub(crate) fn after_schema<F>(
     alloc: Global,
-    near: FragList,
+    listed: Listed,
     there: Key,
     reply: &Reply,
 ) -> Result<State<F>, OutOfMemory>
-    ensures is { IfOk result (λ state. state ≡ on_bytes (get_schema there) (λ bytes. on_read (Name.Schema there) (λ attrs. State.GetsFrame near (record { key = there; attrs = attrs })) (schema_of bytes)) reply.now) }
+    ensures is { IfOk result (λ state. state ≡ on_bytes (get_schema there) (λ bytes. on_read (Name.Schema there) (λ attrs. State.GetsFrame listed (record { key = there; attrs = attrs })) (schema_of bytes)) reply.now) }
     ensures may { IfOk result IsLaterState }
     ensures fewer { IfOk result (λ state. calls_left state < 2 ^ 64 + 2) }
 {
     match reply {
-        Reply::Bytes(bytes) => read_schema(alloc, near, there, bytes.as_slice()),
+        Reply::Bytes(bytes) => read_schema(alloc, listed, there, bytes.as_slice()),
         _ => Ok(get_ended(Name::Schema(there), reply)),
     }
 }
@@ -123,17 +136,17 @@ pub(crate) fn after_schema<F>(
 // Where the bytes of the schema's object lead: on to the frame, or to the job's end.
 fn read_schema<F>(
     alloc: Global,
-    near: FragList,
+    listed: Listed,
     there: Key,
     bytes: &[u8],
 ) -> Result<State<F>, OutOfMemory>
-    ensures is { IfOk result (λ state. state ≡ on_read (Name.Schema there) (λ attrs. State.GetsFrame near (record { key = there; attrs = attrs })) (schema_of bytes.now)) }
+    ensures is { IfOk result (λ state. state ≡ on_read (Name.Schema there) (λ attrs. State.GetsFrame listed (record { key = there; attrs = attrs })) (schema_of bytes.now)) }
     ensures may { IfOk result IsLaterState }
     ensures fewer { IfOk result (λ state. calls_left state < 2 ^ 64 + 2) }
 {
     match Schema::decode(alloc, there, bytes) {
         Ok(schema) => Ok(State::GetsFrame {
-            near,
+            listed,
             there: schema,
         }),
         Err(ReadFault::Damaged(damaged)) => Ok(refuse(Refusal::Damaged {

@@ -5,9 +5,9 @@ ghost use Rattle.ts_model.specs.Commands.{fits};
 ghost use Rattle.ts_model.specs.Jobs.{IsFit};
 ghost use Rattle.ts_model.specs.States.{begun};
 ghost use Rattle.ts_model.specs.Driven.{EndsFrom};
-ghost use Rattle.ts_actor.specs.Machines.{Follows, calls_left};
 ghost use Rattle.ts_actor.specs.Traces.{start};
-ghost use Rattle.ts_writer.specs.Writing.{IsWrite, IsWriteJob, IsLaterState, job_for, calls_left as left};
+ghost use Rattle.ts_writer.specs.Writers.{Follows, calls_left};
+ghost use Rattle.ts_writer.specs.Writing.{IsWrite, job_for};
 
 use crate::writing::Writes;
 use std::alloc::Global;
@@ -34,7 +34,7 @@ impl<P: Pieces> Writer<P> {
     /// the identifier `id`. It has made no call yet, and takes no memory.
     pub fn new(at: u64, id: u128, cells: WriteIn) -> Writer<P>
         requires { IsTrue (fits (Write cells)) }
-        ensures new { Follows P.forms IsWriteJob (λ job s. IsLaterState s) result.machine.job result.machine.phase start }
+        ensures new { Follows P.forms result.machine.job result.machine.phase start }
         ensures task { result.machine.job ≡ job_for at id (Write cells) }
     {
         Writer::of(Job {
@@ -49,7 +49,7 @@ impl<P: Pieces> Writer<P> {
     pub fn of(job: Job) -> Writer<P>
         requires fit { IsFit job }
         requires kind { IsWrite job.command }
-        ensures new { Follows P.forms IsWriteJob (λ job s. IsLaterState s) result.machine.job result.machine.phase start }
+        ensures new { Follows P.forms result.machine.job result.machine.phase start }
         ensures task { result.machine.job ≡ job }
     {
         Writer {
@@ -65,11 +65,11 @@ impl<P: Pieces> Actor for Writer<P> {
 
     ghost task = { λ w. w.machine.job };
 
-    ghost follows = { λ w t. Follows P.forms IsWriteJob (λ job s. IsLaterState s) w.machine.job w.machine.phase t };
+    ghost follows = { λ w t. Follows P.forms w.machine.job w.machine.phase t };
 
     ghost ends = { λ job past end. EndsFrom P.forms job (begun job.command) past end };
 
-    ghost measure = { λ w. calls_left left w.machine.job w.machine.phase };
+    ghost measure = { λ w. calls_left w.machine.job w.machine.phase };
 
     fn next<R: Threads + Sync>(&mut self, rt: &R, alloc: Global, reply: Reply) -> Step<Outcome> {
         self.machine.next(rt, alloc, reply)

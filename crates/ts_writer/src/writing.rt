@@ -1,27 +1,26 @@
 //! How a write goes: the call that it makes next, and where the reply leads it.
 ghost use Rattle.std.specs.Prelude.{◌≡◌, ◌≢◌, ◌<◌, ◌^◌, ◌+◌, ◌++◌, ◌∷◌, [], None, Ok, List, All, IfOk, IsTrue};
 ghost use Rattle.std.specs.List.{list_all};
-ghost use Rattle.ts_base.specs.declared.keys.FragKey.{FragKey as AnyFrag};
+ghost use Rattle.ts_model.specs.declared.states.Listed.{Listed as AnyListed};
 ghost use Rattle.ts_base.specs.Names.{IsSpelledFrag, IsSpelledPart, wrt_of};
 ghost use Rattle.ts_store.specs.Calls.{IsSpelledReply};
 ghost use Rattle.ts_schema.specs.FrameTexts.{IsFrame, frame_of};
 ghost use Rattle.ts_schema.specs.SchemaTexts.{AreAttrs};
 ghost use Rattle.ts_model.specs.Commands.{is_spelled_col, laid};
 ghost use Rattle.ts_model.specs.Deeds.{IsKey};
-ghost use Rattle.ts_model.specs.Jobs.{frag_of_job};
 ghost use Rattle.ts_model.specs.States.{asks, goes, on_read, part_objects, puts_cells, works};
 ghost use Rattle.ts_writer.specs.Writing.{AreSpelled, Columns, IsWrite, IsWriteJob, IsLaterState, calls_left};
 
 use crate::ends::{get_ended, refuse};
 use crate::laying::{LayFault, lay};
 use crate::pieces::piece_of;
-use crate::puts::{after_put, key_of, key_with, put};
-use crate::there::{after_schema, after_schemas, ask_later, stamp_of};
+use crate::puts::{after_put, frag_of, key_of, key_with, put};
+use crate::there::{after_schema, after_schemas, ask_later, nothing_listed, stamp_of};
 use std::alloc::Global;
 use std::marker::PhantomData;
 use ts_actor::{Automaton, Pieces};
 use ts_base::{
-    ByteList, CellList, CommitKind, FragKey, FragList, Key, Name, OutOfMemory, PartBytes, PartList,
+    ByteList, CellList, CommitKind, FragKey, Key, Name, OutOfMemory, PartBytes, PartList,
 };
 use ts_model::{ColInList, Command, Job, NewObject, NewObjectList, Outcome, Refusal, State};
 use ts_schema::{Frame, Schema};
@@ -47,7 +46,7 @@ impl<P: Pieces> Automaton for Writes<P> {
     fn begin(alloc: Global, job: &Job) -> State<P::Fetch> {
         match &job.command {
             Command::Write(_) => State::ListsSchemas {
-                near: FragList::new(alloc),
+                listed: nothing_listed(alloc),
             },
             _ => unreachable!(),
         }
@@ -75,9 +74,9 @@ impl<P: Pieces> Automaton for Writes<P> {
         ensures fewer { IfOk result (λ next. asks P.forms job.now state ≢ None → calls_left next < calls_left state) }
     {
         match state {
-            State::ListsSchemas { near } => after_schemas(alloc, stamp_of(job), near, &reply),
-            State::GetsSchema { near, there } => after_schema(alloc, near, there, &reply),
-            State::GetsFrame { near: _, there } => after_frame::<P>(alloc, job, &there, &reply),
+            State::ListsSchemas { listed } => after_schemas(alloc, stamp_of(job), listed, &reply),
+            State::GetsSchema { listed, there } => after_schema(alloc, listed, there, &reply),
+            State::GetsFrame { listed: _, there } => after_frame::<P>(alloc, job, &there, &reply),
             State::Puts { objects, next, end } => Ok(after_put(objects, next, end, &reply)),
             State::Over(end) => Ok(State::Over(end)),
             _ => unreachable!(),
@@ -97,19 +96,6 @@ fn cols_in(job: &Job) -> &ColInList
     }
 }
 
-// The fragment of a write.
-fn frag_of(job: &Job) -> FragKey
-    ensures is { result ≡ frag_of_job job.now }
-    ensures spelled { IsSpelledFrag result }
-{
-    FragKey {
-        t1: job.at,
-        t2: job.at,
-        id: job.id,
-        v: 1,
-    }
-}
-
 // Where the frame leads a write that found its schema.
 fn after_frame<P: Pieces>(
     alloc: Global,
@@ -119,7 +105,7 @@ fn after_frame<P: Pieces>(
 ) -> Result<State<P::Fetch>, OutOfMemory>
     requires job { IsWriteJob job.now }
     requires attrs { AreAttrs there.now.attrs }
-    ensures is { IfOk result (λ state. (near : List AnyFrag) → state ≡ goes P.forms job.now (State.GetsFrame near there.now) reply.now) }
+    ensures is { IfOk result (λ state. (listed : AnyListed) → state ≡ goes P.forms job.now (State.GetsFrame listed there.now) reply.now) }
     ensures may { IfOk result IsLaterState }
     ensures fewer { IfOk result (λ state. calls_left state < 2 ^ 64 + 1) }
 {
@@ -138,7 +124,7 @@ fn read_frame<P: Pieces>(
 ) -> Result<State<P::Fetch>, OutOfMemory>
     requires job { IsWriteJob job.now }
     requires attrs { AreAttrs there.now.attrs }
-    ensures is { IfOk result (λ state. (near : List AnyFrag) → state ≡ on_read Name.Domain (λ frame. works P.forms job.now job.now.command near frame there.now) (frame_of bytes.now)) }
+    ensures is { IfOk result (λ state. (listed : AnyListed) → state ≡ on_read Name.Domain (λ frame. works P.forms job.now job.now.command listed frame there.now) (frame_of bytes.now)) }
     ensures may { IfOk result IsLaterState }
     ensures fewer { IfOk result (λ state. calls_left state < 2 ^ 64 + 1) }
 {
@@ -161,7 +147,7 @@ fn write<P: Pieces>(
     requires job { IsWriteJob job.now }
     requires frame { IsFrame frame.now }
     requires attrs { AreAttrs there.now.attrs }
-    ensures is { IfOk result (λ state. (near : List AnyFrag) → state ≡ works P.forms job.now job.now.command near frame.now there.now) }
+    ensures is { IfOk result (λ state. (listed : AnyListed) → state ≡ works P.forms job.now job.now.command listed frame.now there.now) }
     ensures may { IfOk result IsLaterState }
     ensures fewer { IfOk result (λ state. calls_left state < 2 ^ 64 + 1) }
 {
