@@ -3,7 +3,7 @@ use Rattle.std.proofs.Common.{◌≡◌, ℕ, ◌+◌, ◌<◌, Bool, take, List
 use Rattle.std.specs.Prelude.{filter, filter_map, option_to_list, option_map, slice_get}
 use Rattle.std.specs.List.{cons_option}
 use Rattle.std.proofs.lemmas.List.{take_more}
-use Rattle.ts_model.specs.States.{numbers_from}
+use Rattle.ts_model.specs.Queries.{numbers_from}
 use Rattle.std.proofs.lemmas.List.Elements.{filter-append, filter_map-append}
 
 module _ {X Y : Type 0} (f : X → Option Y) where

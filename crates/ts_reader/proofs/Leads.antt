@@ -8,12 +8,17 @@ use Rattle.ts_base.specs.declared.heads.Version.{Version}
 use Rattle.ts_base.specs.declared.heads.Head.{Head}
 use Rattle.ts_base.specs.declared.names.Name.TheVariants as name
 use Rattle.ts_schema.specs.declared.schemas.Schema.{Schema}
+use Rattle.ts_schema.specs.declared.frames.Frame.{Frame}
+use Rattle.ts_model.specs.declared.answers.Refusal.{Refusal}
+use Rattle.ts_model.specs.declared.deeds.Erasure.{Erasure}
+use Rattle.ts_model.specs.declared.queries.Ready.{Ready}
+use Rattle.ts_model.specs.declared.states.Listed.{Listed}
 use Rattle.ts_model.specs.declared.states.Opened.{Opened}
 use Rattle.ts_model.specs.declared.states.Reading.{Reading}
 use Rattle.ts_model.specs.declared.states.State.{State}
-use Rattle.ts_model.specs.declared.states.State.TheVariants.{GetsHeads}
+use Rattle.ts_model.specs.declared.states.State.TheVariants.{GetsDeletes, GetsHeads}
 use Rattle.ts_model.specs.Forms.{Stepped, Forms, Asks, Takes, Breaks}
-use Rattle.ts_model.specs.States.{fetch_leads, fetch_begins, fetches_one, fetching, known_schema, keys_named, gathering, opening, on_read, after_head}
+use Rattle.ts_model.specs.States.{fetch_leads, fetch_begins, fetches_one, fetching, known_schema, keys_named, gathering, opening, on_read, after_head, erasing, asks_for, reading_of}
 use Rattle.ts_reader.specs.declared.fetching.Led.{Led}
 use Rattle.ts_reader.specs.Fetching.{led_by, led_first, led_in, state_led}
 
@@ -72,3 +77,17 @@ pub head_read : {F : Type 0} (forms : Forms F) (r : Reading) (opened more : List
 head_read forms r opened more f bytes head read is =
     ap (opening forms r) is
     ∙ sym (ap (on_read (name.Part f (forms.head_part r.frame)) (λ h. opening forms r (opened ++ record { frag = f; head = h; object = bytes } ∷ []))) read)
+
+-- where all deletes are got the fetches come next
+pub all_erased : {F : Type 0} (forms : Forms F) (r : Reading) (opened : List Opened) (schemas : List Schema) (got : List Version) → nat_lt (length r.erased) (length r.deletes) ≡ false → got ≡ []
+    → fetching forms r opened schemas 0 (drop 0 opened) got ≡ erasing forms r opened schemas
+all_erased forms r opened schemas got last none =
+    ap (λ vs. fetching forms r opened schemas 0 opened vs) none ∙ sym (ap (λ b. cond b (GetsDeletes r opened schemas) (fetching forms r opened schemas 0 opened [])) last)
+
+-- a query that is ready opens the first fragment
+pub asked_for : {F : Type 0} (forms : Forms F) (from to : ℕ) (listed : Listed) (frame : Frame) (s : Schema) (ready : Ready) (found : Result Ready Refusal) (erased : List Erasure) (opened : List Opened) → found ≡ Ok ready → erased ≡ [] → opened ≡ []
+    → opening forms (record { from = from; to = to; ready = ready; frame = frame; there = s; near = listed.near; deletes = listed.deletes; erased = erased }) opened ≡ asks_for forms from to listed frame s found
+asked_for forms from to listed frame s ready found erased opened is none empty =
+    ap (λ es. opening forms (record { from = from; to = to; ready = ready; frame = frame; there = s; near = listed.near; deletes = listed.deletes; erased = es }) opened) none
+    ∙ ap (opening forms (reading_of from to listed frame s ready)) empty
+    ∙ sym (ap (asks_for forms from to listed frame s) is)

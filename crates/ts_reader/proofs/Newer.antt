@@ -1,5 +1,7 @@
 -- Trees of versions and of keys: what one more of them changes, and what they hold in order.
-use Rattle.std.proofs.Common.{◌≡◌, ℤ, not, true, false, cond, List, [], ◌∷◌, ◌++◌, Option, Some, map, refl, sym, ap, ◌∙◌}
+use Rattle.std.proofs.Common.{◌≡◌, ℤ, Bool, not, true, false, cond, List, [], ◌∷◌, ◌++◌, length, Option, Some, map, Ordering, Less, Equal, Greater, refl, sym, ap, subst, ◌∙◌, arith, All}
+use Rattle.std.specs.List.{AllByRecursion}
+use Rattle.std.proofs.lemmas.List.Elements.{All-from_recursion, recursion_from_All}
 use Rattle.std.specs.Option.{option_map_or}
 use Rattle.std.specs.Ordering.{int_cmp}
 use Rattle.std.specs.Cmp.{int_cmp_total, IsTotalOrder}
@@ -49,16 +51,6 @@ pub older_left : (m : tree.BTreeMap (List ℤ) Version) (v : Version) (found : O
     → option_map_or (λ w. key_lt w.key v.key) found true ≡ false → newest_in m ≡ with_version (newest_in m) v
 older_left m v found at older = sym (ap (λ b. cond b (finite.insert (newest_in m) v.coords v) (newest_in m)) (as_map m v found at ∙ older))
 
-values_as : {X : Type 0} (f : Version → X) (es : List (List ℤ × Version)) → map f (map (λ e. e.1) es) ≡ map (λ e. f e.1) es
-values_as f [] = refl
-values_as f (e ∷ es) = ap (λ xs. f e.1 ∷ xs) (values_as f es)
-
--- what is made of the versions of a tree in order
-pub rows_in_order : {X : Type 0} (f : Version → X) (m : tree.BTreeMap (List ℤ) Version) (all : Newest) → tree.IsOrdered (slice_cmp int_cmp) m → newest_in m ≡ all
-    → map f (tree.values m) ≡ map (λ e. f e.1) (finite.entries all)
-rows_in_order f m all ordered same =
-    values_as f m.entries ∙ ap (λ es. map (λ e. f e.1) es) (sym (entries-tree coords_total m.entries ordered) ∙ ap finite.entries same)
-
 -- ---- keys
 
 -- another key takes its place in the tree
@@ -69,3 +61,49 @@ other_put m n there key other updates =
 -- the keys of a tree are those of the map, in order
 pub keys_in_order : (m : tree.BTreeMap Key Key) (all : finite.FinMap key_cmp Key) → tree.IsOrdered key_cmp m → keys_in m ≡ all → tree.keys m ≡ finite.keys all
 keys_in_order m all ordered same = ap (λ es. map (λ e. e.0) es) (sym (entries-tree key_total m.entries ordered) ∙ ap finite.entries same)
+
+-- ---- what is true of each of the newest versions
+
+module _ (P : Version → Type 0) where
+  -- it is true of the version of each entry
+  abbrev AreSo : List (List ℤ × Version) → Type 0
+  AreSo es = AllByRecursion (λ e. P e.1) es
+
+  so_placed : (v : Version) → P v → (e : List ℤ × Version) (es : List (List ℤ × Version)) → AreSo (e ∷ es) → AreSo (finite.put (slice_cmp int_cmp) v.coords v es) → (o : Ordering) → slice_cmp int_cmp v.coords e.0 ≡ o
+      → AreSo (finite.put (slice_cmp int_cmp) v.coords v (e ∷ es))
+  so_placed v so e es all later Less is = rw is (so, all)
+  so_placed v so e es all later Equal is = rw is (so, all.1)
+  so_placed v so e es all later Greater is = rw is (all.0, later)
+
+  so_put : (v : Version) → P v → (es : List (List ℤ × Version)) → AreSo es → AreSo (finite.put (slice_cmp int_cmp) v.coords v es)
+  so_put v so [] all = (so, tt)
+  so_put v so (e ∷ es) all = so_placed v so e es all (so_put v so es all.1) (slice_cmp int_cmp v.coords e.0) refl
+
+  so_with : (m : Newest) (v : Version) → P v → (b : Bool) → AreSo (finite.entries m) → AreSo (finite.entries (cond b (finite.insert m v.coords v) m))
+  so_with m v so true all = subst AreSo (sym (finite.entries-insert coords_total m v.coords v)) (so_put v so (finite.entries m) all)
+  so_with m v so false all = all
+
+  so_after : (m : Newest) (vs : List Version) → AllByRecursion P vs → AreSo (finite.entries m) → AreSo (finite.entries (newest_after m vs))
+  so_after m [] each all = all
+  so_after m (v ∷ vs) each all = so_after (with_version m v) vs each.1 (so_with m v each.0 _ all)
+
+  so_none : (es : List (List ℤ × Version)) → length es ≡ 0 → AreSo es
+  so_none [] e = tt
+  so_none (x ∷ es) e = absurd (omega arith)
+
+  so_newest : (vs : List Version) → AllByRecursion P vs → AreSo (finite.entries (newest_of vs))
+  so_newest vs each = rw (newest_of_is vs) (so_after finite.empty vs each (so_none (finite.entries finite.empty) (sym (finite.len-entries finite.empty) ∙ finite.len-empty (slice_cmp int_cmp) Version)))
+
+  so_values : (es : List (List ℤ × Version)) → AreSo es → AllByRecursion P (map (λ e. e.1) es)
+  so_values [] all = tt
+  so_values (e ∷ es) all = (all.0, so_values es all.1)
+
+  -- what is true of each version is true of each of the newest
+  pub newest_so : (m : tree.BTreeMap (List ℤ) Version) (vs : List Version) → tree.IsOrdered (slice_cmp int_cmp) m → newest_in m ≡ newest_of vs → All P vs → All P (tree.values m)
+  newest_so m vs ordered same each =
+      let inorder : finite.entries (newest_of vs) ≡ m.entries = ap finite.entries (sym same) ∙ entries-tree coords_total m.entries ordered in
+      All-from_recursion P (tree.values m) (so_values m.entries (subst AreSo inorder (so_newest vs (recursion_from_All P vs each))))
+
+-- the versions of a tree are those of the map, in order
+pub values_in_order : (m : tree.BTreeMap (List ℤ) Version) (all : Newest) → tree.IsOrdered (slice_cmp int_cmp) m → newest_in m ≡ all → tree.values m ≡ finite.values all
+values_in_order m all ordered same = ap (λ es. map (λ e. e.1) es) (sym (entries-tree coords_total m.entries ordered) ∙ ap finite.entries same)

@@ -12,4 +12,4 @@ use Rattle.ts_reader.specs.Readers.{Follows}
 
 -- the call that a reader waits for is the one that its job asks where the calls before it have led
 pub asks_next : {F : Type 0} (forms : Forms F) (job : Job) (phase : Phase F) (past : List Exchange) (c : Call) → Follows forms job phase (asking past c) → asks forms job (state_from forms job (begun job.command) past) ≡ Some c
-asks_next forms job phase past c follows = machine.asks_next forms IsReadJob MayRead job phase past c follows
+asks_next forms job phase past c follows = machine.asks_next forms IsReadJob (MayRead forms) job phase past c follows

@@ -14,6 +14,8 @@ use Rattle.ts_model.specs.declared.states.State.{State}
 use Rattle.ts_model.specs.declared.states.State.TheVariants.{Fetches, Over}
 use Rattle.ts_model.specs.Forms.{Stepped, Forms, Asks, Takes, Breaks}
 use Rattle.ts_model.specs.States.{want_of}
+use Rattle.ts_domain.specs.declared.boxes.SubBox.{SubBox}
+use Rattle.ts_actor.specs.PieceLaws.{AreInBox, IsFetchIn}
 use Rattle.ts_reader.specs.declared.fetching.Led.{Led}
 use Rattle.ts_reader.specs.declared.fetching.Led.TheVariants as led
 
@@ -48,3 +50,9 @@ AsksSpelled _ = ⊤
 abbrev pub HasFewer : {F : Type 0} → (F → ℕ) → ℕ → Led F → Type 0
 HasFewer left most (led.Asks f c) = left f < most
 HasFewer left most _ = ⊤
+
+-- what the fetch asks for or takes lies in the box
+abbrev pub LeadsInside : {F : Type 0} → Forms F → SubBox → Led F → Type 0
+LeadsInside forms sub (led.Asks f c) = IsFetchIn forms sub f
+LeadsInside forms sub (led.Takes vs) = AreInBox sub vs
+LeadsInside forms sub (led.Ends end) = ⊤

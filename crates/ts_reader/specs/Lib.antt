@@ -1,3 +1,4 @@
+pub mod Erasing
 pub mod Fetching
 pub mod Newest
 pub mod Readers

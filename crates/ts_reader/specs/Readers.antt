@@ -9,7 +9,7 @@ use Rattle.ts_reader.specs.Reading.{IsReadJob, MayRead, reads_left}
 
 -- the reader of a job has asked for the calls of the trace, and they had these replies
 abbrev pub Follows : {F : Type 0} → Forms F → Job → Phase F → Trace → Type 0
-Follows forms job phase t = machine.Follows forms IsReadJob MayRead job phase t
+Follows forms job phase t = machine.Follows forms IsReadJob (MayRead forms) job phase t
 
 -- more than the calls that a reader still asks for, where a fetch has so many left
 abbrev pub calls_left : {F : Type 0} → (F → ℕ) → Job → Phase F → ℕ

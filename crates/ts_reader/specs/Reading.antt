@@ -1,28 +1,63 @@
 -- Reads: the states in which a read can be.
 use Rattle.std.specs.Prelude.{◌≡◌, ℕ, ◌+◌, ◌*◌, ◌-◌, ◌^◌, ◌<◌, List, length, take, suc, All, ⊤, map as list_map}
 use Rattle.std.specs.List.Sorted.{IsStrictlySortedBy}
+use Rattle.ts_base.specs.declared.keys.FragKey.{FragKey}
 use Rattle.ts_base.specs.declared.keys.Key.{Key}
 use Rattle.ts_base.specs.Keys.{key_cmp}
-use Rattle.ts_base.specs.Names.{IsSpelledFrag}
+use Rattle.ts_base.specs.declared.names.CommitKind.{CommitKind}
+use Rattle.ts_base.specs.declared.names.CommitKind.TheVariants.{Del}
+use Rattle.ts_base.specs.declared.names.Name.TheVariants as name
+use Rattle.ts_base.specs.Names.{IsSpelled, IsSpelledFrag}
 use Rattle.ts_base.specs.declared.heads.Stop.TheVariants.{Never}
+use Rattle.ts_base.specs.declared.heads.Version.{Version}
+use Rattle.ts_domain.specs.Boxes.{Covers}
+use Rattle.ts_domain.specs.Domains.{whole_domain}
 use Rattle.ts_store.specs.Calls.{IsSpelledCall}
 use Rattle.ts_schema.specs.declared.schemas.Schema.{Schema}
+use Rattle.ts_schema.specs.FrameTexts.{IsFrame}
+use Rattle.ts_schema.specs.SchemaTexts.{AreAttrs}
+use Rattle.ts_cond.specs.declared.query.Query.{Query}
 use Rattle.ts_model.specs.declared.commands.Command.{Command}
 use Rattle.ts_model.specs.declared.commands.Command.TheVariants.{Read}
 use Rattle.ts_model.specs.declared.commands.Job.{Job}
+use Rattle.ts_model.specs.declared.states.Listed.{Listed}
 use Rattle.ts_model.specs.declared.states.Opened.{Opened}
+use Rattle.ts_model.specs.declared.states.Reading.{Reading}
 use Rattle.ts_model.specs.declared.states.State.{State}
-use Rattle.ts_model.specs.declared.states.State.TheVariants.{ListsCommits, ListsSchemas, GetsSchema, GetsFrame, GetsHeads, GetsSchemas, Fetches, Over}
+use Rattle.ts_model.specs.declared.states.State.TheVariants.{ListsCommits, ListsSchemas, GetsSchema, GetsFrame, GetsHeads, GetsSchemas, GetsDeletes, Fetches, Over}
+use Rattle.ts_model.specs.Forms.{Forms}
 use Rattle.ts_model.specs.Jobs.{IsFit}
+use Rattle.ts_actor.specs.PieceLaws.{AreInBox, IsFetchIn}
 
 -- the command is a read
 abbrev pub IsRead : Command → Type 0
-IsRead (Read from to) = ⊤
+IsRead (Read from to query) = ⊤
 IsRead _ = ⊥
 
 -- the job is one that there can be, and its command is a read
 abbrev pub IsReadJob : Job → Type 0
 IsReadJob job = IsFit job × IsRead job.command
+
+-- the object of this kind has a spelling
+abbrev pub IsSpelledAs : CommitKind → FragKey → Type 0
+IsSpelledAs kind f = IsSpelled (name.Commit f kind)
+
+-- the object of a delete has a spelling
+abbrev pub IsSpelledDelete : FragKey → Type 0
+IsSpelledDelete f = IsSpelledAs Del f
+
+-- what a read looks into has spellings
+pub record AreListed (listed : Listed) : Type 0 where
+  pub near : All IsSpelledFrag listed.near
+  pub deletes : All IsSpelledDelete listed.deletes
+
+-- the array has a frame and attributes, the box lies in the domain, and what is looked into has spellings
+pub record IsReading (r : Reading) : Type 0 where
+  pub is_frame : IsFrame r.frame
+  pub are_attrs : AreAttrs (r.there).attrs
+  pub inside : Covers (whole_domain (r.frame).domain) (r.ready).sub
+  pub near : All IsSpelledFrag r.near
+  pub deletes : All IsSpelledDelete r.deletes
 
 -- the fragments have spellings
 abbrev pub AreSpelled : List Opened → Type 0
@@ -37,43 +72,52 @@ pub record AreFirst (keys : List Key) (schemas : List Schema) : Type 0 where
   pub rise : IsStrictlySortedBy key_cmp keys
   pub first : list_map (λ s. s.key) schemas ≡ take (length schemas) keys
 
--- a read fetches the fragment at a place
-pub record IsFetching (opened : List Opened) (schemas : List Schema) (next : ℕ) : Type 0 where
-  pub within : next < length opened
+-- a read that is at the fragments has opened them, and knows the further schemas
+pub record IsKnown (r : Reading) (opened : List Opened) (schemas : List Schema) : Type 0 where
+  pub reading : IsReading r
   pub spelled : AreSpelled opened
   pub rise : AreRising schemas
 
--- a read can be in the state: the fragments that it looks into have spellings, and the further schemas rise
-abbrev pub IsReadState : {F : Type 0} → State F → Type 0
-IsReadState ListsCommits = ⊤
-IsReadState (ListsSchemas near) = All IsSpelledFrag near
-IsReadState (GetsSchema near there) = All IsSpelledFrag near
-IsReadState (GetsFrame near there) = All IsSpelledFrag near
-IsReadState (GetsHeads r opened) = All IsSpelledFrag r.near × AreSpelled opened
-IsReadState (GetsSchemas r opened keys schemas) = AreSpelled opened × AreFirst keys schemas
-IsReadState (Fetches r opened schemas next frag got f c) = IsFetching opened schemas next × IsSpelledCall c
-IsReadState (Over end) = ⊤
-IsReadState _ = ⊥
+-- a read fetches the fragment at a place, in its box
+pub record IsFetching {F : Type 0} (forms : Forms F) (r : Reading) (opened : List Opened) (schemas : List Schema) (next : ℕ) (got : List Version) (f : F) : Type 0 where
+  pub known : IsKnown r opened schemas
+  pub within : next < length opened
+  pub inside : AreInBox (r.ready).sub got
+  pub in_box : IsFetchIn forms (r.ready).sub f
+
+-- a read can be in the state: what it looks into has spellings, the further schemas rise, and what it gets lies in its box
+abbrev pub IsReadState : {F : Type 0} → Forms F → State F → Type 0
+IsReadState forms ListsCommits = ⊤
+IsReadState forms (ListsSchemas listed) = AreListed listed
+IsReadState forms (GetsSchema listed there) = AreListed listed
+IsReadState forms (GetsFrame listed there) = AreListed listed × AreAttrs there.attrs
+IsReadState forms (GetsHeads r opened) = IsReading r × AreSpelled opened
+IsReadState forms (GetsSchemas r opened keys schemas) = IsReading r × AreSpelled opened × AreFirst keys schemas
+IsReadState forms (GetsDeletes r opened schemas) = IsKnown r opened schemas
+IsReadState forms (Fetches r opened schemas next frag got f c) = IsFetching forms r opened schemas next got f × IsSpelledCall c
+IsReadState forms (Over end) = ⊤
+IsReadState forms _ = ⊥
 
 -- more than the calls that a read makes for so many fragments, one after the other
 abbrev pub fetches_left : ℕ → ℕ
 fetches_left fragments = fragments * 2 ^ 128
 
--- the most calls that a read makes from a state on, where a fetch has so many left: those of its fetches, of the further schemas, of the heads, and of what comes before
+-- the most calls that a read makes from a state on, where a fetch has so many left: those of its fetches, of the deletes, of the further schemas, of the heads, and of what comes before
 abbrev pub reads_left : {F : Type 0} → (F → ℕ) → State F → ℕ
-reads_left left ListsCommits = 2 ^ 194 + 3
-reads_left left (ListsSchemas near) = 2 ^ 194 + 2
-reads_left left (GetsSchema near there) = 2 ^ 194 + 1
-reads_left left (GetsFrame near there) = 2 ^ 194
-reads_left left (GetsHeads r opened) = 2 ^ 193 + (length r.near - length opened)
-reads_left left (GetsSchemas r opened keys schemas) = 2 ^ 192 + (length keys - length schemas)
+reads_left left ListsCommits = 2 ^ 195 + 3
+reads_left left (ListsSchemas listed) = 2 ^ 195 + 2
+reads_left left (GetsSchema listed there) = 2 ^ 195 + 1
+reads_left left (GetsFrame listed there) = 2 ^ 195
+reads_left left (GetsHeads r opened) = 2 ^ 194 + (length r.near - length opened)
+reads_left left (GetsSchemas r opened keys schemas) = 2 ^ 193 + (length keys - length schemas)
+reads_left left (GetsDeletes r opened schemas) = 2 ^ 192 + (length r.deletes - length r.erased)
 reads_left left (Fetches r opened schemas next frag got f c) = fetches_left (length opened - suc next) + suc (left f)
 reads_left left s = 0
 
 -- the job that reads the interval from `from` to `to`; it is stopped nowhere
-abbrev pub read_job : ℕ → ℕ → ℕ → ℕ → Job
-read_job at id from to = record { command = Read from to; at = at; id = id; stop = Never }
+abbrev pub read_job : ℕ → ℕ → ℕ → ℕ → Query → Job
+read_job at id from to query = record { command = Read from to query; at = at; id = id; stop = Never }
 
 -- so can the read of any job
-abbrev pub MayRead : {F : Type 0} → Job → State F → Type 0
-MayRead job s = IsReadState s
+abbrev pub MayRead : {F : Type 0} → Forms F → Job → State F → Type 0
+MayRead forms job s = IsReadState forms s

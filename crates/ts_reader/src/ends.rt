@@ -1,17 +1,18 @@
 //! How a read ends before it has an answer.
-ghost use Rattle.std.specs.Prelude.{◌≡◌, ℕ};
+ghost use Rattle.std.specs.Prelude.{◌≡◌};
 ghost use Rattle.ts_model.specs.States.{damaged, ended, place_of};
 ghost use Rattle.ts_reader.specs.Reading.{IsReadState, reads_left};
 
+use ts_actor::Pieces;
 use ts_base::{Name, Place};
 use ts_model::{Outcome, Refusal, State};
 use ts_store::{Call, Reply};
 
 /// How a job ends by a reply that does not let it go on.
-pub(crate) fn ended<F>(call: &Call, reply: &Reply) -> State<F>
+pub(crate) fn ended<P: Pieces>(call: &Call, reply: &Reply) -> State<P::Fetch>
     ensures is { result ≡ ended call.now reply.now }
-    ensures may { IsReadState result }
-    ensures none { (left : F → ℕ) → reads_left left result ≡ 0 }
+    ensures may { IsReadState P.forms result }
+    ensures none { reads_left P.left result ≡ 0 }
 {
     let end = match (call, reply) {
         (_, Reply::Failed) => Outcome::Refused(Refusal::StoreFault(place_of(call))),
@@ -37,10 +38,10 @@ fn place_of(call: &Call) -> Place
 }
 
 /// An object is damaged at an offset.
-pub(crate) fn damaged<F>(name: Name, at: u64) -> State<F>
+pub(crate) fn damaged<P: Pieces>(name: Name, at: u64) -> State<P::Fetch>
     ensures is { result ≡ damaged name at }
-    ensures may { IsReadState result }
-    ensures none { (left : F → ℕ) → reads_left left result ≡ 0 }
+    ensures may { IsReadState P.forms result }
+    ensures none { reads_left P.left result ≡ 0 }
 {
     State::Over(Outcome::Refused(Refusal::Damaged { name, at }))
 }

@@ -3,12 +3,14 @@ ghost use Rattle.std.specs.Prelude.{◌≡◌, ◌≤◌, ◌<◌, ◌-◌, ◌+
 ghost use Rattle.ts_base.specs.Names.{IsSpelledFrag};
 ghost use Rattle.ts_store.specs.Calls.{IsSpelledCall};
 ghost use Rattle.ts_model.specs.States.{after_fetched, fetch_leads, fetching, known_schema};
-ghost use Rattle.ts_reader.specs.Reading.{AreRising, AreSpelled, IsFetching, IsReadState, fetches_left, reads_left};
-ghost use Rattle.ts_reader.specs.Fetching.{AsksSpelled, HasFewer, led_by, led_in};
+ghost use Rattle.ts_domain.specs.declared.boxes.SubBox.{SubBox as AnyBox};
+ghost use Rattle.ts_actor.specs.PieceLaws.{AreInBox, IsFetchIn};
+ghost use Rattle.ts_reader.specs.Reading.{AreRising, IsFetching, IsKnown, IsReadState, fetches_left, reads_left};
+ghost use Rattle.ts_reader.specs.Fetching.{AsksSpelled, HasFewer, LeadsInside, led_by, led_in};
 
 use crate::answers::answer_of;
 use crate::ends::ended;
-use crate::shown::{known_schema, want_of};
+use crate::known::{known_schema, want_of};
 use std::alloc::Global;
 use ts_actor::{Fetched, Pieces};
 use ts_base::{Duplicate, FragKey, Name, OutOfMemory, VersionList};
@@ -19,7 +21,7 @@ use ts_wire::ReadFault;
 
 /// What a read has once it fetches.
 #[derive(Drop)]
-pub(crate) struct Ready {
+pub(crate) struct Gathered {
     /// What it reads.
     pub reading: Reading,
     /// The fragments.
@@ -56,24 +58,24 @@ pub(crate) enum Led<F> {
 /// answers.
 pub(crate) fn fetch_from<P: Pieces>(
     alloc: Global,
-    ready: Ready,
+    gathered: Gathered,
     next: u64,
     got: VersionList,
 ) -> Result<State<P::Fetch>, OutOfMemory>
-    requires spelled { AreSpelled ready.opened }
-    requires rise { AreRising ready.schemas }
-    requires within { next ≤ length ready.opened }
-    ensures is { IfOk result (λ state. state ≡ fetching P.forms ready.reading ready.opened ready.schemas next (drop next ready.opened) got) }
-    ensures may { IfOk result IsReadState }
-    ensures bound { length ready.opened < 2 ^ 64 }
-    ensures fewer { IfOk result (λ state. reads_left P.left state ≤ fetches_left (length ready.opened - next)) }
+    requires known { IsKnown gathered.reading gathered.opened gathered.schemas }
+    requires within { next ≤ length gathered.opened }
+    requires inside { AreInBox gathered.reading.ready.sub got }
+    ensures is { IfOk result (λ state. state ≡ fetching P.forms gathered.reading gathered.opened gathered.schemas next (drop next gathered.opened) got) }
+    ensures may { IfOk result (IsReadState P.forms) }
+    ensures bound { length gathered.opened < 2 ^ 64 }
+    ensures fewer { IfOk result (λ state. reads_left P.left state ≤ fetches_left (length gathered.opened - next)) }
 {
     let mut got = got;
-    let count = ready.opened.len();
+    let count = gathered.opened.len();
     for place in next..count {
-        let opened = ready.opened.at(place);
+        let opened = gathered.opened.at(place);
         let frag = opened.frag;
-        match start::<P>(alloc, &ready.reading, &ready.schemas, opened)? {
+        match start::<P>(alloc, &gathered.reading, &gathered.schemas, opened)? {
             Led::Asks(fetch, asked) => {
                 let way = Way {
                     next: place,
@@ -81,25 +83,25 @@ pub(crate) fn fetch_from<P: Pieces>(
                     got,
                     fetch,
                 };
-                return Ok(fetches(ready, way, asked));
+                return Ok(fetches(gathered, way, asked));
             }
             Led::Takes(versions) => got = joined(got, versions)?,
             Led::Ends(end) => return Ok(State::Over(end)),
         }
     }
-    let answer = answer_of(alloc, &ready.reading, &ready.schemas, got)?;
+    let answer = answer_of(alloc, &gathered.reading, &gathered.schemas, got)?;
     Ok(State::Over(Outcome::Read(answer)))
 }
 
 // A read waits for the reply to a call of a fetch.
-fn fetches<F>(ready: Ready, way: Way<F>, asked: Call) -> State<F>
-    ensures { result ≡ State.Fetches ready.reading ready.opened ready.schemas way.next way.frag way.got way.fetch asked }
+fn fetches<F>(gathered: Gathered, way: Way<F>, asked: Call) -> State<F>
+    ensures { result ≡ State.Fetches gathered.reading gathered.opened gathered.schemas way.next way.frag way.got way.fetch asked }
 {
-    let Ready {
+    let Gathered {
         reading,
         opened,
         schemas,
-    } = ready;
+    } = gathered;
     let Way {
         next,
         frag,
@@ -128,6 +130,7 @@ fn start<P: Pieces>(
     requires frag { IsSpelledFrag opened.now.frag }
     requires rise { AreRising schemas.now }
     ensures is { IfOk result (λ led. led ≡ led_in P.forms reading.now opened.now (known_schema reading.now schemas.now opened.now.head.schema)) }
+    ensures inside { IfOk result (LeadsInside P.forms reading.now.ready.sub) }
     ensures few { IfOk result (HasFewer P.left (2 ^ 128)) }
     ensures spelled { IfOk result AsksSpelled }
 {
@@ -155,6 +158,7 @@ fn go_on<P: Pieces>(
     reply: Reply,
 ) -> Result<Led<P::Fetch>, OutOfMemory>
     ensures is { IfOk result (λ led. led ≡ led_by frag (P.forms.steps fetch reply)) }
+    ensures inside { (sub : AnyBox) → IsFetchIn P.forms sub fetch → IfOk result (LeadsInside P.forms sub) }
     ensures fewer { IfOk result (HasFewer P.left (P.left fetch)) }
     ensures spelled { IfOk result AsksSpelled }
 {
@@ -182,34 +186,34 @@ fn joined(got: VersionList, more: VersionList) -> Result<VersionList, OutOfMemor
 /// Where the reply to a fetch's call leads.
 pub(crate) fn after_fetched<P: Pieces>(
     alloc: Global,
-    ready: Ready,
+    gathered: Gathered,
     way: Way<P::Fetch>,
     asked: Call,
     reply: Reply,
 ) -> Result<State<P::Fetch>, OutOfMemory>
-    requires { IsFetching ready.opened ready.schemas way.next }
-    ensures is { IfOk result (λ next. next ≡ after_fetched P.forms ready.reading ready.opened ready.schemas way.next way.frag way.got way.fetch asked reply) }
-    ensures may { IfOk result IsReadState }
-    ensures fewer { IfOk result (λ next. reads_left P.left next < fetches_left (length ready.opened - suc way.next) + suc (P.left way.fetch)) }
+    requires { IsFetching P.forms gathered.reading gathered.opened gathered.schemas way.next way.got way.fetch }
+    ensures is { IfOk result (λ next. next ≡ after_fetched P.forms gathered.reading gathered.opened gathered.schemas way.next way.frag way.got way.fetch asked reply) }
+    ensures may { IfOk result (IsReadState P.forms) }
+    ensures fewer { IfOk result (λ next. reads_left P.left next < fetches_left (length gathered.opened - suc way.next) + suc (P.left way.fetch)) }
 {
     match reply {
-        Reply::Bytes(bytes) => after_told::<P>(alloc, ready, way, Reply::Bytes(bytes)),
-        Reply::Length(count) => after_told::<P>(alloc, ready, way, Reply::Length(count)),
-        other => Ok(ended(&asked, &other)),
+        Reply::Bytes(bytes) => after_told::<P>(alloc, gathered, way, Reply::Bytes(bytes)),
+        Reply::Length(count) => after_told::<P>(alloc, gathered, way, Reply::Length(count)),
+        other => Ok(ended::<P>(&asked, &other)),
     }
 }
 
 // Where bytes or a length lead a fetch.
 fn after_told<P: Pieces>(
     alloc: Global,
-    ready: Ready,
+    gathered: Gathered,
     way: Way<P::Fetch>,
     reply: Reply,
 ) -> Result<State<P::Fetch>, OutOfMemory>
-    requires { IsFetching ready.opened ready.schemas way.next }
-    ensures is { IfOk result (λ next. next ≡ fetch_leads ready.reading ready.opened ready.schemas way.next way.frag way.got (λ vs. fetching P.forms ready.reading ready.opened ready.schemas (suc way.next) (drop (suc way.next) ready.opened) (way.got ++ vs)) (P.forms.steps way.fetch reply)) }
-    ensures may { IfOk result IsReadState }
-    ensures fewer { IfOk result (λ next. reads_left P.left next < fetches_left (length ready.opened - suc way.next) + suc (P.left way.fetch)) }
+    requires { IsFetching P.forms gathered.reading gathered.opened gathered.schemas way.next way.got way.fetch }
+    ensures is { IfOk result (λ next. next ≡ fetch_leads gathered.reading gathered.opened gathered.schemas way.next way.frag way.got (λ vs. fetching P.forms gathered.reading gathered.opened gathered.schemas (suc way.next) (drop (suc way.next) gathered.opened) (way.got ++ vs)) (P.forms.steps way.fetch reply)) }
+    ensures may { IfOk result (IsReadState P.forms) }
+    ensures fewer { IfOk result (λ next. reads_left P.left next < fetches_left (length gathered.opened - suc way.next) + suc (P.left way.fetch)) }
 {
     let Way {
         next,
@@ -217,7 +221,7 @@ fn after_told<P: Pieces>(
         got,
         fetch,
     } = way;
-    let _count = ready.opened.len();
+    let _count = gathered.opened.len();
     match go_on::<P>(alloc, frag, fetch, reply)? {
         Led::Asks(fetch, asked) => {
             let way = Way {
@@ -226,9 +230,9 @@ fn after_told<P: Pieces>(
                 got,
                 fetch,
             };
-            Ok(fetches(ready, way, asked))
+            Ok(fetches(gathered, way, asked))
         }
-        Led::Takes(versions) => fetch_from::<P>(alloc, ready, next + 1, joined(got, versions)?),
+        Led::Takes(versions) => fetch_from::<P>(alloc, gathered, next + 1, joined(got, versions)?),
         Led::Ends(end) => Ok(State::Over(end)),
     }
 }

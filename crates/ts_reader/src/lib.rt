@@ -3,12 +3,14 @@
 
 mod answers;
 mod ends;
+mod erasing;
 mod fetching;
+mod known;
 mod listing;
 mod newest;
 mod opening;
 mod reader;
-mod shown;
+mod sights;
 mod steps;
 
 pub use reader::Reader;

@@ -1,86 +1,112 @@
-//! What a read finds in listings: the fragments that it looks into, and the schema that holds.
-ghost use Rattle.std.specs.Prelude.{◌≡◌, ◌<◌, ◌+◌, ◌^◌, ◌++◌, ℕ, filter, filter_map, option_to_list, All, IfOk, OnOk};
-ghost use Rattle.ts_base.specs.Names.{IsSpelled, IsSpelledFrag};
+//! What a read finds in listings: the fragments and the deletes that it looks into, and the schema
+//! that holds.
+ghost use Rattle.std.specs.Prelude.{◌≡◌, ◌<◌, ◌+◌, ◌^◌, ◌++◌, filter, filter_map, option_to_list, All, IfOk, IfSome, OnOk};
+ghost use Rattle.ts_base.specs.Names.{IsSpelled};
 ghost use Rattle.ts_store.specs.Calls.{IsSpelledReply};
 ghost use Rattle.ts_schema.specs.Evolutions.{schema_at};
-ghost use Rattle.ts_model.specs.States.{committed_in, list_commits, list_schemas, looked_into, meets, on_names, schema_key_in, schemas_in, seeks, wrt_in};
+ghost use Rattle.ts_model.specs.States.{list_commits, list_schemas, looked_into, meets, on_names, schema_key_in, schemas_in, seeks};
 ghost use Rattle.ts_model.specs.declared.states.State.TheVariants as state;
-ghost use Rattle.ts_reader.specs.Reading.{IsRead, IsReadState, reads_left};
+ghost use Rattle.ts_reader.specs.Erasing.{frag_in};
+ghost use Rattle.ts_reader.specs.Reading.{AreListed, IsRead, IsReadState, IsSpelledAs, reads_left};
 
 use crate::ends::ended;
 use std::alloc::Global;
+use ts_actor::Pieces;
 use ts_base::{CommitKind, FragKey, FragList, KeyList, Name, OutOfMemory, Prefix};
-use ts_model::{Command, Outcome, Refusal, State};
+use ts_model::{Command, Listed, Outcome, Refusal, State};
 use ts_schema::schema_at;
 use ts_store::{Call, Reply};
 
 /// Where the reply to the listing of the commits leads.
-pub(crate) fn after_commits<F>(
+pub(crate) fn after_commits<P: Pieces>(
     alloc: Global,
     command: &Command,
     reply: Reply,
-) -> Result<State<F>, OutOfMemory>
+) -> Result<State<P::Fetch>, OutOfMemory>
     requires read { IsRead command.now }
     requires spelled { IsSpelledReply reply }
     ensures is { IfOk result (λ next. next ≡ on_names list_commits (λ names. state.ListsSchemas (looked_into command.now names)) reply) }
-    ensures may { IfOk result IsReadState }
-    ensures fewer { IfOk result (λ (next : State F). (left : F → ℕ) → reads_left left next < 2 ^ 194 + 3) }
+    ensures may { IfOk result (IsReadState P.forms) }
+    ensures fewer { IfOk result (λ next. reads_left P.left next < 2 ^ 195 + 3) }
 {
     match reply {
         Reply::Names(names) => Ok(State::ListsSchemas {
-            near: look_into(alloc, command, names.as_slice())?,
+            listed: look_into(alloc, command, names.as_slice())?,
         }),
-        other => Ok(ended(&Call::List(Prefix::Commits), &other)),
+        other => Ok(ended::<P>(&Call::List(Prefix::Commits), &other)),
     }
 }
 
-// The committed fragments of a listing that a read looks into.
-fn look_into(alloc: Global, command: &Command, names: &[Name]) -> Result<FragList, OutOfMemory>
+// What a read looks into of a listing of the commits.
+fn look_into(alloc: Global, command: &Command, names: &[Name]) -> Result<Listed, OutOfMemory>
     requires read { IsRead command.now }
     requires spelled { All IsSpelled names.now }
-    ensures is { IfOk result (λ near. near ≡ looked_into command.now names.now) }
-    ensures spelled { IfOk result (All IsSpelledFrag) }
+    ensures is { IfOk result (λ listed. listed ≡ looked_into command.now names.now) }
+    ensures spelled { IfOk result AreListed }
 {
     match command {
-        Command::Read { from, to } => committed_near(alloc, *from, *to, names),
+        Command::Read { from, to, query: _ } => Ok(Listed {
+            near: stamped_near(alloc, CommitKind::Wrt, *from, *to, names)?,
+            deletes: stamped_near(alloc, CommitKind::Del, *from, *to, names)?,
+        }),
         _ => unreachable!(),
     }
 }
 
-// The committed fragments of a listing whose span meets the interval, in their order.
-fn committed_near(
+// What the objects of a kind name whose span meets the interval, in the order of the listing.
+fn stamped_near(
     alloc: Global,
+    kind: CommitKind,
     from: u64,
     to: u64,
     names: &[Name],
 ) -> Result<FragList, OutOfMemory>
     requires { All IsSpelled names.now }
-    ensures is { IfOk result (λ near. near ≡ filter (meets from to) (committed_in names.now)) }
-    ensures spelled { IfOk result (All IsSpelledFrag) }
+    ensures is { IfOk result (λ near. near ≡ filter (meets from to) (filter_map (frag_in kind) names.now)) }
+    ensures spelled { IfOk result (All (IsSpelledAs kind)) }
 {
     let mut near = FragList::new(alloc);
     for name in names {
-        add_committed(&mut near, from, to, *name)?;
+        add_near(&mut near, kind, from, to, *name)?;
     }
     Ok(near)
 }
 
-// Adds the fragment that a `.wrt` commits, where its span meets the interval.
-fn add_committed(near: &mut FragList, from: u64, to: u64, name: Name) -> Result<(), OutOfMemory>
+// Adds what an object names, where it is of the kind and the span meets the interval.
+fn add_near(
+    near: &mut FragList,
+    kind: CommitKind,
+    from: u64,
+    to: u64,
+    name: Name,
+) -> Result<(), OutOfMemory>
     requires name_spelled { IsSpelled name }
-    requires near_spelled { All IsSpelledFrag near.old }
-    ensures is { OnOk result (near.new ≡ near.old ++ filter (meets from to) (option_to_list (wrt_in name))) }
-    ensures spelled { OnOk result (All IsSpelledFrag near.new) }
+    requires near_spelled { All (IsSpelledAs kind) near.old }
+    ensures is { OnOk result (near.new ≡ near.old ++ filter (meets from to) (option_to_list (frag_in kind name))) }
+    ensures spelled { OnOk result (All (IsSpelledAs kind) near.new) }
 {
-    match name {
-        Name::Commit(frag, CommitKind::Wrt) => {
+    match frag_in(kind, name) {
+        Some(frag) => {
             if meets(from, to, &frag) {
                 near.push(frag)
             } else {
                 Ok(())
             }
         }
-        _ => Ok(()),
+        None => Ok(()),
+    }
+}
+
+// What an object of the kind names.
+fn frag_in(kind: CommitKind, name: Name) -> Option<FragKey>
+    requires { IsSpelled name }
+    ensures is { result ≡ frag_in kind name }
+    ensures spelled { IfSome result (IsSpelledAs kind) }
+{
+    match (kind, name) {
+        (CommitKind::Wrt, Name::Commit(frag, CommitKind::Wrt)) => Some(frag),
+        (CommitKind::Del, Name::Commit(frag, CommitKind::Del)) => Some(frag),
+        _ => None,
     }
 }
 
@@ -93,26 +119,26 @@ fn meets(from: u64, to: u64, frag: &FragKey) -> bool
 
 /// Where the reply to the listing of the schemas leads: to the schema that holds at `at`, if there
 /// is one.
-pub(crate) fn after_schemas<F>(
+pub(crate) fn after_schemas<P: Pieces>(
     alloc: Global,
-    near: FragList,
+    listed: Listed,
     at: u64,
     reply: Reply,
-) -> Result<State<F>, OutOfMemory>
-    requires { All IsSpelledFrag near }
-    ensures is { IfOk result (λ next. next ≡ on_names list_schemas (λ names. seeks near at (schema_at (schemas_in names) at)) reply) }
-    ensures may { IfOk result IsReadState }
-    ensures fewer { IfOk result (λ (next : State F). (left : F → ℕ) → reads_left left next < 2 ^ 194 + 2) }
+) -> Result<State<P::Fetch>, OutOfMemory>
+    requires { AreListed listed }
+    ensures is { IfOk result (λ next. next ≡ on_names list_schemas (λ names. seeks listed at (schema_at (schemas_in names) at)) reply) }
+    ensures may { IfOk result (IsReadState P.forms) }
+    ensures fewer { IfOk result (λ next. reads_left P.left next < 2 ^ 195 + 2) }
 {
     match reply {
         Reply::Names(names) => {
             let keys = schemas_in(alloc, names.as_slice())?;
             match schema_at(&keys, at) {
-                Some(there) => Ok(State::GetsSchema { near, there }),
+                Some(there) => Ok(State::GetsSchema { listed, there }),
                 None => Ok(State::Over(Outcome::Refused(Refusal::NoSchema { at }))),
             }
         }
-        other => Ok(ended(&Call::List(Prefix::Schemas), &other)),
+        other => Ok(ended::<P>(&Call::List(Prefix::Schemas), &other)),
     }
 }
 

@@ -1,20 +1,27 @@
-//! Opening: what a read does from the schema that holds up to the first fetch.
-ghost use Rattle.std.specs.Prelude.{◌≡◌, ◌<◌, ◌≤◌, ◌+◌, ◌-◌, ◌^◌, ◌++◌, ◌∷◌, [], ℕ, length, All, IfOk, slice_get};
+//! Opening: what a read does from the schema that holds up to the further schemas.
+ghost use Rattle.std.specs.Prelude.{◌≡◌, ◌<◌, ◌≤◌, ◌+◌, ◌-◌, ◌^◌, ◌++◌, ◌∷◌, [], length, All, IfOk, slice_get};
 ghost use Rattle.ts_base.specs.Names.{IsSpelledFrag};
 ghost use Rattle.ts_base.specs.declared.names.Name.TheVariants as name;
-ghost use Rattle.ts_schema.specs.FrameTexts.{frame_of};
-ghost use Rattle.ts_schema.specs.SchemaTexts.{schema_of};
-ghost use Rattle.ts_model.specs.States.{get_all, after_head, after_schema, gathering, get_frame, get_head, get_schema, on_bytes, on_read, opening, with_item, works};
+ghost use Rattle.ts_schema.specs.FrameTexts.{IsFrame, frame_of};
+ghost use Rattle.ts_schema.specs.SchemaTexts.{AreAttrs, schema_of};
+ghost use Rattle.ts_model.specs.Queries.{ready_in};
+ghost use Rattle.ts_model.specs.Selections.{IsNamedBox};
+ghost use Rattle.ts_model.specs.States.{after_head, after_schema, asks_for, gathering, get_all, get_frame, get_head, get_schema, on_bytes, on_read, opening, with_item, works};
 ghost use Rattle.ts_model.specs.declared.states.State.TheVariants as state;
-ghost use Rattle.ts_reader.specs.Reading.{AreFirst, AreSpelled, IsRead, IsReadState, reads_left};
+ghost use Rattle.ts_reader.specs.Reading.{AreFirst, AreListed, AreSpelled, IsReadJob, IsReadState, IsReading, reads_left};
 
 use crate::ends::{damaged, ended};
-use crate::fetching::{Ready, fetch_from};
+use crate::erasing::erase_next;
+use crate::fetching::Gathered;
 use crate::newest::keys_named;
 use std::alloc::Global;
 use ts_actor::Pieces;
-use ts_base::{ByteList, FragKey, FragList, Key, KeyList, Name, OutOfMemory, VersionList};
-use ts_model::{Command, Job, Opened, OpenedList, Outcome, Reading, State};
+use ts_base::{ByteList, FragKey, Key, KeyList, Name, OutOfMemory};
+use ts_cond::Query;
+use ts_model::{
+    Command, ErasureList, Job, Listed, Opened, OpenedList, Outcome, QueryFault, Reading, State,
+    check_query,
+};
 use ts_schema::{Frame, Schema, SchemaList};
 use ts_store::{Call, Reply};
 use ts_wire::ReadFault;
@@ -27,76 +34,109 @@ pub(crate) fn get_all(name: Name) -> Call
 }
 
 /// Where the reply to the get of the schema that holds leads: to the get of the frame.
-pub(crate) fn after_there<F>(
+pub(crate) fn after_there<P: Pieces>(
     alloc: Global,
-    near: FragList,
+    listed: Listed,
     there: Key,
     reply: Reply,
-) -> Result<State<F>, OutOfMemory>
-    requires { All IsSpelledFrag near }
-    ensures is { IfOk result (λ next. next ≡ on_bytes (get_schema there) (λ bytes. on_read (name.Schema there) (λ attrs. state.GetsFrame near (record { key = there; attrs = attrs })) (schema_of bytes)) reply) }
-    ensures may { IfOk result IsReadState }
-    ensures fewer { IfOk result (λ (next : State F). (left : F → ℕ) → reads_left left next < 2 ^ 194 + 1) }
+) -> Result<State<P::Fetch>, OutOfMemory>
+    requires { AreListed listed }
+    ensures is { IfOk result (λ next. next ≡ on_bytes (get_schema there) (λ bytes. on_read (name.Schema there) (λ attrs. state.GetsFrame listed (record { key = there; attrs = attrs })) (schema_of bytes)) reply) }
+    ensures may { IfOk result (IsReadState P.forms) }
+    ensures fewer { IfOk result (λ next. reads_left P.left next < 2 ^ 195 + 1) }
 {
     match reply {
         Reply::Bytes(bytes) => match Schema::decode(alloc, there, bytes.as_slice()) {
-            Ok(there) => Ok(State::GetsFrame { near, there }),
-            Err(ReadFault::Damaged(fault)) => Ok(damaged(Name::Schema(there), fault.at)),
+            Ok(there) => Ok(State::GetsFrame { listed, there }),
+            Err(ReadFault::Damaged(fault)) => Ok(damaged::<P>(Name::Schema(there), fault.at)),
             Err(ReadFault::OutOfMemory) => Err(OutOfMemory),
         },
-        other => Ok(ended(&get_all(Name::Schema(there)), &other)),
+        other => Ok(ended::<P>(&get_all(Name::Schema(there)), &other)),
     }
 }
 
-/// Where the reply to the get of the frame leads: a read opens its first fragment.
+/// Where the reply to the get of the frame leads: a read opens its first fragment, or is refused.
 pub(crate) fn after_frame<P: Pieces>(
     alloc: Global,
     job: &Job,
-    near: FragList,
+    listed: Listed,
     there: Schema,
     reply: Reply,
 ) -> Result<State<P::Fetch>, OutOfMemory>
-    requires read { IsRead job.now.command }
-    requires spelled { All IsSpelledFrag near }
-    ensures is { IfOk result (λ next. next ≡ on_bytes get_frame (λ bytes. on_read name.Domain (λ frame. works P.forms job.now job.now.command near frame there) (frame_of bytes)) reply) }
-    ensures may { IfOk result IsReadState }
-    ensures fewer { IfOk result (λ next. reads_left P.left next < 2 ^ 194) }
+    requires job { IsReadJob job.now }
+    requires listed { AreListed listed }
+    requires attrs { AreAttrs there.attrs }
+    ensures is { IfOk result (λ next. next ≡ on_bytes get_frame (λ bytes. on_read name.Domain (λ frame. works P.forms job.now job.now.command listed frame there) (frame_of bytes)) reply) }
+    ensures may { IfOk result (IsReadState P.forms) }
+    ensures fewer { IfOk result (λ next. reads_left P.left next < 2 ^ 195) }
 {
     match reply {
         Reply::Bytes(bytes) => match Frame::decode(bytes.as_slice()) {
-            Ok(frame) => begin_reading::<P>(alloc, job, near, frame, there),
-            Err(fault) => Ok(damaged(Name::Domain, fault.at)),
+            Ok(frame) => begin_reading::<P>(alloc, job, listed, frame, there),
+            Err(fault) => Ok(damaged::<P>(Name::Domain, fault.at)),
         },
-        other => Ok(ended(&get_all(Name::Domain), &other)),
+        other => Ok(ended::<P>(&get_all(Name::Domain), &other)),
     }
 }
 
-// A read that has the schema that holds and the frame opens its first fragment.
+// A read that has the schema that holds and the frame opens its first fragment, or is refused.
 fn begin_reading<P: Pieces>(
     alloc: Global,
     job: &Job,
-    near: FragList,
+    listed: Listed,
     frame: Frame,
     there: Schema,
 ) -> Result<State<P::Fetch>, OutOfMemory>
-    requires read { IsRead job.now.command }
-    requires spelled { All IsSpelledFrag near }
-    ensures is { IfOk result (λ next. next ≡ works P.forms job.now job.now.command near frame there) }
-    ensures may { IfOk result IsReadState }
-    ensures fewer { IfOk result (λ next. reads_left P.left next < 2 ^ 194) }
+    requires job { IsReadJob job.now }
+    requires listed { AreListed listed }
+    requires frame { IsFrame frame }
+    requires attrs { AreAttrs there.attrs }
+    ensures is { IfOk result (λ next. next ≡ works P.forms job.now job.now.command listed frame there) }
+    ensures may { IfOk result (IsReadState P.forms) }
+    ensures fewer { IfOk result (λ next. reads_left P.left next < 2 ^ 195) }
 {
     match &job.command {
-        Command::Read { from, to } => {
+        Command::Read { from, to, query } => {
+            ask_for::<P>(alloc, *from, *to, query, listed, frame, there)
+        }
+        _ => unreachable!(),
+    }
+}
+
+// A read opens its first fragment, or is refused for its query.
+fn ask_for<P: Pieces>(
+    alloc: Global,
+    from: u64,
+    to: u64,
+    query: &Query,
+    listed: Listed,
+    frame: Frame,
+    there: Schema,
+) -> Result<State<P::Fetch>, OutOfMemory>
+    requires bounds { All IsNamedBox query.now.sub }
+    requires listed { AreListed listed }
+    requires frame { IsFrame frame }
+    requires attrs { AreAttrs there.attrs }
+    ensures is { IfOk result (λ next. next ≡ asks_for P.forms from to listed frame there (ready_in frame there.attrs query.now)) }
+    ensures may { IfOk result (IsReadState P.forms) }
+    ensures fewer { IfOk result (λ next. reads_left P.left next < 2 ^ 195) }
+{
+    match check_query(alloc, &frame, &there, query) {
+        Ok(ready) => {
             let reading = Reading {
-                from: *from,
-                to: *to,
+                from,
+                to,
+                ready,
                 frame,
                 there,
-                near,
+                near: listed.near,
+                deletes: listed.deletes,
+                erased: ErasureList::new(alloc),
             };
             open_next::<P>(alloc, reading, OpenedList::new(alloc))
         }
-        _ => unreachable!(),
+        Err(QueryFault::Refused(refusal)) => Ok(State::Over(Outcome::Refused(refusal))),
+        Err(QueryFault::OutOfMemory) => Err(OutOfMemory),
     }
 }
 
@@ -106,12 +146,12 @@ fn open_next<P: Pieces>(
     reading: Reading,
     opened: OpenedList,
 ) -> Result<State<P::Fetch>, OutOfMemory>
-    requires near { All IsSpelledFrag reading.near }
+    requires reading { IsReading reading }
     requires spelled { AreSpelled opened }
     ensures is { IfOk result (λ next. next ≡ opening P.forms reading opened) }
-    ensures may { IfOk result IsReadState }
+    ensures may { IfOk result (IsReadState P.forms) }
     ensures bound { length reading.near < 2 ^ 64 }
-    ensures fewer { IfOk result (λ next. reads_left P.left next ≤ 2 ^ 193 + (length reading.near - length opened)) }
+    ensures fewer { IfOk result (λ next. reads_left P.left next ≤ 2 ^ 194 + (length reading.near - length opened)) }
 {
     let count = reading.near.len();
     if opened.len() < count {
@@ -121,7 +161,7 @@ fn open_next<P: Pieces>(
     let schemas = SchemaList::new(alloc);
     gather_next::<P>(
         alloc,
-        Ready {
+        Gathered {
             reading,
             opened,
             schemas,
@@ -137,11 +177,11 @@ pub(crate) fn after_head_reply<P: Pieces>(
     opened: OpenedList,
     reply: Reply,
 ) -> Result<State<P::Fetch>, OutOfMemory>
-    requires near { All IsSpelledFrag reading.near }
+    requires reading { IsReading reading }
     requires spelled { AreSpelled opened }
     ensures is { IfOk result (λ next. next ≡ with_item (λ f. on_bytes (get_head P.forms reading f) (after_head P.forms reading opened f) reply) (slice_get reading.near (length opened))) }
-    ensures may { IfOk result IsReadState }
-    ensures fewer { IfOk result (λ next. length opened < length reading.near → reads_left P.left next < 2 ^ 193 + (length reading.near - length opened)) }
+    ensures may { IfOk result (IsReadState P.forms) }
+    ensures fewer { IfOk result (λ next. length opened < length reading.near → reads_left P.left next < 2 ^ 194 + (length reading.near - length opened)) }
 {
     let place = opened.len();
     if place >= reading.near.len() {
@@ -152,7 +192,7 @@ pub(crate) fn after_head_reply<P: Pieces>(
         Reply::Bytes(bytes) => after_head::<P>(alloc, reading, opened, frag, bytes),
         other => {
             let part = P::head_part(&reading.frame);
-            Ok(ended(&get_all(Name::Part(frag, part)), &other))
+            Ok(ended::<P>(&get_all(Name::Part(frag, part)), &other))
         }
     }
 }
@@ -165,13 +205,13 @@ fn after_head<P: Pieces>(
     frag: FragKey,
     bytes: ByteList,
 ) -> Result<State<P::Fetch>, OutOfMemory>
-    requires near { All IsSpelledFrag reading.near }
+    requires reading { IsReading reading }
     requires spelled { AreSpelled opened }
     requires frag { IsSpelledFrag frag }
     requires within { length opened < length reading.near }
     ensures is { IfOk result (λ next. next ≡ after_head P.forms reading opened frag bytes) }
-    ensures may { IfOk result IsReadState }
-    ensures fewer { IfOk result (λ next. reads_left P.left next < 2 ^ 193 + (length reading.near - length opened)) }
+    ensures may { IfOk result (IsReadState P.forms) }
+    ensures fewer { IfOk result (λ next. reads_left P.left next < 2 ^ 194 + (length reading.near - length opened)) }
 {
     match P::head(alloc, &reading.frame, frag, bytes.as_slice()) {
         Ok(head) => {
@@ -185,32 +225,33 @@ fn after_head<P: Pieces>(
         }
         Err(ReadFault::Damaged(fault)) => {
             let part = P::head_part(&reading.frame);
-            Ok(damaged(Name::Part(frag, part), fault.at))
+            Ok(damaged::<P>(Name::Part(frag, part), fault.at))
         }
         Err(ReadFault::OutOfMemory) => Err(OutOfMemory),
     }
 }
 
-// A read gets the next further schema, or begins to fetch.
+// A read gets the next further schema, or goes on to the deletes.
 fn gather_next<P: Pieces>(
     alloc: Global,
-    ready: Ready,
+    gathered: Gathered,
     keys: KeyList,
 ) -> Result<State<P::Fetch>, OutOfMemory>
-    requires spelled { AreSpelled ready.opened }
-    requires first { AreFirst keys ready.schemas }
-    ensures is { IfOk result (λ next. next ≡ gathering P.forms ready.reading ready.opened keys ready.schemas) }
-    ensures may { IfOk result IsReadState }
+    requires reading { IsReading gathered.reading }
+    requires spelled { AreSpelled gathered.opened }
+    requires first { AreFirst keys gathered.schemas }
+    ensures is { IfOk result (λ next. next ≡ gathering P.forms gathered.reading gathered.opened keys gathered.schemas) }
+    ensures may { IfOk result (IsReadState P.forms) }
     ensures bound { length keys < 2 ^ 64 }
-    ensures fewer { IfOk result (λ next. reads_left P.left next ≤ 2 ^ 192 + (length keys - length ready.schemas)) }
+    ensures fewer { IfOk result (λ next. reads_left P.left next ≤ 2 ^ 193 + (length keys - length gathered.schemas)) }
 {
     let count = keys.len();
-    if ready.schemas.len() < count {
-        let Ready {
+    if gathered.schemas.len() < count {
+        let Gathered {
             reading,
             opened,
             schemas,
-        } = ready;
+        } = gathered;
         return Ok(State::GetsSchemas {
             reading,
             opened,
@@ -218,42 +259,43 @@ fn gather_next<P: Pieces>(
             schemas,
         });
     }
-    fetch_from::<P>(alloc, ready, 0, VersionList::new(alloc))
+    erase_next::<P>(alloc, gathered)
 }
 
 /// Where the reply to the get of a further schema leads.
 pub(crate) fn after_further<P: Pieces>(
     alloc: Global,
-    ready: Ready,
+    gathered: Gathered,
     keys: KeyList,
     reply: Reply,
 ) -> Result<State<P::Fetch>, OutOfMemory>
-    requires spelled { AreSpelled ready.opened }
-    requires first { AreFirst keys ready.schemas }
-    ensures is { IfOk result (λ next. next ≡ with_item (λ k. on_bytes (get_schema k) (after_schema P.forms ready.reading ready.opened keys ready.schemas k) reply) (slice_get keys (length ready.schemas))) }
-    ensures may { IfOk result IsReadState }
-    ensures fewer { IfOk result (λ next. length ready.schemas < length keys → reads_left P.left next < 2 ^ 192 + (length keys - length ready.schemas)) }
+    requires reading { IsReading gathered.reading }
+    requires spelled { AreSpelled gathered.opened }
+    requires first { AreFirst keys gathered.schemas }
+    ensures is { IfOk result (λ next. next ≡ with_item (λ k. on_bytes (get_schema k) (after_schema P.forms gathered.reading gathered.opened keys gathered.schemas k) reply) (slice_get keys (length gathered.schemas))) }
+    ensures may { IfOk result (IsReadState P.forms) }
+    ensures fewer { IfOk result (λ next. length gathered.schemas < length keys → reads_left P.left next < 2 ^ 193 + (length keys - length gathered.schemas)) }
 {
-    let place = ready.schemas.len();
+    let place = gathered.schemas.len();
     if place >= keys.len() {
         return Ok(State::Over(Outcome::OutOfMemory));
     }
     let key = *keys.at(place);
     match reply {
         Reply::Bytes(bytes) => match Schema::decode(alloc, key, bytes.as_slice()) {
-            Ok(schema) => gather_next::<P>(alloc, with_schema(ready, schema)?, keys),
-            Err(ReadFault::Damaged(fault)) => Ok(damaged(Name::Schema(key), fault.at)),
+            Ok(schema) => gather_next::<P>(alloc, with_schema(gathered, schema)?, keys),
+            Err(ReadFault::Damaged(fault)) => Ok(damaged::<P>(Name::Schema(key), fault.at)),
             Err(ReadFault::OutOfMemory) => Err(OutOfMemory),
         },
-        other => Ok(ended(&get_all(Name::Schema(key)), &other)),
+        other => Ok(ended::<P>(&get_all(Name::Schema(key)), &other)),
     }
 }
 
 // One schema more is known.
-fn with_schema(ready: Ready, schema: Schema) -> Result<Ready, OutOfMemory>
-    ensures { IfOk result (λ more. more ≡ record { reading = ready.reading; opened = ready.opened; schemas = ready.schemas ++ schema ∷ [] }) }
+fn with_schema(gathered: Gathered, schema: Schema) -> Result<Gathered, OutOfMemory>
+    ensures { IfOk result (λ more. more ≡ record { reading = gathered.reading; opened = gathered.opened; schemas = gathered.schemas ++ schema ∷ [] }) }
 {
-    let mut ready = ready;
-    ready.schemas.push(schema)?;
-    Ok(ready)
+    let mut gathered = gathered;
+    gathered.schemas.push(schema)?;
+    Ok(gathered)
 }

@@ -1,5 +1,7 @@
 //! The machine of a read.
-ghost use Rattle.std.specs.Prelude.{◌≡◌, ◌<◌, ◌^◌};
+ghost use Rattle.std.specs.Prelude.{◌≡◌, IsTrue};
+ghost use Rattle.ts_model.specs.declared.commands.Command.TheVariants.{Read};
+ghost use Rattle.ts_model.specs.Commands.{fits};
 ghost use Rattle.ts_model.specs.States.{begun};
 ghost use Rattle.ts_model.specs.Driven.{EndsFrom};
 ghost use Rattle.ts_actor.specs.Traces.{start};
@@ -11,32 +13,36 @@ use std::alloc::Global;
 use std::thread::Threads;
 use ts_actor::{Actor, Machine, Pieces, Step};
 use ts_base::Stop;
+use ts_cond::Query;
 use ts_model::{Command, Job, Outcome};
 use ts_store::Reply;
 
 /// A read on its way: it lists the commits and then the schemas, gets the schema that holds at the
 /// end of its interval, the frame, the head of each committed fragment whose span meets the
-/// interval, and the further schemas that the heads name. Then it fetches one fragment after the
-/// other, and answers with the newest version of each cell, as it shows through the schema that
-/// holds.
+/// interval, the further schemas that the heads name, and the deletes that are stamped in the
+/// interval. Then it fetches what lies in its box of one fragment after the other. It answers with
+/// the newest version of each cell, unless a delete with a greater key matches that version under its
+/// own schema; each row is shown through the schema that holds, and the query selects among these.
 ///
 /// A call that fails, an object that is not there and one that breaks its layout each end the read
-/// with the refusal that says so; so does an interval at whose end no schema holds.
+/// with the refusal that says so; so does an interval at whose end no schema holds, and a query that
+/// is refused, once the frame is got.
 #[derive(Drop)]
 pub struct Reader<P: Pieces> {
     machine: Machine<Reads<P>>,
 }
 
 impl<P: Pieces> Reader<P> {
-    /// A reader of the whole domain in the interval from `from` to `to`, both ends included, with the
-    /// stamp `at`, all in milliseconds since 1970-01-01, and the identifier `id`. It has made no call
-    /// yet, and takes no memory.
-    pub fn new(at: u64, id: u128, from: u64, to: u64) -> Reader<P>
+    /// A reader of what `query` asks for in the interval from `from` to `to`, both ends included, with
+    /// the stamp `at`, all in milliseconds since 1970-01-01, and the identifier `id`. It has made no
+    /// call yet, and takes no memory.
+    pub fn new(at: u64, id: u128, from: u64, to: u64, query: Query) -> Reader<P>
+        requires { IsTrue (fits (Read from to query)) }
         ensures new { Follows P.forms result.machine.job result.machine.phase start }
-        ensures task { result.machine.job ≡ read_job at id from to }
+        ensures task { result.machine.job ≡ read_job at id from to query }
     {
         Reader::of(Job {
-            command: Command::Read { from, to },
+            command: Command::Read { from, to, query },
             at,
             id,
             stop: Stop::Never,

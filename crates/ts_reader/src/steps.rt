@@ -3,16 +3,17 @@ ghost use Rattle.std.specs.Prelude.{◌≡◌, ◌≢◌, ◌<◌, None, option_
 ghost use Rattle.ts_base.specs.Names.{IsSpelledFrag};
 ghost use Rattle.ts_store.specs.Calls.{IsSpelledCall, IsSpelledReply};
 ghost use Rattle.ts_model.specs.Jobs.{looked_at};
-ghost use Rattle.ts_model.specs.States.{asks, get_head, get_schema, goes};
-ghost use Rattle.ts_reader.specs.Reading.{IsRead, IsReadJob, IsReadState, MayRead, reads_left};
+ghost use Rattle.ts_model.specs.States.{asks, get_delete, get_head, get_schema, goes};
+ghost use Rattle.ts_reader.specs.Reading.{IsRead, IsReadJob, IsReadState, IsSpelledDelete, MayRead, reads_left};
 
-use crate::fetching::{Ready, Way, after_fetched};
+use crate::erasing::after_delete_reply;
+use crate::fetching::{Gathered, Way, after_fetched};
 use crate::listing::{after_commits, after_schemas};
 use crate::opening::{after_frame, after_further, after_head_reply, after_there, get_all};
 use std::alloc::Global;
 use std::marker::PhantomData;
 use ts_actor::{Automaton, Pieces};
-use ts_base::{Duplicate, KeyList, Name, OutOfMemory, Prefix};
+use ts_base::{CommitKind, Duplicate, KeyList, Name, OutOfMemory, Prefix};
 use ts_model::{Command, Job, OpenedList, Reading, State};
 use ts_schema::SchemaList;
 use ts_store::{Call, Reply};
@@ -30,13 +31,17 @@ impl<P: Pieces> Automaton for Reads<P> {
 
     ghost serves = { IsReadJob };
 
-    ghost may = { MayRead };
+    ghost may = { MayRead P.forms };
 
     ghost left = { reads_left P.left };
 
     fn begin(_alloc: Global, job: &Job) -> State<P::Fetch> {
         match &job.command {
-            Command::Read { from: _, to: _ } => State::ListsCommits,
+            Command::Read {
+                from: _,
+                to: _,
+                query: _,
+            } => State::ListsCommits,
             _ => unreachable!(),
         }
     }
@@ -48,9 +53,12 @@ impl<P: Pieces> Automaton for Reads<P> {
     ) -> Result<Option<Call>, OutOfMemory> {
         match state {
             State::ListsCommits => Ok(Some(Call::List(Prefix::Commits))),
-            State::ListsSchemas { near: _ } => Ok(Some(Call::List(Prefix::Schemas))),
-            State::GetsSchema { near: _, there } => Ok(Some(get_all(Name::Schema(*there)))),
-            State::GetsFrame { near: _, there: _ } => Ok(Some(get_all(Name::Domain))),
+            State::ListsSchemas { listed: _ } => Ok(Some(Call::List(Prefix::Schemas))),
+            State::GetsSchema { listed: _, there } => Ok(Some(get_all(Name::Schema(*there)))),
+            State::GetsFrame {
+                listed: _,
+                there: _,
+            } => Ok(Some(get_all(Name::Domain))),
             State::GetsHeads { reading, opened } => Ok(head_asked::<P>(reading, opened)),
             State::GetsSchemas {
                 reading: _,
@@ -58,6 +66,11 @@ impl<P: Pieces> Automaton for Reads<P> {
                 keys,
                 schemas,
             } => Ok(schema_asked(keys, schemas)),
+            State::GetsDeletes {
+                reading,
+                opened: _,
+                schemas: _,
+            } => Ok(delete_asked(reading)),
             State::Fetches {
                 reading: _,
                 opened: _,
@@ -80,17 +93,21 @@ impl<P: Pieces> Automaton for Reads<P> {
         reply: Reply,
     ) -> Result<State<P::Fetch>, OutOfMemory>
         requires job { IsReadJob job.now }
-        requires state { IsReadState state }
+        requires state { IsReadState P.forms state }
         requires reply { IsSpelledReply reply }
         ensures is { IfOk result (λ next. next ≡ goes P.forms job.now state reply) }
-        ensures may { IfOk result IsReadState }
+        ensures may { IfOk result (IsReadState P.forms) }
         ensures fewer { IfOk result (λ next. asks P.forms job.now state ≢ None → reads_left P.left next < reads_left P.left state) }
     {
         match state {
-            State::ListsCommits => after_commits(alloc, &job.command, reply),
-            State::ListsSchemas { near } => { after_schemas(alloc, near, looked_at(job), reply) }
-            State::GetsSchema { near, there } => after_there(alloc, near, there, reply),
-            State::GetsFrame { near, there } => after_frame::<P>(alloc, job, near, there, reply),
+            State::ListsCommits => after_commits::<P>(alloc, &job.command, reply),
+            State::ListsSchemas { listed } => {
+                after_schemas::<P>(alloc, listed, looked_at(job), reply)
+            }
+            State::GetsSchema { listed, there } => after_there::<P>(alloc, listed, there, reply),
+            State::GetsFrame { listed, there } => {
+                after_frame::<P>(alloc, job, listed, there, reply)
+            }
             State::GetsHeads { reading, opened } => {
                 after_head_reply::<P>(alloc, reading, opened, reply)
             }
@@ -100,12 +117,24 @@ impl<P: Pieces> Automaton for Reads<P> {
                 keys,
                 schemas,
             } => {
-                let ready = Ready {
+                let gathered = Gathered {
                     reading,
                     opened,
                     schemas,
                 };
-                after_further::<P>(alloc, ready, keys, reply)
+                after_further::<P>(alloc, gathered, keys, reply)
+            }
+            State::GetsDeletes {
+                reading,
+                opened,
+                schemas,
+            } => {
+                let gathered = Gathered {
+                    reading,
+                    opened,
+                    schemas,
+                };
+                after_delete_reply::<P>(alloc, gathered, reply)
             }
             State::Fetches {
                 reading,
@@ -117,7 +146,7 @@ impl<P: Pieces> Automaton for Reads<P> {
                 fetch,
                 asked,
             } => {
-                let ready = Ready {
+                let gathered = Gathered {
                     reading,
                     opened,
                     schemas,
@@ -128,7 +157,7 @@ impl<P: Pieces> Automaton for Reads<P> {
                     got,
                     fetch,
                 };
-                after_fetched::<P>(alloc, ready, way, asked, reply)
+                after_fetched::<P>(alloc, gathered, way, asked, reply)
             }
             State::Over(end) => Ok(State::Over(end)),
             _ => unreachable!(),
@@ -142,7 +171,11 @@ fn looked_at(job: &Job) -> u64
     ensures { result ≡ looked_at job.now }
 {
     match &job.command {
-        Command::Read { from: _, to } => *to,
+        Command::Read {
+            from: _,
+            to,
+            query: _,
+        } => *to,
         _ => unreachable!(),
     }
 }
@@ -170,6 +203,21 @@ fn schema_asked(keys: &KeyList, schemas: &SchemaList) -> Option<Call>
     let place = schemas.len();
     if place < keys.len() {
         Some(get_all(Name::Schema(*keys.at(place))))
+    } else {
+        None
+    }
+}
+
+// The get of the next delete, if there is one.
+fn delete_asked(reading: &Reading) -> Option<Call>
+    requires { All IsSpelledDelete reading.now.deletes }
+    ensures is { result ≡ option_map get_delete (slice_get reading.now.deletes (length reading.now.erased)) }
+    ensures spelled { IfSome result IsSpelledCall }
+{
+    let place = reading.erased.len();
+    if place < reading.deletes.len() {
+        let name = Name::Commit(*reading.deletes.at(place), CommitKind::Del);
+        Some(get_all(name))
     } else {
         None
     }

@@ -1,5 +1,10 @@
 -- The fetch of one more fragment begins.
-use Rattle.std.proofs.Common.{sym, ◌∙◌, ap, drop, suc, arith, ◌≡◌, ◌+◌}
+use Rattle.std.proofs.Common.{sym, ◌∙◌, ap, subst, drop, suc, arith, ◌≡◌, ◌+◌}
+use Rattle.std.specs.Prelude.{IsTrue}
+use Rattle.std.proofs.lemmas.List.Elements.{All-append}
+use Rattle.ts_domain.specs.Boxes.{is_in_box}
+use Rattle.ts_actor.specs.PieceLaws.{AreInBox}
+use Rattle.ts_reader.specs.Fetching.{LeadsInside}
 use Rattle.ts_model.specs.States.{fetching}
 use Rattle.ts_reader.specs.declared.fetching.Led.TheVariants as led
 use Rattle.ts_reader.proofs.Leads.{leads_on}
@@ -8,20 +13,25 @@ use Rattle.ts_reader.proofs.fetching.fetch_from.Goals as goal
 pub returns-in-Asks-clause-is : goal.returns-in-Asks-clause-is
 returns-in-Asks-clause-is g c =
     c.fetches.ensures
-    ∙ sym (leads_on g.P.Pieces.forms c.args.ready.reading c.args.ready.opened c.args.ready.schemas c.loop-place.place c.loop-place.got c.at-opened.result.now _
-    (led.Asks c.in-Asks.fetch c.in-Asks.asked) c.at-opened.ensures c.loop-place.invariant.1 (sym c.in-Asks.is ∙ c.in_ok-fetch.ensures.is))
+    ∙ sym (leads_on g.P.Pieces.forms c.args.gathered.reading c.args.gathered.opened c.args.gathered.schemas c.loop-place.place c.loop-place.got c.at-opened.result.now _
+    (led.Asks c.in-Asks.fetch c.in-Asks.asked) c.at-opened.ensures c.loop-place.invariant.goes_on (sym c.in-Asks.is ∙ c.in_ok-fetch.ensures.is))
 
 pub returns-in-Ends-clause-is : goal.returns-in-Ends-clause-is
 returns-in-Ends-clause-is g c =
-    sym (leads_on g.P.Pieces.forms c.args.ready.reading c.args.ready.opened c.args.ready.schemas c.loop-place.place c.loop-place.got c.at-opened.result.now _
-    (led.Ends c.in-Ends.end) c.at-opened.ensures c.loop-place.invariant.1 (sym c.in-Ends.is ∙ c.in_ok-fetch.ensures.is))
+    sym (leads_on g.P.Pieces.forms c.args.gathered.reading c.args.gathered.opened c.args.gathered.schemas c.loop-place.place c.loop-place.got c.at-opened.result.now _
+    (led.Ends c.in-Ends.end) c.at-opened.ensures c.loop-place.invariant.goes_on (sym c.in-Ends.is ∙ c.in_ok-fetch.ensures.is))
 
 pub loop-place-preserved : goal.loop-place-preserved
 loop-place-preserved g c =
-    let next : suc c.loop-place.place ≡ c.loop-place.place + 1 = omega arith in (
-      omega (arith, c.loop-place.invariant.0),
-      leads_on g.P.Pieces.forms c.args.ready.reading c.args.ready.opened c.args.ready.schemas c.loop-place.place c.loop-place.got c.at-opened.result.now _
-          (led.Takes c.in-Takes.versions) c.at-opened.ensures c.loop-place.invariant.1 (sym c.in-Takes.is ∙ c.in_ok-fetch.ensures.is)
-          ∙ ap (λ vs. fetching g.P.Pieces.forms c.args.ready.reading c.args.ready.opened c.args.ready.schemas (suc c.loop-place.place) (drop (suc c.loop-place.place) c.args.ready.opened) vs) (sym c.in_ok-got-in-Takes.ensures)
-          ∙ ap (λ n. fetching g.P.Pieces.forms c.args.ready.reading c.args.ready.opened c.args.ready.schemas n (drop n c.args.ready.opened) c.in_ok-got-in-Takes.got) next,
-    )
+    let next : suc c.loop-place.place ≡ c.loop-place.place + 1 = omega arith in
+    let sub = c.args.gathered.reading.ready.sub in
+    let took : AreInBox sub c.in-Takes.versions = subst (LeadsInside g.P.Pieces.forms sub) c.in-Takes.is c.in_ok-fetch.ensures.inside in
+    record {
+      within = omega (arith, c.loop-place.invariant.within);
+      goes_on =
+          leads_on g.P.Pieces.forms c.args.gathered.reading c.args.gathered.opened c.args.gathered.schemas c.loop-place.place c.loop-place.got c.at-opened.result.now _
+          (led.Takes c.in-Takes.versions) c.at-opened.ensures c.loop-place.invariant.goes_on (sym c.in-Takes.is ∙ c.in_ok-fetch.ensures.is)
+          ∙ ap (λ vs. fetching g.P.Pieces.forms c.args.gathered.reading c.args.gathered.opened c.args.gathered.schemas (suc c.loop-place.place) (drop (suc c.loop-place.place) c.args.gathered.opened) vs) (sym c.in_ok-got-in-Takes.ensures)
+          ∙ ap (λ n. fetching g.P.Pieces.forms c.args.gathered.reading c.args.gathered.opened c.args.gathered.schemas n (drop n c.args.gathered.opened) c.in_ok-got-in-Takes.got) next;
+      inside = subst (AreInBox sub) (sym c.in_ok-got-in-Takes.ensures) (All-append (λ v. IsTrue (is_in_box sub v.coords)) c.loop-place.got c.in-Takes.versions c.loop-place.invariant.inside took);
+    }

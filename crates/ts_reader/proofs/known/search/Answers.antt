@@ -2,7 +2,7 @@
 use Rattle.std.proofs.Common.{rules}
 use Rattle.std.proofs.lemmas.List.Sorted.{answers_always}
 use Rattle.ts_reader.proofs.Rising.{searched}
-use Rattle.ts_reader.proofs.shown.search.Goals as goal
+use Rattle.ts_reader.proofs.known.search.Goals as goal
 
 pub returns : goal.returns
 returns c =

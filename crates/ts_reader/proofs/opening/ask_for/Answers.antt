@@ -1,0 +1,23 @@
+-- A query that is ready asks for a box in the domain.
+use Rattle.std.proofs.Common.{◌∙◌}
+use Rattle.std.proofs.lemmas.Result.{IfOk-weaker}
+use Rattle.ts_model.specs.Queries.{ready_in}
+use Rattle.ts_reader.proofs.Leads.{asked_for}
+use Rattle.ts_reader.proofs.QueryLaws.{ready_covered}
+use Rattle.ts_reader.proofs.opening.ask_for.Goals as goal
+
+pub open_next-requires-clause-reading : goal.open_next-requires-clause-reading
+open_next-requires-clause-reading g c = record {
+  is_frame = c.requires.frame;
+  are_attrs = c.requires.attrs;
+  inside = ready_covered c.args.frame c.args.there.attrs c.args.query.now c.in-Ok.ready c.in-Ok.ensures;
+  near = c.requires.listed.near;
+  deletes = c.requires.listed.deletes;
+}
+
+pub returns-in-Ok-clause-is : goal.returns-in-Ok-clause-is
+returns-in-Ok-clause-is g c =
+    IfOk-weaker c.open_next.result _ _ (λ s is.
+    is
+    ∙ asked_for g.P.Pieces.forms c.args.from c.args.to c.args.listed c.args.frame c.args.there c.in-Ok.ready (ready_in c.args.frame c.args.there.attrs c.args.query.now) c.new.result c.new-in-Ok.result
+    c.in-Ok.ensures c.new.ensures c.new-in-Ok.ensures) c.open_next.ensures.is
