@@ -29,10 +29,10 @@ use Rattle.ts_model.proofs.KeptLaws.{step_kept}
 use Rattle.ts_model.proofs.Spawns.{spawn_kept, starts_kept}
 use Rattle.ts_actor.specs.Traces.{asking}
 use Rattle.ts_actor.proofs.MachineLaws.{asks_next}
-use Rattle.ts_writer.specs.Writing.{IsCreateJob, IsCreateState, IsEvolveJob, IsWriteJob, IsLaterState}
+use Rattle.ts_writer.specs.Writing.{IsCreateJob, IsCreateState, IsDeleteJob, IsEvolveJob, IsWriteJob, IsLaterState}
 use Rattle.ts_reader.specs.Reading.{IsReadJob, MayRead}
 use Rattle.ts_world.specs.declared.actors.AnyActor.{AnyActor}
-use Rattle.ts_world.specs.declared.actors.AnyActor.TheVariants.{Creator, Evolver, Writer, Reader}
+use Rattle.ts_world.specs.declared.actors.AnyActor.TheVariants.{Creator, Evolver, Writer, Deleter, Reader}
 use Rattle.ts_world.specs.declared.slots.Running.{Running}
 use Rattle.ts_world.specs.declared.slots.Slot.{Slot}
 use Rattle.ts_world.specs.declared.slots.Slot.TheVariants as slot
@@ -46,7 +46,8 @@ pub asks_it : {P F : Type 0} (forms : Forms F) (a : AnyActor P F) (past : List E
 asks_it forms (Creator a) past c follows = asks_next forms IsCreateJob IsCreateState a.machine.job a.machine.phase past c follows
 asks_it forms (Evolver a) past c follows = asks_next forms IsEvolveJob (λ job s. IsLaterState s) a.machine.job a.machine.phase past c follows
 asks_it forms (Writer a) past c follows = asks_next forms IsWriteJob (λ job s. IsLaterState s) a.machine.job a.machine.phase past c follows
-asks_it forms (Reader a) past c follows = asks_next forms IsReadJob MayRead a.machine.job a.machine.phase past c follows
+asks_it forms (Deleter a) past c follows = asks_next forms IsDeleteJob (λ job s. IsLaterState s) a.machine.job a.machine.phase past c follows
+asks_it forms (Reader a) past c follows = asks_next forms IsReadJob (MayRead forms) a.machine.job a.machine.phase past c follows
 
 module _ {P F : Type 0} (forms : Forms F) (spelled : Spelled) (tracks : Tracking F) (past : History) (jobs : List Job) (told : List Told) (held : Held) (journal : List Entry) (slots : List (Slot P F)) (is : IsKept forms spelled tracks past jobs told held journal slots) where
   -- the job of an actor

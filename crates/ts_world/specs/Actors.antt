@@ -2,32 +2,35 @@
 use Rattle.std.specs.Prelude.{ℕ}
 use Rattle.ts_model.specs.declared.commands.Job.{Job}
 use Rattle.ts_model.specs.Forms.{Forms}
-use Rattle.ts_actor.specs.Machines as machine
 use Rattle.ts_actor.specs.Traces.{Trace}
 use Rattle.ts_writer.specs.Creators as creator
+use Rattle.ts_writer.specs.Deleters as deleter
 use Rattle.ts_writer.specs.Evolvers as evolver
-use Rattle.ts_writer.specs.Writing.{IsWriteJob, IsLaterState, calls_left as puts_left}
+use Rattle.ts_writer.specs.Writers as writer
 use Rattle.ts_reader.specs.Readers as reader
 use Rattle.ts_world.specs.declared.actors.AnyActor.{AnyActor}
-use Rattle.ts_world.specs.declared.actors.AnyActor.TheVariants.{Creator, Evolver, Writer, Reader}
+use Rattle.ts_world.specs.declared.actors.AnyActor.TheVariants.{Creator, Evolver, Writer, Deleter, Reader}
 
 -- the job of an actor
 abbrev pub job_of : {P F : Type 0} → AnyActor P F → Job
 job_of (Creator a) = a.machine.job
 job_of (Evolver a) = a.machine.job
 job_of (Writer a) = a.machine.job
+job_of (Deleter a) = a.machine.job
 job_of (Reader a) = a.machine.job
 
 -- the actor has asked for the calls of this trace, and they had these replies
 abbrev pub Follows : {P F : Type 0} → Forms F → AnyActor P F → Trace → Type 0
 Follows forms (Creator a) t = creator.Follows forms a.machine.job a.machine.phase t
 Follows forms (Evolver a) t = evolver.Follows forms a.machine.job a.machine.phase t
-Follows forms (Writer a) t = machine.Follows forms IsWriteJob (λ job s. IsLaterState s) a.machine.job a.machine.phase t
+Follows forms (Writer a) t = writer.Follows forms a.machine.job a.machine.phase t
+Follows forms (Deleter a) t = deleter.Follows forms a.machine.job a.machine.phase t
 Follows forms (Reader a) t = reader.Follows forms a.machine.job a.machine.phase t
 
 -- more than the calls that an actor still asks for, where a fetch has so many left
 abbrev pub calls_left : {P F : Type 0} → (F → ℕ) → AnyActor P F → ℕ
 calls_left left (Creator a) = creator.calls_left a.machine.job a.machine.phase
 calls_left left (Evolver a) = evolver.calls_left a.machine.job a.machine.phase
-calls_left left (Writer a) = machine.calls_left puts_left a.machine.job a.machine.phase
+calls_left left (Writer a) = writer.calls_left a.machine.job a.machine.phase
+calls_left left (Deleter a) = deleter.calls_left a.machine.job a.machine.phase
 calls_left left (Reader a) = reader.calls_left left a.machine.job a.machine.phase

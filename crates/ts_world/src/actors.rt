@@ -12,7 +12,7 @@ use ts_actor::{Actor, Pieces, Step};
 use ts_model::{Command, Job, Outcome};
 use ts_reader::Reader;
 use ts_store::Reply;
-use ts_writer::{Creator, Evolver, Writer};
+use ts_writer::{Creator, Deleter, Evolver, Writer};
 
 /// An actor that does the job of a command, whichever it is, over one way to write fragments.
 #[derive(Drop)]
@@ -23,6 +23,8 @@ pub enum AnyActor<P: Pieces> {
     Evolver(Evolver<P>),
     /// One that writes.
     Writer(Writer<P>),
+    /// One that deletes.
+    Deleter(Deleter<P>),
     /// One that reads.
     Reader(Reader<P>),
 }
@@ -38,6 +40,7 @@ impl<P: Pieces> AnyActor<P> {
             Command::Create(_) => AnyActor::Creator(Creator::of(job)),
             Command::Evolve(_) => AnyActor::Evolver(Evolver::of(job)),
             Command::Write(_) => AnyActor::Writer(Writer::of(job)),
+            Command::Delete(_) => AnyActor::Deleter(Deleter::of(job)),
             Command::Read { .. } => AnyActor::Reader(Reader::of(job)),
         }
     }
@@ -61,6 +64,7 @@ impl<P: Pieces> Actor for AnyActor<P> {
             AnyActor::Creator(creator) => creator.next(rt, alloc, reply),
             AnyActor::Evolver(evolver) => evolver.next(rt, alloc, reply),
             AnyActor::Writer(writer) => writer.next(rt, alloc, reply),
+            AnyActor::Deleter(deleter) => deleter.next(rt, alloc, reply),
             AnyActor::Reader(reader) => reader.next(rt, alloc, reply),
         }
     }

@@ -2,7 +2,7 @@
 ghost use Rattle.std.specs.Prelude.{◌≡◌, ◌<◌, ◌≤◌, ◌+◌, [], true, IfOk, IsTrue, length};
 ghost use Rattle.std.specs.List.{list_all};
 ghost use Rattle.ts_model.specs.declared.commands.Command.TheVariants.{Create, Evolve, Write};
-ghost use Rattle.ts_model.specs.Commands.{fits, is_spelled_attr, is_spelled_col, is_spelled_dim};
+ghost use Rattle.ts_model.specs.Commands.{fits, is_spelled_attr, is_spelled_col, is_spelled_dim, is_spelled_query};
 
 use crate::{Event, World, WorldFault};
 use std::alloc::Global;
@@ -10,7 +10,8 @@ use std::test::Fail;
 use std::thread::Threads;
 use ts_actor::PlainPieces;
 use ts_base::{Key, Label, LabelList, OutOfMemory, Row, Val, ValType};
-use ts_domain::{Dim, DimList, Order};
+use ts_cond::{NamedBoxList, Query};
+use ts_domain::{Dim, DimList, Layout, Order};
 use ts_model::{ColIn, ColInList, Command, FrameIn, History, Outcome, WriteIn};
 use ts_schema::{Attr, AttrList, Evolution};
 use ts_store::{Fate, FaultList, MemStore};
@@ -171,6 +172,18 @@ fn two_writers<R: Threads + Sync>(rt: &R, alloc: Global) -> Result<World<PlainPi
     Ok(world)
 }
 
+// Asks for everything.
+fn everything(alloc: Global) -> Query
+    ensures { is_spelled_query result ≡ true }
+{
+    Query {
+        sub: NamedBoxList::new(alloc),
+        fields: LabelList::new(alloc),
+        filter: None,
+        layout: Layout::Row,
+    }
+}
+
 // Adds a reader of the interval up to 9.
 fn read<R: Threads + Sync>(
     rt: &R,
@@ -181,7 +194,18 @@ fn read<R: Threads + Sync>(
     requires past { world.old.past ≡ [] }
     requires few { length world.old.jobs < 9 }
 {
-    spawn(rt, alloc, world, Command::Read { from: 0, to: 9 }, 9, id)
+    spawn(
+        rt,
+        alloc,
+        world,
+        Command::Read {
+            from: 0,
+            to: 9,
+            query: everything(alloc),
+        },
+        9,
+        id,
+    )
 }
 
 #[test]

@@ -35,8 +35,9 @@ impl<P: Pieces> Model for World<P> {
 
     ghost use Rattle.std.specs.Coded.{codes};
     ghost use Rattle.ts_base.specs.Held.{held_code};
+    ghost use Rattle.ts_cond.specs.Codes.{test_code};
 
-    ghost coded = { Prim.hlevel (codes, held_code) };
+    ghost coded = { Prim.hlevel (codes, held_code, test_code) };
 
     ghost use Rattle.ts_world.specs.Slots.{view_of, ArePartsOk};
 
