@@ -1,7 +1,8 @@
 #!/usr/bin/env python3
-"""Times scripts through `./tilestore - play`: many writes of one cell, and one write of many cells.
+"""Times scripts through `./tilestore - play`: many writes of one cell, one write of many cells, reads with a condition,
+many deletes, and long conditions.
 
-Each size runs five times; it prints the medians in milliseconds and how they grow.
+Each script runs five times; it prints the medians in milliseconds, and how they grow with the size.
 """
 import json
 import os
@@ -17,6 +18,12 @@ CELLS = (1000, 10000, 100000)
 SIDE = 1000
 STRIDE = 611953
 RUNS = 5
+READS = 5
+THREE_TERMS = "height >= 0 and kind < 256 and name != ''"
+DELETES = 200
+DELETED_CELLS = 10000
+NODES = 1000
+PARSES = 500
 
 
 def create(dims, attrs):
@@ -44,8 +51,8 @@ def many_writes(count):
     return text_of(commands), 10
 
 
-def one_write(count):
-    """A create, one write of so many scattered cells, and a read of all of them: the script, and the rows read."""
+def written(count):
+    """A create, and one write of so many scattered cells."""
     places = [i * STRIDE % (SIDE * SIDE) for i in range(count)]
     columns = {
         "x": [place // SIDE for place in places],
@@ -56,8 +63,29 @@ def one_write(count):
     }
     dims = [dim("x", SIDE - 1, 100), dim("y", SIDE - 1, 100)]
     attrs = [attr("height", "int64"), attr("kind", "uint8"), attr("name", "text")]
-    write = {"cmd": "write", "at": 1, "cols": columns}
-    return text_of([create(dims, attrs), write, {"cmd": "read", "at": 9}]), count
+    return [create(dims, attrs), {"cmd": "write", "at": 1, "cols": columns}]
+
+
+def one_write(count):
+    """A create, one write of so many scattered cells, and a read of all of them: the script, and the rows read."""
+    return text_of(written(count) + [{"cmd": "read", "at": 9}]), count
+
+
+def many_deletes(count, cells):
+    """A create, one write of so many cells, so many deletes that erase a cell each, and a read: the script, and the rows read."""
+    commands = [create([dim("x", cells - 1, 100)], [attr("v", "int64")])]
+    commands.append({"cmd": "write", "at": 1, "cols": {"x": list(range(cells)), "v": list(range(cells))}})
+    for i in range(count):
+        commands.append({"cmd": "delete", "at": i + 2, "where": "v = %d" % (i * 7)})
+    commands.append({"cmd": "read", "at": count + 2})
+    return text_of(commands), cells - count
+
+
+def long_conditions(nodes):
+    """A create, and so many reads of no cell, each with a condition of so many nodes: the script, and the rows read."""
+    tests = " and ".join("v = %d" % i for i in range(nodes - 1))
+    read = {"cmd": "read", "at": 9, "where": tests}
+    return text_of([create([dim("x", 9, 10)], [attr("v", "int64")])] + [read] * PARSES), 0
 
 
 def milliseconds(data, rows):
@@ -66,9 +94,13 @@ def milliseconds(data, rows):
     took = (time.perf_counter() - start) * 1000
     if done.returncode != 0:
         sys.exit("status %d: %s" % (done.returncode, done.stderr.decode()))
-    if b"\tread\tok\t%d\t0\n" % rows not in done.stdout:
+    if rows is not None and b"\tread\tok\t%d\t0\n" % rows not in done.stdout:
         sys.exit("not the %d rows that are wanted: %s" % (rows, done.stdout[:400].decode()))
     return took
+
+
+def median(data, rows):
+    return statistics.median(milliseconds(data, rows) for _ in range(RUNS))
 
 
 def table(title, sizes, script):
@@ -76,10 +108,34 @@ def table(title, sizes, script):
     before = None
     for size in sizes:
         data, rows = script(size)
-        median = statistics.median(milliseconds(data, rows) for _ in range(RUNS))
-        growth = "" if before is None else "%.2f" % (median / before)
-        print("%d\t%.1f\t%s" % (size, median, growth), flush=True)
-        before = median
+        now = median(data, rows)
+        growth = "" if before is None else "%.2f" % (now / before)
+        print("%d\t%.1f\t%s" % (size, now, growth), flush=True)
+        before = now
+
+
+def conditions_of_reads(cells):
+    """How long a read of so many cells takes without a condition, and with three terms that all cells match."""
+    commands = written(cells)
+    alone = median(text_of(commands), None)
+    took = []
+    for more in ({}, {"where": THREE_TERMS}):
+        reads = [dict({"cmd": "read", "at": 9}, **more)] * READS
+        took.append((median(text_of(commands + reads), cells) - alone) / READS)
+    print("a read of %d cells\t%.1f\twith three terms\t%.1f\ttimes %.2f" % (cells, took[0], took[1], took[1] / took[0]))
+    print("wanted: at most 2 times", flush=True)
+
+
+def deletes(count, cells):
+    print("%d deletes over %d cells\t%.1f" % (count, cells, median(*many_deletes(count, cells))))
+    print("wanted: below 2000 ms", flush=True)
+
+
+def parses(nodes):
+    """How much longer a read takes whose condition has so many nodes than one whose condition has one node."""
+    more = (median(*long_conditions(nodes)) - median(*long_conditions(2))) / PARSES
+    print("a condition of %d nodes\t%.3f" % (nodes, more))
+    print("wanted: below 1 ms", flush=True)
 
 
 def main():
@@ -88,6 +144,10 @@ def main():
     print()
     table("cells", CELLS, one_write)
     print("wanted: growth of at most 13 from one size to the next, below 2000 ms for 100000 cells")
+    print()
+    conditions_of_reads(CELLS[-1])
+    deletes(DELETES, DELETED_CELLS)
+    parses(NODES)
 
 
 main()

@@ -1,15 +1,17 @@
 -- The lines of a script: which object stands for which command.
-use Rattle.std.specs.Prelude.{ℕ, List, [], ◌∷◌, codes, ◌||◌, ◌&&◌, Option, None, is_some, if◌then◌else◌}
+use Rattle.std.specs.Prelude.{ℕ, List, [], ◌∷◌, codes, ◌||◌, ◌&&◌, not, length, nat_lt, Option, None, is_some, if◌then◌else◌}
 use Rattle.std.specs.Str.{bytes_eq}
 use Rattle.serde_json.specs.Data.{Data}
 use Rattle.serde_json.specs.Find.{as_str, get}
 use Rattle.ts_domain.specs.declared.orders.Order.TheVariants.{Row}
+use Rattle.ts_domain.specs.declared.orders.Layout.TheVariants as layouts
+use Rattle.ts_cond.specs.declared.query.Query.{Query}
 use Rattle.ts_model.specs.declared.commands.Command.{Command}
 use Rattle.ts_model.specs.declared.commands.Command.TheVariants as command
 use Rattle.ts_model.specs.declared.commands.Line.{Line}
 use Rattle.ts_model.specs.Commands.{fits}
 use Rattle.ts_top.specs.Forms.{◌>>=◌, when, unsigned, small, required, optional, list_of, has_only}
-use Rattle.ts_top.specs.Values.{label, dim, attr, order, columns}
+use Rattle.ts_top.specs.Values.{label, dim, attr, order, layout, columns, box, filter}
 
 -- the keys that every command may have
 abbrev pub common_keys : List (List ℕ)
@@ -47,12 +49,32 @@ write_of d = do
   cols ← required columns (codes "cols") d
   when (has_only common_keys (codes "cols" ∷ []) d) (command.Write (record { cols = cols }))
 
--- a read: optional `from`, 0 where it is not there, and `to`, the stamp where it is not there
+-- what a read asks for: optional `box`, `fields`, of which there is at least one, `where` and `layout`, which is "row" where it is not there
+unfoldable pub query_of : Data → Option Query
+query_of d = do
+  sub ← box (get (codes "box") d)
+  fields ← optional (list_of label) [] (codes "fields") d
+  found ← filter (get (codes "where") d)
+  order ← optional layout layouts.Row (codes "layout") d
+  when (not (is_some (get (codes "fields") d)) || nat_lt 0 (length fields)) (record { sub = sub; fields = fields; filter = found; layout = order })
+
+-- the keys of a read
+abbrev pub read_keys : List (List ℕ)
+read_keys = codes "from" ∷ codes "to" ∷ codes "box" ∷ codes "fields" ∷ codes "where" ∷ codes "layout" ∷ []
+
+-- a read: what it asks for, and optional `from`, 0 where it is not there, and `to`, the stamp where it is not there
 unfoldable pub read_of : ℕ → Data → Option Command
 read_of at d = do
   from ← optional unsigned 0 (codes "from") d
   to ← optional unsigned at (codes "to") d
-  when (has_only common_keys (codes "from" ∷ codes "to" ∷ []) d) (command.Read from to)
+  query ← query_of d
+  when (has_only common_keys read_keys d) (command.Read from to query)
+
+-- a delete: `where`
+unfoldable pub delete_of : Data → Option Command
+delete_of d = do
+  text ← required as_str (codes "where") d
+  when (has_only common_keys (codes "where" ∷ []) d) (command.Delete text)
 
 -- the command of this name and timestamp
 unfoldable pub command_of : List ℕ → ℕ → Data → Option Command
@@ -60,7 +82,8 @@ command_of name at d =
     if bytes_eq name (codes "create") then create_of d
     else (if bytes_eq name (codes "evolve") then evolve_of d
     else (if bytes_eq name (codes "write") then write_of d
-    else (if bytes_eq name (codes "read") then read_of at d else None)))
+    else (if bytes_eq name (codes "read") then read_of at d
+    else (if bytes_eq name (codes "delete") then delete_of d else None))))
 
 -- the line that an object stands for: its command is one that there can be
 unfoldable pub line_of : Data → Option Line

@@ -13,7 +13,10 @@ use Rattle.ts_value.specs.Fill.{fill_of}
 use Rattle.ts_domain.specs.declared.dims.Dim.{Dim}
 use Rattle.ts_domain.specs.declared.orders.Order.{Order}
 use Rattle.ts_domain.specs.declared.orders.Order.TheVariants.{Row, Col}
+use Rattle.ts_domain.specs.declared.orders.Layout.{Layout}
+use Rattle.ts_domain.specs.declared.orders.Layout.TheVariants as layouts
 use Rattle.ts_schema.specs.declared.attrs.Attr.{Attr}
+use Rattle.ts_cond.specs.declared.query.NamedBox.{NamedBox}
 use Rattle.ts_model.specs.declared.commands.ColIn.{ColIn}
 use Rattle.ts_model.specs.Commands.{blob_bytes}
 use Rattle.ts_top.specs.Forms.{◌>>=◌, when, integer, required, optional, list_of, two, has_only}
@@ -43,6 +46,10 @@ val_type d = as_str d >>= type_named
 -- an order: "row" or "col"
 unfoldable pub order : Data → Option Order
 order d = as_str d >>= λ name. if bytes_eq name (codes "row") then Some Row else (if bytes_eq name (codes "col") then Some Col else None)
+
+-- a layout: "row", "col" or "global"
+unfoldable pub layout : Data → Option Layout
+layout d = as_str d >>= λ name. if bytes_eq name (codes "row") then Some layouts.Row else (if bytes_eq name (codes "col") then Some layouts.Col else (if bytes_eq name (codes "global") then Some layouts.Global else None))
 
 -- a value: null, a whole number, or the bytes of a string
 abbrev pub value : Data → Option Val
@@ -96,3 +103,18 @@ columns_onto done (member key d ms) = label_of key >>= λ name. list_of value d 
 -- columns: an object from labels to lists of values
 abbrev pub columns : Data → Option (List ColIn)
 columns d = as_object d >>= columns_onto []
+
+-- the bounds of an object's members, after those that are done
+abbrev pub bounds_onto : List NamedBox → Members → Option (List NamedBox)
+bounds_onto done no_members = Some done
+bounds_onto done (member key d ms) = label_of key >>= λ name. list_of integer d >>= λ numbers. two numbers >>= λ ends. bounds_onto (done ++ record { name = name; low = ends.0; high = ends.1 } ∷ []) ms
+
+-- a box: an object from labels to lists of a low and a high bound; without one no dimension has bounds
+abbrev pub box : Option Data → Option (List NamedBox)
+box None = Some []
+box (Some d) = as_object d >>= bounds_onto []
+
+-- the text of a filter, where there is one
+abbrev pub filter : Option Data → Option (Option (List ℕ))
+filter None = Some None
+filter (Some d) = option_map Some (as_str d)

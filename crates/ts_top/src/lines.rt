@@ -1,20 +1,22 @@
 //! The commands that a script may have, as JSON objects.
-ghost use Rattle.std.specs.Prelude.{◌≡◌, ◌&&◌, ◌^◌, pos, neg_ℤ, int_le, int_lt, nat_lt, length, IfOk, option_map};
+ghost use Rattle.std.specs.Prelude.{◌≡◌, ◌&&◌, ◌^◌, pos, neg_ℤ, int_le, int_lt, nat_lt, true, IfOk, option_map};
 ghost use Rattle.ts_base.specs.Labels.{is_label};
 ghost use Rattle.ts_schema.specs.FrameTexts.{is_bound};
 ghost use Rattle.std.specs.List.{list_all};
+ghost use Rattle.std.specs.Option.{option_map_or};
 ghost use Rattle.serde_json.specs.View.{view};
-ghost use Rattle.ts_model.specs.Commands.{fits, is_spelled_attr, is_spelled_col, is_spelled_dim, is_spelled_val, is_byte};
+ghost use Rattle.ts_model.specs.Commands.{fits, is_spelled_attr, is_spelled_box, is_spelled_col, is_spelled_dim, is_spelled_query, is_spelled_val, is_byte, is_text};
 ghost use Rattle.ts_model.specs.Jobs.{IsFitLine};
 ghost use Rattle.ts_top.specs.Forms.{Gives};
-ghost use Rattle.ts_top.specs.Lines.{name_of, create_of, evolve_of, write_of, read_of, command_of, line_of};
+ghost use Rattle.ts_top.specs.Lines.{name_of, create_of, evolve_of, write_of, query_of, read_of, delete_of, command_of, line_of};
 
 use crate::json::{FromJson, JsonFault, has_only, optional, required, text_under};
-use crate::values::read_columns;
+use crate::values::{read_box, read_columns, read_filter};
 use serde_json::Value;
 use std::alloc::Global;
-use ts_base::{Label, LabelList, Val};
-use ts_domain::{Dim, DimList, Order};
+use ts_base::{ByteList, Label, LabelList, Val};
+use ts_cond::{NamedBox, Query};
+use ts_domain::{Dim, DimList, Layout, Order};
 use ts_model::{ColIn, ColInList, Command, FrameIn, Line, WriteIn};
 use ts_schema::{Attr, AttrList, Evolution};
 
@@ -65,6 +67,8 @@ fn read_command(alloc: Global, name: &str, at: u64, value: &Value) -> Result<Com
         read_write(alloc, value)
     } else if name == "read" {
         read_read(alloc, at, value)
+    } else if name == "delete" {
+        read_delete(alloc, value)
     } else {
         Err(JsonFault::Form)
     }
@@ -139,10 +143,47 @@ fn read_read(alloc: Global, at: u64, value: &Value) -> Result<Command, JsonFault
 {
     let from = optional(alloc, value, "from", 0)?;
     let to = optional(alloc, value, "to", at)?;
-    if !has_only(value, &COMMON, &["from", "to"]) {
+    let query = read_query(alloc, value)?;
+    let keys = ["from", "to", "box", "fields", "where", "layout"];
+    if !has_only(value, &COMMON, &keys) {
         return Err(JsonFault::Form);
     }
-    Ok(Command::Read { from, to })
+    Ok(Command::Read { from, to, query })
+}
+
+/// Reads what a read asks for: its box, its fields, its filter and its layout.
+#[tactic(auto, unfolding(crate::specs::Lines::query_of))]
+fn read_query(alloc: Global, value: &Value) -> Result<Query, JsonFault>
+    ensures { Gives result (query_of (view value.now)) }
+{
+    let sub = read_box(alloc, value.get("box"))?;
+    let fields = optional(alloc, value, "fields", LabelList::new(alloc))?;
+    let filter = read_filter(alloc, value.get("where"))?;
+    let layout = optional(alloc, value, "layout", Layout::Row)?;
+    if value.get("fields").is_some() && fields.is_empty() {
+        return Err(JsonFault::Form);
+    }
+    Ok(Query {
+        sub,
+        fields,
+        filter,
+        layout,
+    })
+}
+
+/// Reads a delete: its condition.
+#[tactic(auto, unfolding(crate::specs::Lines::delete_of))]
+fn read_delete(alloc: Global, value: &Value) -> Result<Command, JsonFault>
+    ensures { Gives result (delete_of (view value.now)) }
+{
+    let Some(text) = text_under(value, "where") else {
+        return Err(JsonFault::Form);
+    };
+    let text = ByteList::of_bytes(alloc, text.as_bytes())?;
+    if !has_only(value, &COMMON, &["where"]) {
+        return Err(JsonFault::Form);
+    }
+    Ok(Command::Delete(text))
 }
 
 /// Whether the command is one that there can be: its names are labels, its numbers lie in their
@@ -161,7 +202,50 @@ fn fits(command: &Command) -> bool
         }
         Command::Evolve(change) => are_spelled_attrs(change.add.as_slice()),
         Command::Write(cells) => are_spelled_cols(cells.cols.as_slice()),
-        Command::Read { from, to } => is_stamp(*from) && is_stamp(*to),
+        Command::Read { from, to, query } => {
+            is_stamp(*from) && is_stamp(*to) && is_spelled_query(query)
+        }
+        Command::Delete(text) => is_text(text.as_slice()),
+    }
+}
+
+/// Whether each name of a query is a label, its bounds are bounds, and its filter is a text.
+fn is_spelled_query(query: &Query) -> bool
+    ensures { result ≡ is_spelled_query query.now }
+{
+    are_spelled_boxes(query.sub.as_slice())
+        && are_labels(query.fields.as_slice())
+        && is_filter(query.filter.as_ref())
+}
+
+/// Whether each box is one that there can be.
+fn are_spelled_boxes(boxes: &[NamedBox]) -> bool
+    ensures { result ≡ list_all is_spelled_box boxes.now }
+{
+    boxes.iter().all(|sub| is_spelled_box(sub))
+}
+
+/// Whether a box has bounds between -2^64 and 2^64, the low one at most the high one.
+fn is_spelled_box(sub: &NamedBox) -> bool
+    ensures { result ≡ is_spelled_box sub.now }
+{
+    is_label(&sub.name) && is_bound(sub.low) && is_bound(sub.high) && sub.low <= sub.high
+}
+
+/// Whether each label is one, as each is.
+fn are_labels(labels: &[Label]) -> bool
+    ensures { result ≡ list_all is_label labels.now }
+{
+    labels.iter().all(|label| is_label(label))
+}
+
+/// Whether a filter, where there is one, is a text, as each is that fits in memory.
+fn is_filter(filter: Option<&ByteList>) -> bool
+    ensures { result ≡ option_map_or is_text (option_map (λ text. text.now) filter.entry) true }
+{
+    match filter {
+        Some(text) => is_text(text.as_slice()),
+        None => true,
     }
 }
 
@@ -249,7 +333,7 @@ fn is_spelled_val(val: &Val) -> bool
     match val {
         Val::Null => true,
         Val::Int(number) => is_wide(*number),
-        Val::Bytes(bytes) => are_bytes(bytes.as_slice()),
+        Val::Bytes(bytes) => is_text(bytes.as_slice()),
     }
 }
 
@@ -262,14 +346,14 @@ fn is_wide(number: i128) -> bool
 
 /// Whether there are so few bytes that their number has 64 bits, and each is below 256, as it is of
 /// all bytes in memory.
-fn are_bytes(bytes: &[u8]) -> bool
-    ensures { result ≡ (nat_lt (length bytes.now) (2 ^ 64) && list_all is_byte bytes.now) }
+fn is_text(bytes: &[u8]) -> bool
+    ensures { result ≡ is_text bytes.now }
 {
-    is_size(bytes.len()) && each_is_byte(bytes)
+    is_size(bytes.len()) && are_bytes(bytes)
 }
 
 /// Whether each byte is below 256.
-fn each_is_byte(bytes: &[u8]) -> bool
+fn are_bytes(bytes: &[u8]) -> bool
     ensures { result ≡ list_all is_byte bytes.now }
 {
     bytes.iter().all(|byte| is_byte(*byte))

@@ -108,7 +108,8 @@ fn prepare<I: Source>(alloc: Global, words: &[&str], input: &mut I) -> Result<Li
 // Prints the ends of the commands, and gives the status: 0, or 5 where the sink fails, or 7 for
 // want of memory.
 fn print_all<O: Sink>(alloc: Global, out: &mut O, lines: &[Line], results: &[Driven<Outcome>]) -> u8
-    requires { length lines.now ≡ length results.now }
+    requires few { length lines.now ≤ 4096 }
+    requires count { length lines.now ≡ length results.now }
     ensures { PrintsEnds (record { old = O.contents out.old; new = O.contents out.new; before = O.faults out.old; now = O.faults out.new }) (ends_text lines.now results.now) result }
 {
     let Ok(text) = print_ends(alloc, lines, results) else {

@@ -2,13 +2,14 @@
 ghost use Rattle.std.specs.Prelude.{◌≡◌, [], ◌∷◌, ◌++◌, IfOk, map, option_map};
 ghost use Rattle.serde_json.specs.View.{view, members_view};
 ghost use Rattle.ts_top.specs.Forms.{Gives, list_of};
-ghost use Rattle.ts_top.specs.Values.{label, type_named, val_type, order, value, fill_said, fill, dim, attr, columns_onto, columns};
+ghost use Rattle.ts_top.specs.Values.{label, type_named, val_type, order, layout, value, fill_said, fill, dim, attr, columns_onto, columns, bounds_onto, box, filter};
 
 use crate::json::{FromJson, JsonFault, has_only, optional, required, two};
 use serde_json::{Map, Value};
 use std::alloc::Global;
 use ts_base::{ByteList, Label, OutOfMemory, Row, Sequence, Val, ValType};
-use ts_domain::{Dim, Order};
+use ts_cond::{NamedBox, NamedBoxList};
+use ts_domain::{Dim, Layout, Order};
 use ts_model::{ColIn, ColInList, blob_bytes};
 use ts_schema::Attr;
 use ts_value::default_fill;
@@ -65,6 +66,21 @@ impl FromJson for Order {
         match value.as_str() {
             Some("row") => Ok(Order::Row),
             Some("col") => Ok(Order::Col),
+            _ => Err(JsonFault::Form),
+        }
+    }
+}
+
+/// A layout: `row`, `col` or `global`.
+impl FromJson for Layout {
+    ghost form = { layout };
+
+    #[tactic(auto, unfolding(crate::specs::Values::layout))]
+    fn from_json(_alloc: Global, value: &Value) -> Result<Layout, JsonFault> {
+        match value.as_str() {
+            Some("row") => Ok(Layout::Row),
+            Some("col") => Ok(Layout::Col),
+            Some("global") => Ok(Layout::Global),
             _ => Err(JsonFault::Form),
         }
     }
@@ -186,4 +202,51 @@ fn read_members(alloc: Global, members: &Map<String, Value>) -> Result<ColInList
         done.push(ColIn { name, values })?;
     }
     Ok(done)
+}
+
+/// The box of a read, if one is given: an object from names to bounds.
+pub(crate) fn read_box(alloc: Global, given: Option<&Value>) -> Result<NamedBoxList, JsonFault>
+    ensures { Gives result (box (option_map (λ d. view d.now) given.entry)) }
+{
+    let Some(found) = given else {
+        return Ok(NamedBoxList::new(alloc));
+    };
+    match found.as_object() {
+        Some(members) => read_bounds(alloc, members),
+        None => Err(JsonFault::Form),
+    }
+}
+
+/// Reads the bounds of a dimension from each member of an object.
+fn read_bounds(alloc: Global, members: &Map<String, Value>) -> Result<NamedBoxList, JsonFault>
+    ensures { Gives result (bounds_onto [] (members_view members.now.entries)) }
+{
+    let mut done = NamedBoxList::new(alloc);
+    for (key, value) in members.iter() {
+        let Some(name) = Label::new(key.as_str()) else {
+            return Err(JsonFault::Form);
+        };
+        let bounds: Sequence<i128> = Sequence::from_json(alloc, value)?;
+        let Some((low, high)) = two(&bounds) else {
+            return Err(JsonFault::Form);
+        };
+        done.push(NamedBox { name, low, high })?;
+    }
+    Ok(done)
+}
+
+/// The text of a read's filter, if one is given.
+pub(crate) fn read_filter(
+    alloc: Global,
+    given: Option<&Value>,
+) -> Result<Option<ByteList>, JsonFault>
+    ensures { Gives result (filter (option_map (λ d. view d.now) given.entry)) }
+{
+    let Some(found) = given else {
+        return Ok(None);
+    };
+    match found.as_str() {
+        Some(text) => Ok(Some(ByteList::of_bytes(alloc, text.as_bytes())?)),
+        None => Err(JsonFault::Form),
+    }
 }

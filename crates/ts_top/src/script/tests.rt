@@ -2,7 +2,8 @@ use super::{ScriptFault, read_script};
 use std::alloc::Global;
 use std::test::Fail;
 use ts_base::{ByteList, Label, LabelList, OutOfMemory, Row, Val, ValType};
-use ts_domain::{Dim, DimList, Order};
+use ts_cond::{NamedBox, NamedBoxList, Query};
+use ts_domain::{Dim, DimList, Layout, Order};
 use ts_model::{ColIn, ColInList, Command, FrameIn, Line, LineList, WriteIn};
 use ts_schema::{Attr, AttrList, Evolution};
 
@@ -32,6 +33,10 @@ const READS: &[&str] = &[
     "{\"cmd\":\"read\",\"at\":9,\"from\":0,\"to\":9}",
     "{\"cmd\":\"read\",\"at\":9,\"to\":9}",
     "{\"cmd\":\"read\",\"at\":9,\"from\":0}",
+    // All cells are read, with all fields, in row order, where the line says nothing else.
+    "{\"cmd\":\"read\",\"at\":9,\"box\":{}}",
+    "{\"cmd\":\"read\",\"at\":9,\"layout\":\"row\"}",
+    "{\"layout\":\"row\",\"to\":9,\"box\":{},\"at\":9,\"cmd\":\"read\"}",
 ];
 
 /// Objects with a text under `cmd` that stand for no command.
@@ -62,8 +67,10 @@ const NOT_BUILT: &[&str] = &[
     "{'cmd':'read','at':9,'lane':0}",
     "{'cmd':'read','at':9,'stop':1}",
     "{'cmd':'read','at':9,'':0}",
-    "{'cmd':'read','at':9,'where':'v = 1'}",
     "{'cmd':'read','at':9,'cols':{'x':[5],'v':[1]}}",
+    "{'cmd':'delete','at':9,'where':'v = 1','fields':['v']}",
+    "{'cmd':'delete','at':9,'where':'v = 1','to':9}",
+    "{'cmd':'delete','at':9,'where':'v = 1','lane':0}",
     "{'cmd':'write','at':1,'cols':{'x':[5],'v':[1]},'box':{}}",
     "{'cmd':'write','at':1,'cols':{'x':[5]},'to':9}",
     // An interval of no whole numbers from 0 to 2^64 - 1.
@@ -72,6 +79,37 @@ const NOT_BUILT: &[&str] = &[
     "{'cmd':'read','at':9,'to':'9'}",
     "{'cmd':'read','at':9,'to':9.0}",
     "{'cmd':'read','at':9,'to':18446744073709551616}",
+    // A box of no bounds by labels, or of bounds that are no two whole numbers in order.
+    "{'cmd':'read','at':9,'box':[0,1]}",
+    "{'cmd':'read','at':9,'box':null}",
+    "{'cmd':'read','at':9,'box':{'x':5}}",
+    "{'cmd':'read','at':9,'box':{'x':[]}}",
+    "{'cmd':'read','at':9,'box':{'x':[0]}}",
+    "{'cmd':'read','at':9,'box':{'x':[0,1,2]}}",
+    "{'cmd':'read','at':9,'box':{'x':[1,0]}}",
+    "{'cmd':'read','at':9,'box':{'x':['0','1']}}",
+    "{'cmd':'read','at':9,'box':{'x':[0,1.0]}}",
+    "{'cmd':'read','at':9,'box':{'x':[0,18446744073709551616]}}",
+    "{'cmd':'read','at':9,'box':{'x':[-9223372036854775809,0]}}",
+    "{'cmd':'read','at':9,'box':{'x':[0,1],'':[0,1]}}",
+    "{'cmd':'read','at':9,'box':{'or':[0,1]}}",
+    // Fields that are no labels, or none; a filter that is no text; a layout of another name.
+    "{'cmd':'read','at':9,'fields':[]}",
+    "{'cmd':'read','at':9,'fields':'v'}",
+    "{'cmd':'read','at':9,'fields':null}",
+    "{'cmd':'read','at':9,'fields':['v',5]}",
+    "{'cmd':'read','at':9,'fields':['v','']}",
+    "{'cmd':'read','at':9,'fields':['not']}",
+    "{'cmd':'read','at':9,'where':5}",
+    "{'cmd':'read','at':9,'where':null}",
+    "{'cmd':'read','at':9,'where':['v = 1']}",
+    "{'cmd':'read','at':9,'layout':'Row'}",
+    "{'cmd':'read','at':9,'layout':'column'}",
+    "{'cmd':'read','at':9,'layout':null}",
+    "{'cmd':'delete','at':9}",
+    "{'cmd':'delete','where':'v = 1'}",
+    "{'cmd':'delete','at':9,'where':1}",
+    "{'cmd':'delete','at':9,'where':null}",
     // Columns that are missing, or of another form.
     "{'cmd':'write','at':1}",
     "{'cmd':'write','cols':{'x':[5],'v':[1]}}",
@@ -222,10 +260,24 @@ fn lines(alloc: Global, line: Line) -> Result<LineList, Fail> {
     Ok(lines)
 }
 
+// What a read asks for where its line says nothing else.
+fn anything(alloc: Global) -> Query {
+    Query {
+        sub: NamedBoxList::new(alloc),
+        fields: LabelList::new(alloc),
+        filter: None,
+        layout: Layout::Row,
+    }
+}
+
 // A read from 0 on, up to its timestamp.
-fn read(at: u64) -> Line {
+fn read(alloc: Global, at: u64) -> Line {
     Line {
-        command: Command::Read { from: 0, to: at },
+        command: Command::Read {
+            from: 0,
+            to: at,
+            query: anything(alloc),
+        },
         at,
     }
 }
@@ -260,21 +312,89 @@ fn reads_each_form_of_a_read(rt: HostRuntime) -> Result<(), Fail> {
     for text in READS {
         assert_eq!(rt;
             read_script(alloc, text.as_bytes()),
-            Ok(lines(alloc, read(9))?),
+            Ok(lines(alloc, read(alloc, 9))?),
             "{text}"
         );
     }
     let last = "{'cmd':'read','at':18446744073709551615}";
-    assert_eq!(rt; told(alloc, last)?, Ok(lines(alloc, read(u64::MAX))?));
+    assert_eq!(rt;
+        told(alloc, last)?,
+        Ok(lines(alloc, read(alloc, u64::MAX))?)
+    );
     let interval = Line {
         command: Command::Read {
             from: u64::MAX,
             to: 3,
+            query: anything(alloc),
         },
         at: 9,
     };
     let text = "{'cmd':'read','to':3,'at':9,'from':18446744073709551615}";
     assert_eq!(rt; told(alloc, text)?, Ok(lines(alloc, interval)?));
+    Ok(())
+}
+
+// A query of two bounds, two fields and a filter.
+fn query(alloc: Global, layout: Layout) -> Result<Query, Fail> {
+    let mut sub = NamedBoxList::new(alloc);
+    sub.push(NamedBox {
+        name: label("B")?,
+        low: -9223372036854775808,
+        high: 18446744073709551615,
+    })?;
+    sub.push(NamedBox {
+        name: label("a")?,
+        low: 5,
+        high: 5,
+    })?;
+    let mut fields = LabelList::new(alloc);
+    fields.push(label("v")?)?;
+    fields.push(label("v")?)?;
+    Ok(Query {
+        sub,
+        fields,
+        filter: Some(ByteList::of_bytes(alloc, b"v = \xc3\xa9 or")?),
+        layout,
+    })
+}
+
+#[test]
+fn reads_what_is_asked_for_and_deleted(rt: HostRuntime) -> Result<(), Fail> {
+    let alloc = rt.alloc();
+    for (name, layout) in [
+        ("row", Layout::Row),
+        ("col", Layout::Col),
+        ("global", Layout::Global),
+    ] {
+        let text = format!(in alloc;
+            "{{'cmd':'read','at':9,'box':{{'a':[0,1],'a':[5,5],\
+            'B':[-9223372036854775808,18446744073709551615]}},'layout':'{name}',\
+            'where':'v = \\u00e9 or','fields':['v','v'],'to':3}}"
+        )?;
+        let line = Line {
+            command: Command::Read {
+                from: 0,
+                to: 3,
+                query: query(alloc, layout)?,
+            },
+            at: 9,
+        };
+        assert_eq!(rt;
+            told(alloc, text.as_str())?,
+            Ok(lines(alloc, line)?),
+            "{name}"
+        );
+    }
+    for (text, condition) in [
+        ("{'cmd':'delete','at':2,'where':'v = 10'}", "v = 10"),
+        ("{'where':'','at':2,'cmd':'delete'}", ""),
+    ] {
+        let line = Line {
+            command: Command::Delete(ByteList::of_bytes(alloc, condition.as_bytes())?),
+            at: 2,
+        };
+        assert_eq!(rt; told(alloc, text)?, Ok(lines(alloc, line)?), "{text}");
+    }
     Ok(())
 }
 
@@ -590,7 +710,7 @@ fn takes_4096_commands(rt: HostRuntime) -> Result<(), Fail> {
     for _ in 0..4096 {
         text.push_str(GOOD)?;
         text.push_str("\n\n")?;
-        want.push(read(9))?;
+        want.push(read(alloc, 9))?;
     }
     assert_eq!(rt; read_script(alloc, text.as_bytes()), Ok(want));
     text.push_str("{\"cmd\":\"vacuum\"}")?;

@@ -1,4 +1,7 @@
 //! Scripts with what they print, worked by hand, and many more against a plain list of writes.
+mod deletes;
+mod plain;
+mod queries;
 mod refusals;
 mod schemas;
 mod shapes;
@@ -36,14 +39,18 @@ struct Shown {
     store: MemStore,
 }
 
-// The bytes that a text of the tests means: an apostrophe stands for a quote, a bar for a tab, and
+// The bytes that a text of the tests means: an apostrophe stands for a quote, and a backtick for an
+// apostrophe; a bar for a tab, a tilde for a less-than sign, and a caret for a greater-than sign; and
 // `<n>` for the 32 digits of an identifier n below 16.
 fn said(alloc: Global, text: &str) -> Result<ByteList, OutOfMemory> {
     let mut bytes = ByteList::new(alloc);
     for byte in text.as_bytes() {
         match *byte {
             b'\'' => bytes.push(b'"')?,
+            b'`' => bytes.push(b'\'')?,
             b'|' => bytes.push(b'\t')?,
+            b'~' => bytes.push(b'<')?,
+            b'^' => bytes.push(b'>')?,
             b'<' => bytes.append(b"0000000000000000000000000000000")?,
             b'>' => {}
             byte => bytes.push(byte)?,
@@ -192,7 +199,7 @@ const NOT_BUILT: [&str; 4] = [
     "{'cmd':'create','at':0,'kind':'dense',\
     'dims':[{'name':'x','type':'int64','domain':[0,9],'extent':10}],\
     'attrs':[{'name':'v','type':'int64'}]}",
-    "{'cmd':'read','at':9,'where':'v = 1'}",
+    "{'cmd':'read','at':9,'stop':2}",
     "{'cmd':'write','at':1,'box':[[0,1]],'cols':{'v':[1,2]}}",
 ];
 
@@ -527,119 +534,5 @@ fn an_array_has_64_attributes(rt: HostRuntime) -> Result<(), Fail> {
     let array = created(alloc, X, more.declared.as_str(), "")?;
     let text = "0.1|create|refused|TooManyAttrs|65\n";
     assert_eq!(rt; printed(&rt, array.as_str(), "")?, said(alloc, text)?);
-    Ok(())
-}
-
-/// A write as a plain list keeps it: its stamp, its cell and its value; its number is its place.
-#[derive(Clone, Copy)]
-struct Wrote {
-    at: u64,
-    x: u64,
-    v: u64,
-}
-
-// The value at a cell after these writes, by a scan: the last write in the order of stamp and number
-// among those stamped from `from` to `to`.
-fn value_at(writes: &[Wrote], from: u64, to: u64, x: u64) -> Option<u64> {
-    let mut last: Option<Wrote> = None;
-    for wrote in writes {
-        if wrote.x == x && from <= wrote.at && wrote.at <= to {
-            let is_later = match last {
-                None => true,
-                Some(other) => other.at <= wrote.at,
-            };
-            if is_later {
-                last = Some(*wrote);
-            }
-        }
-    }
-    last.map(|wrote| wrote.v)
-}
-
-// The next of a row of numbers that look random.
-fn next(state: &mut u64) -> u64 {
-    *state = state
-        .wrapping_mul(6364136223846793005)
-        .wrapping_add(1442695040888963407);
-    *state >> 33
-}
-
-// Adds a write to a script, to what it prints and to the writes.
-fn add_write(
-    script: &mut String,
-    text: &mut String,
-    writes: &mut Vec<Wrote>,
-    number: u64,
-    wrote: Wrote,
-) -> Result<(), AllocError> {
-    let (at, x, v) = (wrote.at, wrote.x, wrote.v);
-    write!(
-        script,
-        "{{'cmd':'write','at':{at},'cols':{{'x':[{x}],'v':[{v}]}}}}\n"
-    )?;
-    write!(text, "0.{number}|write|ok|__{at}_{at}_{number:032x}_1\n")?;
-    writes.push(wrote)?;
-    Ok(())
-}
-
-// Adds a read of an interval to a script and to what it prints.
-fn add_read(
-    alloc: Global,
-    script: &mut String,
-    text: &mut String,
-    writes: &[Wrote],
-    number: u64,
-    interval: (u64, u64),
-) -> Result<(), AllocError> {
-    let (from, to) = interval;
-    write!(script, "{{'cmd':'read','at':9,'from':{from},'to':{to}}}\n")?;
-    let mut rows = String::new(alloc);
-    let mut count = 0u64;
-    for x in 0..10 {
-        if let Some(v) = value_at(writes, from, to, x) {
-            write!(rows, "{x}|{v}\n")?;
-            count = count.saturating_add(1);
-        }
-    }
-    write!(text, "0.{number}|read|ok|{count}|0\n")?;
-    text.push_str(rows.as_str())
-}
-
-// Whether a script of a create and forty commands, made from a seed, prints what a plain list of
-// writes gives.
-fn agrees<R: Threads + Sync + AllocGlobal>(rt: &R, seed: u64) -> Result<bool, Fail> {
-    let alloc = rt.alloc();
-    let (mut script, mut text) = (String::new(alloc), String::new(alloc));
-    let mut writes = Vec::new(alloc);
-    let mut state = seed;
-    text.push_str("0.1|create|ok\n")?;
-    for number in 2..42 {
-        if next(&mut state) % 4 == 0 {
-            let interval = (next(&mut state) % 4, next(&mut state) % 6);
-            add_read(
-                alloc,
-                &mut script,
-                &mut text,
-                writes.as_slice(),
-                number,
-                interval,
-            )?;
-        } else {
-            let wrote = Wrote {
-                at: next(&mut state) % 5,
-                x: next(&mut state) % 10,
-                v: next(&mut state) % 1000,
-            };
-            add_write(&mut script, &mut text, &mut writes, number, wrote)?;
-        }
-    }
-    Ok(printed(rt, C1, script.as_str())? == said(alloc, text.as_str())?)
-}
-
-#[test]
-fn reads_show_what_a_plain_list_of_writes_gives(rt: HostRuntime) -> Result<(), Fail> {
-    for seed in 0..40 {
-        assert!(rt; agrees(&rt, seed)?, "script {seed}");
-    }
     Ok(())
 }

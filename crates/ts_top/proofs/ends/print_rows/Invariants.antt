@@ -1,6 +1,0 @@
-use Rattle.std.proofs.Common.{◌≡◌, ◌++◌, drop}
-use Rattle.ts_top.specs.Ends.{rows_text}
-use Rattle.ts_top.proofs.ends.print_rows.Given as goal
-
-abbrev pub invariant-loop-row : goal.invariant-loop-row
-invariant-loop-row l = l.bytes.items ++ rows_text l.types (drop l.row-index l.rows) ≡ l.initial.bytes.items ++ rows_text l.types l.rows

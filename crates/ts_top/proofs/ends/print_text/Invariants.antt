@@ -1,7 +1,0 @@
-use Rattle.std.proofs.Common.{◌≡◌, ◌++◌, take}
-use Rattle.std.specs.List.{flat_map}
-use Rattle.ts_top.specs.Ends.{escaped}
-use Rattle.ts_top.proofs.ends.print_text.Given as goal
-
-abbrev pub invariant-loop-byte : goal.invariant-loop-byte
-invariant-loop-byte l = l.bytes.items ≡ l.initial.bytes.items ++ flat_map escaped (take l.byte-index l.own)
