@@ -127,7 +127,7 @@ module _ {F : Type 0} (forms : Forms F) (spelled : Spelled) (tracks : Tracking F
         let clean_later = clean_look _ m' _ h' job same_held same_history (clean_after_frame m h (frame_made f) (frame_object (frame_made f)) job clean) in
         record {
           leads = leads_at spelled past jobs seen e m job.id _ _ same_held same_history
-              (stands_frame spelled m h (frame_made f) free (created_frame f fit sound) refl (subst IsShortCall is c.short) c.stands)
+              (stands_frame spelled m h (frame_made f) free (created_frame f fit sound) (subst IsShortCall is c.short) c.stands)
               (keeps_put m h name.Domain (frame_object (frame_made f)) job.id (Framed (frame_made f) ∷ []) free (inr refl) (λ k none. absurd (Contains-nil k none)));
           own = frame_leads f creates e.reply
               (λ _. puts_first_claims f creates sound clean_later (ap frame_in (same_history ∙ ap (λ g. g ++ Framed (frame_made f) ∷ []) (first_deed spelled m h free c.stands))))
@@ -208,7 +208,7 @@ module _ {F : Type 0} (forms : Forms F) (spelled : Spelled) (tracks : Tracking F
       same : (bytes : List ℕ) → e.reply ≡ reply.Bytes bytes → is_own_frame (Some f) bytes ≡ true → frame ≡ frame_made f
       same bytes said own =
           let found = (got m e name.Domain 0 (2 ^ 64 - 1) is c.replied).bytes bytes said in
-          own_frame f frame bytes (subst (λ x. IsTrue (fits x)) creates (c.fit).command) sound (frame_facts h frame (c.stands).history framed).0
+          own_frame f frame bytes (subst (λ x. IsTrue (fits x)) creates (c.fit).command) sound (frame_facts h frame (c.stands).history framed)
           ((c.stands).short_frame (frame_object frame) held)
           (found.2 ∙ ap (part_of 0 (2 ^ 64 - 1)) (same_Some found.0 (frame_object frame) (sym found.1 ∙ held))) own
 

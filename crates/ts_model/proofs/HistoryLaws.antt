@@ -1,5 +1,5 @@
 -- Histories that grow: keys stay apart, what may follow makes a history again, and what a history says of its frame and its schemas.
-use Rattle.std.proofs.Common.{List, None, Option, Some, [], ap, append_assoc, false, inl, inr, refl, subst, sym, true, ℕ, ◌++◌, ◌∙◌, ◌∷◌, ◌≡◌, ◌⊎◌}
+use Rattle.std.proofs.Common.{List, None, Option, Some, [], ap, append_assoc, inl, inr, refl, subst, sym, true, ℕ, ◌++◌, ◌∙◌, ◌∷◌, ◌≡◌, ◌⊎◌}
 use Rattle.std.proofs.Common.{nat_eq, nat_le}
 use Rattle.std.proofs.lemmas.Bool.{both_ways, eq-eqb, eqb-true, false_from_ne_true, not-true, not_from_false}
 use Rattle.std.proofs.lemmas.Cmp.{eq_by_cmp_equiv}
@@ -184,10 +184,10 @@ no_deeds (Declared s ∷ h) is none = no_first ((is.0).frame) ((is.0).framed)
 no_deeds (Wrote w ∷ h) is none = no_first ((is.0).frame) ((is.0).framed)
 no_deeds (Erased e ∷ h) is none = no_first ((is.0).frame) ((is.0).framed)
 
--- the frame of a history is one that an array can have, and sparse
-pub frame_facts : (h : History) (frame : Frame) → IsHistory h → frame_in h ≡ Some frame → IsFrame frame × (frame.dense ≡ false)
+-- the frame of a history is one that an array can have
+pub frame_facts : (h : History) (frame : Frame) → IsHistory h → frame_in h ≡ Some frame → IsFrame frame
 frame_facts [] frame is framed = no_first frame framed
-frame_facts (Framed own ∷ h) frame is framed = rw (← same_Some own frame framed) ((is.0).is_frame, (is.0).sparse)
+frame_facts (Framed own ∷ h) frame is framed = rw (← same_Some own frame framed) ((is.0).is_frame)
 frame_facts (Declared s ∷ h) frame is framed = no_first ((is.0).frame) ((is.0).framed)
 frame_facts (Wrote w ∷ h) frame is framed = no_first ((is.0).frame) ((is.0).framed)
 frame_facts (Erased e ∷ h) frame is framed = no_first ((is.0).frame) ((is.0).framed)

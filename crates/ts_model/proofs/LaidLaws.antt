@@ -1,7 +1,7 @@
 -- The piece of a write: it holds what was written, and it is one that a write makes.
 use Rattle.std.proofs.Common.{◌≡◌, ℤ, Bool, true, false, ◌&&◌, cond, List, [], ◌∷◌, length, map as list_map, Some, None, Ok, refl, sym, ap, ◌∙◌, subst, arith}
 use Rattle.std.specs.Prelude.{IsTrue, option_map}
-use Rattle.std.specs.List.{All, list_all}
+use Rattle.std.specs.List.{All}
 use Rattle.std.proofs.lemmas.Bool.{true≢false}
 use Rattle.std.proofs.lemmas.List.{length-map}
 use Rattle.std.proofs.lemmas.List.Elements.{All-map}
@@ -11,16 +11,16 @@ use Rattle.ts_base.specs.declared.keys.Key.{Key}
 use Rattle.ts_base.specs.declared.values.Val.{Val}
 use Rattle.ts_base.specs.Keys.{key_eq}
 use Rattle.ts_base.specs.Coords.{coords_eq}
-use Rattle.ts_domain.specs.Bounds.{is_between}
+use Rattle.ts_domain.specs.Bounds.{cells_between, is_between}
 use Rattle.ts_domain.specs.Domains.{is_in_domain}
 use Rattle.ts_schema.specs.declared.attrs.Attr.{Attr}
 use Rattle.ts_schema.specs.declared.frames.Frame.{Frame}
 use Rattle.ts_schema.specs.FrameTexts.{IsFrame}
 use Rattle.ts_schema.specs.SchemaTexts.{AreAttrs}
-use Rattle.ts_model.specs.declared.commands.ColIn.{ColIn}
+use Rattle.ts_model.specs.declared.commands.WriteIn.{WriteIn}
 use Rattle.ts_model.specs.declared.deeds.Written.{Written}
 use Rattle.ts_model.specs.Deeds.{row_at, IsKey, RowFits}
-use Rattle.ts_model.specs.Commands.{is_spelled_col, laid, LaidFollows, in_global_order, low_of_cells, high_of_cells, version_in, piece_of}
+use Rattle.ts_model.specs.Commands.{is_spelled_write, laid, LaidFollows, in_global_order, low_of_cells, high_of_cells, version_in, piece_of}
 use Rattle.ts_model.specs.Pieces.{version_at, HoldsWrite, IsVersion, IsOrdinary}
 use Rattle.ts_model.proofs.KeyLemmas.{key_same, key_itself, key_other}
 use Rattle.ts_model.proofs.Laying.{coords_decide, laid_follows}
@@ -74,10 +74,10 @@ held_in_piece frame w = record {
 }
 
 -- the piece of a write that is laid holds what was written
-pub written_held : (frame : Frame) (attrs : List Attr) (key schema : Key) (cols : List ColIn) (cells : List Cell) → IsFrame frame → frame.dense ≡ false → AreAttrs attrs → IsKey key → IsKey schema
-    → IsTrue (list_all is_spelled_col cols) → laid frame.domain attrs cols ≡ Ok cells
+pub written_held : (frame : Frame) (attrs : List Attr) (key schema : Key) (w : WriteIn) (cells : List Cell) → IsFrame frame → AreAttrs attrs → IsKey key → IsKey schema
+    → IsTrue (is_spelled_write w) → laid frame attrs w ≡ Ok cells
     → HoldsWrite (record { key = key; schema = schema; cells = cells }) (piece_of frame (record { key = key; schema = schema; cells = cells }))
-written_held frame attrs key schema cols cells is sparse are is_key is_schema spelled e = held_in_piece frame (record { key = key; schema = schema; cells = cells })
+written_held frame attrs key schema w cells is are is_key is_schema spelled e = held_in_piece frame (record { key = key; schema = schema; cells = cells })
 
 -- ---- the piece is one that a write makes
 
@@ -88,10 +88,10 @@ record IsPlaced (frame : Frame) (attrs : List Attr) (low high : List ℤ) (cell 
   row : RowFits attrs cell.row
 
 -- the piece of a write whose cells may be those of a write
-pub ordinary_piece : (frame : Frame) (attrs : List Attr) (key schema : Key) (cells : List Cell) → IsFrame frame → frame.dense ≡ false → AreAttrs attrs → IsKey key → IsKey schema
-    → LaidFollows frame.domain attrs cells → IsOrdinary frame attrs (piece_of frame (record { key = key; schema = schema; cells = cells }))
+pub ordinary_piece : (frame : Frame) (attrs : List Attr) (key schema : Key) (cells : List Cell) → IsFrame frame → AreAttrs attrs → IsKey key → IsKey schema
+    → LaidFollows frame attrs cells → IsOrdinary frame attrs (piece_of frame (record { key = key; schema = schema; cells = cells }))
 unfolding piece_of
-ordinary_piece frame attrs key schema cells is sparse are is_key is_schema follows =
+ordinary_piece frame attrs key schema cells is are is_key is_schema follows =
     let span = corners_of frame.domain cells follows.some_cell (λ k d lt. (follows.fit k d lt).inside) in
     let placed : All (IsPlaced frame attrs (low_of_cells cells) (high_of_cells cells)) cells =
     λ k d lt. record { inside = (follows.fit k d lt).inside; hull = span.each k d lt; row = (follows.fit k d lt).row } in
@@ -111,20 +111,20 @@ ordinary_piece frame attrs key schema cells is sparse are is_key is_schema follo
       origins = refl;
       consolidated = refl;
       dense = refl;
-      sparse = sparse;
       cells = sym long;
       some = omega (arith, some, long);
       few = omega (arith, few, long);
       low = span.corners.low_in;
       high = span.corners.high_in;
       corners = span.corners.ordered;
+      whole = λ dense. let box = follows.boxed dense in box.count ∙ ap (λ l. cells_between l box.sub.high) (sym box.low) ∙ ap (cells_between (low_of_cells cells)) (sym box.high);
       versions = All-map (IsVersion frame attrs piece.head key) (version_in key schema) (in_global_order frame cells)
           (λ k d lt. record { by_own = refl; in_schema = refl; inside = (ordered k d lt).inside; hull = (ordered k d lt).hull; row = (ordered k d lt).row });
       climb = Climb-in_global_order frame key schema cells;
     }
 
 -- the piece of a write that is laid is one that a write makes
-pub written_ordinary : (frame : Frame) (attrs : List Attr) (key schema : Key) (cols : List ColIn) (cells : List Cell) → IsFrame frame → frame.dense ≡ false → AreAttrs attrs → IsKey key → IsKey schema
-    → IsTrue (list_all is_spelled_col cols) → laid frame.domain attrs cols ≡ Ok cells → IsOrdinary frame attrs (piece_of frame (record { key = key; schema = schema; cells = cells }))
-written_ordinary frame attrs key schema cols cells is sparse are is_key is_schema spelled e =
-    ordinary_piece frame attrs key schema cells is sparse are is_key is_schema (laid_follows frame.domain attrs cols cells spelled is.domain.some e)
+pub written_ordinary : (frame : Frame) (attrs : List Attr) (key schema : Key) (w : WriteIn) (cells : List Cell) → IsFrame frame → AreAttrs attrs → IsKey key → IsKey schema
+    → IsTrue (is_spelled_write w) → laid frame attrs w ≡ Ok cells → IsOrdinary frame attrs (piece_of frame (record { key = key; schema = schema; cells = cells }))
+written_ordinary frame attrs key schema w cells is are is_key is_schema spelled e =
+    ordinary_piece frame attrs key schema cells is are is_key is_schema (laid_follows frame attrs w cells spelled is e)

@@ -1,11 +1,13 @@
--- What the columns of a write lay: cells that are apart, in the domain, with rows that fit.
+-- What a write lays, by its columns or over a box: cells that are apart, in the domain, with rows that fit.
 use Rattle.std.proofs.Common.{◌≡◌, ℕ, zero, suc, ◌+◌, ◌*◌, ◌-◌, ◌<◌, ◌≤◌, ◌^◌, ℤ, Bool, true, false, not, ◌&&◌, cond, nat_eq, nat_le, List, [], ◌∷◌, ◌++◌, length, Option, Some, None, Result, Ok, Err, refl, sym, ap, ◌∙◌, subst, arith}
-use Rattle.std.specs.Prelude.{IsTrue, ⊤, nat_lt, option_map, option_and_then, slice_get, find, is_some}
+use Rattle.std.specs.Prelude.{IsTrue, ⊤, int_le, nat_lt, option_map, option_and_then, slice_get, find, is_some}
 use Rattle.std.specs.List.{All, AllZip, list_all, cons_option}
 use Rattle.std.specs.Bool.{Decides}
-use Rattle.std.proofs.lemmas.Bool.{and_parts, and_from, ltb-true, eqb-true, leb-true, true≢false, false_from_ne_true}
+use Rattle.std.proofs.lemmas.Bool.{and_parts, and_from, ltb-false, ltb-true, eqb-true, leb-true, true≢false, false_from_ne_true}
 use Rattle.std.proofs.lemmas.Bool.Decides.{Decides-int_eq}
 use Rattle.std.proofs.lemmas.Slice.Eq.{slice_eq-Decides}
+use Rattle.std.proofs.lemmas.Int.{ints}
+use Rattle.std.proofs.lemmas.List.{length-map}
 use Rattle.std.proofs.lemmas.Option.{same_Some}
 use Rattle.std.proofs.lemmas.List.Elements.{All-nil, All-cons, All-head, All-tail, All-contains, All-weaker}
 use Rattle.ts_base.specs.declared.heads.Cell.{Cell}
@@ -19,15 +21,27 @@ use Rattle.ts_value.specs.Fits.{fits_of}
 use Rattle.ts_wire.specs.Exact.{IsBytes}
 use Rattle.ts_wire.specs.Fields.{FitsVal}
 use Rattle.ts_domain.specs.declared.dims.Dim.{Dim}
-use Rattle.ts_domain.specs.Domains.{first_outside}
-use Rattle.ts_domain.proofs.DomainLemmas.{is_in_domain-first_outside}
+use Rattle.ts_domain.specs.declared.boxes.SubBox.{SubBox}
+use Rattle.ts_domain.specs.Boxes.{IsBox, cells_of}
+use Rattle.ts_domain.specs.Domains.{first_bound_outside, first_outside}
+use Rattle.ts_domain.proofs.Between.{is_between-low}
+use Rattle.ts_domain.proofs.DomainLemmas.{All-IsDomain, is_in_domain-first_outside}
+use Rattle.ts_order.specs.Orders.{coords_in_order}
+use Rattle.ts_cond.specs.declared.query.NamedBox.{NamedBox}
 use Rattle.ts_schema.specs.declared.attrs.Attr.{Attr}
+use Rattle.ts_schema.specs.declared.frames.Frame.{Frame}
+use Rattle.ts_schema.specs.FrameTexts.{IsFrame, is_bound}
 use Rattle.ts_schema.specs.Attrs.{same_name}
 use Rattle.ts_model.specs.declared.answers.Refusal.{Refusal}
 use Rattle.ts_model.specs.declared.answers.Refusal.TheVariants as refusal
 use Rattle.ts_model.specs.declared.commands.ColIn.{ColIn}
+use Rattle.ts_model.specs.declared.commands.WriteIn.{WriteIn}
 use Rattle.ts_model.specs.Deeds.{row_at, are_apart, RowFits, CellFits}
-use Rattle.ts_model.specs.Commands.{◌or_else◌, or_clash, column, so_many, count_of, all_of, coordinate, hex_digit, blob_bytes, said_by, value_of, dim_column, attr_column, columns, stray, across, cells_from, outside_in, again_in, unless, laid, LaidFollows, is_byte, is_spelled_val, is_spelled_col}
+use Rattle.ts_model.specs.Commands.{◌or_else◌, or_clash, column, so_many, count_of, all_of, coordinate, hex_digit, blob_bytes, said_by, value_of, dim_column, attr_column, columns, stray, across, cells_from, cells_at, outside_in, again_in, unless, laid, laid_apart, laid_sparse, laid_over, laid_dense, FillBox, LaidFollows, is_byte, is_spelled_val, is_spelled_col, is_spelled_box, is_spelled_write}
+use Rattle.ts_model.specs.Queries.{box_of, counted_cells, low_of, most_cells, over_most, stray_bound, bound_outside}
+use Rattle.ts_model.specs.Selections.{IsNamedBox}
+use Rattle.ts_model.proofs.BoxCells.{box_apart, box_cells, box_fit, box_length}
+use Rattle.ts_model.proofs.Checked.{box_ordered}
 use Rattle.ts_model.proofs.ListLemmas.{find-Some, Contains-slice_get}
 use Rattle.ts_model.proofs.Spelled.{all_tested, neither, none_before, no_fault, spelled_fits}
 
@@ -237,7 +251,7 @@ row_fits count place (a ∷ attrs) (c ∷ rows) lt each =
     subst (λ o. RowFits (a ∷ attrs) (cons_option o (across place rows))) (sym item.1) (value.0, value.1, row_fits count place attrs rows lt each.1)
 
 -- there are so many cells as were asked for
-length-cells_from : (coords : List (List ℤ)) (rows : List (List Val)) (place more : ℕ) → length (cells_from coords rows place more) ≡ more
+pub length-cells_from : (coords : List (List ℤ)) (rows : List (List Val)) (place more : ℕ) → length (cells_from coords rows place more) ≡ more
 length-cells_from coords rows place zero = refl
 length-cells_from coords rows place (suc more) = ap suc (length-cells_from coords rows (suc place) more)
 
@@ -321,10 +335,11 @@ count_is [] count coords some each = absurd (omega arith)
 count_is (d ∷ dims) count [] some each = absurd each
 count_is (d ∷ dims) count (c ∷ coords) some each = (each.0.some, each.0.few)
 
--- the cells that are laid may be those of a write
-pub laid_follows : (dims : List Dim) (attrs : List Attr) (cols : List ColIn) (cells : List Cell) → IsTrue (list_all is_spelled_col cols) → 1 ≤ length dims → laid dims attrs cols ≡ Ok cells
-    → LaidFollows dims attrs cells
-laid_follows dims attrs cols cells spelled some e =
+-- the cells that a write to a sparse array lays may be those of a write
+apart_follows : (frame : Frame) (attrs : List Attr) (cols : List ColIn) (cells : List Cell) → IsTrue (list_all is_spelled_col cols) → 1 ≤ length frame.domain → frame.dense ≡ false
+    → laid_apart frame.domain attrs cols ≡ Ok cells → LaidFollows frame attrs cells
+apart_follows frame attrs cols cells spelled some sparse e =
+    let dims = frame.domain in
     let count = count_of dims cols in
     let first = both_ok (columns (dim_column cols count) dims) _ cells e in
     let second = both_ok (columns (attr_column cols count) attrs) _ cells first.2 in
@@ -334,12 +349,86 @@ laid_follows dims attrs cols cells spelled some e =
     let right = columns_zip (IsAttrColumn count) (attr_column cols count) (attr_column_is cols count spelled) attrs rows second.1 in
     let kept = kept_unless (cells_from coords rows 0 count) cells _ second.2 in
     let one = neither (option_map refusal.SchemaClash (stray dims attrs cols)) _ kept.1 in
-    let two = neither (outside_in dims (cells_from coords rows 0 count)) (again_in [] 0 (cells_from coords rows 0 count)) one.1 in
+    let two = neither (outside_in dims (cells_from coords rows 0 count)) _ one.1 in
+    let three = neither (again_in [] 0 (cells_from coords rows 0 count)) (over_most count) two.1 in
     let size = count_is dims count coords some left in
     let long = length-cells_from coords rows 0 count in
-    subst (LaidFollows dims attrs) kept.0 (record {
+    subst (LaidFollows frame attrs) kept.0 (record {
       some_cell = omega (arith, size.0, long);
       few = omega (arith, size.1, long);
-      apart = (cells_new [] 0 (cells_from coords rows 0 count) two.1).apart;
+      apart = (cells_new [] 0 (cells_from coords rows 0 count) three.0).apart;
       fit = cells_fit dims attrs count 0 count coords rows (omega arith) left right two.0;
+      boxed = λ dense. absurd (true≢false (sym dense ∙ sparse));
     })
+
+-- a sparse array has no box in its writes
+sparse_follows : (frame : Frame) (attrs : List Attr) (named : List NamedBox) (cols : List ColIn) (cells : List Cell) → IsTrue (list_all is_spelled_col cols) → 1 ≤ length frame.domain → frame.dense ≡ false
+    → laid_sparse frame.domain attrs named cols ≡ Ok cells → LaidFollows frame attrs cells
+sparse_follows frame attrs [] cols cells spelled some sparse e = apart_follows frame attrs cols cells spelled some sparse e
+sparse_follows frame attrs (b ∷ named) cols cells spelled some sparse e = cc
+
+-- ---- the cells of a box
+
+-- bounds that have a spelling are in order
+pub named_spelled : (b : NamedBox) → is_spelled_box b ≡ true → IsNamedBox b
+named_spelled b spelled =
+    let one = and_parts (is_label b.name) _ spelled in
+    let two = and_parts (is_bound b.low) _ one.1 in
+    let three = and_parts (is_bound b.high) (int_le b.low b.high) two.1 in
+    omega (arith, ints, three.1)
+
+-- a box whose cells are not too many has at most 2^20, so that their number is the one that is counted
+few_cells : (sub : SubBox) → over_most (counted_cells sub) ≡ None → (cells_of sub ≤ 2 ^ 20) × (counted_cells sub ≡ cells_of sub)
+few_cells sub none =
+    let passed = (no_fault (nat_lt most_cells (counted_cells sub)) (refusal.TooMany (counted_cells sub)) None none).0 in
+    let most : counted_cells sub ≤ 2 ^ 20 = ltb-false most_cells (counted_cells sub) passed in
+    (omega (arith, most), omega (arith, most))
+
+-- cells of a box: there is one
+some_filled : (cells : List Cell) → FillBox cells → 1 ≤ length cells
+some_filled [] box =
+    let corner = is_between-low box.sub.low box.sub.high box.valid in
+    absurd (true≢false (sym corner ∙ sym (box.each box.sub.low)))
+some_filled (cell ∷ cells) box = omega arith
+
+-- the cells that a write lays over a box may be those of a write
+over_follows : (frame : Frame) (attrs : List Attr) (w : WriteIn) (sub : SubBox) (cells : List Cell) → IsTrue (list_all is_spelled_col w.cols) → IsBox sub → length sub.low ≡ length frame.domain
+    → laid_over frame.domain attrs w sub ≡ Ok cells → LaidFollows frame attrs cells
+over_follows frame attrs w sub cells spelled valid wide e =
+    let dims = frame.domain in
+    let count = counted_cells sub in
+    let first = both_ok (columns (attr_column w.cols count) attrs) _ cells e in
+    let rows = first.0 in
+    let right = columns_zip (IsAttrColumn count) (attr_column w.cols count) (attr_column_is w.cols count spelled) attrs rows first.1 in
+    let filled = cells_at (coords_in_order w.layout sub) rows 0 in
+    let kept = kept_unless filled cells _ first.2 in
+    let one = neither (option_map refusal.SchemaClash (stray_bound dims w.sub)) _ kept.1 in
+    let two = neither (option_map refusal.SchemaClash (stray [] attrs w.cols)) _ one.1 in
+    let three = neither (bound_outside dims sub) (over_most count) two.1 in
+    let none = none_before (λ o. refusal.Domain o.dim o.value) (first_bound_outside dims sub) three.0 in
+    let size = few_cells sub three.1 in
+    let long = box_length sub w.layout rows valid in
+    let box = box_cells sub w.layout rows valid in
+    subst (LaidFollows frame attrs) kept.0 (record {
+      some_cell = some_filled filled box;
+      few = omega (arith, size.0, long);
+      apart = box_apart sub w.layout rows valid;
+      fit = box_fit dims attrs sub w.layout rows valid none wide (λ place below. row_fits count place attrs rows (omega (arith, size.1, below)) right);
+      boxed = λ dense. box;
+    })
+
+-- ---- what is laid
+
+-- the cells that are laid may be those of a write
+pub laid_follows : (frame : Frame) (attrs : List Attr) (w : WriteIn) (cells : List Cell) → IsTrue (is_spelled_write w) → IsFrame frame → laid frame attrs w ≡ Ok cells → LaidFollows frame attrs cells
+laid_follows frame attrs w cells spelled is e = by frame.dense refl e
+  where
+    texts : IsTrue (list_all is_spelled_col w.cols) × IsTrue (list_all is_spelled_box w.sub)
+    texts = and_parts (list_all is_spelled_col w.cols) (list_all is_spelled_box w.sub) spelled
+
+    valid : IsBox (box_of w.sub frame.domain)
+    valid = box_ordered w.sub frame.domain (All-IsDomain frame.domain is.domain) (all_tested IsNamedBox is_spelled_box named_spelled w.sub texts.1)
+
+    by : (b : Bool) → frame.dense ≡ b → cond b (laid_dense frame.domain attrs w) (laid_sparse frame.domain attrs w.sub w.cols) ≡ Ok cells → LaidFollows frame attrs cells
+    by true dense lays = over_follows frame attrs w (box_of w.sub frame.domain) cells texts.0 valid (length-map frame.domain (low_of w.sub)) lays
+    by false sparse lays = sparse_follows frame attrs w.sub w.cols cells texts.0 (is.domain).some sparse lays

@@ -14,6 +14,7 @@ pub mod Deletes
 pub mod Laying
 pub mod GlobalOrder
 pub mod Corners
+pub mod BoxCells
 pub mod LaidLaws
 pub mod Objects
 pub mod LaidRefusals
@@ -23,6 +24,7 @@ pub mod PutSteps
 pub mod Newest
 pub mod TakenLaws
 pub mod MapValues
+pub mod Filled
 pub mod ReadingLaw
 pub mod Fetches
 pub mod Erasing
@@ -48,6 +50,7 @@ pub mod WorkedRows
 pub mod WorkedHistories
 pub mod Checked
 pub mod Selected
+pub mod Ascending
 pub mod Erased
 pub mod Scans
 pub mod Referred

@@ -52,7 +52,7 @@ use Rattle.ts_model.specs.declared.states.NewObject.{NewObject}
 use Rattle.ts_model.specs.declared.states.State.{State}
 use Rattle.ts_model.specs.declared.states.State.TheVariants.{Over, Puts}
 use Rattle.ts_model.proofs.Declaring.{created_attrs, created_sound, evolved_are_attrs, evolved_sound}
-use Rattle.ts_model.proofs.Deletes.{erasing_spelled, schema_sound}
+use Rattle.ts_model.proofs.Deletes.{erasing_sparse, erasing_spelled, schema_sound}
 use Rattle.ts_model.proofs.Effects.{Added, Still, put_went, still_leads}
 use Rattle.ts_model.proofs.HeldLemmas.{Holds, get_apart, get_put}
 use Rattle.ts_model.proofs.HistoryLaws.{erases-append, frame_facts, schema_facts, schema_there-is, writes-append}
@@ -263,15 +263,15 @@ module _ {F : Type 0} (forms : Forms F) (spelled : Spelled) (tracks : Tracking F
     -- the delete may follow
     erasure_follows : IsFit job → IsHistory h → IsUndone h job → EraseFollows h own_erasure
     erasure_follows fit is undone =
-        let facts = frame_facts h frame is framed in
+        let sparse = erasing_sparse frame there.attrs text condition says in
         record {
           frame = frame;
           framed = framed;
-          sparse = facts.1;
+          sparse = sparse;
           new = undone;
           key = key_fits fit;
-          cond = erasing_spelled frame there.attrs text condition facts.0 (schema_facts h there.key there is works.declared).0
-              (schema_sound h there.key there frame is works.declared framed) facts.1 (subst (λ x. IsTrue (fits x)) deletes fit.command) says;
+          cond = erasing_spelled frame there.attrs text condition (frame_facts h frame is framed) (schema_facts h there.key there is works.declared).0
+              (schema_sound h there.key there frame is works.declared framed) sparse (subst (λ x. IsTrue (fits x)) deletes fit.command) says;
         }
 
     -- the deed of the `.del`
@@ -317,7 +317,7 @@ module _ {F : Type 0} (forms : Forms F) (spelled : Spelled) (tracks : Tracking F
   -- ---- the puts of a write
 
   module _ (laws : FormsLaws forms spelled tracks) (w : WriteIn) (frame : Frame) (there : Schema) (cells : List Cell)
-      (writes_them : job.command ≡ Write w) (framed : frame_in h ≡ Some frame) (lays : laid frame.domain there.attrs w.cols ≡ Ok cells) (works : Works past jobs seen number job there) where
+      (writes_them : job.command ≡ Write w) (framed : frame_in h ≡ Some frame) (lays : laid frame there.attrs w ≡ Ok cells) (works : Works past jobs seen number job there) where
     -- the fragment of the write
     abbrev frag : FragKey
     frag = frag_of_job job
@@ -406,7 +406,7 @@ module _ {F : Type 0} (forms : Forms F) (spelled : Spelled) (tracks : Tracking F
         goes_on = subst (λ b. ClaimsLater (cond b (Puts own_objects (suc next) own_end) (Over own_end))) (sym (lt-ltb (suc next) (length own_objects) more)) putting_on
 
     -- the frame that the write is in is one that a history has
-    own_frame_is : IsHistory h → IsFrame frame × (frame.dense ≡ false)
+    own_frame_is : IsHistory h → IsFrame frame
     own_frame_is is = frame_facts h frame is framed
 
     -- the schema that the write is in is one that a history has
@@ -415,12 +415,12 @@ module _ {F : Type 0} (forms : Forms F) (spelled : Spelled) (tracks : Tracking F
 
     -- the piece is one that a write makes
     own_ordinary : IsFit job → IsHistory h → IsOrdinary frame there.attrs own_piece
-    own_ordinary fit is = written_ordinary frame there.attrs (key_of job) there.key w.cols cells (own_frame_is is).0 (own_frame_is is).1 (own_schema_is is).0 (key_fits fit) (own_schema_is is).1
+    own_ordinary fit is = written_ordinary frame there.attrs (key_of job) there.key w cells (own_frame_is is) (own_schema_is is).0 (key_fits fit) (own_schema_is is).1
         (subst (λ x. IsTrue (fits x)) writes_them fit.command) lays
 
     -- the piece holds what the job writes
     own_holds : IsFit job → IsHistory h → HoldsWrite own_write own_piece
-    own_holds fit is = written_held frame there.attrs (key_of job) there.key w.cols cells (own_frame_is is).0 (own_frame_is is).1 (own_schema_is is).0 (key_fits fit) (own_schema_is is).1
+    own_holds fit is = written_held frame there.attrs (key_of job) there.key w cells (own_frame_is is) (own_schema_is is).0 (key_fits fit) (own_schema_is is).1
         (subst (λ x. IsTrue (fits x)) writes_them fit.command) lays
 
     -- a write looks at its own stamp
@@ -430,7 +430,7 @@ module _ {F : Type 0} (forms : Forms F) (spelled : Spelled) (tracks : Tracking F
     -- the write may follow
     own_follows : IsFit job → IsHistory h → IsUndone h job → WriteFollows h own_write
     own_follows fit is undone =
-        let follows = laid_follows frame.domain there.attrs w.cols cells (subst (λ x. IsTrue (fits x)) writes_them fit.command) (((own_frame_is is).0).domain).some lays in
+        let follows = laid_follows frame there.attrs w cells (subst (λ x. IsTrue (fits x)) writes_them fit.command) (own_frame_is is) lays in
         record {
           frame = frame;
           framed = framed;
@@ -443,6 +443,7 @@ module _ {F : Type 0} (forms : Forms F) (spelled : Spelled) (tracks : Tracking F
           few = follows.few;
           apart = follows.apart;
           fit = follows.fit;
+          boxed = λ dense. let box = follows.boxed dense in (box.sub, box.each);
         }
 
     -- the parts of the write spell its piece, once all are put
@@ -466,8 +467,8 @@ module _ {F : Type 0} (forms : Forms F) (spelled : Spelled) (tracks : Tracking F
     own_deed own at is =
         deed_told_own jobs h seen e number job (call.Put (wrt_of frag) []) own at is
         ∙ ap (λ x. option_map Wrote (written_by h job (schemas_found (trace_of number seen)) x)) writes_them
-        ∙ ap (λ s. option_map Wrote (written_in job w.cols s (frame_in h))) (used_is there looks works)
-        ∙ ap (λ f. option_map Wrote (written_in job w.cols (Some there) f)) framed
+        ∙ ap (λ s. option_map Wrote (written_in job w s (frame_in h))) (used_is there looks works)
+        ∙ ap (λ f. option_map Wrote (written_in job w (Some there) f)) framed
         ∙ ap (λ r. option_map Wrote (option_map (written_as job there.key) (cells_of r))) lays
 
     -- the `.wrt` was put, and the job is over
@@ -576,9 +577,9 @@ module _ {F : Type 0} (forms : Forms F) (spelled : Spelled) (tracks : Tracking F
       → Claims forms spelled tracks past jobs seen m number job (comes_to forms job job.command listed frame there)
   works_write w listed frame there laws fit apart clean at framed is writes_them =
       subst (λ c. Claims forms spelled tracks past jobs seen m number job (comes_to forms job c listed frame there)) (sym writes_them)
-      (from (laid frame.domain there.attrs w.cols) refl (laid_fails frame.domain there.attrs w.cols))
+      (from (laid frame there.attrs w) refl (laid_fails frame there.attrs w))
     where
-      from : (laying : Result (List Cell) Refusal) → laid frame.domain there.attrs w.cols ≡ laying → FailsByColumns laying
+      from : (laying : Result (List Cell) Refusal) → laid frame there.attrs w ≡ laying → FailsByColumns laying
           → Claims forms spelled tracks past jobs seen m number job (puts_cells forms job frame there laying)
       from (Ok cells) lays fails =
           let parts = forms.parts frame there (piece_of frame (written_as job there.key cells)) in

@@ -311,7 +311,7 @@ module _ {F : Type 0} (forms : Forms F) (spelled : Spelled) (tracks : Tracking F
       record {
         leads = look.leads;
         own = whole_lead name.Domain (frame_object framed.0) (λ bytes. on_read name.Domain on (frame_of bytes)) is comes.replied held short look.clean.undone
-            (read_lead name.Domain on framed.0 (frame_of (frame_object framed.0)) (frame_again framed.0 (frame_facts h framed.0 comes.stands.history framed.1).0 short)
+            (read_lead name.Domain on framed.0 (frame_of (frame_object framed.0)) (frame_again framed.0 (frame_facts h framed.0 comes.stands.history framed.1) short)
             (works_lead laws comes.fit comes.apart look.clean look.history job.command refl listing framed.0 there (ap frame_in look.same_history ∙ framed.1)
             (has_listed_stays spelled past jobs seen e m m' job.id look.leads.leaves number job job.command listing there (no_listing name.Domain is) comes.claims.1)));
       }

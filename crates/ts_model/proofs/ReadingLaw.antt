@@ -1,12 +1,13 @@
 -- The law of reading: what a read gets from the fragments of its listing shows what the history shows.
-use Rattle.std.proofs.Common.{◌≡◌, ℕ, ℤ, Bool, true, false, cond, not, ◌&&◌, List, [], ◌∷◌, Option, Some, None, Ok, int_cmp, refl, sym, ◌∙◌, ap, subst}
+use Rattle.std.proofs.Common.{◌≡◌, ℕ, ℤ, Bool, true, false, cond, not, ◌&&◌, List, [], ◌∷◌, length, Option, Some, None, Ok, int_cmp, refl, sym, ◌∙◌, ap, subst}
 use Rattle.std.specs.Prelude.{Contains, filter, option_map, option_and_then, map as list_map}
 use Rattle.std.specs.List.{list_any}
-use Rattle.std.specs.Option.{is_some}
+use Rattle.std.specs.Option.{is_some, option_or}
 use Rattle.std.specs.Cmp.{both_ways}
 use Rattle.std.specs.Cmp.Lexicographic.{slice_cmp}
 use Rattle.std.specs.FinMap as map
 use Rattle.std.proofs.lemmas.Bool.{true≢false, and_parts, and_from}
+use Rattle.std.proofs.lemmas.List.{length-map}
 use Rattle.std.proofs.lemmas.List.Folds.{Any-from_list_any, list_any-from_Any}
 use Rattle.std.proofs.lemmas.Option.{same_Some, none-some}
 use Rattle.ts_base.specs.declared.keys.FragKey.{FragKey}
@@ -23,14 +24,16 @@ use Rattle.ts_model.specs.declared.deeds.Erasure.{Erasure}
 use Rattle.ts_model.specs.declared.deeds.Written.{Written}
 use Rattle.ts_model.specs.declared.states.Reading.{Reading}
 use Rattle.ts_model.specs.Deeds.{History, IsHistory, writes, erases, row_at, has_cell, last_write, attrs_with, frame_in, schema_there}
-use Rattle.ts_model.specs.Answers.{Cells, erases_cell, is_erased, shown_in, shown_at, IsAnswer}
+use Rattle.ts_model.specs.Answers.{Cells, erases_cell, is_erased, shown_in, shown_at, shown_inside, fills_of, unwritten, IsAnswer}
 use Rattle.ts_model.specs.Pieces.{version_at, version_of, newest_of}
-use Rattle.ts_model.specs.Queries.{ready_in, selected}
-use Rattle.ts_model.specs.States.{known_attrs, is_erased_by, cell_shown, cells_shown, answer_of}
+use Rattle.ts_model.specs.Queries.{low_of, high_of, ready_in, selected}
+use Rattle.ts_model.specs.States.{known_attrs, is_erased_by, cell_shown, cells_left, version_left, row_or_fill, cells_filled, cells_shown, answer_of}
 use Rattle.ts_model.specs.Kept.{AreGot}
 use Rattle.ts_model.proofs.ListLemmas.{Contains-nil, Contains-filter, filter-Contains, find-Some, find-filter}
 use Rattle.ts_model.proofs.KeyLemmas.{greatest-None, greatest-Some, same_from_both}
 use Rattle.ts_model.proofs.HistoryLaws.{one_write}
+use Rattle.ts_model.proofs.QueryRefusals.{ready_box}
+use Rattle.ts_model.proofs.Filled.{box_map, entries_box, get_box, or_fill, left_alone}
 use Rattle.ts_model.proofs.MapValues.{left_of, left_values, entries_left, get_left}
 use Rattle.ts_model.proofs.Newest.{version_key, versions_at, newest_at, get_newest_of, OwnCoords, own_newest, coords_exact}
 
@@ -127,10 +130,6 @@ module _ (h : History) (is : IsHistory h) (from to : ℕ) (sub : SubBox) (fetche
     abbrev is_left : Version → Bool
     is_left v = not (is_erased_by r schemas r.erased v)
 
-    -- what is left of a version, as a read shows it
-    abbrev version_left : Version → Option (List Val)
-    version_left v = cond (is_left v) (Some (shown_version v)) None
-
     -- the deletes that were got erase what those of the history in the interval do
     same_erased : (p : Erasure → Bool) → list_any p r.erased ≡ list_any (λ x. is_within from to x.key && p x) (erases h)
     same_erased p = both_ways (list_any p r.erased) (list_any (λ x. is_within from to x.key && p x) (erases h))
@@ -145,7 +144,7 @@ module _ (h : History) (is : IsHistory h) (from to : ℕ) (sub : SubBox) (fetche
 
     -- the version of a write is left where its cell is
     left_cell : (c : List ℤ) (w : Written) (row : List Val) → known_attrs r schemas w.schema ≡ attrs_with h w.schema
-        → version_left (version_with w c row) ≡ option_map (λ row. shown_row (attrs_with h w.schema) row r.there.attrs) (cond (is_erased h from to c w row) None (Some row))
+        → version_left r schemas (version_with w c row) ≡ option_map (λ row. shown_row (attrs_with h w.schema) row r.there.attrs) (cond (is_erased h from to c w row) None (Some row))
     left_cell c w row same =
         ap (λ b. cond (not b) (Some (shown_version (version_with w c row))) None) is_same
         ∙ ap (λ attrs. cond (not (is_erased h from to c w row)) (Some (shown_row attrs row r.there.attrs)) None) same
@@ -160,16 +159,16 @@ module _ (h : History) (is : IsHistory h) (from to : ℕ) (sub : SubBox) (fetche
         by_test false = refl
 
     -- the version of a write shows what is left of its cell
-    shows_cell : (c : List ℤ) (w : Written) (v : Version) → known_attrs r schemas w.schema ≡ attrs_with h w.schema → version_of w c ≡ Some v → version_left v ≡ shown_in h r.there from to c w
+    shows_cell : (c : List ℤ) (w : Written) (v : Version) → known_attrs r schemas w.schema ≡ attrs_with h w.schema → version_of w c ≡ Some v → version_left r schemas v ≡ shown_in h r.there from to c w
     shows_cell c w v same = elim (row_at c w.cells) as (λ o. option_map (version_with w c) o ≡ Some v
-        → version_left v ≡ option_map (λ row. shown_row (attrs_with h w.schema) row r.there.attrs) (option_and_then (λ row. cond (is_erased h from to c w row) None (Some row)) o)) [
+        → version_left r schemas v ≡ option_map (λ row. shown_row (attrs_with h w.schema) row r.there.attrs) (option_and_then (λ row. cond (is_erased h from to c w row) None (Some row)) o)) [
           | None ↦ λ e. absurd (none-some v e)
-          | Some row ↦ λ e. ap version_left (sym (same_Some (version_with w c row) v e)) ∙ left_cell c w row same
+          | Some row ↦ λ e. ap (version_left r schemas) (sym (same_Some (version_with w c row) v e)) ∙ left_cell c w row same
         ]
 
     -- what is newest at a coordinate of the box shows what the history shows there
     shows : (c : List ℤ) → is_in_box sub c ≡ true → (w : Option Written) (v : Option Version) → last_write h from to c ≡ w → newest_at got c ≡ v
-        → option_and_then version_left v ≡ option_and_then (shown_in h r.there from to c) w
+        → option_and_then (version_left r schemas) v ≡ option_and_then (shown_in h r.there from to c) w
     shows c inside None None last newest = refl
     shows c inside None (Some v) last newest =
         let of = (of_write c v (newest_is_at got c v newest)).1 in
@@ -182,13 +181,17 @@ module _ (h : History) (is : IsHistory h) (from to : ℕ) (sub : SubBox) (fetche
         shows_cell c w v (known w parts.0 (and_parts (is_within from to w.key) (has_cell c w) parts.1).0) (last_is_newest c inside w v last newest)
 
     -- so it is at each coordinate, if nothing is shown outside the box
-    shows_inside : (c : List ℤ) (b : Bool) → is_in_box sub c ≡ b → option_and_then version_left (newest_at got c) ≡ cond b (shown_at h r.there from to c) None
+    shows_inside : (c : List ℤ) (b : Bool) → is_in_box sub c ≡ b → option_and_then (version_left r schemas) (newest_at got c) ≡ cond b (shown_at h r.there from to c) None
     shows_inside c true inside = shows c inside (last_write h from to c) (newest_at got c) refl refl
-    shows_inside c false outside = ap (option_and_then version_left) (none_outside c (newest_at got c) refl outside)
+    shows_inside c false outside = ap (option_and_then (version_left r schemas)) (none_outside c (newest_at got c) refl outside)
 
-    -- the cells of the answer
-    abbrev cells : Cells
-    cells = left_values (slice_cmp int_cmp) coords_exact is_left shown_version (newest_of got)
+    -- so it is of what is newest in the map
+    left_there : (c : List ℤ) (b : Bool) → is_in_box sub c ≡ b → option_and_then (version_left r schemas) (map.get (newest_of got) c) ≡ cond b (shown_at h r.there from to c) None
+    left_there c b is = ap (option_and_then (version_left r schemas)) (get_newest_of got c) ∙ shows_inside c b is
+
+    -- the cells that are left, as a map
+    abbrev map_left : Cells
+    map_left = left_values (slice_cmp int_cmp) coords_exact is_left shown_version (newest_of got)
 
     -- versions that are left, at their own coordinates
     cells_are : (es : List (List ℤ × Version)) → OwnCoords es
@@ -201,23 +204,71 @@ module _ (h : History) (is : IsHistory h) (from to : ℕ) (sub : SubBox) (fetche
           | false ↦ cells_are es own.1
         ]
 
-    -- the cells that a read shows are the entries of that map
-    shown_cells : cells_shown r schemas got ≡ map.entries cells
-    shown_cells = cells_are (map.entries (newest_of got)) (own_newest got) ∙ sym (entries_left (slice_cmp int_cmp) coords_exact is_left shown_version (newest_of got))
+    -- they are the entries of that map
+    entries_of_left : cells_left r schemas got ≡ map.entries map_left
+    entries_of_left = cells_are (map.entries (newest_of got)) (own_newest got) ∙ sym (entries_left (slice_cmp int_cmp) coords_exact is_left shown_version (newest_of got))
+
+    -- a map with the cells that a read shows has at each coordinate what the history shows
+    abbrev ShowsAll : Type 0
+    ShowsAll = (cells : Cells) × (cells_shown r schemas got ≡ map.entries cells) × ((c : List ℤ) → map.get cells c ≡ shown_inside h r.frame r.there r.ready from to c)
+
+    -- the cells that are shown of each kind of array
+    abbrev of_kind : Bool → List (List ℤ × List Val)
+    of_kind dense = cond dense (cells_filled r schemas got) (cells_left r schemas got)
+
+    -- what is shown where no write is left, in each kind of array
+    abbrev fill_of_kind : Bool → Option (List Val)
+    fill_of_kind dense = cond dense (Some (fills_of r.there.attrs)) None
+
+    -- a sparse array shows what is left
+    shows_sparse : r.frame.dense ≡ false → ShowsAll
+    shows_sparse sparse = (
+      map_left,
+      ap of_kind sparse ∙ entries_of_left,
+      λ c. get_left (slice_cmp int_cmp) coords_exact is_left shown_version (newest_of got) c ∙ left_there c (is_in_box sub c) refl
+          ∙ ap (λ s. cond (is_in_box s c) (shown_at h r.there from to c) None) (sym box)
+          ∙ left_alone (is_in_box r.ready.sub c) (shown_at h r.there from to c) (unwritten r.frame r.there.attrs) (ap fill_of_kind sparse),
+    )
+
+    -- a dense array shows that, or else the fill, at each coordinate of the box
+    shows_dense : r.frame.dense ≡ true → length r.ready.sub.high ≡ length r.ready.sub.low → ShowsAll
+    shows_dense dense long = (
+      box_map r.ready.sub.low r.ready.sub.high long row_there,
+      ap of_kind dense ∙ sym (entries_box r.ready.sub.low r.ready.sub.high long row_there),
+      λ c. get_box r.ready.sub.low r.ready.sub.high long row_there c ∙ each c (is_in_box r.ready.sub c) refl,
+    )
+      where
+        row_there : List ℤ → List Val
+        row_there = λ c. row_or_fill r schemas (map.get (newest_of got) c)
+
+        each : (c : List ℤ) (t : Bool) → is_in_box r.ready.sub c ≡ t → cond t (Some (row_there c)) None ≡ cond t (option_or (shown_at h r.there from to c) (unwritten r.frame r.there.attrs)) None
+        each c true inside =
+            or_fill (option_and_then (version_left r schemas) (map.get (newest_of got) c)) (fills_of r.there.attrs)
+            ∙ ap (λ o. option_or o (Some (fills_of r.there.attrs))) (left_there c true (subst (λ s. is_in_box s c ≡ true) box inside))
+            ∙ ap (option_or (shown_at h r.there from to c)) (sym (ap fill_of_kind dense))
+        each c false outside = refl
+
+    -- so each array shows what its history shows
+    shows_all : (dense : Bool) → r.frame.dense ≡ dense → length r.ready.sub.high ≡ length r.ready.sub.low → ShowsAll
+    shows_all true dense long = shows_dense dense long
+    shows_all false sparse long = shows_sparse sparse
 
     -- the answer of a read that got these versions is that of the history
     pub answer_is : (later : History) (query : Query) → frame_in later ≡ Some r.frame → schema_there later to ≡ Some r.there → ready_in r.frame (r.there).attrs query ≡ Ok r.ready
         → IsAnswer h later from to query (answer_of r schemas got)
-    answer_is later query framed there is_ready = record {
-      frame = r.frame;
-      framed = framed;
-      there = r.there;
-      holds = there;
-      ready = r.ready;
-      is_ready = is_ready;
-      cells = cells;
-      each = λ c. get_left (slice_cmp int_cmp) coords_exact is_left shown_version (newest_of got) c ∙ ap (option_and_then version_left) (get_newest_of got c)
-          ∙ shows_inside c (is_in_box sub c) refl ∙ ap (λ s. cond (is_in_box s c) (shown_at h r.there from to c) None) (sym box);
-      rows = ap (selected r.frame (r.there).attrs r.ready) shown_cells;
-      types = refl;
-    }
+    answer_is later query framed there is_ready =
+        let dims = r.frame.domain in
+        let long = subst (λ (s : SubBox). length s.high ≡ length s.low) (sym (ready_box r.frame r.there.attrs query r.ready is_ready)) (length-map dims (high_of query.sub) ∙ sym (length-map dims (low_of query.sub))) in
+        let found = shows_all r.frame.dense refl long in
+        record {
+          frame = r.frame;
+          framed = framed;
+          there = r.there;
+          holds = there;
+          ready = r.ready;
+          is_ready = is_ready;
+          cells = found.0;
+          each = found.2;
+          rows = ap (selected r.frame r.there.attrs r.ready) found.1;
+          types = refl;
+        }

@@ -1,11 +1,11 @@
 -- The end of a scan: the cells of its box lie in the domain, they are those in row order, and the later history has a frame.
 use Rattle.std.proofs.Common.{◌≡◌, ℕ, ℤ, Bool, true, false, cond, ◌&&◌, List, [], ◌∷◌, map, length, Option, Some, None, Ok, Result, refl, sym, ◌∙◌, ap, subst, suc, arith}
-use Rattle.std.specs.Prelude.{IsTrue, int_le, option_map}
+use Rattle.std.specs.Prelude.{◌≤◌, ◌-◌, ◌^◌, IsTrue, if◌then◌else◌, int_le, min, nat_lt, option_map}
 use Rattle.std.specs.Option.{option_or, IsSome}
 use Rattle.std.specs.BTreeMap.{BTreeMap}
 use Rattle.std.specs.List.{All}
 use Rattle.std.specs.Map.{keys_of}
-use Rattle.std.proofs.lemmas.Bool.{and_parts, and_from}
+use Rattle.std.proofs.lemmas.Bool.{true≢false, and_parts, and_from, ltb-false}
 use Rattle.std.proofs.lemmas.Int.{ints}
 use Rattle.std.proofs.lemmas.Cmp.{eq_by_cmp_equiv}
 use Rattle.std.proofs.lemmas.List.Elements.{All-nil, All-cons, All-head, All-tail}
@@ -16,10 +16,10 @@ use Rattle.ts_cond.specs.declared.query.Query.{Query}
 use Rattle.ts_cond.specs.Tests.{Condition}
 use Rattle.ts_domain.specs.declared.dims.Dim.{Dim}
 use Rattle.ts_domain.specs.Bounds.{is_between}
-use Rattle.ts_domain.specs.Boxes.{is_in_box}
+use Rattle.ts_domain.specs.Boxes.{IsBox, is_in_box, cells_of}
 use Rattle.ts_domain.specs.Domains.{is_in_domain, LiesInDomain, first_bound_outside}
 use Rattle.ts_domain.proofs.Between.{within_parts, within_from}
-use Rattle.ts_domain.proofs.DomainLemmas.{first_bound_outside-none, is_in_domain-first_outside}
+use Rattle.ts_domain.proofs.DomainLemmas.{first_bound_outside-none, is_in_domain-first_outside, All-IsDomain}
 use Rattle.ts_schema.specs.declared.attrs.Attr.{Attr}
 use Rattle.ts_schema.specs.declared.frames.Frame.{Frame}
 use Rattle.ts_schema.specs.declared.schemas.Schema.{Schema}
@@ -29,11 +29,13 @@ use Rattle.ts_store.proofs.Trees.{get-tree}
 use Rattle.ts_model.specs.declared.answers.Refusal.{Refusal}
 use Rattle.ts_model.specs.declared.queries.Ready.{Ready}
 use Rattle.ts_model.specs.declared.queries.Shown.{Shown}
-use Rattle.ts_model.specs.Answers.{shown_at, shown_inside}
+use Rattle.ts_model.specs.Answers.{shown_at, shown_inside, unwritten}
 use Rattle.ts_model.specs.Deeds.{History, IsHistory, frame_in, schema_there}
-use Rattle.ts_model.specs.Queries.{box_of, low_of, high_of, too_many, query_refusal, filter_in, ready_with, ready_in}
+use Rattle.ts_model.specs.Queries.{box_of, low_of, high_of, most_cells, too_many, query_refusal, filter_in, ready_with, ready_in}
 use Rattle.ts_model.specs.Scans.{cells_in, shown_of, AreInside}
-use Rattle.ts_model.specs.Selections.{placed}
+use Rattle.ts_model.specs.Selections.{IsNamedBox, placed}
+use Rattle.ts_model.specs.declared.answers.Refusal.TheVariants as refusal
+use Rattle.ts_model.proofs.Checked.{box_ordered}
 use Rattle.ts_model.proofs.HistoryLaws.{there_is_with, framed_by_schema, frame_facts, schema_facts}
 use Rattle.ts_model.proofs.Newest.{coords_total}
 use Rattle.ts_model.proofs.QueryRefusals.{ready_box}
@@ -64,19 +66,45 @@ corners_long : (f g : Dim → ℤ) (dims : List Dim) → (length (map f dims) �
 corners_long f g [] = (refl, refl)
 corners_long f g (d ∷ dims) = let rest = corners_long f g dims in (ap suc rest.0, ap suc rest.1)
 
+-- its box lies in the domain, and in a dense array it does not have too many cells
+ready_none : (frame : Frame) (attrs : List Attr) (q : Query) (ready : Ready) → ready_in frame attrs q ≡ Ok ready
+    → (first_bound_outside frame.domain (box_of q.sub frame.domain) ≡ None) × (too_many frame (box_of q.sub frame.domain) ≡ None)
+ready_none frame attrs q ready is =
+    let dims = frame.domain in
+    let refused : query_refusal frame attrs q ≡ None = ready_unrefused frame attrs q (query_refusal frame attrs q) (filter_in dims attrs q.filter) ready is in
+    let later = second_none _ _ refused in
+    (none_before _ (first_bound_outside dims (box_of q.sub dims)) (first_none _ (too_many frame (box_of q.sub dims)) later), second_none _ _ later)
+
 -- its box lies in the domain
 pub ready_inside : (frame : Frame) (attrs : List Attr) (q : Query) (ready : Ready) → ready_in frame attrs q ≡ Ok ready → LiesInDomain frame.domain ready.sub
 ready_inside frame attrs q ready is =
     let dims = frame.domain in
-    let refused : query_refusal frame attrs q ≡ None = ready_unrefused frame attrs q (query_refusal frame attrs q) (filter_in dims attrs q.filter) ready is in
-    let bounds = first_none _ (too_many frame (box_of q.sub dims)) (second_none _ _ refused) in
-    let inside : first_bound_outside dims (box_of q.sub dims) ≡ None = none_before _ (first_bound_outside dims (box_of q.sub dims)) bounds in
+    let inside = (ready_none frame attrs q ready is).0 in
     let long = corners_long (low_of q.sub) (high_of q.sub) dims in
     let corners = first_bound_outside-none 0 dims (map (low_of q.sub) dims) (map (high_of q.sub) dims) long.1 inside in
     subst (LiesInDomain dims) (sym (ready_box frame attrs q ready is)) (
       is_in_domain-first_outside 0 dims (map (low_of q.sub) dims) long.0 corners.0,
       is_in_domain-first_outside 0 dims (map (high_of q.sub) dims) (long.1 ∙ long.0) corners.1,
     )
+
+-- it is a box, where the bounds of the query are in order
+pub ready_is_box : (frame : Frame) (attrs : List Attr) (q : Query) (ready : Ready) → IsFrame frame → All IsNamedBox q.sub → ready_in frame attrs q ≡ Ok ready → IsBox ready.sub
+ready_is_box frame attrs q ready is_frame ordered is =
+    subst IsBox (sym (ready_box frame attrs q ready is)) (box_ordered q.sub frame.domain (All-IsDomain frame.domain is_frame.domain) ordered)
+
+-- what is not more than the most is at most that
+not_over : (dense : Bool) (cells : ℕ) → (if dense && nat_lt most_cells (min cells (2 ^ 64 - 1)) then Some (refusal.TooMany (min cells (2 ^ 64 - 1))) else None) ≡ None → dense ≡ true → cells ≤ most_cells
+not_over false cells is dense = absurd (true≢false (sym dense))
+not_over true cells is dense = by_test (nat_lt most_cells (min cells (2 ^ 64 - 1))) is refl
+  where
+    by_test : (t : Bool) → (if t then Some (refusal.TooMany (min cells (2 ^ 64 - 1))) else None) ≡ None → nat_lt most_cells (min cells (2 ^ 64 - 1)) ≡ t → cells ≤ most_cells
+    by_test true none test = absurd (none-some _ (sym none))
+    by_test false none test = let level : min cells (2 ^ 64 - 1) ≤ most_cells = ltb-false most_cells (min cells (2 ^ 64 - 1)) test in omega arith
+
+-- in a dense array it has few cells
+pub ready_few : (frame : Frame) (attrs : List Attr) (q : Query) (ready : Ready) → ready_in frame attrs q ≡ Ok ready → frame.dense ≡ true → cells_of ready.sub ≤ most_cells
+ready_few frame attrs q ready is dense =
+    subst (λ sub. cells_of sub ≤ most_cells) (sym (ready_box frame attrs q ready is)) (not_over frame.dense (cells_of (box_of q.sub frame.domain)) (ready_none frame attrs q ready is).1 dense)
 
 -- ---- the cells of the box
 
@@ -100,10 +128,10 @@ between_inner (o ∷ os) (q ∷ qs) (l ∷ ls) (h ∷ hs) (x ∷ xs) a b t =
     and_from (int_le o x && int_le x q) (is_between os qs xs) (within_from o q x (omega (arith, ints)) (omega (arith, ints))) (between_inner os qs ls hs xs first.1 second.1 parts.1)
 
 -- a coordinate at which something is shown lies in the box
-shown_in_box : (h : History) (there : Schema) (ready : Ready) (a b : ℕ) (c : List ℤ) → IsSome (shown_inside h there ready a b c) → IsTrue (is_in_box ready.sub c)
-shown_in_box h there ready a b c some = by_test (is_in_box ready.sub c) some
+shown_in_box : (h : History) (frame : Frame) (there : Schema) (ready : Ready) (a b : ℕ) (c : List ℤ) → IsSome (shown_inside h frame there ready a b c) → IsTrue (is_in_box ready.sub c)
+shown_in_box h frame there ready a b c some = by_test (is_in_box ready.sub c) some
   where
-    by_test : (t : Bool) → IsSome (cond t (shown_at h there a b c) None) → t ≡ true
+    by_test : (t : Bool) → IsSome (cond t (option_or (shown_at h there a b c) (unwritten frame there.attrs)) None) → t ≡ true
     by_test true is = refl
     by_test false is = cc
 
@@ -113,12 +141,12 @@ cells_all P [] all = All-nil (λ (cell : Shown). P cell.coords)
 cells_all P (e ∷ es) all = All-cons (λ (cell : Shown). P cell.coords) (shown_of e) (map shown_of es) (All-head P e.0 (keys_of es) all) (cells_all P es (All-tail P e.0 (keys_of es) all))
 
 -- the cells that are found lie in the domain
-pub cells_inside : (dims : List Dim) (h : History) (there : Schema) (ready : Ready) (a b : ℕ) (m : BTreeMap (List ℤ) (List Val)) → LiesInDomain dims ready.sub → AreInside h there ready a b (cells_in m)
+pub cells_inside : (dims : List Dim) (h : History) (frame : Frame) (there : Schema) (ready : Ready) (a b : ℕ) (m : BTreeMap (List ℤ) (List Val)) → LiesInDomain dims ready.sub → AreInside h frame there ready a b (cells_in m)
     → All (λ (cell : Shown). IsTrue (is_in_domain dims cell.coords)) (map shown_of m.entries)
-cells_inside dims h there ready a b m lies each =
+cells_inside dims h frame there ready a b m lies each =
     cells_all (λ c. IsTrue (is_in_domain dims c)) m.entries (All-keys_from_lookup (eq_by_cmp_equiv coords_total) (λ c. IsTrue (is_in_domain dims c)) m.entries (λ c some.
     between_inner (map (λ (d : Dim). d.low) dims) (map (λ (d : Dim). d.high) dims) ready.sub.low ready.sub.high c lies.0 lies.1
-    (shown_in_box h there ready a b c (subst IsSome (sym (get-tree coords_total m c) ∙ each c) some))))
+    (shown_in_box h frame there ready a b c (subst IsSome (sym (get-tree coords_total m c) ∙ each c) some))))
 
 -- a cell is a pair of its coordinates and its row
 pub placed_back : (es : List (List ℤ × List Val)) → map placed (map shown_of es) ≡ es
@@ -139,4 +167,4 @@ there_attrs h b s is holds = (schema_facts h s.key s is (there_is_with h b s is 
 
 -- its frame is one
 pub framed_is : (h : History) (frame : Frame) → IsHistory h → frame_in h ≡ Some frame → IsFrame frame
-framed_is h frame is framed = (frame_facts h frame is framed).0
+framed_is h frame is framed = frame_facts h frame is framed

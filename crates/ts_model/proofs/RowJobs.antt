@@ -139,11 +139,12 @@ module _ {F : Type 0} (forms : Forms F) (any : Job) (whole : List Exchange) wher
   columns_cause w found x (refusal.SchemaClash label) got is cause = (got, cause)
   columns_cause w found x (refusal.Domain dim value) got is cause = (got, cause)
   columns_cause w found x (refusal.DuplicateCell place) got is cause = (got, cause)
+  columns_cause w found x (refusal.TooMany cells) got is cause = (got, cause)
   columns_cause w found x _ got is cause = absurd is
 
   -- what a write does then
   write_works : (w : WriteIn) (there : Schema) (frame : Frame) (x : Exchange) (xs : List Exchange) (end : Outcome) → IsGot (with (Write w)) (found_as there frame) whole → SaysThere (found_as there frame) (Write w) x.call x.reply → IsTrue (lets_on x.call x.reply) → IsTrue (is_look x.call)
-      → (laying : Result (List Cell) Refusal) → laid frame.domain there.attrs w.cols ≡ laying → FailsByColumns laying
+      → (laying : Result (List Cell) Refusal) → laid frame there.attrs w ≡ laying → FailsByColumns laying
       → Follows forms (with (Write w)) whole (found_as there frame) (cell_puts forms (with (Write w)) (found_as there frame) laying) x xs end (puts_cells forms (with (Write w)) frame there laying)
   write_works w there frame x xs end got says on look (Ok cells) is fails =
       let job = with (Write w) in
@@ -199,8 +200,8 @@ module _ {F : Type 0} (forms : Forms F) (any : Job) (whole : List Exchange) wher
   write_finds : (w : WriteIn) (xs : List Exchange) (end : Outcome) → Within forms (with (Write w)) whole xs → Finds (with (Write w)) xs end (ListsSchemas nothing_listed)
   write_finds w xs end within a e =
       let (there, frame, goes_on) =
-      schemas_found forms (with (Write w)) whole refl (λ found r. tt) (write_schema w) (write_frame w) (λ found. cell_puts forms (with (Write w)) found (laid (found.frame).domain (found.there).attrs w.cols))
-      (λ looked there frame x xs end within got says on look. write_works w there frame x xs end got says on look (laid frame.domain there.attrs w.cols) refl (laid_fails frame.domain there.attrs w.cols)) nothing_listed xs end within in
+      schemas_found forms (with (Write w)) whole refl (λ found r. tt) (write_schema w) (write_frame w) (λ found. cell_puts forms (with (Write w)) found (laid found.frame (found.there).attrs w))
+      (λ looked there frame x xs end within got says on look. write_works w there frame x xs end got says on look (laid frame there.attrs w) refl (laid_fails frame there.attrs w)) nothing_listed xs end within in
       (found_as there frame, goes_on a e)
 
   -- a delete

@@ -23,9 +23,9 @@ use Rattle.ts_domain.specs.Boxes.{is_in_box}
 use Rattle.ts_model.specs.declared.answers.Outcome.{Outcome}
 use Rattle.ts_model.specs.declared.answers.Outcome.TheVariants as outcome
 use Rattle.ts_model.specs.declared.queries.Ready.{Ready}
-use Rattle.ts_model.specs.Answers.{Cells, shown_in, shown_inside}
+use Rattle.ts_model.specs.Answers.{Cells, shown_in, left_inside}
 use Rattle.std.specs.Option.{option_and_then}
-use Rattle.ts_model.specs.Scans.{with_shown, cells_of_deed, cells_of_deeds, Shows, AreInside, IsAsked, IsReferred}
+use Rattle.ts_model.specs.Scans.{with_shown, cells_of_deed, cells_of_deeds, Shows, AreShown, IsAsked, IsReferred}
 use Rattle.ts_model.proofs.Newest.{greater_assoc, coords_total, coords_same, coords_tie}
 
 -- ---- the greatest of two lists
@@ -81,7 +81,7 @@ absent_right c (x ∷ xs) ys is = by_test (coords_eq x.coords c) is (absent_righ
     by_test false is' later = later is'
 
 -- what a map has at a coordinate after one row more
-get_more : (m : Cells) (k : List ℤ) (row : List Val) (c : List ℤ) → map.get (map.insert m k row) c ≡ cond (coords_eq k c) (Some row) (map.get m c)
+pub get_more : (m : Cells) (k : List ℤ) (row : List Val) (c : List ℤ) → map.get (map.insert m k row) c ≡ cond (coords_eq k c) (Some row) (map.get m c)
 get_more m k row c = map.get-insert coords_total m k row c ∙ ap (λ b. cond b (Some row) (map.get m c)) (coords_tie c k)
 
 -- one cell more, with what is shown at its coordinates
@@ -130,15 +130,15 @@ no_writes (Wrote w ∷ h) a b c is =
     neither true = refl
     neither false = refl
 
--- once all deeds were looked at the map has what is shown at each coordinate of the box
-pub all_shown : (h : History) (there : Schema) (ready : Ready) (a b : ℕ) (m : Cells) → Shows (shown_inside h there ready a b) m (cells_of_deeds h) → AreInside h there ready a b m
-all_shown h there ready a b m shows c = by_case (shows c)
+-- once all deeds were looked at the map has what is left at each coordinate of the box
+pub all_left : (h : History) (there : Schema) (ready : Ready) (a b : ℕ) (m : Cells) → Shows (left_inside h there ready a b) m (cells_of_deeds h) → AreShown (left_inside h there ready a b) m
+all_left h there ready a b m shows c = by_case (shows c)
   where
     nothing : (t : Bool) (o : Option (List Val)) → cond t o o ≡ o
     nothing true o = refl
     nothing false o = refl
 
-    by_case : (map.get m c ≡ shown_inside h there ready a b c) ⊎ ((map.get m c ≡ None) × (row_at c (cells_of_deeds h) ≡ None)) → map.get m c ≡ shown_inside h there ready a b c
+    by_case : (map.get m c ≡ left_inside h there ready a b c) ⊎ ((map.get m c ≡ None) × (row_at c (cells_of_deeds h) ≡ None)) → map.get m c ≡ left_inside h there ready a b c
     by_case (inl same) = same
     by_case (inr none) =
         none.0

@@ -107,7 +107,7 @@ module _ (frame : Frame) (l : Layout) where
       ] refl)
 
 -- the filter passes the same cells, however it finds its values
-passes-picked : (attrs : List Attr) (filter : Option Condition) (c : List ℤ) (row : List Val) → passes_by (picks_in attrs filter) filter c row ≡ passes filter attrs c row
+pub passes-picked : (attrs : List Attr) (filter : Option Condition) (c : List ℤ) (row : List Val) → passes_by (picks_in attrs filter) filter c row ≡ passes filter attrs c row
 passes-picked attrs None c row = refl
 passes-picked attrs (Some condition) c row = holds_as_picked condition.fields c (attr_fields attrs) row condition.root
 

@@ -34,11 +34,11 @@ use Rattle.ts_model.specs.States.{begun, keys_named, made_by, state_of, unless_r
 use Rattle.ts_model.specs.Told.{Told, cells_of, condition_of, declared_by, deed_in, deed_of, deed_told, erased_by, erased_in, grown, history_from, history_told, is_by, schema_used, schemas_found, trace_of, written_by, written_in}
 use Rattle.ts_model.specs.declared.answers.Outcome.{Outcome}
 use Rattle.ts_model.specs.declared.answers.Refusal.{Refusal}
-use Rattle.ts_model.specs.declared.commands.ColIn.{ColIn}
 use Rattle.ts_model.specs.declared.commands.Command.{Command}
 use Rattle.ts_model.specs.declared.commands.Command.TheVariants.{Create, Delete, Evolve, Read, Write}
 use Rattle.ts_model.specs.declared.commands.FrameIn.{FrameIn}
 use Rattle.ts_model.specs.declared.commands.Job.{Job}
+use Rattle.ts_model.specs.declared.commands.WriteIn.{WriteIn}
 use Rattle.ts_model.specs.declared.deeds.Deed.{Deed}
 use Rattle.ts_model.specs.declared.deeds.Deed.TheVariants.{Declared, Erased, Framed, Wrote}
 use Rattle.ts_model.specs.declared.deeds.Erasure.{Erasure}
@@ -77,11 +77,11 @@ declared_key_is h job found (Write w) s is = absurd (none-some s is)
 declared_key_is h job found (Read from to query) s is = absurd (none-some s is)
 declared_key_is h job found (Delete text) s is = absurd (none-some s is)
 
--- what columns write has the key of the job
-written_in_key_is : (job : Job) (cols : List ColIn) (o : Option Schema) (q : Option Frame) (w : Written) → written_in job cols o q ≡ Some w → w.key ≡ key_of job
-written_in_key_is job cols None q w is = absurd (none-some w is)
-written_in_key_is job cols (Some s) None w is = absurd (none-some w is)
-written_in_key_is job cols (Some s) (Some frame) w is = of_cells (cells_of (laid frame.domain s.attrs cols)) is
+-- what a write writes has the key of the job
+written_in_key_is : (job : Job) (v : WriteIn) (o : Option Schema) (q : Option Frame) (w : Written) → written_in job v o q ≡ Some w → w.key ≡ key_of job
+written_in_key_is job v None q w is = absurd (none-some w is)
+written_in_key_is job v (Some s) None w is = absurd (none-some w is)
+written_in_key_is job v (Some s) (Some frame) w is = of_cells (cells_of (laid frame s.attrs v)) is
   where
     of_cells : (o : Option (List Cell)) → option_map (written_as job s.key) o ≡ Some w → w.key ≡ key_of job
     of_cells None e = absurd (none-some w e)
@@ -91,7 +91,7 @@ written_in_key_is job cols (Some s) (Some frame) w is = of_cells (cells_of (laid
 pub written_key_is : (h : History) (job : Job) (found : Option (List Key)) (c : Command) (w : Written) → written_by h job found c ≡ Some w → w.key ≡ key_of job
 written_key_is h job found (Create f) w is = absurd (none-some w is)
 written_key_is h job found (Evolve change) w is = absurd (none-some w is)
-written_key_is h job found (Write v) w is = written_in_key_is job v.cols (schema_used h job found) (frame_in h) w is
+written_key_is h job found (Write v) w is = written_in_key_is job v (schema_used h job found) (frame_in h) w is
 written_key_is h job found (Read from to query) w is = absurd (none-some w is)
 written_key_is h job found (Delete text) w is = absurd (none-some w is)
 

@@ -218,10 +218,10 @@ frame_held spelled m h stands held = from (frame_in h) refl
     from (Some frame) is = (frame, is)
 
 -- the frame that is put is the first deed
-pub stands_frame : (spelled : Spelled) (m : Held) (h : History) (frame : Frame) → (Holds m name.Domain → ⊥) → IsFrame frame → frame.dense ≡ false → IsShort (frame_object frame) → Stands spelled m h
+pub stands_frame : (spelled : Spelled) (m : Held) (h : History) (frame : Frame) → (Holds m name.Domain → ⊥) → IsFrame frame → IsShort (frame_object frame) → Stands spelled m h
     → Stands spelled (map.insert m name.Domain (frame_object frame)) (h ++ Framed frame ∷ [])
-stands_frame spelled m h frame free is sparse short stands = record {
-  history = IsHistory-push h (Framed frame) stands.history (record { first = first_deed spelled m h free stands; is_frame = is; sparse = sparse });
+stands_frame spelled m h frame free is short stands = record {
+  history = IsHistory-push h (Framed frame) stands.history (record { first = first_deed spelled m h free stands; is_frame = is });
   frame = get_put m name.Domain (frame_object frame) ∙ ap (λ g. option_map frame_object (frame_in (g ++ Framed frame ∷ []))) (sym (first_deed spelled m h free stands));
   schemas = λ k. schema_grows spelled m h name.Domain (frame_object frame) (Framed frame ∷ []) free stands k (λ e. cc) (schema_with-undeclared h (Framed frame ∷ []) k refl);
   deletes = λ f. delete_grows spelled m h name.Domain (frame_object frame) (Framed frame ∷ []) free stands f (λ e. cc) (erase_of-unerased h (Framed frame ∷ []) f refl);

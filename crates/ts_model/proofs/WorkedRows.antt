@@ -1,12 +1,14 @@
 -- The definitions on worked rows: each row computes, so that a reader can see what a definition says.
 use Rattle.std.proofs.Common.{Ok, Err, ◌≡◌, ℕ, ℤ, ◌+◌, ◌*◌, ◌^◌, true, false, List, [], ◌∷◌, ◌++◌, Option, Some, None, refl}
 use Rattle.std.specs.Prelude.{pos, map}
+use Rattle.ts_base.specs.declared.heads.Cell.{Cell}
 use Rattle.ts_base.specs.declared.heads.Stop.TheVariants.{Never}
 use Rattle.ts_base.specs.declared.values.Val.{Val}
 use Rattle.ts_base.specs.declared.values.Val.TheVariants.{Int}
 use Rattle.ts_base.specs.declared.values.ValType.TheVariants.{I64}
 use Rattle.ts_domain.specs.declared.dims.Dim.{Dim}
-use Rattle.ts_domain.specs.declared.orders.Order.TheVariants.{Row}
+use Rattle.ts_domain.specs.declared.orders.Order.{Order}
+use Rattle.ts_domain.specs.declared.orders.Order.TheVariants.{Row, Col}
 use Rattle.ts_schema.specs.declared.attrs.Attr.{Attr}
 use Rattle.ts_schema.specs.declared.frames.Frame.{Frame}
 use Rattle.ts_schema.specs.declared.schemas.Schema.{Schema}
@@ -17,13 +19,15 @@ use Rattle.ts_store.specs.declared.call.Reply.TheVariants as reply
 use Rattle.ts_base.specs.declared.names.Name.TheVariants as name
 use Rattle.ts_model.specs.declared.commands.Command.TheVariants.{Write, Read}
 use Rattle.ts_model.specs.declared.commands.ColIn.{ColIn}
+use Rattle.ts_model.specs.declared.commands.WriteIn.{WriteIn}
 use Rattle.ts_model.specs.declared.commands.Job.{Job}
+use Rattle.ts_model.specs.declared.queries.Ready.{Ready}
 use Rattle.ts_model.specs.declared.answers.Refusal.TheVariants as refusal
 use Rattle.ts_model.specs.declared.deeds.Deed.{Deed}
 use Rattle.ts_model.specs.declared.deeds.Deed.TheVariants.{Framed, Declared, Wrote, Erased}
 use Rattle.ts_model.specs.Deeds.{History, schema_there}
-use Rattle.ts_model.specs.Answers.{shown_at}
-use Rattle.ts_model.specs.Queries.{attr_field, ready_in, passes, items_at, fields_of}
+use Rattle.ts_model.specs.Answers.{shown_at, shown_inside}
+use Rattle.ts_model.specs.Queries.{attr_field, erasing_in, ready_in, passes, items_at, fields_of}
 use Rattle.ts_cond.specs.declared.nodes.CondOp.TheVariants as op
 use Rattle.ts_cond.specs.declared.query.NamedBox.{NamedBox}
 use Rattle.ts_cond.specs.declared.query.Query.{Query}
@@ -238,28 +242,106 @@ fields_twice = refl
 abbrev col : ℕ → List Val → ColIn
 col letter values = record { name = letter ∷ []; values = values }
 
+-- a write of columns, with no box
+abbrev of_columns : List ColIn → WriteIn
+of_columns cols = record { cols = cols; sub = []; layout = Row }
+
 -- the columns give the cells one after the other
-two_laid : laid (dim ∷ []) first.attrs (col 97 (Int (pos 1) ∷ Int (pos 2) ∷ []) ∷ col 120 (Int (pos 3) ∷ Int (pos 4) ∷ []) ∷ [])
+two_laid : laid frame first.attrs (of_columns (col 97 (Int (pos 1) ∷ Int (pos 2) ∷ []) ∷ col 120 (Int (pos 3) ∷ Int (pos 4) ∷ []) ∷ []))
     ≡ Ok (record { coords = pos 3 ∷ []; row = Int (pos 1) ∷ [] } ∷ record { coords = pos 4 ∷ []; row = Int (pos 2) ∷ [] } ∷ [])
 two_laid = refl
 
 -- the second cell lies where the first does
-laid_twice : laid (dim ∷ []) first.attrs (col 97 (Int (pos 1) ∷ Int (pos 2) ∷ []) ∷ col 120 (Int (pos 3) ∷ Int (pos 3) ∷ []) ∷ []) ≡ Err (refusal.DuplicateCell 1)
+laid_twice : laid frame first.attrs (of_columns (col 97 (Int (pos 1) ∷ Int (pos 2) ∷ []) ∷ col 120 (Int (pos 3) ∷ Int (pos 3) ∷ []) ∷ [])) ≡ Err (refusal.DuplicateCell 1)
 laid_twice = refl
 
 -- the coordinate 10 lies outside
-laid_outside : laid (dim ∷ []) first.attrs (col 97 (Int (pos 1) ∷ []) ∷ col 120 (Int (pos 10) ∷ []) ∷ []) ≡ Err (refusal.Domain 0 (pos 10))
+laid_outside : laid frame first.attrs (of_columns (col 97 (Int (pos 1) ∷ []) ∷ col 120 (Int (pos 10) ∷ []) ∷ [])) ≡ Err (refusal.Domain 0 (pos 10))
 laid_outside = refl
 
 -- a column for the attribute is wanting
-laid_too_few : laid (dim ∷ []) first.attrs (col 120 (Int (pos 3) ∷ []) ∷ []) ≡ Err (refusal.SchemaClash (97 ∷ []))
+laid_too_few : laid frame first.attrs (of_columns (col 120 (Int (pos 3) ∷ []) ∷ [])) ≡ Err (refusal.SchemaClash (97 ∷ []))
 laid_too_few = refl
+
+-- a sparse array takes no box
+laid_with_box : laid frame first.attrs (record { cols = col 97 (Int (pos 1) ∷ []) ∷ col 120 (Int (pos 3) ∷ []) ∷ []; sub = bounds 120 (pos 3) (pos 3) ∷ []; layout = Row }) ≡ Err (refusal.SchemaClash (120 ∷ []))
+laid_with_box = refl
+
+-- ---- what columns lay over a box of a dense array
+
+-- a dense array of the dimensions x and y, each from 0 to 9
+abbrev square : Frame
+square = record { dense = true; domain = dim ∷ record { name = 121 ∷ []; ty = I64; low = pos 0; high = pos 9; extent = pos 5 } ∷ []; cell = Row; tile = Row; capacity = 4 }
+
+-- the write of four values over the box of x from 3 to 4 and of y from 7 to 8, in the order of a layout
+abbrev four_over : Order → WriteIn
+four_over order = record { cols = col 97 (Int (pos 1) ∷ Int (pos 2) ∷ Int (pos 5) ∷ Int (pos 6) ∷ []) ∷ []; sub = bounds 121 (pos 7) (pos 8) ∷ bounds 120 (pos 3) (pos 4) ∷ []; layout = order }
+
+-- a cell of two dimensions, with one value
+abbrev cell_at : ℕ → ℕ → ℕ → Cell
+cell_at x y value = record { coords = pos x ∷ pos y ∷ []; row = Int (pos value) ∷ [] }
+
+-- by rows the second value stands beside the first in y
+laid_by_rows : laid square first.attrs (four_over Row) ≡ Ok (cell_at 3 7 1 ∷ cell_at 3 8 2 ∷ cell_at 4 7 5 ∷ cell_at 4 8 6 ∷ [])
+laid_by_rows = refl
+
+-- by columns beside it in x
+laid_by_columns : laid square first.attrs (four_over Col) ≡ Ok (cell_at 3 7 1 ∷ cell_at 4 7 2 ∷ cell_at 3 8 5 ∷ cell_at 4 8 6 ∷ [])
+laid_by_columns = refl
+
+-- without a box the values are too few for the whole domain
+laid_whole : laid square first.attrs (record { cols = col 97 (Int (pos 1) ∷ []) ∷ []; sub = []; layout = Row }) ≡ Err (refusal.SchemaClash (97 ∷ []))
+laid_whole = refl
+
+-- a dense array takes no column of a dimension
+laid_with_coordinates : laid square first.attrs (record { cols = col 97 (Int (pos 1) ∷ []) ∷ col 120 (Int (pos 3) ∷ []) ∷ []; sub = bounds 120 (pos 3) (pos 3) ∷ bounds 121 (pos 7) (pos 7) ∷ []; layout = Row })
+    ≡ Err (refusal.SchemaClash (120 ∷ []))
+laid_with_coordinates = refl
+
+-- a bound's name that is no dimension clashes before a bound outside is looked at
+laid_over_stray : laid square first.attrs (record { cols = col 97 (Int (pos 1) ∷ Int (pos 2) ∷ []) ∷ []; sub = bounds 120 (pos 9) (pos 10) ∷ bounds 121 (pos 7) (pos 7) ∷ bounds 122 (pos 0) (pos 0) ∷ []; layout = Row })
+    ≡ Err (refusal.SchemaClash (122 ∷ []))
+laid_over_stray = refl
+
+-- the bound 10 lies outside
+laid_over_outside : laid square first.attrs (record { cols = col 97 (Int (pos 1) ∷ Int (pos 2) ∷ []) ∷ []; sub = bounds 120 (pos 9) (pos 10) ∷ bounds 121 (pos 7) (pos 7) ∷ []; layout = Row }) ≡ Err (refusal.Domain 0 (pos 10))
+laid_over_outside = refl
+
+-- ---- what a dense array shows
+
+-- a dense array of the dimension x
+abbrev line : Frame
+line = record { dense = true; domain = dim ∷ []; cell = Row; tile = Row; capacity = 4 }
+
+-- a query of the box from 3 to 6
+abbrev some : Ready
+some = record { sub = record { low = pos 3 ∷ []; high = pos 6 ∷ [] }; fields = []; filter = None; layout = layout.Row }
+
+-- where nothing was written each attribute of the schema there shows its fill
+unwritten_shows : shown_inside evolved line second some 0 9 (pos 4 ∷ []) ≡ Some (Int (pos 0) ∷ Int (pos 7) ∷ [])
+unwritten_shows = refl
+
+-- what was written shows as in a sparse array
+written_shows : shown_inside evolved line second some 0 9 (pos 5 ∷ []) ≡ Some (Int (pos 10) ∷ Int (pos 7) ∷ [])
+written_shows = refl
+
+-- outside the box nothing shows
+outside_shows : shown_inside evolved line second some 0 9 (pos 7 ∷ []) ≡ None
+outside_shows = refl
+
+-- nor does it in a sparse array where nothing was written
+sparse_shows : shown_inside evolved frame second some 0 9 (pos 4 ∷ []) ≡ None
+sparse_shows = refl
+
+-- a delete from a dense array is refused, whatever its text is
+dense_delete : erasing_in line first.attrs [] ≡ Err refusal.DenseArray
+dense_delete = refl
 
 -- ---- what calls do
 
 -- a write of one cell
 abbrev a_write : Job
-a_write = record { command = Write (record { cols = col 97 (Int (pos 1) ∷ []) ∷ col 120 (Int (pos 3) ∷ []) ∷ [] }); at = 5; id = 9; stop = Never }
+a_write = record { command = Write (of_columns (col 97 (Int (pos 1) ∷ []) ∷ col 120 (Int (pos 3) ∷ []) ∷ [])); at = 5; id = 9; stop = Never }
 
 -- its listing of the schemas
 abbrev told_listing : Told

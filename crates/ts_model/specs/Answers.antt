@@ -1,6 +1,7 @@
 -- What a read answers.
-use Rattle.std.specs.Prelude.{◌≡◌, ℕ, ℤ, Bool, cond, ◌&&◌, List, Option, Some, None, Ok, option_map, option_and_then}
+use Rattle.std.specs.Prelude.{◌≡◌, ℕ, ℤ, Bool, cond, ◌&&◌, List, Option, Some, None, Ok, option_map, option_and_then, map as list_map}
 use Rattle.std.specs.List.{list_any}
+use Rattle.std.specs.Option.{option_or}
 use Rattle.ts_base.specs.declared.values.Val.{Val}
 use Rattle.ts_base.specs.Keys.{is_within, key_lt}
 use Rattle.ts_model.specs.declared.answers.Answer.{Answer}
@@ -40,13 +41,25 @@ row_left h a b c w = option_and_then (λ row. cond (is_erased h a b c w row) Non
 abbrev pub shown_in : History → Schema → ℕ → ℕ → List ℤ → Written → Option (List Val)
 shown_in h there a b c w = option_map (λ row. shown_row (attrs_with h w.schema) row there.attrs) (row_left h a b c w)
 
+-- the fill of each attribute
+abbrev pub fills_of : List Attr → List Val
+fills_of attrs = list_map (λ a. a.fill) attrs
+
+-- what is shown where no write is left, through a schema with these attributes: nothing in a sparse array, in a dense one the fill of each attribute
+abbrev pub unwritten : Frame → List Attr → Option (List Val)
+unwritten frame attrs = cond frame.dense (Some (fills_of attrs)) None
+
 -- what a read of [a, b] shows at a coordinate through a schema: the cell of the last write there, if it is not erased; no older write comes to light
 abbrev pub shown_at : History → Schema → ℕ → ℕ → List ℤ → Option (List Val)
 shown_at h there a b c = option_and_then (shown_in h there a b c) (last_write h a b c)
 
 -- the same at the coordinates of a box, and nothing elsewhere
-abbrev pub shown_inside : History → Schema → Ready → ℕ → ℕ → List ℤ → Option (List Val)
-shown_inside h there ready a b c = cond (is_in_box ready.sub c) (shown_at h there a b c) None
+abbrev pub left_inside : History → Schema → Ready → ℕ → ℕ → List ℤ → Option (List Val)
+left_inside h there ready a b c = cond (is_in_box ready.sub c) (shown_at h there a b c) None
+
+-- what is shown at the coordinates of a box, and nothing elsewhere: where no write is left, a dense array shows the fill
+abbrev pub shown_inside : History → Frame → Schema → Ready → ℕ → ℕ → List ℤ → Option (List Val)
+shown_inside h frame there ready a b c = cond (is_in_box ready.sub c) (option_or (shown_at h there a b c) (unwritten frame there.attrs)) None
 
 -- the answer to a read of [a, b]: of the cells of its box, as the history at the listing of the commits has them, shown through the schema there of the history at the listing of the schemas, its query selects the rows
 pub record IsAnswer (h : History) (later : History) (a b : ℕ) (query : Query) (answer : Answer) : Type 0 where
@@ -57,6 +70,6 @@ pub record IsAnswer (h : History) (later : History) (a b : ℕ) (query : Query) 
   pub ready : Ready
   pub is_ready : ready_in frame there.attrs query ≡ Ok ready
   pub cells : Cells
-  pub each : (c : List ℤ) → map.get cells c ≡ shown_inside h there ready a b c
+  pub each : (c : List ℤ) → map.get cells c ≡ shown_inside h frame there ready a b c
   pub rows : answer.rows ≡ selected frame there.attrs ready (map.entries cells)
   pub types : answer.types ≡ types_shown frame there.attrs ready

@@ -1,5 +1,5 @@
 -- What commands make, and what they are refused for.
-use Rattle.std.specs.Prelude.{ℕ, ℤ, pos, ◌<◌, ◌≤◌, IsTrue, All, ◌+◌, ◌-◌, ◌*◌, ◌^◌, Bool, true, false, cond, ◌&&◌, ◌||◌, if◌then◌else◌, List, [], ◌∷◌, ◌++◌, Option, Some, None, option_map, option_and_then, filter_map, length, nat_le, nat_lt, nat_eq, int_le, int_lt, slice_get, Result, Ok, Err, find, is_some, suc, zero, neg_ℤ, map as list_map}
+use Rattle.std.specs.Prelude.{ℕ, ℤ, pos, ◌<◌, ◌≤◌, IsTrue, All, ◌+◌, ◌-◌, ◌*◌, ◌^◌, Bool, true, false, cond, not, ◌≡◌, ◌&&◌, ◌||◌, if◌then◌else◌, List, [], ◌∷◌, ◌++◌, Option, Some, None, option_map, option_and_then, filter_map, length, nat_le, nat_lt, nat_eq, int_le, int_lt, slice_get, Result, Ok, Err, find, is_some, suc, zero, neg_ℤ, map as list_map}
 use Rattle.ts_base.specs.declared.keys.Key.{Key}
 use Rattle.ts_base.specs.declared.heads.Version.{Version}
 use Rattle.ts_base.specs.declared.heads.Piece.{Piece}
@@ -9,6 +9,7 @@ use Rattle.ts_base.specs.declared.values.ValType.{ValType}
 use Rattle.ts_model.specs.declared.commands.Command.{Command}
 use Rattle.ts_model.specs.declared.commands.FrameIn.{FrameIn}
 use Rattle.ts_model.specs.declared.commands.ColIn.{ColIn}
+use Rattle.ts_model.specs.declared.commands.WriteIn.{WriteIn}
 use Rattle.ts_model.specs.declared.answers.Refusal.{Refusal}
 use Rattle.ts_model.specs.declared.deeds.Written.{Written}
 use Rattle.ts_schema.specs.declared.frames.Frame.{Frame}
@@ -21,10 +22,12 @@ use Rattle.ts_base.specs.Keys.{frag_of}
 use Rattle.ts_base.specs.Labels.{is_label}
 use Rattle.ts_base.specs.Values.{is_integer}
 use Rattle.ts_value.specs.Fits.{fits_of}
-use Rattle.ts_domain.specs.Domains.{first_outside}
+use Rattle.ts_domain.specs.declared.boxes.SubBox.{SubBox}
+use Rattle.ts_domain.specs.Boxes.{IsBox, is_in_box, cells_of as box_cells}
+use Rattle.ts_domain.specs.Domains.{first_outside, first_bound_outside}
 use Rattle.ts_domain.specs.Dims.{domain_fault, has_name}
 use Rattle.ts_domain.specs.Bounds.{least_corner, greatest_corner}
-use Rattle.ts_order.specs.Orders.{global_cmp}
+use Rattle.ts_order.specs.Orders.{global_cmp, coords_in_order}
 use Rattle.ts_schema.specs.Attrs.{same_name, has_attr}
 use Rattle.ts_schema.specs.Faults.{schema_fault}
 use Rattle.ts_schema.specs.FrameTexts.{is_capacity, is_bound}
@@ -34,6 +37,7 @@ use Rattle.ts_model.specs.declared.commands.Command.TheVariants.{Create, Evolve,
 use Rattle.ts_base.specs.declared.values.Val.TheVariants.{Int, Bytes, Null}
 use Rattle.ts_base.specs.declared.values.ValType.TheVariants.{Blob}
 use Rattle.ts_model.specs.Deeds.{row_at, are_apart, CellFits}
+use Rattle.ts_model.specs.Queries.{box_of, counted_cells, stray_bound, bound_outside, over_most}
 use Rattle.ts_model.specs.declared.answers.Refusal.TheVariants as refusal
 use Rattle.std.specs.FinMap as map
 
@@ -41,7 +45,7 @@ use Rattle.std.specs.FinMap as map
 
 -- the frame of a create
 abbrev pub frame_made : FrameIn → Frame
-frame_made f = record { dense = false; domain = f.dims; cell = f.cell; tile = f.tile; capacity = f.capacity }
+frame_made f = record { dense = f.dense; domain = f.dims; cell = f.cell; tile = f.tile; capacity = f.capacity }
 
 -- why a create is refused before its first call, if it is: for its dimensions, or else for its attributes
 abbrev pub create_refusal : FrameIn → Option Refusal
@@ -145,27 +149,52 @@ abbrev pub again_in : List Cell → ℕ → List Cell → Option Refusal
 again_in before place [] = None
 again_in before place (cell ∷ cells) = if is_some (row_at cell.coords before) then Some (refusal.DuplicateCell place) else again_in (before ++ cell ∷ []) (suc place) cells
 
+-- a cell for each of these coordinates, whose rows are counted from a place on
+abbrev pub cells_at : List (List ℤ) → List (List Val) → ℕ → List Cell
+cells_at [] rows place = []
+cells_at (c ∷ coords) rows place = record { coords = c; row = across place rows } ∷ cells_at coords rows (suc place)
+
 -- the cells, where no refusal stands against them
 abbrev pub unless : List Cell → Option Refusal → Result (List Cell) Refusal
 unless cells None = Ok cells
 unless cells (Some r) = Err r
 
--- the cells of a write to an array with these dimensions, in a schema with these attributes, or why it is refused
-abbrev pub laid : List Dim → List Attr → List ColIn → Result (List Cell) Refusal
-laid dims attrs cols =
+-- the cells of a write to a sparse array, whose columns have the coordinates too, or why it is refused
+abbrev pub laid_apart : List Dim → List Attr → List ColIn → Result (List Cell) Refusal
+laid_apart dims attrs cols =
     columns (dim_column cols (count_of dims cols)) dims or_else λ coords.
     columns (attr_column cols (count_of dims cols)) attrs or_else λ rows.
     unless (cells_from coords rows 0 (count_of dims cols))
     (option_or (option_map refusal.SchemaClash (stray dims attrs cols))
     (option_or (outside_in dims (cells_from coords rows 0 (count_of dims cols)))
-    (again_in [] 0 (cells_from coords rows 0 (count_of dims cols)))))
+    (option_or (again_in [] 0 (cells_from coords rows 0 (count_of dims cols)))
+    (over_most (count_of dims cols)))))
 
--- the cells may be those of a write: there are some, not too many, no two at one place, and each fits
-pub record LaidFollows (dims : List Dim) (attrs : List Attr) (cells : List Cell) : Type 0 where
-  pub some_cell : 1 ≤ length cells
-  pub few : length cells < 2 ^ 64
-  pub apart : IsTrue (are_apart cells)
-  pub fit : All (CellFits dims attrs) cells
+-- a sparse array takes no box
+abbrev pub laid_sparse : List Dim → List Attr → List NamedBox → List ColIn → Result (List Cell) Refusal
+laid_sparse dims attrs [] cols = laid_apart dims attrs cols
+laid_sparse dims attrs (b ∷ named) cols = Err (refusal.SchemaClash b.name)
+
+-- why a write to a box of a dense array is refused, whose attributes have their columns
+abbrev pub box_refusal : List Dim → List Attr → WriteIn → SubBox → Option Refusal
+box_refusal dims attrs w sub =
+    option_or (option_map refusal.SchemaClash (stray_bound dims w.sub))
+    (option_or (option_map refusal.SchemaClash (stray [] attrs w.cols))
+    (option_or (bound_outside dims sub)
+    (over_most (counted_cells sub))))
+
+-- the cells of a write to a dense array, one for each cell of a box in the order of a layout, or why it is refused
+abbrev pub laid_over : List Dim → List Attr → WriteIn → SubBox → Result (List Cell) Refusal
+laid_over dims attrs w sub =
+    columns (attr_column w.cols (counted_cells sub)) attrs or_else λ rows.
+    unless (cells_at (coords_in_order w.layout sub) rows 0) (box_refusal dims attrs w sub)
+
+abbrev pub laid_dense : List Dim → List Attr → WriteIn → Result (List Cell) Refusal
+laid_dense dims attrs w = laid_over dims attrs w (box_of w.sub dims)
+
+-- the cells of a write to an array with this frame, in a schema with these attributes, or why it is refused: a write to a sparse array tells where each of its cells is, one to a dense array has all cells of a box
+abbrev pub laid : Frame → List Attr → WriteIn → Result (List Cell) Refusal
+laid frame attrs w = if frame.dense then laid_dense frame.domain attrs w else laid_sparse frame.domain attrs w.sub w.cols
 
 -- ---- the piece of a write
 
@@ -193,6 +222,23 @@ low_of_cells (cell ∷ cells) = least_of_cells cell.coords cells
 abbrev pub high_of_cells : List Cell → List ℤ
 high_of_cells [] = []
 high_of_cells (cell ∷ cells) = greatest_of_cells cell.coords cells
+
+-- cells are those of a box, which is the least one that has them all
+pub record FillBox (cells : List Cell) : Type 0 where
+  pub sub : SubBox
+  pub valid : IsBox sub
+  pub low : low_of_cells cells ≡ sub.low
+  pub high : high_of_cells cells ≡ sub.high
+  pub count : length cells ≡ box_cells sub
+  pub each : (c : List ℤ) → is_some (row_at c cells) ≡ is_in_box sub c
+
+-- the cells may be those of a write: there are some, not too many, no two at one place, each fits, and in a dense array they are those of a box
+pub record LaidFollows (frame : Frame) (attrs : List Attr) (cells : List Cell) : Type 0 where
+  pub some_cell : 1 ≤ length cells
+  pub few : length cells < 2 ^ 64
+  pub apart : IsTrue (are_apart cells)
+  pub fit : All (CellFits frame.domain attrs) cells
+  pub boxed : frame.dense ≡ true → FillBox cells
 
 -- the version that a write makes of a cell
 abbrev pub version_in : Key → Key → Cell → Version
@@ -246,6 +292,10 @@ is_text text = nat_lt (length text) (2 ^ 64) && list_all is_byte text
 abbrev pub is_spelled_box : NamedBox → Bool
 is_spelled_box b = is_label b.name && (is_bound b.low && (is_bound b.high && int_le b.low b.high))
 
+-- the columns have spellings, and so have the bounds of the box
+abbrev pub is_spelled_write : WriteIn → Bool
+is_spelled_write w = list_all is_spelled_col w.cols && list_all is_spelled_box w.sub
+
 -- the names are labels, the bounds are bounds, and the filter is a text
 abbrev pub is_spelled_query : Query → Bool
 is_spelled_query q = list_all is_spelled_box q.sub && (list_all is_label q.fields && option_map_or is_text q.filter true)
@@ -254,6 +304,6 @@ is_spelled_query q = list_all is_spelled_box q.sub && (list_all is_label q.field
 abbrev pub fits : Command → Bool
 fits (Create f) = nat_lt 0 (length f.dims) && (list_all is_spelled_dim f.dims && (is_capacity f.capacity && list_all is_spelled_attr f.attrs))
 fits (Evolve change) = list_all is_spelled_attr change.add
-fits (Write w) = list_all is_spelled_col w.cols
+fits (Write w) = is_spelled_write w
 fits (Read from to query) = nat_lt from (2 ^ 64) && (nat_lt to (2 ^ 64) && is_spelled_query query)
 fits (Delete text) = is_text text

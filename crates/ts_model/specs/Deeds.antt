@@ -11,6 +11,8 @@ use Rattle.ts_schema.specs.declared.frames.Frame.{Frame}
 use Rattle.ts_schema.specs.declared.schemas.Schema.{Schema}
 use Rattle.ts_schema.specs.declared.attrs.Attr.{Attr}
 use Rattle.ts_domain.specs.declared.dims.Dim.{Dim}
+use Rattle.ts_domain.specs.declared.boxes.SubBox.{SubBox}
+use Rattle.ts_domain.specs.Boxes.{is_in_box}
 use Rattle.std.specs.List.{list_any}
 use Rattle.std.specs.Option.{option_map_or}
 use Rattle.ts_base.specs.Keys.{key_eq, frag_eq, frag_of, is_within, greatest}
@@ -137,11 +139,10 @@ pub record IsKey (k : Key) : Type 0 where
   pub t : k.t < 2 ^ 64
   pub id : k.id < 2 ^ 128
 
--- a frame may follow these deeds: there are none, and the array is sparse
+-- a frame may follow these deeds: there are none
 pub record FrameFollows (before : History) (frame : Frame) : Type 0 where
   pub first : before ≡ []
   pub is_frame : IsFrame frame
-  pub sparse : frame.dense ≡ false
 
 -- a schema may follow these deeds: its attributes are such as an array of the frame can have
 pub record SchemaFollows (before : History) (s : Schema) : Type 0 where
@@ -152,7 +153,11 @@ pub record SchemaFollows (before : History) (s : Schema) : Type 0 where
   pub attrs : AreAttrs s.attrs
   pub sound : schema_fault frame.domain s.attrs ≡ None
 
--- a write may follow these deeds: its schema stands before it, its cells are apart, and each fits
+-- the cells are all those of one box, and no others
+abbrev pub AreOfBox : List Cell → Type 0
+AreOfBox cells = (sub : SubBox) × ((c : List ℤ) → is_some (row_at c cells) ≡ is_in_box sub c)
+
+-- a write may follow these deeds: its schema stands before it, its cells are apart, each fits, and in a dense array they are those of a box
 pub record WriteFollows (before : History) (w : Written) : Type 0 where
   pub frame : Frame
   pub framed : frame_in before ≡ Some frame
@@ -165,6 +170,7 @@ pub record WriteFollows (before : History) (w : Written) : Type 0 where
   pub few : length w.cells < 2 ^ 64
   pub apart : IsTrue (are_apart w.cells)
   pub fit : All (CellFits frame.domain schema.attrs) w.cells
+  pub boxed : frame.dense ≡ true → AreOfBox w.cells
 
 -- a delete may follow these deeds: the array is sparse, and the condition has a spelling
 pub record EraseFollows (before : History) (e : Erasure) : Type 0 where

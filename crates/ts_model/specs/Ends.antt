@@ -87,7 +87,7 @@ pub record IsWritten (jobs : List Job) (past : History) (told : List Told) (numb
   pub frame : Frame
   pub framed : frame_in (history_told jobs past told) ≡ Some frame
   pub cells : List Cell
-  pub lays : laid frame.domain there.attrs cells_in.cols ≡ Ok cells
+  pub lays : laid frame there.attrs cells_in ≡ Ok cells
   pub written : Contains (writes (history_told jobs past told)) (written_as job there.key cells)
 
 -- the delete of a job is a deed: its condition is that of its text, in the schema that holds at its stamp of those that it listed

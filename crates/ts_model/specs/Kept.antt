@@ -166,7 +166,7 @@ Aims forms past jobs seen number job objects (outcome.Evolved k) =
     × (frame_in (history_told jobs past seen) ≡ Some frame) × (evolution_fault frame.domain there.attrs change ≡ None) × Works past jobs seen number job there
 Aims forms past jobs seen number job objects (outcome.Written f) =
     (w : WriteIn) × (frame : Frame) × (there : Schema) × (cells : List Cell) × (job.command ≡ Write w) × (f ≡ frag_of_job job) × (objects ≡ write_objects forms frame there job cells)
-    × (frame_in (history_told jobs past seen) ≡ Some frame) × (laid frame.domain there.attrs w.cols ≡ Ok cells) × Works past jobs seen number job there
+    × (frame_in (history_told jobs past seen) ≡ Some frame) × (laid frame there.attrs w ≡ Ok cells) × Works past jobs seen number job there
 Aims forms past jobs seen number job objects (outcome.Deleted f) =
     (text : List ℕ) × (frame : Frame) × (there : Schema) × (condition : Condition) × (job.command ≡ Delete text) × (f ≡ frag_of_job job) × (objects ≡ delete_object_of job condition ∷ [])
     × (frame_in (history_told jobs past seen) ≡ Some frame) × (erasing_in frame there.attrs text ≡ Ok condition) × Works past jobs seen number job there

@@ -13,7 +13,7 @@ use Rattle.std.specs.Cmp.Lexicographic.{slice_cmp}
 use Rattle.ts_base.specs.Keys.{key_eq, key_lt, frag_of}
 use Rattle.ts_base.specs.Coords.{coords_eq}
 use Rattle.ts_domain.specs.Domains.{is_in_domain}
-use Rattle.ts_domain.specs.Bounds.{is_between, are_bounds}
+use Rattle.ts_domain.specs.Bounds.{is_between, are_bounds, cells_between}
 use Rattle.ts_schema.specs.FrameTexts.{IsFrame}
 use Rattle.ts_schema.specs.SchemaTexts.{AreAttrs}
 use Rattle.std.specs.declared.cmp.Ordering.TheVariants.{Less}
@@ -81,12 +81,13 @@ pub record IsOrdinary (frame : Frame) (attrs : List Attr) (p : Piece) : Type 0 w
   pub origins : p.head.origins ≡ key ∷ []
   pub consolidated : p.head.consolidated ≡ false
   pub dense : p.head.dense ≡ frame.dense
-  pub sparse : frame.dense ≡ false
   pub cells : p.head.cells ≡ length p.versions
   pub some : 1 ≤ length p.versions
   pub few : length p.versions < 2 ^ 64
   pub low : IsTrue (is_in_domain frame.domain p.head.low)
   pub high : IsTrue (is_in_domain frame.domain p.head.high)
   pub corners : IsTrue (are_bounds p.head.low p.head.high)
+  -- in a dense array it has each cell between its corners
+  pub whole : frame.dense ≡ true → p.head.cells ≡ cells_between p.head.low p.head.high
   pub versions : All (IsVersion frame attrs p.head key) p.versions
   pub climb : Climb frame p.versions

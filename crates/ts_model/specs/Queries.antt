@@ -90,9 +90,17 @@ field_places dims attrs (name ∷ names) = filter_map (field_place dims attrs) (
 
 -- ---- why a query is refused
 
+-- the first name of a box that is no dimension
+abbrev pub stray_bound : List Dim → List NamedBox → Option (List ℕ)
+stray_bound dims named = find (λ name. not (has_name dims name)) (list_map (λ b. b.name) named)
+
+-- the first bound of a box that lies outside the domain
+abbrev pub bound_outside : List Dim → SubBox → Option Refusal
+bound_outside dims sub = option_map (λ o. refusal.Domain o.dim o.value) (first_bound_outside dims sub)
+
 -- the first name that the array does not have: of the box, which names dimensions, and then of the fields
 abbrev pub unknown_in : List Dim → List Attr → Query → Option (List ℕ)
-unknown_in dims attrs q = option_or (find (λ name. not (has_name dims name)) (list_map (λ b. b.name) q.sub)) (find (λ name. not (has_name dims name || has_attr attrs name)) q.fields)
+unknown_in dims attrs q = option_or (stray_bound dims q.sub) (find (λ name. not (has_name dims name || has_attr attrs name)) q.fields)
 
 -- the most cells of a read of a dense array, and of a write
 abbrev pub most_cells : ℕ
@@ -102,6 +110,10 @@ most_cells = 2 ^ 20
 abbrev pub counted_cells : SubBox → ℕ
 counted_cells sub = min (cells_of sub) (2 ^ 64 - 1)
 
+-- there are too many cells
+abbrev pub over_most : ℕ → Option Refusal
+over_most cells = if nat_lt most_cells cells then Some (refusal.TooMany cells) else None
+
 -- a read of a dense array has too many cells
 abbrev pub too_many : Frame → SubBox → Option Refusal
 too_many frame sub = if frame.dense && nat_lt most_cells (counted_cells sub) then Some (refusal.TooMany (counted_cells sub)) else None
@@ -110,7 +122,7 @@ too_many frame sub = if frame.dense && nat_lt most_cells (counted_cells sub) the
 abbrev pub query_refusal : Frame → List Attr → Query → Option Refusal
 query_refusal frame attrs q =
     option_or (option_map refusal.UnknownField (unknown_in frame.domain attrs q))
-    (option_or (option_map (λ o. refusal.Domain o.dim o.value) (first_bound_outside frame.domain (box_of q.sub frame.domain)))
+    (option_or (bound_outside frame.domain (box_of q.sub frame.domain))
     (too_many frame (box_of q.sub frame.domain)))
 
 -- the condition of a text, or the refusal that carries its fault

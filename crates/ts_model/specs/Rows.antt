@@ -65,7 +65,7 @@ delete_puts job (Err r) = []
 abbrev pub row_by : {F : Type 0} → Forms F → Job → Found → Command → List Call
 row_by forms job found (Create f) = frame_put f ∷ (cond found.taken (list_schemas ∷ []) [] ++ put_of (schema_object_of job f.attrs) ∷ [])
 row_by forms job found (Evolve change) = list_schemas ∷ put_of (schema_object_of job (evolved_attrs (found.there).attrs change)) ∷ []
-row_by forms job found (Write w) = list_schemas ∷ cell_puts forms job found (laid (found.frame).domain (found.there).attrs w.cols)
+row_by forms job found (Write w) = list_schemas ∷ cell_puts forms job found (laid found.frame (found.there).attrs w)
 row_by forms job found (Read from to query) = list_commits ∷ list_schemas ∷ []
 row_by forms job found (Delete text) = list_schemas ∷ delete_puts job (erasing_in found.frame (found.there).attrs text)
 
@@ -150,7 +150,7 @@ pub record EndsAt (row : List Call) (trace : List Exchange) (last : Exchange) : 
 -- why a job is refused where it found this
 abbrev pub refused_in : Found → Command → Option Refusal
 refused_in found (Evolve change) = option_map refusal.SchemaBad (evolution_fault (found.frame).domain (found.there).attrs change)
-refused_in found (Write w) = result_err (laid (found.frame).domain (found.there).attrs w.cols)
+refused_in found (Write w) = result_err (laid found.frame (found.there).attrs w)
 refused_in found (Read from to query) = result_err (ready_in found.frame (found.there).attrs query)
 refused_in found (Delete text) = result_err (erasing_in found.frame (found.there).attrs text)
 refused_in found _ = None

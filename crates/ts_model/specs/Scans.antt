@@ -26,7 +26,7 @@ use Rattle.ts_model.specs.declared.answers.Refusal.TheVariants as refusal
 use Rattle.ts_model.specs.declared.scan.Scan.{Scan}
 use Rattle.ts_model.specs.Queries.{attr_fields, ready_in, selected, types_shown}
 use Rattle.ts_model.specs.Deeds.{History, frame_in, schema_there, row_at, erases}
-use Rattle.ts_model.specs.Answers.{Cells, erases_cell, shown_inside, IsAnswer}
+use Rattle.ts_model.specs.Answers.{Cells, erases_cell, left_inside, shown_inside, IsAnswer}
 
 -- the rows of a tree by their coordinates
 abbrev pub cells_in : BTreeMap (List ℤ) (List Val) → Cells
@@ -56,12 +56,16 @@ abbrev pub AreShown : (List ℤ → Option (List Val)) → Cells → Type 0
 AreShown shown m = (c : List ℤ) → map.get m c ≡ shown c
 
 -- the cells are those of the box that a history shows through a schema
-abbrev pub AreInside : History → Schema → Ready → ℕ → ℕ → Cells → Type 0
-AreInside h there ready a b cells = AreShown (shown_inside h there ready a b) cells
+abbrev pub AreInside : History → Frame → Schema → Ready → ℕ → ℕ → Cells → Type 0
+AreInside h frame there ready a b cells = AreShown (shown_inside h frame there ready a b) cells
 
--- a scan looks for what its deeds show through its schema, in its box and its interval
+-- a scan looks for what is left of the writes of its deeds, as it shows through its schema, in its box and its interval
+abbrev pub left_by : Scan → List ℤ → Option (List Val)
+left_by s = left_inside s.deeds.now s.there.now s.ready.now s.from s.to
+
+-- and for what its array shows there
 abbrev pub shown_by : Scan → List ℤ → Option (List Val)
-shown_by s = shown_inside s.deeds.now s.there.now s.ready.now s.from s.to
+shown_by s = shown_inside s.deeds.now s.frame.now s.there.now s.ready.now s.from s.to
 
 -- a cell with its row
 abbrev pub shown_of : List ℤ × List Val → Shown
@@ -83,7 +87,7 @@ pick_at attrs row field = pick_from field.dim (value_under field (attr_fields at
 -- the rows are those that are selected of the cells of the box that a history shows through a schema
 pub record AreRows (h : History) (frame : Frame) (there : Schema) (ready : Ready) (a b : ℕ) (rows : List (List Val)) : Type 0 where
   pub cells : Cells
-  pub each : AreInside h there ready a b cells
+  pub each : AreInside h frame there ready a b cells
   pub same : rows ≡ selected frame there.attrs ready (map.entries cells)
 
 -- how a read of [a, b] ends of an array with a frame through a schema: with its answer, or refused

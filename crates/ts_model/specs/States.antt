@@ -1,5 +1,5 @@
 -- How a job goes: the call that it makes next, and where a reply leads it.
-use Rattle.std.specs.Prelude.{ℕ, ℤ, ◌-◌, ◌^◌, Bool, false, cond, not, ◌&&◌, if◌then◌else◌, List, [], ◌∷◌, ◌++◌, Option, Some, None, option_map, filter, filter_map, length, nat_le, nat_lt, nat_eq, slice_get, Result, Ok, Err, find, drop, suc, zero, map as list_map}
+use Rattle.std.specs.Prelude.{ℕ, ℤ, ◌-◌, ◌^◌, Bool, false, cond, not, ◌&&◌, if◌then◌else◌, List, [], ◌∷◌, ◌++◌, Option, Some, None, option_map, option_and_then, filter, filter_map, length, nat_le, nat_lt, nat_eq, slice_get, Result, Ok, Err, find, drop, suc, zero, map as list_map}
 use Rattle.ts_base.specs.declared.keys.Key.{Key}
 use Rattle.ts_base.specs.declared.keys.FragKey.{FragKey}
 use Rattle.ts_base.specs.declared.names.Name.{Name}
@@ -33,6 +33,7 @@ use Rattle.std.specs.Str.{bytes_eq}
 use Rattle.ts_base.specs.Keys.{key_eq, key_cmp, key_lt}
 use Rattle.ts_base.specs.Names.{wrt_of, del_of}
 use Rattle.ts_domain.specs.declared.boxes.SubBox.{SubBox}
+use Rattle.ts_domain.specs.Boxes.{coords_of_box}
 use Rattle.ts_cond.specs.CondTexts.{cond_object, cond_of}
 use Rattle.ts_cond.specs.Picks.{matches}
 use Rattle.ts_cond.specs.Tests.{Condition}
@@ -48,6 +49,7 @@ use Rattle.ts_model.specs.Pieces.{newest_of}
 use Rattle.ts_model.specs.Forms.{Stepped, Forms, Asks, Takes, Breaks}
 use Rattle.ts_model.specs.Jobs.{key_of, frag_of_job, written_as, refused_before, looked_at}
 use Rattle.ts_model.specs.Deeds.{schemas, keys}
+use Rattle.ts_model.specs.Answers.{fills_of}
 use Rattle.ts_model.specs.Commands.{frame_made, laid, piece_of}
 use Rattle.ts_model.specs.Queries.{attr_fields, numbers_from, erasing_in, ready_in, selected, types_shown}
 use Rattle.ts_base.specs.declared.names.Name.TheVariants as name
@@ -212,9 +214,25 @@ is_erased_by r schemas erased v = list_any (λ e. key_lt v.key e.key && matches 
 abbrev pub cell_shown : Reading → List Schema → Version → List ℤ × List Val
 cell_shown r schemas v = (v.coords, shown_row (known_attrs r schemas v.schema) v.row r.there.attrs)
 
--- the cells of a read that got these versions: the newest version of each, unless it is erased
+-- what is left of the versions that a read got: the newest of each cell, unless it is erased
+abbrev pub cells_left : Reading → List Schema → List Version → List (List ℤ × List Val)
+cells_left r schemas got = list_map (cell_shown r schemas) (filter (λ v. not (is_erased_by r schemas r.erased v)) (map.values (newest_of got)))
+
+-- the row of a version as it shows through the schema there, unless it is erased
+abbrev pub version_left : Reading → List Schema → Version → Option (List Val)
+version_left r schemas v = cond (not (is_erased_by r schemas r.erased v)) (Some (shown_row (known_attrs r schemas v.schema) v.row r.there.attrs)) None
+
+-- the row that a dense array shows where this is the newest version, if there is one: what is left of it, or else the fill
+abbrev pub row_or_fill : Reading → List Schema → Option Version → List Val
+row_or_fill r schemas newest = option_map_or (λ row. row) (option_and_then (version_left r schemas) newest) (fills_of r.there.attrs)
+
+-- the cells of the box of a dense array, in row order
+abbrev pub cells_filled : Reading → List Schema → List Version → List (List ℤ × List Val)
+cells_filled r schemas got = list_map (λ c. (c, row_or_fill r schemas (map.get (newest_of got) c))) (coords_of_box (r.ready).sub)
+
+-- the cells of a read that got these versions
 abbrev pub cells_shown : Reading → List Schema → List Version → List (List ℤ × List Val)
-cells_shown r schemas got = list_map (cell_shown r schemas) (filter (λ v. not (is_erased_by r schemas r.erased v)) (map.values (newest_of got)))
+cells_shown r schemas got = cond (r.frame).dense (cells_filled r schemas got) (cells_left r schemas got)
 
 -- the answer of a read that got these versions
 abbrev pub answer_of : Reading → List Schema → List Version → Answer
@@ -289,7 +307,7 @@ asks_for forms from to listed frame s (Err r) = refuse r
 abbrev pub works : {F : Type 0} → Forms F → Job → Command → Listed → Frame → Schema → State F
 works forms job (Create f) listed frame s = Over outcome.OutOfMemory
 works forms job (Evolve change) listed frame s = unless_refused (puts_schema job (evolved_attrs s.attrs change) (outcome.Evolved (key_of job))) (option_map refusal.SchemaBad (evolution_fault frame.domain s.attrs change))
-works forms job (Write w) listed frame s = puts_cells forms job frame s (laid frame.domain s.attrs w.cols)
+works forms job (Write w) listed frame s = puts_cells forms job frame s (laid frame s.attrs w)
 works forms job (Read from to query) listed frame s = asks_for forms from to listed frame s (ready_in frame s.attrs query)
 works forms job (Delete text) listed frame s = puts_delete job (erasing_in frame s.attrs text)
 

@@ -9,7 +9,7 @@ use Rattle.ts_store.specs.declared.fate.Fate.{Fate}
 use Rattle.ts_store.specs.declared.journal.Entry.{Entry}
 use Rattle.ts_model.specs.declared.commands.Command.{Command}
 use Rattle.ts_model.specs.declared.commands.Job.{Job}
-use Rattle.ts_model.specs.declared.commands.ColIn.{ColIn}
+use Rattle.ts_model.specs.declared.commands.WriteIn.{WriteIn}
 use Rattle.ts_model.specs.declared.answers.Refusal.{Refusal}
 use Rattle.ts_model.specs.declared.deeds.Written.{Written}
 use Rattle.ts_model.specs.declared.deeds.Erasure.{Erasure}
@@ -135,14 +135,14 @@ abbrev pub cells_of : Result (List Cell) Refusal → Option (List Cell)
 cells_of (Ok cells) = Some cells
 cells_of (Err r) = None
 
--- what columns write in a schema of an array with a frame
-abbrev pub written_in : Job → List ColIn → Option Schema → Option Frame → Option Written
-written_in job cols (Some s) (Some frame) = option_map (written_as job s.key) (cells_of (laid frame.domain s.attrs cols))
-written_in job cols _ _ = None
+-- what is written in a schema of an array with a frame
+abbrev pub written_in : Job → WriteIn → Option Schema → Option Frame → Option Written
+written_in job w (Some s) (Some frame) = option_map (written_as job s.key) (cells_of (laid frame s.attrs w))
+written_in job w _ _ = None
 
 -- what a job writes
 abbrev pub written_by : History → Job → Option (List Key) → Command → Option Written
-written_by h job found (Write w) = written_in job w.cols (schema_used h job found) (frame_in h)
+written_by h job found (Write w) = written_in job w (schema_used h job found) (frame_in h)
 written_by h job found _ = None
 
 -- the condition, if no refusal stands against it

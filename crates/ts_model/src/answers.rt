@@ -49,14 +49,16 @@ pub enum Refusal {
     SchemaBad(SchemaFault),
     /// No schema is stamped at `at`, in milliseconds since 1970-01-01, or before.
     NoSchema { at: u64 },
-    /// The columns of a write are not those of the schema; this is the first name that clashes.
+    /// The columns of a write are not those of the schema, or its box names what is no dimension or is
+    /// given to a sparse array; this is the first name that clashes.
     SchemaClash { attr: Label },
-    /// The coordinate `value` lies outside dimension `dim`, counted from 0.
+    /// The coordinate `value` of a cell, or the bound `value` of a box, lies outside dimension `dim`,
+    /// counted from 0.
     Domain { dim: u8, value: i128 },
     /// The cell with this index, counted from 0, has coordinates that came earlier.
     DuplicateCell { index: u64 },
-    /// A read of a dense array has this many cells in its box, more than 2^20; 2^64 - 1 stands for
-    /// more.
+    /// A write, or the box of a read of a dense array, has this many cells, more than 2^20;
+    /// 2^64 - 1 stands for more.
     TooMany { cells: u64 },
     /// Nothing is deleted from a dense array.
     DenseArray,

@@ -7,7 +7,7 @@ ghost use Rattle.ts_domain.specs.Dims.{has_name};
 ghost use Rattle.ts_schema.specs.Attrs.{same_name, has_attr};
 ghost use Rattle.ts_schema.specs.FrameTexts.{IsFrame};
 ghost use Rattle.ts_schema.specs.SchemaTexts.{AreAttrs};
-ghost use Rattle.ts_model.specs.Queries.{low_of, high_of, box_of, unknown_in, query_refusal, condition_in, filter_in, ready_in, erasing_in, field_place, field_places, numbers_from, dim_place, attr_place, too_many};
+ghost use Rattle.ts_model.specs.Queries.{low_of, high_of, box_of, stray_bound, bound_outside, over_most, unknown_in, query_refusal, condition_in, filter_in, ready_in, erasing_in, field_place, field_places, numbers_from, dim_place, attr_place, too_many};
 ghost use Rattle.ts_model.specs.Selections.{IsChecked, IsNamedBox};
 
 use crate::answers::Refusal;
@@ -19,7 +19,7 @@ use ts_cond::{Cond, CondFault, NamedBox, Query};
 use ts_domain::{Dim, Domain, SubBox};
 use ts_schema::{Attr, Frame, Schema};
 
-// The most cells of a read of a dense array.
+// The most cells of a write, and of a read of a dense array.
 const MOST_CELLS: u64 = 1 << 20;
 
 /// What a query asks of an array with this frame through this schema.
@@ -117,12 +117,35 @@ fn query_refusal(frame: &Frame, schema: &Schema, query: &Query) -> Option<Refusa
         return Some(Refusal::UnknownField { field });
     }
     let sub = box_of(query.sub.as_slice(), &frame.domain);
-    match frame.domain.check_box(&sub) {
+    match bound_outside(&frame.domain, &sub) {
+        Some(refusal) => Some(refusal),
+        None => too_many(frame, &sub),
+    }
+}
+
+/// The first bound of a box that lies outside the domain, as a refusal.
+pub fn bound_outside(domain: &Domain, sub: &SubBox) -> Option<Refusal>
+    requires valid { IsBox sub.now }
+    requires as_many { length sub.now.low ≡ length domain.now }
+    ensures { result ≡ bound_outside domain.now sub.now }
+{
+    match domain.check_box(sub) {
         Err(outside) => Some(Refusal::Domain {
             dim: outside.dim,
             value: outside.value,
         }),
-        Ok(()) => too_many(frame, &sub),
+        Ok(()) => None,
+    }
+}
+
+/// Whether there are too many cells for a write, or for a read of a dense array: more than 2^20.
+pub fn over_most(cells: u64) -> Option<Refusal>
+    ensures { result ≡ over_most cells }
+{
+    if MOST_CELLS < cells {
+        Some(Refusal::TooMany { cells })
+    } else {
+        None
     }
 }
 
@@ -149,8 +172,9 @@ fn unknown_in(dims: &[Dim], attrs: &[Attr], query: &Query) -> Option<Label>
     }
 }
 
-fn unknown_dim(dims: &[Dim], named: &[NamedBox]) -> Option<Label>
-    ensures { result ≡ find (λ name. not (has_name dims.now name)) (map (λ (b : AnyBox). b.name) named.now) }
+/// The first name of a box that is no dimension.
+pub fn unknown_dim(dims: &[Dim], named: &[NamedBox]) -> Option<Label>
+    ensures { result ≡ stray_bound dims.now named.now }
 {
     for bounds in named {
         if !has_dim(dims, &bounds.name) {
@@ -183,8 +207,8 @@ fn has_attr(attrs: &[Attr], name: &Label) -> bool
     attrs.iter().any(|attr| attr.name == *name)
 }
 
-// The box of named bounds.
-fn box_of(named: &[NamedBox], domain: &Domain) -> SubBox
+/// The box of named bounds: a dimension that they do not name has its whole domain.
+pub fn box_of(named: &[NamedBox], domain: &Domain) -> SubBox
     ensures value { result ≡ box_of named.now domain.now }
     ensures ordered { All IsNamedBox named.now → IsBox result }
 {

@@ -2,13 +2,15 @@
 
 use std::alloc::Global;
 use ts_base::{ByteList, Duplicate, Label, OutOfMemory, Row, Sequence, Stop};
-use ts_cond::Query;
+use ts_cond::{NamedBoxList, Query};
 use ts_domain::{DimList, Order};
 use ts_schema::{AttrList, Evolution};
 
-/// A sparse array that is to be made: its frame, and the attributes of its first schema.
+/// An array that is to be made: its frame, and the attributes of its first schema.
 #[derive(Debug, Drop, PartialEq, Eq)]
 pub struct FrameIn {
+    /// Whether the array is dense: it has a value at each cell of its domain.
+    pub dense: bool,
     /// The dimensions.
     pub dims: DimList,
     /// The order of the cells in a space tile.
@@ -24,6 +26,7 @@ pub struct FrameIn {
 impl Duplicate for FrameIn {
     fn copy(&self, alloc: Global) -> Result<FrameIn, OutOfMemory> {
         Ok(FrameIn {
+            dense: self.dense,
             dims: self.dims.copy(alloc)?,
             cell: self.cell,
             tile: self.tile,
@@ -57,14 +60,21 @@ impl Duplicate for ColIn {
 /// What is to be written.
 #[derive(Debug, Drop, PartialEq, Eq)]
 pub struct WriteIn {
-    /// A column for each dimension and for each attribute, in any order.
+    /// A column for each attribute, and in a sparse array for each dimension too, in any order.
     pub cols: ColInList,
+    /// The bounds of the box of a write to a dense array. A dimension that they do not name has its
+    /// whole domain.
+    pub sub: NamedBoxList,
+    /// The order in which the columns have the cells of the box.
+    pub layout: Order,
 }
 
 impl Duplicate for WriteIn {
     fn copy(&self, alloc: Global) -> Result<WriteIn, OutOfMemory> {
         Ok(WriteIn {
             cols: self.cols.copy(alloc)?,
+            sub: self.sub.copy(alloc)?,
+            layout: self.layout,
         })
     }
 }
@@ -88,8 +98,8 @@ pub enum Command {
         /// What is asked for.
         query: Query,
     },
-    /// Deletes, at the stamp, each cell whose last write matches the condition with this text, over
-    /// the fields of the schema that holds at the stamp. Older writes do not come to light.
+    /// Deletes, at the stamp, each cell whose last write is older and matches the condition with this
+    /// text, over the fields of the schema that holds at the stamp. Older writes do not come to light.
     Delete(ByteList),
 }
 

@@ -1,20 +1,20 @@
 //! Reading a history by looking through all its deeds: slow and plain, for other ways to read to be
 //! compared with.
-ghost use Rattle.std.specs.Prelude.{◌≡◌, ◌++◌, List, map, All, IfOk, OnOk};
+ghost use Rattle.std.specs.Prelude.{◌≡◌, ◌≤◌, ◌++◌, List, true, map, All, IfOk, OnOk};
 ghost use Rattle.std.specs.Ordering.{int_cmp};
 ghost use Rattle.std.specs.Cmp.Lexicographic.{slice_cmp};
 ghost use Rattle.std.specs.BTreeMap.{IsOrdered};
 ghost use Rattle.ts_base.specs.declared.heads.Cell.{Cell as AnyCell};
 ghost use Rattle.ts_domain.specs.Bounds.{is_between};
-ghost use Rattle.ts_domain.specs.Boxes.{is_in_box};
+ghost use Rattle.ts_domain.specs.Boxes.{IsBox, cells_of, is_in_box};
 ghost use Rattle.ts_domain.specs.Domains.{LiesInDomain};
 ghost use Rattle.ts_schema.specs.Attrs.{shown_row};
 ghost use Rattle.ts_schema.specs.FrameTexts.{IsFrame};
 ghost use Rattle.ts_schema.specs.SchemaTexts.{AreAttrs};
 ghost use Rattle.ts_model.specs.Answers.{shown_at};
 ghost use Rattle.ts_model.specs.Deeds.{IsHistory, attrs_with};
-ghost use Rattle.ts_model.specs.Queries.{types_shown};
-ghost use Rattle.ts_model.specs.Scans.{cells_in, cells_of_deed, with_shown, Shows, AreShown, AreRows, IsAsked, IsReferred, shown_by, shown_of};
+ghost use Rattle.ts_model.specs.Queries.{most_cells, types_shown};
+ghost use Rattle.ts_model.specs.Scans.{cells_in, cells_of_deed, with_shown, Shows, AreShown, AreRows, IsAsked, IsReferred, left_by, shown_by, shown_of};
 ghost use Rattle.ts_model.specs.Selections.{IsNamedBox};
 
 use crate::answers::{Answer, Outcome, Refusal};
@@ -23,12 +23,13 @@ use crate::deeds::{Deed, History};
 use crate::erasures::is_erased;
 use crate::finding::{find_row, frame_in, latest, schema_there, schema_with};
 use crate::queries::{QueryFault, Ready, Shown, ShownList};
-use crate::selection::{rows_of, types_shown};
+use crate::selection::{fills_of, rows_of, types_shown};
 use std::alloc::Global;
 use std::collections::BTreeMap;
 use ts_base::{Cell, Coords, Duplicate, Key, OutOfMemory, Row};
 use ts_cond::Query;
-use ts_domain::SubBox;
+use ts_domain::{Order, SubBox};
+use ts_order::coords_at;
 use ts_schema::{AttrList, Frame, Schema, show_row};
 
 /// How a read ends whose listing of the commits saw the history `seen`, and whose later listing of
@@ -36,7 +37,8 @@ use ts_schema::{AttrList, Frame, Schema, show_row};
 ///
 /// Of each cell of the box it has the last write among those stamped from `from` to `to`, in
 /// milliseconds since 1970-01-01, both included, unless a delete with a greater key that is stamped
-/// there matches it, shown through the schema that holds at `to`. It is refused with `NoSchema` where
+/// there matches it, shown through the schema that holds at `to`. A cell of a dense array that has no
+/// such write shows the fill of each attribute. It is refused with `NoSchema` where
 /// no schema of `later` is stamped at `to` or before, and else for what its query is refused for. For
 /// want of memory for the answer there is an error.
 pub fn reference(
@@ -81,12 +83,13 @@ fn ask(
         Ok(ready) => {
             let scan = Scan {
                 deeds,
+                frame,
                 there,
                 ready: &ready,
                 from,
                 to,
             };
-            Ok(Outcome::Read(answer(alloc, &scan, frame)?))
+            Ok(Outcome::Read(answer(alloc, &scan)?))
         }
     }
 }
@@ -96,6 +99,8 @@ fn ask(
 struct Scan<'a> {
     // The deeds of the history.
     deeds: &'a [Deed],
+    // The frame of the array.
+    frame: &'a Frame,
     // The schema through which rows show.
     there: &'a Schema,
     // What is asked for.
@@ -106,19 +111,21 @@ struct Scan<'a> {
     to: u64,
 }
 
-// The answer of an array with a frame.
-fn answer(alloc: Global, scan: &Scan, frame: &Frame) -> Result<Answer, OutOfMemory>
-    requires frame { IsFrame frame.now }
+// The answer of an array.
+fn answer(alloc: Global, scan: &Scan) -> Result<Answer, OutOfMemory>
+    requires frame { IsFrame scan.now.frame.now }
     requires attrs { AreAttrs scan.now.there.now.attrs }
-    requires inside { LiesInDomain frame.now.domain scan.now.ready.now.sub }
-    ensures types { IfOk result (λ answer. answer.types ≡ types_shown frame.now scan.now.there.now.attrs scan.now.ready.now) }
-    ensures rows { IfOk result (λ answer. AreRows scan.now.deeds.now frame.now scan.now.there.now scan.now.ready.now scan.now.from scan.now.to answer.rows) }
+    requires inside { LiesInDomain scan.now.frame.now.domain scan.now.ready.now.sub }
+    requires valid { IsBox scan.now.ready.now.sub }
+    requires few { scan.now.frame.now.dense ≡ true → cells_of scan.now.ready.now.sub ≤ most_cells }
+    ensures types { IfOk result (λ answer. answer.types ≡ types_shown scan.now.frame.now scan.now.there.now.attrs scan.now.ready.now) }
+    ensures rows { IfOk result (λ answer. AreRows scan.now.deeds.now scan.now.frame.now scan.now.there.now scan.now.ready.now scan.now.from scan.now.to answer.rows) }
 {
     let cells = shown_cells(alloc, scan)?;
     let listed = listed(alloc, &cells)?;
     Ok(Answer {
-        types: types_shown(alloc, frame, scan.there, scan.ready)?,
-        rows: rows_of(alloc, frame, scan.there, scan.ready, listed)?,
+        types: types_shown(alloc, scan.frame, scan.there, scan.ready)?,
+        rows: rows_of(alloc, scan.frame, scan.there, scan.ready, listed)?,
     })
 }
 
@@ -137,9 +144,39 @@ fn listed(alloc: Global, cells: &BTreeMap<Coords, Row>) -> Result<ShownList, Out
     Ok(list)
 }
 
-// What the deeds show at each coordinate.
+// What the array shows at each coordinate.
 fn shown_cells(alloc: Global, scan: &Scan) -> Result<BTreeMap<Coords, Row>, OutOfMemory>
+    requires valid { IsBox scan.now.ready.now.sub }
+    requires few { scan.now.frame.now.dense ≡ true → cells_of scan.now.ready.now.sub ≤ most_cells }
     ensures { IfOk result (λ cells. AreShown (shown_by scan.now) (cells_in cells)) }
+{
+    let mut cells = left_cells(alloc, scan)?;
+    if scan.frame.dense {
+        fill(alloc, &mut cells, scan)?;
+    }
+    Ok(cells)
+}
+
+// The fill at each coordinate of the box where no write is left.
+fn fill(alloc: Global, cells: &mut BTreeMap<Coords, Row>, scan: &Scan) -> Result<(), OutOfMemory>
+    requires dense { scan.now.frame.now.dense ≡ true }
+    requires valid { IsBox scan.now.ready.now.sub }
+    requires few { cells_of scan.now.ready.now.sub ≤ most_cells }
+    ensures { OnOk result (AreShown (left_by scan.now) (cells_in cells.old) → AreShown (shown_by scan.now) (cells_in cells.new)) }
+{
+    let sub = &scan.ready.sub;
+    for place in 0..sub.cells() {
+        let at = coords_at(sub, Order::Row, place);
+        if !cells.contains_key(&at) {
+            cells.insert(at, fills_of(alloc, scan.there)?)?;
+        }
+    }
+    Ok(())
+}
+
+// What is left of the writes of the deeds at each coordinate.
+fn left_cells(alloc: Global, scan: &Scan) -> Result<BTreeMap<Coords, Row>, OutOfMemory>
+    ensures { IfOk result (λ cells. AreShown (left_by scan.now) (cells_in cells)) }
 {
     let mut cells = BTreeMap::new(alloc);
     for deed in scan.deeds {
@@ -148,14 +185,14 @@ fn shown_cells(alloc: Global, scan: &Scan) -> Result<BTreeMap<Coords, Row>, OutO
     Ok(cells)
 }
 
-// What the deeds show at the coordinates of one of them.
+// What is left of the writes of the deeds at the coordinates of one of them.
 fn add_deed(
     alloc: Global,
     cells: &mut BTreeMap<Coords, Row>,
     deed: &Deed,
     scan: &Scan,
 ) -> Result<(), OutOfMemory>
-    ensures { OnOk result ((before : List AnyCell) → Shows (shown_by scan.now) (cells_in cells.old) before → Shows (shown_by scan.now) (cells_in cells.new) (before ++ cells_of_deed deed.now)) }
+    ensures { OnOk result ((before : List AnyCell) → Shows (left_by scan.now) (cells_in cells.old) before → Shows (left_by scan.now) (cells_in cells.new) (before ++ cells_of_deed deed.now)) }
 {
     match deed {
         Deed::Wrote(write) => add_cells(alloc, cells, write.cells.as_slice(), scan),
@@ -163,17 +200,17 @@ fn add_deed(
     }
 }
 
-// What the deeds show at the coordinates of these cells.
+// What is left of the writes of the deeds at the coordinates of these cells.
 fn add_cells(
     alloc: Global,
     cells: &mut BTreeMap<Coords, Row>,
     some: &[Cell],
     scan: &Scan,
 ) -> Result<(), OutOfMemory>
-    ensures { OnOk result ((before : List AnyCell) → Shows (shown_by scan.now) (cells_in cells.old) before → Shows (shown_by scan.now) (cells_in cells.new) (before ++ some.now)) }
+    ensures { OnOk result ((before : List AnyCell) → Shows (left_by scan.now) (cells_in cells.old) before → Shows (left_by scan.now) (cells_in cells.new) (before ++ some.now)) }
 {
     for cell in some {
-        let shown = shown_inside(alloc, scan, &cell.coords)?;
+        let shown = left_inside(alloc, scan, &cell.coords)?;
         add(cells, cell.coords, shown)?;
     }
     Ok(())
@@ -189,9 +226,9 @@ fn add(cells: &mut BTreeMap<Coords, Row>, at: Coords, shown: Option<Row>) -> Res
     Ok(())
 }
 
-// What a read shows at a coordinate of the box, and nothing elsewhere.
-fn shown_inside(alloc: Global, scan: &Scan, at: &Coords) -> Result<Option<Row>, OutOfMemory>
-    ensures { IfOk result (λ shown. shown ≡ shown_by scan.now at.now) }
+// What is left of the writes of a coordinate of the box, and nothing elsewhere.
+fn left_inside(alloc: Global, scan: &Scan, at: &Coords) -> Result<Option<Row>, OutOfMemory>
+    ensures { IfOk result (λ shown. shown ≡ left_by scan.now at.now) }
 {
     if is_in_box(&scan.ready.sub, at) {
         shown_at(alloc, at, scan.deeds, scan.there, scan.from, scan.to)

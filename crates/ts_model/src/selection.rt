@@ -1,10 +1,12 @@
 //! The rows that a query selects.
-ghost use Rattle.std.specs.Prelude.{◌≡◌, [], ◌∷◌, map, slice_get, IfOk, OnOk, IsTrue, All};
+ghost use Rattle.std.specs.Prelude.{◌≡◌, ◌↔◌, [], ◌∷◌, filter, map, slice_get, IfOk, OnOk, IsTrue, All};
+ghost use Rattle.std.specs.List.Sorted.{IsStrictlySortedBy};
 ghost use Rattle.ts_domain.specs.Domains.{is_in_domain};
 ghost use Rattle.ts_schema.specs.FrameTexts.{IsFrame};
 ghost use Rattle.ts_schema.specs.SchemaTexts.{AreAttrs};
 ghost use Rattle.ts_model.specs.declared.queries.Shown.{Shown as AnyShown};
-ghost use Rattle.ts_model.specs.Queries.{fields_of, items_at, selected, types_of, types_shown};
+ghost use Rattle.ts_model.specs.Answers.{fills_of};
+ghost use Rattle.ts_model.specs.Queries.{fields_of, items_at, layout_cmp, selected, types_of, types_shown};
 ghost use Rattle.ts_model.specs.Selections.{placed, picks_in, passes_by, placed_behind};
 
 use crate::answers::TypeList;
@@ -12,10 +14,12 @@ use crate::fields::attr_fields;
 use crate::places::{GlobalPlace, place_in};
 use crate::queries::{PlaceList, Ready, Shown, ShownList};
 use std::alloc::Global;
+use std::cmp::Ordering;
 use std::collections::BTreeMap;
-use ts_base::{Duplicate, OutOfMemory, Row, RowList, Val, ValType};
+use ts_base::{Coords, Duplicate, OutOfMemory, Row, RowList, Val, ValType};
 use ts_cond::{Cond, PickList};
-use ts_domain::Dim;
+use ts_domain::{Dim, Layout, Order};
+use ts_order::{cmp_global, cmp_plain};
 use ts_schema::{Attr, Frame, Schema};
 
 /// The rows that a query selects of these cells: those that its filter matches, in its layout, each
@@ -33,6 +37,9 @@ pub fn rows_of(
     ensures { IfOk result (λ rows. rows ≡ selected frame.now schema.now.attrs ready.now (map placed cells)) }
 {
     let picks = picks_in(alloc, schema, &ready.filter)?;
+    if is_in_layout(frame, ready.layout, cells.as_slice()) {
+        return cut_passing(alloc, ready, &picks, cells);
+    }
     let placed = placed(alloc, frame, ready, &picks, cells)?;
     cut_all(alloc, &placed, &ready.fields)
 }
@@ -46,6 +53,52 @@ fn picks_in(alloc: Global, schema: &Schema, filter: &Option<Cond>) -> Result<Pic
         None => Ok(PickList::new(alloc)),
         Some(condition) => condition.bind(alloc, &attr_fields(alloc, &schema.attrs)?),
     }
+}
+
+// Whether the cells ascend in a layout as they stand.
+fn is_in_layout(frame: &Frame, layout: Layout, cells: &[Shown]) -> bool
+    requires { All (λ (cell : AnyShown). IsTrue (is_in_domain frame.now.domain cell.coords)) cells.now }
+    ensures { IsTrue result ↔ IsStrictlySortedBy (λ (a b : AnyShown). layout_cmp frame.now layout a.coords b.coords) cells.now }
+{
+    for place in 1..cells.len() {
+        let (cell, next) = (&cells[place - 1], &cells[place]);
+        if cmp_in(frame, layout, &cell.coords, &next.coords) != Ordering::Less {
+            return false;
+        }
+    }
+    true
+}
+
+// How two cells stand in a layout.
+fn cmp_in(frame: &Frame, layout: Layout, a: &Coords, b: &Coords) -> Ordering
+    requires first { IsTrue (is_in_domain frame.now.domain a.now) }
+    requires second { IsTrue (is_in_domain frame.now.domain b.now) }
+    ensures { result ≡ layout_cmp frame.now layout a.now b.now }
+{
+    match layout {
+        Layout::Row => cmp_plain(Order::Row, a, b),
+        Layout::Col => cmp_plain(Order::Col, a, b),
+        Layout::Global => cmp_global(&frame.domain, frame.tile, frame.cell, a, b),
+    }
+}
+
+// The rows of the cells that pass the filter, in the order of the cells, each cut to the fields that
+// are shown.
+fn cut_passing(
+    alloc: Global,
+    ready: &Ready,
+    picks: &PickList,
+    cells: ShownList,
+) -> Result<RowList, OutOfMemory>
+    ensures { IfOk result (λ rows. rows ≡ map (λ e. items_at ready.now.fields (fields_of e)) (filter (λ e. passes_by picks.now ready.now.filter e.0 e.1) (map placed cells))) }
+{
+    let mut rows = RowList::new(alloc);
+    for cell in cells.into_vec() {
+        if passes_by(picks, &ready.filter, &cell) {
+            rows.push(cut(alloc, &cell, ready.fields.as_slice())?)?;
+        }
+    }
+    Ok(rows)
 }
 
 // The cells that pass the filter, by their places in the layout. Where two have one place the first
@@ -135,6 +188,17 @@ fn field_at(alloc: Global, cell: &Shown, place: usize) -> Result<Option<Val>, Ou
         None => Ok(None),
         Some(val) => Ok(Some(val.copy(alloc)?)),
     }
+}
+
+/// The fill of each attribute of a schema.
+pub fn fills_of(alloc: Global, schema: &Schema) -> Result<Row, OutOfMemory>
+    ensures { IfOk result (λ row. row ≡ fills_of schema.now.attrs) }
+{
+    let mut row = Row::new(alloc);
+    for attr in schema.attrs.as_slice() {
+        row.push(attr.fill.copy(alloc)?)?;
+    }
+    Ok(row)
 }
 
 /// The types of the fields that a query shows.

@@ -8,7 +8,7 @@ ghost use Rattle.ts_model.specs.Selections.{IsNamedBox};
 
 use crate::{
     Deed, Erasure, History, Outcome, QueryFault, Refusal, Written, check_delete, check_query,
-    reference,
+    fills_of, reference,
 };
 use std::alloc::Global;
 use std::process::Abort;
@@ -77,9 +77,6 @@ fn made(alloc: Global, frame: &Frame, schema: Schema) -> Result<History, Fail>
     requires attrs { AreAttrs schema.attrs }
     ensures { IfOk result (λ deeds. IsHistory deeds) }
 {
-    if frame.dense {
-        return Err(Fail::from("dense"));
-    }
     let schema = Schema::new(frame, schema.key, schema.attrs)?;
     let mut deeds = History::new(alloc);
     deeds.push(Deed::Framed(*frame))?;
@@ -359,5 +356,69 @@ fn dense_arrays_have_bounds_on_reads_and_no_deletes(rt: HostRuntime) -> Result<(
     let text = ByteList::of_bytes(alloc, b"v = 1")?;
     let erasing = check_delete(alloc, &narrow, &schema, &text);
     assert!(rt; is_refused(&erasing, Refusal::DenseArray));
+    Ok(())
+}
+
+// Whether a read of a dense array of two by two cells, of which one is written at 2 and one at 4,
+// shows these rows.
+fn fills(
+    rt: &impl Abort,
+    alloc: Global,
+    from: u64,
+    to: u64,
+    asked: &Asked,
+    wanted: &[&[i128]],
+) -> Result<bool, Fail> {
+    let frame = frame(rt, alloc, true, 1)?;
+    let later = made(alloc, &frame, schema(rt, alloc)?)?;
+    let mut seen = made(alloc, &frame, schema(rt, alloc)?)?;
+    seen.push(wrote(alloc, 2, 2, 0, 1, 5)?)?;
+    seen.push(wrote(alloc, 4, 3, 1, 0, 6)?)?;
+    let query = query(rt, alloc, asked)?;
+    match reference(alloc, &seen, &later, from, to, &query)? {
+        Outcome::Read(answer) => Ok(answer.rows == rows(alloc, wanted)?),
+        _ => Ok(false),
+    }
+}
+
+#[test]
+fn a_dense_array_shows_the_fill_where_nothing_is_left(rt: HostRuntime) -> Result<(), Fail> {
+    let alloc = rt.alloc();
+    let filled = Asked {
+        fields: &["x", "y"],
+        filter: Some("v = 0"),
+        ..ALL
+    };
+    let right = Asked {
+        sub: &[("y", 1, 1)],
+        layout: Layout::Col,
+        ..ALL
+    };
+    let cases: [(u64, u64, &Asked, &[&[i128]]); 5] = [
+        (
+            0,
+            9,
+            &ALL,
+            &[&[0, 0, 0], &[0, 1, 5], &[1, 0, 6], &[1, 1, 0]],
+        ),
+        (
+            0,
+            3,
+            &ALL,
+            &[&[0, 0, 0], &[0, 1, 5], &[1, 0, 0], &[1, 1, 0]],
+        ),
+        (
+            3,
+            2,
+            &ALL,
+            &[&[0, 0, 0], &[0, 1, 0], &[1, 0, 0], &[1, 1, 0]],
+        ),
+        (0, 9, &filled, &[&[0, 0], &[1, 1]]),
+        (0, 9, &right, &[&[0, 1, 5], &[1, 1, 0]]),
+    ];
+    for (from, to, asked, wanted) in cases {
+        assert!(rt; fills(&rt, alloc, from, to, asked, wanted)?);
+    }
+    assert!(rt; fills_of(alloc, &schema(&rt, alloc)?)? == row(alloc, &[0])?);
     Ok(())
 }

@@ -6,18 +6,18 @@ use Rattle.std.specs.Cmp.Lexicographic.{slice_cmp}
 use Rattle.std.proofs.lemmas.List.{take_more, take_all}
 use Rattle.ts_base.specs.declared.heads.Cell.{Cell}
 use Rattle.ts_model.specs.declared.deeds.Deed.{Deed}
-use Rattle.ts_model.specs.Scans.{cells_in, cells_of_deeds, Shows, shown_by}
-use Rattle.ts_model.proofs.Scans.{shows-none, cells_of_deeds-push, all_shown}
-use Rattle.ts_model.proofs.scan.shown_cells.Goals as goal
+use Rattle.ts_model.specs.Scans.{cells_in, cells_of_deeds, Shows, left_by}
+use Rattle.ts_model.proofs.Scans.{shows-none, cells_of_deeds-push, all_left}
+use Rattle.ts_model.proofs.scan.left_cells.Goals as goal
 
 pub loop-deed-init : goal.loop-deed-init
 loop-deed-init c =
-    let f = shown_by c.args.scan.now in
+    let f = left_by c.args.scan.now in
     subst (λ es. Shows f (finite.from_entries {R = slice_cmp int_cmp} es) []) (sym c.new-cells.ensures.empty) (shows-none f)
 
 pub loop-deed-preserved : goal.loop-deed-preserved
 loop-deed-preserved c =
-    let f = shown_by c.args.scan.now in
+    let f = left_by c.args.scan.now in
     let d = c.deed-item.result in
     let so_far = take c.loop-deed.deed-index c.args.scan.now.deeds.now in
     let longer =
@@ -29,5 +29,5 @@ pub returns : goal.returns
 returns c =
     let deeds = c.args.scan.now.deeds.now in
     let past : length deeds ≤ c.loop-deed.deed-index = c.loop-deed-test.false in
-    all_shown deeds c.args.scan.now.there.now c.args.scan.now.ready.now c.args.scan.now.from c.args.scan.now.to (cells_in c.loop-deed.cells)
-    (subst (λ (ds : List Deed). Shows (shown_by c.args.scan.now) (cells_in c.loop-deed.cells) (cells_of_deeds ds)) (take_all c.loop-deed.deed-index deeds past) c.loop-deed.invariant)
+    all_left deeds c.args.scan.now.there.now c.args.scan.now.ready.now c.args.scan.now.from c.args.scan.now.to (cells_in c.loop-deed.cells)
+    (subst (λ (ds : List Deed). Shows (left_by c.args.scan.now) (cells_in c.loop-deed.cells) (cells_of_deeds ds)) (take_all c.loop-deed.deed-index deeds past) c.loop-deed.invariant)
