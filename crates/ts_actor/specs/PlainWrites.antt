@@ -1,5 +1,5 @@
 -- The piece that one write makes is one that a plain object holds.
-use Rattle.std.proofs.Common.{◌≡◌, ℕ, ℤ, pos, negsuc, Bool, true, false, ◌&&◌, nat_lt, List, [], ◌∷◌, ◌++◌, length, map, Option, Some, None, refl, sym, ap, ◌∙◌, subst, arith}
+use Rattle.std.proofs.Common.{◌≡◌, ℕ, ◌*◌, ℤ, pos, negsuc, Bool, true, false, ◌&&◌, nat_lt, List, [], ◌∷◌, ◌++◌, length, map, Option, Some, None, refl, sym, ap, ◌∙◌, subst, arith}
 use Rattle.std.specs.Prelude.{IsTrue, int_le, ⊤}
 use Rattle.std.specs.List.{All}
 use Rattle.std.specs.List.Sorted.{IsStrictlySortedBy}
@@ -7,7 +7,7 @@ use Rattle.std.specs.Bool.{beq}
 use Rattle.std.specs.Cmp.{tied_itself}
 use Rattle.std.specs.declared.cmp.Ordering.TheVariants.{Less}
 use Rattle.std.proofs.lemmas.Int.{ints}
-use Rattle.std.proofs.lemmas.Bool.{true≢false, and_parts, and_from, le-leb, eq-eqb}
+use Rattle.std.proofs.lemmas.Bool.{and_parts, and_from, le-leb, eq-eqb}
 use Rattle.std.proofs.lemmas.List.{length-map}
 use Rattle.std.proofs.lemmas.List.Elements.{All-nil, All-cons, All-head, All-tail}
 use Rattle.ts_base.specs.declared.keys.Key.{Key}
@@ -20,7 +20,7 @@ use Rattle.ts_base.specs.Keys.{key_cmp, frag_of}
 use Rattle.ts_base.specs.Coords.{coords_eq}
 use Rattle.ts_domain.specs.declared.dims.Dim.{Dim}
 use Rattle.ts_domain.specs.Dims.{IsDim}
-use Rattle.ts_domain.specs.Bounds.{is_between, are_bounds}
+use Rattle.ts_domain.specs.Bounds.{count_between, is_between, are_bounds, cells_between}
 use Rattle.ts_domain.specs.Domains.{is_in_domain}
 use Rattle.ts_domain.proofs.Between.{length-are_bounds}
 use Rattle.ts_order.proofs.OrderLemmas.{global_total}
@@ -31,7 +31,7 @@ use Rattle.ts_schema.specs.declared.attrs.Attr.{Attr}
 use Rattle.ts_schema.specs.declared.frames.Frame.{Frame}
 use Rattle.ts_plain.specs.declared.stored.Side.{Side}
 use Rattle.ts_plain.specs.declared.stored.StoredCell.{StoredCell}
-use Rattle.ts_plain.specs.Rules.{last_of, may_span, is_full, may_hold, may_count, coords_rise, origin_rises}
+use Rattle.ts_plain.specs.Rules.{volume, last_of, may_span, is_full, may_hold, may_count, coords_rise, origin_rises}
 use Rattle.ts_plain.specs.Plain.{FitsCoord, FitsSide, FitsOrigin, FitsValue, FitsCell, FitsPlain}
 use Rattle.ts_plain.specs.Pieces.{no_key, version_in, head_of, piece_of}
 use Rattle.ts_plain.specs.Writes.{place_of, HasPlace, sides_of, stored_head, stored_cell, stored_for, NamesWrites}
@@ -101,6 +101,13 @@ highs_back [] [] h = refl
 highs_back [] (y ∷ high) h = absurd (cc)
 highs_back (x ∷ low) [] h = absurd (cc)
 highs_back (x ∷ low) (y ∷ high) h = ap (λ ys. y ∷ ys) (highs_back low high (and_parts (int_le x y) (are_bounds low high) h).1)
+
+-- as many cells lie between the sides as between the corners
+volume_between : (low high : List ℤ) → IsTrue (are_bounds low high) → volume (sides_of low high) ≡ cells_between low high
+volume_between [] [] h = refl
+volume_between [] (y ∷ high) h = absurd (cc)
+volume_between (x ∷ low) [] h = absurd (cc)
+volume_between (x ∷ low) (y ∷ high) h = ap (λ n. count_between x y * n) (volume_between low high (and_parts (int_le x y) (are_bounds low high) h).1)
 
 -- ---- the origin
 
@@ -214,11 +221,11 @@ ordinary_fits frame attrs p is =
     record {
       head = record {
         schema = (is.schema.t, is.schema.id);
-        kind = ap (beq frame.dense) is.dense ∙ rw is.sparse refl;
+        kind = ap (beq frame.dense) is.dense ∙ same frame.dense;
         span = ap (may_span p.head.frag) is.consolidated ∙ rw is.frag (eq-eqb is.key.t is.key.t refl);
         hull = hull_fits frame.domain p.head.low p.head.high dims is.low is.high is.corners;
         cells = omega (arith, is.cells, is.few);
-        as_many = some_cells (is_full frame.dense p.head.consolidated) (sparse frame.dense p.head.consolidated is.sparse);
+        as_many = ap (λ b. may_hold (is_full frame.dense b) (sides_of p.head.low p.head.high) p.head.cells) is.consolidated ∙ as_many frame.dense is.whole;
         few_origins = omega (arith, ap length is.origins);
         some_origin = ap (λ b. may_count b (length p.head.origins)) is.consolidated ∙ ap (λ ks. may_count false (length ks)) is.origins;
         origins = own_fits p.head.frag p.head.consolidated p.head.origins is.key (is.is_key.t, is.is_key.id) is.frag is.consolidated is.origins;
@@ -227,12 +234,13 @@ ordinary_fits frame attrs p is =
       cells = cells_fit frame attrs p.head is.key dims is.origins [] p.versions is.versions (first p.versions) is.climb;
     }
   where
-    sparse : (dense consolidated : Bool) → dense ≡ false → is_full dense consolidated ≡ false
-    sparse dense consolidated e = rw e refl
+    same : (b : Bool) → beq b b ≡ true
+    same true = refl
+    same false = refl
 
-    some_cells : (full : Bool) → full ≡ false → IsTrue (may_hold full (sides_of p.head.low p.head.high) p.head.cells)
-    some_cells true e = absurd (true≢false e)
-    some_cells false e = le-leb 1 p.head.cells (omega (arith, is.cells, is.some))
+    as_many : (dense : Bool) → (dense ≡ true → p.head.cells ≡ cells_between p.head.low p.head.high) → IsTrue (may_hold (is_full dense false) (sides_of p.head.low p.head.high) p.head.cells)
+    as_many true whole = eq-eqb p.head.cells (volume (sides_of p.head.low p.head.high)) (whole refl ∙ sym (volume_between p.head.low p.head.high is.corners))
+    as_many false whole = le-leb 1 p.head.cells (omega (arith, is.cells, is.some))
 
     first : (vs : List Version) → Begins frame None vs
     first [] = tt
