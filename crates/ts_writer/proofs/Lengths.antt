@@ -12,6 +12,8 @@ use Rattle.ts_domain.specs.declared.dims.Dim.{Dim}
 use Rattle.ts_model.specs.declared.answers.Refusal.{Refusal}
 use Rattle.ts_model.specs.declared.commands.ColIn.{ColIn}
 use Rattle.ts_model.specs.Commands.{◌or_else◌, or_clash, column, so_many, all_of, coordinate, dim_column, columns, across, cells_from}
+use Rattle.ts_model.specs.Queries.{over_most}
+use Rattle.ts_model.proofs.Laying.{length-cells_from}
 
 -- values that are there are the same
 same_Ok : {A E : Type 0} (x y : A) → ◌≡◌ {A = Result A E} (Ok x) (Ok y) → x ≡ y
@@ -98,3 +100,7 @@ cells_long count place zero coords rows le long = All-nil (λ (cell : Cell). len
 cells_long count place (suc more) coords rows le long =
     All-cons (λ (cell : Cell). length cell.coords ≡ length coords) (record { coords = across place coords; row = across place rows }) (cells_from coords rows (suc place) more)
     (length-across count place coords (omega (arith, le)) long) (cells_long count (suc place) more coords rows (omega (arith, le)) long)
+
+-- whether the cells are too many is told by their number
+pub over_cells : (cells : List Cell) (coords : List (List ℤ)) (rows : List (List Val)) (count : ℕ) → cells ≡ cells_from coords rows 0 count → over_most (length cells) ≡ over_most count
+over_cells cells coords rows count is = ap (λ all. over_most (length all)) is ∙ ap over_most (length-cells_from coords rows 0 count)

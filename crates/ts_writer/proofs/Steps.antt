@@ -1,12 +1,13 @@
 -- Steps of the loops that make cells and bytes.
-use Rattle.std.proofs.Common.{◌≡◌, ℕ, suc, ◌+◌, ◌-◌, ◌<◌, ℤ, List, [], ◌∷◌, ◌++◌, length, get_or, Some, None, sym, ap, ◌∙◌, append_assoc, add-one, arith}
+use Rattle.std.proofs.Common.{◌≡◌, ℕ, zero, suc, ◌+◌, ◌-◌, ◌<◌, ◌≤◌, ℤ, List, [], ◌∷◌, ◌++◌, length, get_or, drop, Some, None, sym, ap, ◌∙◌, append_assoc, add-one, arith}
 use Rattle.std.specs.Prelude.{slice_get, take}
 use Rattle.std.specs.List.{cons_option}
-use Rattle.std.proofs.lemmas.List.{take_more, append-nil}
+use Rattle.std.proofs.lemmas.List.{take_more, append-nil, drop_all}
+use Rattle.std.proofs.lemmas.Option.{same_Some}
 use Rattle.std.proofs.lemmas.List.Elements.{filter_map-append}
 use Rattle.ts_base.specs.declared.heads.Cell.{Cell}
 use Rattle.ts_base.specs.declared.values.Val.{Val}
-use Rattle.ts_model.specs.Commands.{across, cells_from}
+use Rattle.ts_model.specs.Commands.{across, cells_from, cells_at}
 
 -- one cell more
 pub cells_more : (coords : List (List ℤ)) (rows : List (List Val)) (place count : ℕ) (cells whole : List Cell) (cell : Cell) → place < count → cell ≡ record { coords = across place coords; row = across place rows }
@@ -16,6 +17,25 @@ cells_more coords rows place count cells whole cell lt is was =
     append_assoc cells (cell ∷ []) _ ∙ ap (λ x. cells ++ x ∷ cells_from coords rows (place + 1) (count - (place + 1))) is
     ∙ ap (λ n. cells ++ record { coords = across place coords; row = across place rows } ∷ cells_from coords rows n (count - (place + 1))) (add-one place)
     ∙ ap (λ n. cells ++ cells_from coords rows place n) (sym left) ∙ was
+
+-- what is left at a place begins with what stands there
+drop_at : {A : Type 0} (xs : List A) (i : ℕ) (x : A) → slice_get xs i ≡ Some x → drop i xs ≡ x ∷ drop (suc i) xs
+drop_at [] i x e = cc
+drop_at (y ∷ ys) zero x e = ap (λ z. z ∷ ys) (same_Some y x e)
+drop_at (y ∷ ys) (suc i) x e = drop_at ys i x e
+
+-- one cell of a box more
+pub box_more : (coords : List (List ℤ)) (rows : List (List Val)) (place : ℕ) (cells whole : List Cell) (c : List ℤ) (row : List Val) → slice_get coords place ≡ Some c → row ≡ across place rows
+    → cells ++ cells_at (drop place coords) rows place ≡ whole → (cells ++ record { coords = c; row = row } ∷ []) ++ cells_at (drop (place + 1) coords) rows (place + 1) ≡ whole
+box_more coords rows place cells whole c row at is was =
+    append_assoc cells (record { coords = c; row = row } ∷ []) _
+    ∙ ap (λ r. cells ++ record { coords = c; row = r } ∷ cells_at (drop (place + 1) coords) rows (place + 1)) is
+    ∙ ap (λ n. cells ++ record { coords = c; row = across place rows } ∷ cells_at (drop n coords) rows n) (add-one place)
+    ∙ ap (λ left. cells ++ cells_at left rows place) (sym (drop_at coords place c at)) ∙ was
+
+-- no cell is left where the box has no more
+pub box_done : (coords : List (List ℤ)) (rows : List (List Val)) (place : ℕ) (cells whole : List Cell) → length coords ≤ place → cells ++ cells_at (drop place coords) rows place ≡ whole → cells ≡ whole
+box_done coords rows place cells whole all was = sym (append-nil cells) ∙ ap (λ left. cells ++ cells_at left rows place) (sym (drop_all place coords all)) ∙ was
 
 -- ---- the values at a place
 

@@ -1,7 +1,8 @@
--- The cells of a write, and the names of its objects.
+-- The cells of a write, the bounds of its box, and the names of its objects.
 use Rattle.std.proofs.Common.{◌≡◌, ◌≤◌, List, [], ◌∷◌, ◌++◌, Ok, length, sym, subst}
 use Rattle.std.specs.Prelude.{IsTrue}
 use Rattle.std.specs.List.{All, list_all}
+use Rattle.std.proofs.lemmas.Bool.{and_parts}
 use Rattle.std.proofs.lemmas.List.Elements.{All-nil, All-cons, All-head, All-tail}
 use Rattle.ts_base.specs.declared.heads.Cell.{Cell}
 use Rattle.ts_base.specs.declared.keys.FragKey.{FragKey}
@@ -12,21 +13,27 @@ use Rattle.ts_domain.specs.Domains.{is_in_domain}
 use Rattle.ts_schema.specs.declared.attrs.Attr.{Attr}
 use Rattle.ts_schema.specs.declared.frames.Frame.{Frame}
 use Rattle.ts_schema.specs.FrameTexts.{IsFrame}
-use Rattle.ts_model.specs.declared.commands.ColIn.{ColIn}
+use Rattle.ts_model.specs.declared.commands.WriteIn.{WriteIn}
 use Rattle.ts_model.specs.declared.states.NewObject.{NewObject}
-use Rattle.ts_model.specs.Commands.{is_spelled_col, laid}
+use Rattle.ts_model.specs.Commands.{is_spelled_col, is_spelled_box, is_spelled_write, laid}
 use Rattle.ts_model.specs.States.{part_objects}
-use Rattle.ts_model.proofs.Laying.{laid_follows}
+use Rattle.ts_model.specs.Selections.{IsNamedBox}
+use Rattle.ts_model.proofs.Laying.{named_spelled, laid_follows}
+use Rattle.ts_model.proofs.Spelled.{all_tested}
 use Rattle.ts_writer.specs.Writing.{AreSpelled}
 
-module _ (frame : Frame) (attrs : List Attr) (cols : List ColIn) (cells : List Cell) (is : IsFrame frame) (spelled : IsTrue (list_all is_spelled_col cols)) (e : laid frame.domain attrs cols ≡ Ok cells) where
+module _ (frame : Frame) (attrs : List Attr) (w : WriteIn) (cells : List Cell) (is : IsFrame frame) (spelled : IsTrue (is_spelled_write w)) (e : laid frame attrs w ≡ Ok cells) where
   -- a write that is not refused has a cell
   pub some_cells : 1 ≤ length cells
-  some_cells = (laid_follows frame.domain attrs cols cells spelled is.domain.some e).some_cell
+  some_cells = (laid_follows frame attrs w cells spelled is e).some_cell
 
   -- each of its cells lies in the domain
   pub cells_inside : All (λ (cell : Cell). IsTrue (is_in_domain frame.domain cell.coords)) cells
-  cells_inside k d h = ((laid_follows frame.domain attrs cols cells spelled is.domain.some e).fit k d h).inside
+  cells_inside k d h = ((laid_follows frame attrs w cells spelled is e).fit k d h).inside
+
+-- the bounds of a write's box are in order
+pub bounds_in_order : (w : WriteIn) → IsTrue (is_spelled_write w) → All IsNamedBox w.sub
+bounds_in_order w spelled = all_tested IsNamedBox is_spelled_box named_spelled w.sub (and_parts (list_all is_spelled_col w.cols) (list_all is_spelled_box w.sub) spelled).1
 
 parts_spelled : (frag : FragKey) (parts : List PartBytes) → IsSpelledFrag frag → All (λ x. IsSpelledPart x.part) parts → AreSpelled (part_objects frag parts ++ record { name = wrt_of frag; bytes = [] } ∷ [])
 parts_spelled frag [] is each = All-cons (λ (o : NewObject). IsSpelled o.name) (record { name = wrt_of frag; bytes = [] }) [] (is, tt) (All-nil (λ (o : NewObject). IsSpelled o.name))

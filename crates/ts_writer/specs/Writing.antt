@@ -5,7 +5,6 @@ use Rattle.ts_schema.specs.SchemaTexts.{AreAttrs}
 use Rattle.ts_base.specs.declared.heads.Stop.TheVariants.{Never}
 use Rattle.ts_model.specs.declared.commands.Command.{Command}
 use Rattle.ts_model.specs.declared.commands.Command.TheVariants.{Create, Evolve, Write, Delete}
-use Rattle.ts_model.specs.declared.commands.ColIn.{ColIn}
 use Rattle.ts_model.specs.declared.commands.Job.{Job}
 use Rattle.ts_model.specs.declared.states.NewObject.{NewObject}
 use Rattle.ts_model.specs.declared.states.State.{State}
@@ -51,11 +50,6 @@ pub record IsWriteJob (job : Job) : Type 0 where
 pub record IsDeleteJob (job : Job) : Type 0 where
   pub fit : IsFit job
   pub kind : IsDelete job.command
-
--- the command writes these columns
-abbrev pub Columns : Command → List ColIn → Type 0
-Columns (Write w) cols = w.cols ≡ cols
-Columns _ cols = ⊥
 
 -- each of the objects has a name with a spelling
 abbrev pub AreSpelled : List NewObject → Type 0

@@ -1,15 +1,18 @@
 //! The cells of a write, place by place, and what can be wrong with them.
-ghost use Rattle.std.specs.Prelude.{◌≡◌, ◌≤◌, ◌<◌, ℤ, List, [], length, slice_get, IfOk, All};
+ghost use Rattle.std.specs.Prelude.{◌≡◌, ◌≤◌, ◌<◌, ◌-◌, ◌^◌, ℤ, List, [], length, slice_get, IfOk, All};
 ghost use Rattle.std.specs.Option.{option_copied};
 ghost use Rattle.ts_base.specs.declared.heads.Cell.{Cell as AnyCell};
-ghost use Rattle.ts_model.specs.Commands.{across, cells_from, outside_in, again_in};
+ghost use Rattle.ts_domain.specs.Boxes.{IsBox, cells_of};
+ghost use Rattle.ts_order.specs.Orders.{coords_in_order};
+ghost use Rattle.ts_model.specs.Commands.{across, cells_at, cells_from, outside_in, again_in};
 
 use crate::values::NumberList;
 use std::alloc::Global;
 use std::collections::BTreeSet;
 use ts_base::{Cell, CellList, Coords, Duplicate, OutOfMemory, Row, Val};
-use ts_domain::Domain;
+use ts_domain::{Domain, Order, SubBox};
 use ts_model::Refusal;
+use ts_order::coords_at as box_coords;
 
 /// The cells of columns.
 pub(crate) fn cells_of(
@@ -27,6 +30,28 @@ pub(crate) fn cells_of(
     for place in 0..count {
         let cell = Cell {
             coords: coords_at(coords, place),
+            row: row_at(alloc, rows, place)?,
+        };
+        cells.push(cell)?;
+    }
+    Ok(cells)
+}
+
+/// The cells of a box, in the order of a layout, whose rows are in columns.
+pub(crate) fn cells_over(
+    alloc: Global,
+    sub: &SubBox,
+    layout: Order,
+    rows: &[Row],
+) -> Result<CellList, OutOfMemory>
+    requires valid { IsBox sub.now }
+    requires few { cells_of sub.now < 2 ^ 64 - 1 }
+    ensures { IfOk result (λ cells. cells ≡ cells_at (coords_in_order layout sub.now) rows.now 0) }
+{
+    let mut cells = CellList::new(alloc);
+    for place in 0..sub.cells() {
+        let cell = Cell {
+            coords: box_coords(sub, layout, place),
             row: row_at(alloc, rows, place)?,
         };
         cells.push(cell)?;

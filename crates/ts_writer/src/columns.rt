@@ -118,7 +118,8 @@ fn attr_column(alloc: Global, cols: &[ColIn], count: u64, attr: &Attr) -> Result
     }
 }
 
-fn clash(label: Label) -> LayFault
+/// The clash of a name.
+pub(crate) fn clash(label: Label) -> LayFault
     ensures { result ≡ fault.Refused (refusal.SchemaClash label) }
 {
     LayFault::Refused(Refusal::SchemaClash { attr: label })

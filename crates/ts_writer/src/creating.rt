@@ -117,7 +117,7 @@ fn frame_of(frame: &FrameIn) -> Frame
 {
     match Domain::new(frame.dims.as_slice()) {
         Ok(domain) => Frame {
-            dense: false,
+            dense: frame.dense,
             domain,
             cell: frame.cell,
             tile: frame.tile,

@@ -1,19 +1,22 @@
 //! The piece of a write: its cells in global order, between their corners.
-ghost use Rattle.std.specs.Prelude.{◌≡◌, ◌≤◌, [], length, map, IfOk, IsTrue, All};
+ghost use Rattle.std.specs.Prelude.{◌≡◌, ◌≤◌, ◌↔◌, [], length, map, IfOk, IsTrue, All};
 ghost use Rattle.ts_base.specs.declared.heads.Cell.{Cell as AnyCell};
 ghost use Rattle.std.specs.BTreeMap.{values};
+ghost use Rattle.std.specs.List.Sorted.{IsStrictlySortedBy};
 ghost use Rattle.ts_domain.specs.Boxes.{IsBox};
 ghost use Rattle.ts_domain.specs.Domains.{is_in_domain};
-ghost use Rattle.ts_model.specs.Commands.{low_of_cells, high_of_cells, version_in, in_global_order, piece_of};
+ghost use Rattle.ts_model.specs.Commands.{low_of_cells, high_of_cells, version_in, global_order, in_global_order, piece_of};
 ghost use Rattle.ts_writer.specs.Places.{placed_behind, head_in};
 
 use std::alloc::{AllocError, Global};
+use std::cmp::Ordering;
 use std::collections::BTreeMap;
 use ts_base::{
     Cell, CellList, Coords, FragKey, Head, Key, KeyList, OutOfMemory, Piece, Version, VersionList,
 };
 use ts_domain::{Domain, SubBox};
 use ts_model::{GlobalPlace, place_of};
+use ts_order::cmp_global;
 use ts_schema::Frame;
 
 /// The piece of a write with this key, whose cells follow the schema of another.
@@ -101,8 +104,64 @@ fn versions_of(
     requires { All (λ (cell : AnyCell). IsTrue (is_in_domain frame.now.domain cell.coords)) cells }
     ensures { IfOk result (λ versions. versions ≡ map (version_in key schema) (in_global_order frame.now cells)) }
 {
+    if is_in_global_order(frame, cells.as_slice()) {
+        return versions_along(alloc, key, schema, cells);
+    }
     let placed = placed(alloc, frame, key, schema, cells)?;
     Ok(VersionList::from_vec(versions_in(alloc, placed)?))
+}
+
+// Whether the cells ascend in global order as they stand.
+fn is_in_global_order(frame: &Frame, cells: &[Cell]) -> bool
+    requires { All (λ (cell : AnyCell). IsTrue (is_in_domain frame.now.domain cell.coords)) cells.now }
+    ensures { IsTrue result ↔ IsStrictlySortedBy (λ (a b : AnyCell). global_order frame.now a.coords b.coords) cells.now }
+{
+    for place in 1..cells.len() {
+        let (cell, next) = (&cells[place - 1], &cells[place]);
+        if global_order(frame, &cell.coords, &next.coords) != Ordering::Less {
+            return false;
+        }
+    }
+    true
+}
+
+// How two cells stand in global order.
+fn global_order(frame: &Frame, a: &Coords, b: &Coords) -> Ordering
+    requires first { IsTrue (is_in_domain frame.now.domain a.now) }
+    requires second { IsTrue (is_in_domain frame.now.domain b.now) }
+    ensures { result ≡ global_order frame.now a.now b.now }
+{
+    cmp_global(&frame.domain, frame.tile, frame.cell, a, b)
+}
+
+// The versions of the cells, in the order of the cells.
+fn versions_along(
+    alloc: Global,
+    key: Key,
+    schema: Key,
+    cells: CellList,
+) -> Result<VersionList, OutOfMemory>
+    ensures { IfOk result (λ versions. versions ≡ map (version_in key schema) cells) }
+{
+    let cells = cells.into_vec();
+    let mut versions = Vec::with_capacity(alloc, cells.len())?;
+    for cell in cells {
+        versions.push(version_in(key, schema, cell))?;
+    }
+    Ok(VersionList::from_vec(versions))
+}
+
+// The version that a write makes of a cell.
+fn version_in(key: Key, schema: Key, cell: Cell) -> Version
+    ensures { result ≡ version_in key schema cell }
+{
+    let Cell { coords, row } = cell;
+    Version {
+        key,
+        schema,
+        coords,
+        row,
+    }
 }
 
 // The versions of the cells, by their places. Where two cells have one place the first is kept.
@@ -120,15 +179,7 @@ fn placed(
     let mut placed = BTreeMap::new(alloc);
     while let Some(cell) = cells.pop() {
         let place = place_of(frame, &cell.coords);
-        placed.insert(
-            place,
-            Version {
-                key,
-                schema,
-                coords: cell.coords,
-                row: cell.row,
-            },
-        )?;
+        placed.insert(place, version_in(key, schema, cell))?;
     }
     Ok(placed)
 }

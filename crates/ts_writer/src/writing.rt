@@ -1,15 +1,15 @@
 //! How a write goes: the call that it makes next, and where the reply leads it.
 ghost use Rattle.std.specs.Prelude.{◌≡◌, ◌≢◌, ◌<◌, ◌^◌, ◌+◌, ◌++◌, ◌∷◌, [], None, Ok, List, All, IfOk, IsTrue};
-ghost use Rattle.std.specs.List.{list_all};
 ghost use Rattle.ts_model.specs.declared.states.Listed.{Listed as AnyListed};
 ghost use Rattle.ts_base.specs.Names.{IsSpelledFrag, IsSpelledPart, wrt_of};
 ghost use Rattle.ts_store.specs.Calls.{IsSpelledReply};
 ghost use Rattle.ts_schema.specs.FrameTexts.{IsFrame, frame_of};
 ghost use Rattle.ts_schema.specs.SchemaTexts.{AreAttrs};
-ghost use Rattle.ts_model.specs.Commands.{is_spelled_col, laid};
+ghost use Rattle.ts_model.specs.declared.commands.Command.TheVariants.{Write};
+ghost use Rattle.ts_model.specs.Commands.{is_spelled_write, laid};
 ghost use Rattle.ts_model.specs.Deeds.{IsKey};
 ghost use Rattle.ts_model.specs.States.{asks, goes, on_read, part_objects, puts_cells, works};
-ghost use Rattle.ts_writer.specs.Writing.{AreSpelled, Columns, IsWrite, IsWriteJob, IsLaterState, calls_left};
+ghost use Rattle.ts_writer.specs.Writing.{AreSpelled, IsWrite, IsWriteJob, IsLaterState, calls_left};
 
 use crate::ends::{get_ended, refuse};
 use crate::laying::{LayFault, lay};
@@ -22,7 +22,7 @@ use ts_actor::{Automaton, Pieces};
 use ts_base::{
     ByteList, CellList, CommitKind, FragKey, Key, Name, OutOfMemory, PartBytes, PartList,
 };
-use ts_model::{ColInList, Command, Job, NewObject, NewObjectList, Outcome, Refusal, State};
+use ts_model::{Command, Job, NewObject, NewObjectList, Outcome, Refusal, State, WriteIn};
 use ts_schema::{Frame, Schema};
 use ts_store::{Call, Reply};
 
@@ -84,14 +84,14 @@ impl<P: Pieces> Automaton for Writes<P> {
     }
 }
 
-// The columns of a write.
-fn cols_in(job: &Job) -> &ColInList
+// What a write writes.
+fn write_in(job: &Job) -> &WriteIn
     requires { IsWriteJob job.now }
-    ensures is { Columns job.now.command result.now }
-    ensures spelled { IsTrue (list_all is_spelled_col result.now) }
+    ensures is { job.now.command ≡ Write result.now }
+    ensures spelled { IsTrue (is_spelled_write result.now) }
 {
     match &job.command {
-        Command::Write(cells) => &cells.cols,
+        Command::Write(write) => write,
         _ => unreachable!(),
     }
 }
@@ -151,35 +151,31 @@ fn write<P: Pieces>(
     ensures may { IfOk result IsLaterState }
     ensures fewer { IfOk result (λ state. calls_left state < 2 ^ 64 + 1) }
 {
-    let cols = cols_in(job);
-    match lay(alloc, frame, &there.attrs, cols) {
-        Ok(cells) => put_cells::<P>(alloc, job, frame, there, cols, cells),
+    let write = write_in(job);
+    match lay(alloc, frame, &there.attrs, write) {
+        Ok(cells) => put_cells::<P>(alloc, job, frame, there, write, cells),
         Err(LayFault::Refused(refusal)) => Ok(refuse(refusal)),
         Err(LayFault::OutOfMemory) => Err(OutOfMemory),
     }
 }
 
-// A write puts the cells that its columns lay. The piece of a dense array is another one: where
-// there is one, the write ends as for want of memory.
+// A write puts the cells that its columns lay.
 fn put_cells<P: Pieces>(
     alloc: Global,
     job: &Job,
     frame: &Frame,
     there: &Schema,
-    cols: &ColInList,
+    write: &WriteIn,
     cells: CellList,
 ) -> Result<State<P::Fetch>, OutOfMemory>
     requires frame { IsFrame frame.now }
     requires attrs { AreAttrs there.now.attrs }
-    requires spelled { IsTrue (list_all is_spelled_col cols.now) }
-    requires laid { laid frame.now.domain there.now.attrs cols.now ≡ Ok cells }
+    requires spelled { IsTrue (is_spelled_write write.now) }
+    requires laid { laid frame.now there.now.attrs write.now ≡ Ok cells }
     ensures is { IfOk result (λ state. state ≡ puts_cells P.forms job.now frame.now there.now (Ok cells)) }
     ensures may { IfOk result IsLaterState }
     ensures fewer { IfOk result (λ state. calls_left state < 2 ^ 64) }
 {
-    if frame.dense {
-        return Err(OutOfMemory);
-    }
     let piece = piece_of(alloc, frame, key_of(job), schema_key(there), cells)?;
     let parts = P::parts(alloc, frame, there, &piece)?;
     let frag = frag_of(job);
