@@ -1,10 +1,10 @@
 -- What is left of versions once the deletes are over them.
-use Rattle.std.proofs.Common.{◌≡◌, ℕ, ℤ, ◌+◌, ◌<◌, suc, zero, Bool, true, false, not, ◌||◌, cond, List, [], ◌∷◌, ◌++◌, length, drop, Option, Some, map, refl, sym, ap, ◌∙◌, arith, get_or, All, subst}
+use Rattle.std.proofs.Common.{◌≡◌, ℕ, ℤ, ◌+◌, ◌<◌, suc, zero, Bool, true, false, not, ◌||◌, cond, List, [], ◌∷◌, ◌++◌, length, drop, take, Option, Some, None, map, refl, sym, ap, ◌∙◌, arith, get_or, All, subst}
 use Rattle.std.specs.Prelude.{filter, slice_get, find, if◌then◌else◌}
 use Rattle.std.specs.List.{list_any, AllByRecursion}
 use Rattle.std.specs.Option.{option_map_or}
 use Rattle.std.proofs.lemmas.List.{map-append}
-use Rattle.std.proofs.lemmas.List.Elements.{filter-append, All-from_recursion, recursion_from_All}
+use Rattle.std.proofs.lemmas.List.Elements.{filter-append, All-from_recursion}
 use Rattle.ts_base.specs.declared.keys.Key.{Key}
 use Rattle.ts_base.specs.declared.heads.Version.{Version}
 use Rattle.ts_base.specs.declared.values.Val.{Val}
@@ -13,7 +13,9 @@ use Rattle.ts_schema.specs.declared.schemas.Schema.{Schema}
 use Rattle.ts_model.specs.declared.queries.Shown.{Shown}
 use Rattle.ts_model.specs.declared.states.Reading.{Reading}
 use Rattle.ts_model.specs.Selections.{placed}
-use Rattle.ts_model.specs.States.{cell_shown, is_erased_by, known_attrs}
+use Rattle.ts_schema.specs.Attrs.{shown_row}
+use Rattle.ts_model.specs.Answers.{fills_of}
+use Rattle.ts_model.specs.States.{cell_shown, is_erased_by, known_attrs, row_or_fill}
 use Rattle.ts_reader.specs.Erasing.{all_shown, erases, one_shown}
 
 -- what one more version shows
@@ -37,7 +39,7 @@ one_so P r schemas v left true here all = all
 one_so P r schemas v left false here all = (here, all)
 
 -- what is true of the coordinates of each version is true of those of each cell that is shown
-cells_so : (P : List ℤ → Type 0) (r : Reading) (schemas : List Schema) (vs : List Version) → AllByRecursion (λ v. P v.coords) vs → AllByRecursion (λ (e : List ℤ × List Val). P e.0) (all_shown r schemas vs)
+pub cells_so : (P : List ℤ → Type 0) (r : Reading) (schemas : List Schema) (vs : List Version) → AllByRecursion (λ v. P v.coords) vs → AllByRecursion (λ (e : List ℤ × List Val). P e.0) (all_shown r schemas vs)
 cells_so P r schemas [] all = tt
 cells_so P r schemas (v ∷ vs) all = one_so P r schemas v (filter (λ w. not (is_erased_by r schemas r.erased w)) vs) (is_erased_by r schemas r.erased v) all.0 (cells_so P r schemas vs all.1)
 
@@ -45,13 +47,24 @@ unplaced : (P : List ℤ → Type 0) (cells : List Shown) → AllByRecursion (λ
 unplaced P [] all = tt
 unplaced P (cell ∷ cells) all = (all.0, unplaced P cells all.1)
 
--- so it is of the cells as they are placed
-pub placed_so : (P : List ℤ → Type 0) (r : Reading) (schemas : List Schema) (vs : List Version) (cells : List Shown) → map placed cells ≡ all_shown r schemas vs → All (λ v. P v.coords) vs → All (λ (cell : Shown). P cell.coords) cells
-placed_so P r schemas vs cells are all =
+-- what is true of the coordinates of each cell as it is placed is true of those of the cell
+pub placed_so : (P : List ℤ → Type 0) (cells : List Shown) (es : List (List ℤ × List Val)) → map placed cells ≡ es → AllByRecursion (λ (e : List ℤ × List Val). P e.0) es → All (λ (cell : Shown). P cell.coords) cells
+placed_so P cells es are all =
     let Q : Shown → Type 0 = λ cell. P cell.coords in
-    let R : Version → Type 0 = λ v. P v.coords in
     let W : List ℤ × List Val → Type 0 = λ e. P e.0 in
-    All-from_recursion Q cells (unplaced P cells (subst (AllByRecursion W) (sym are) (cells_so P r schemas vs (recursion_from_All R vs all))))
+    All-from_recursion Q cells (unplaced P cells (subst (AllByRecursion W) (sym are) all))
+
+-- the row that a dense array shows of its newest version
+pub filled_row : (r : Reading) (schemas : List Schema) (v : Version) (b : Bool) → list_any (erases (known_attrs r schemas v.schema) v) r.erased ≡ b
+    → row_or_fill r schemas (Some v) ≡ cond b (fills_of (r.there).attrs) (shown_row (known_attrs r schemas v.schema) v.row (r.there).attrs)
+filled_row r schemas v b is = ap row is ∙ by_test b
+  where
+    row : Bool → List Val
+    row e = option_map_or (λ vals. vals) (cond (not e) (Some (shown_row (known_attrs r schemas v.schema) v.row (r.there).attrs)) None) (fills_of (r.there).attrs)
+
+    by_test : (e : Bool) → row e ≡ cond e (fills_of (r.there).attrs) (shown_row (known_attrs r schemas v.schema) v.row (r.there).attrs)
+    by_test true = refl
+    by_test false = refl
 
 -- ---- lists that were mapped
 
@@ -66,6 +79,12 @@ pub any_on : {X : Type 0} (test : X → Bool) (xs : List X) (i : ℕ) (x : X) �
 any_on test [] i x at = absurd (cc)
 any_on test (y ∷ xs) zero x at = let one : y ≡ x = cc in ap (λ z. test z || list_any test xs) one
 any_on test (y ∷ xs) (suc i) x at = let next : suc i + 1 ≡ suc (i + 1) = omega arith in rw next (any_on test xs i x at)
+
+-- up to one item more
+pub mapped_more : {X Y : Type 0} (f : X → Y) (xs : List X) (i : ℕ) (x : X) → slice_get xs i ≡ Some x → take (i + 1) (map f xs) ≡ take i (map f xs) ++ f x ∷ []
+mapped_more f [] i x at = absurd (cc)
+mapped_more f (y ∷ xs) zero x at = let one : y ≡ x = cc in ap (λ z. f z ∷ []) one
+mapped_more f (y ∷ xs) (suc i) x at = let next : suc i + 1 ≡ suc (i + 1) = omega arith in rw next (ap (λ ys. f y ∷ ys) (mapped_more f xs i x at))
 
 -- what stands at a place within a list
 pub there_at : {X : Type 0} (xs : List X) (i : ℕ) (d : X) → i < length xs → slice_get xs i ≡ Some (get_or xs i d)

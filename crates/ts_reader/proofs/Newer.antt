@@ -1,7 +1,6 @@
 -- Trees of versions and of keys: what one more of them changes, and what they hold in order.
-use Rattle.std.proofs.Common.{◌≡◌, ℤ, Bool, not, true, false, cond, List, [], ◌∷◌, ◌++◌, length, Option, Some, map, Ordering, Less, Equal, Greater, refl, sym, ap, subst, ◌∙◌, arith, All}
+use Rattle.std.proofs.Common.{◌≡◌, ℤ, Bool, not, true, false, cond, List, [], ◌∷◌, ◌++◌, length, Option, Some, map, Ordering, Less, Equal, Greater, refl, sym, ap, subst, ◌∙◌, arith}
 use Rattle.std.specs.List.{AllByRecursion}
-use Rattle.std.proofs.lemmas.List.Elements.{All-from_recursion, recursion_from_All}
 use Rattle.std.specs.Option.{option_map_or}
 use Rattle.std.specs.Ordering.{int_cmp}
 use Rattle.std.specs.Cmp.{int_cmp_total, IsTotalOrder}
@@ -99,10 +98,8 @@ module _ (P : Version → Type 0) where
   so_values (e ∷ es) all = (all.0, so_values es all.1)
 
   -- what is true of each version is true of each of the newest
-  pub newest_so : (m : tree.BTreeMap (List ℤ) Version) (vs : List Version) → tree.IsOrdered (slice_cmp int_cmp) m → newest_in m ≡ newest_of vs → All P vs → All P (tree.values m)
-  newest_so m vs ordered same each =
-      let inorder : finite.entries (newest_of vs) ≡ m.entries = ap finite.entries (sym same) ∙ entries-tree coords_total m.entries ordered in
-      All-from_recursion P (tree.values m) (so_values m.entries (subst AreSo inorder (so_newest vs (recursion_from_All P vs each))))
+  pub newest_so : (vs : List Version) → AllByRecursion P vs → AllByRecursion P (finite.values (newest_of vs))
+  newest_so vs each = so_values (finite.entries (newest_of vs)) (so_newest vs each)
 
 -- the versions of a tree are those of the map, in order
 pub values_in_order : (m : tree.BTreeMap (List ℤ) Version) (all : Newest) → tree.IsOrdered (slice_cmp int_cmp) m → newest_in m ≡ all → tree.values m ≡ finite.values all

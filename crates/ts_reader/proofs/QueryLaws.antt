@@ -1,13 +1,11 @@
 -- Queries: the bounds of one that there can be are in order, and the box that it asks for lies in the domain.
-use Rattle.std.proofs.Common.{◌≡◌, ℕ, ℤ, ◌≤ℤ◌, suc, Bool, true, false, ◌&&◌, List, [], ◌∷◌, Option, Some, None, Result, Ok, Err, map, refl, sym, ap, arith, All, subst}
+use Rattle.std.proofs.Common.{◌≡◌, ℕ, ℤ, suc, Bool, true, false, ◌&&◌, List, [], ◌∷◌, Option, Some, None, Result, Ok, Err, map, refl, sym, ap, arith, All, subst}
 use Rattle.std.specs.Prelude.{IsTrue, int_le, nat_lt, ◌^◌}
 use Rattle.std.specs.List.{list_all, AllByRecursion}
 use Rattle.std.specs.Option.{option_or, option_map, option_map_or}
 use Rattle.std.proofs.lemmas.Bool.{and_parts, and_from}
-use Rattle.std.proofs.lemmas.Int.{ints}
 use Rattle.std.proofs.lemmas.List.Elements.{All-from_recursion}
 use Rattle.ts_base.specs.Labels.{is_label}
-use Rattle.ts_schema.specs.FrameTexts.{is_bound}
 use Rattle.ts_domain.specs.declared.dims.Dim.{Dim}
 use Rattle.ts_domain.specs.declared.outside.Outside.{Outside}
 use Rattle.ts_domain.specs.Bounds.{is_between}
@@ -26,19 +24,14 @@ use Rattle.ts_model.specs.declared.queries.Ready.{Ready}
 use Rattle.ts_model.specs.Commands.{fits, is_spelled_box, is_spelled_query, is_text}
 use Rattle.ts_model.specs.Queries.{box_of, high_of, low_of, query_refusal, filter_in, ready_in, ready_with, too_many, unknown_in}
 use Rattle.ts_model.specs.Selections.{IsNamedBox}
+use Rattle.ts_model.proofs.Laying.{named_spelled}
 
 -- ---- the bounds
 
-in_order : (b : NamedBox) → is_spelled_box b ≡ true → b.low ≤ℤ b.high
-in_order b t =
-    let one = and_parts (is_label b.name) (is_bound b.low && (is_bound b.high && int_le b.low b.high)) t in
-    let two = and_parts (is_bound b.low) (is_bound b.high && int_le b.low b.high) one.1 in
-    let three = and_parts (is_bound b.high) (int_le b.low b.high) two.1 in
-    omega (arith, ints, three.1)
-
+-- bounds that have spellings are in order
 each_in_order : (bs : List NamedBox) → list_all is_spelled_box bs ≡ true → AllByRecursion IsNamedBox bs
 each_in_order [] t = tt
-each_in_order (b ∷ bs) t = let parts = and_parts (is_spelled_box b) (list_all is_spelled_box bs) t in (in_order b parts.0, each_in_order bs parts.1)
+each_in_order (b ∷ bs) t = let parts = and_parts (is_spelled_box b) (list_all is_spelled_box bs) t in (named_spelled b parts.0, each_in_order bs parts.1)
 
 -- the bounds of a read that there can be are in order
 pub bounds_ordered : (from to : ℕ) (q : Query) → IsTrue (fits (Read from to q)) → All IsNamedBox q.sub

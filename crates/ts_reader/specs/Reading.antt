@@ -1,5 +1,5 @@
 -- Reads: the states in which a read can be.
-use Rattle.std.specs.Prelude.{◌≡◌, ℕ, ◌+◌, ◌*◌, ◌-◌, ◌^◌, ◌<◌, List, length, take, suc, All, ⊤, map as list_map}
+use Rattle.std.specs.Prelude.{◌≡◌, ℕ, ◌+◌, ◌*◌, ◌-◌, ◌^◌, ◌<◌, ◌≤◌, true, List, length, take, suc, All, ⊤, map as list_map}
 use Rattle.std.specs.List.Sorted.{IsStrictlySortedBy}
 use Rattle.ts_base.specs.declared.keys.FragKey.{FragKey}
 use Rattle.ts_base.specs.declared.keys.Key.{Key}
@@ -10,7 +10,7 @@ use Rattle.ts_base.specs.declared.names.Name.TheVariants as name
 use Rattle.ts_base.specs.Names.{IsSpelled, IsSpelledFrag}
 use Rattle.ts_base.specs.declared.heads.Stop.TheVariants.{Never}
 use Rattle.ts_base.specs.declared.heads.Version.{Version}
-use Rattle.ts_domain.specs.Boxes.{Covers}
+use Rattle.ts_domain.specs.Boxes.{IsBox, Covers, cells_of}
 use Rattle.ts_domain.specs.Domains.{whole_domain}
 use Rattle.ts_store.specs.Calls.{IsSpelledCall}
 use Rattle.ts_schema.specs.declared.schemas.Schema.{Schema}
@@ -27,6 +27,7 @@ use Rattle.ts_model.specs.declared.states.State.{State}
 use Rattle.ts_model.specs.declared.states.State.TheVariants.{ListsCommits, ListsSchemas, GetsSchema, GetsFrame, GetsHeads, GetsSchemas, GetsDeletes, Fetches, Over}
 use Rattle.ts_model.specs.Forms.{Forms}
 use Rattle.ts_model.specs.Jobs.{IsFit}
+use Rattle.ts_model.specs.Queries.{most_cells}
 use Rattle.ts_actor.specs.PieceLaws.{AreInBox, IsFetchIn}
 
 -- the command is a read
@@ -56,6 +57,9 @@ pub record IsReading (r : Reading) : Type 0 where
   pub is_frame : IsFrame r.frame
   pub are_attrs : AreAttrs (r.there).attrs
   pub inside : Covers (whole_domain (r.frame).domain) (r.ready).sub
+  pub valid : IsBox (r.ready).sub
+  -- a read of a dense array has not too many cells
+  pub few : (r.frame).dense ≡ true → cells_of (r.ready).sub ≤ most_cells
   pub near : All IsSpelledFrag r.near
   pub deletes : All IsSpelledDelete r.deletes
 

@@ -1,21 +1,20 @@
 //! What a read answers: of each cell of its box the newest version, unless it is erased, as it shows
-//! through the schema that holds.
-ghost use Rattle.std.specs.Prelude.{◌≡◌, ◌++◌, map, IfOk, OnOk};
-ghost use Rattle.std.specs.BTreeMap.{values, IsOrdered};
-ghost use Rattle.std.specs.Ordering.{int_cmp};
-ghost use Rattle.std.specs.Cmp.Lexicographic.{slice_cmp};
+//! through the schema that holds; and in a dense array the fill where none is left.
+ghost use Rattle.std.specs.Prelude.{◌≡◌, ◌++◌, true, map, IfOk, OnOk};
 ghost use Rattle.ts_actor.specs.PieceLaws.{AreInBox};
 ghost use Rattle.ts_model.specs.Selections.{placed};
-ghost use Rattle.ts_model.specs.States.{answer_of};
-ghost use Rattle.ts_reader.specs.Erasing.{all_shown, one_shown, picks_under, sights_of};
+ghost use Rattle.ts_model.specs.States.{answer_of, cells_filled, cells_left, cells_shown, row_or_fill};
+ghost use Rattle.ts_reader.specs.Erasing.{one_shown, picks_under, sights_of};
 ghost use Rattle.ts_reader.specs.Reading.{AreRising, IsReading};
 
 use crate::newest::newest_of;
 use crate::sights::{Sight, Sights, is_erased, sight_at, sights_of};
+use crate::slots::slots_of;
 use std::alloc::Global;
-use std::collections::BTreeMap;
-use ts_base::{Coords, OutOfMemory, Version, VersionList};
-use ts_model::{Answer, Reading, Shown, ShownList, rows_of, types_shown};
+use ts_base::{OutOfMemory, Row, Version, VersionList};
+use ts_domain::Order;
+use ts_model::{Answer, Reading, Shown, ShownList, fills_of, rows_of, types_shown};
+use ts_order::coords_at;
 use ts_schema::{SchemaList, show_row};
 
 /// The answer of a read that got these versions.
@@ -30,9 +29,7 @@ pub(crate) fn answer_of(
     requires inside { AreInBox reading.now.ready.sub got }
     ensures { IfOk result (λ answer. answer ≡ answer_of reading.now schemas.now got) }
 {
-    let newest = newest_of(alloc, got)?;
-    let sights = sights_of(alloc, reading, schemas)?;
-    let cells = cells_shown(alloc, reading, schemas, &sights, &newest)?;
+    let cells = cells_shown(alloc, reading, schemas, got)?;
     let Reading {
         ready,
         frame,
@@ -45,19 +42,92 @@ pub(crate) fn answer_of(
     })
 }
 
-// The cells of versions by their coordinates, but of those that are erased, in row order.
+// The cells of a read that got these versions: of a dense array each cell of the box, and of a
+// sparse one those that are left.
 fn cells_shown(
     alloc: Global,
     reading: &Reading,
     schemas: &SchemaList,
+    got: VersionList,
+) -> Result<ShownList, OutOfMemory>
+    requires reading { IsReading reading.now }
+    requires rise { AreRising schemas.now }
+    requires inside { AreInBox reading.now.ready.sub got }
+    ensures { IfOk result (λ cells. map placed cells ≡ cells_shown reading.now schemas.now got) }
+{
+    let sights = sights_of(alloc, reading, schemas)?;
+    if reading.frame.dense {
+        cells_filled(alloc, reading, schemas, &sights, got)
+    } else {
+        cells_left(alloc, reading, schemas, &sights, got)
+    }
+}
+
+// The cells of the box of a dense array, in row order: each with what is left of its newest version,
+// or else with the fill of each attribute.
+fn cells_filled(
+    alloc: Global,
+    reading: &Reading,
+    schemas: &SchemaList,
     sights: &Sights,
-    newest: &BTreeMap<Coords, Version>,
+    got: VersionList,
+) -> Result<ShownList, OutOfMemory>
+    requires reading { IsReading reading.now }
+    requires dense { reading.now.frame.dense ≡ true }
+    requires rise { AreRising schemas.now }
+    requires are { sights.now ≡ sights_of reading.now schemas.now }
+    requires inside { AreInBox reading.now.ready.sub got }
+    ensures { IfOk result (λ cells. map placed cells ≡ cells_filled reading.now schemas.now got) }
+{
+    let sub = &reading.ready.sub;
+    let slots = slots_of(alloc, sub, got)?;
+    let mut cells = ShownList::new(alloc);
+    for place in 0..sub.cells() {
+        let coords = coords_at(sub, Order::Row, place);
+        let row = row_filled(alloc, reading, schemas, sights, slots.at(place))?;
+        cells.push(Shown { coords, row })?;
+    }
+    Ok(cells)
+}
+
+// The row that a dense array shows where this is the newest version, if there is one.
+fn row_filled(
+    alloc: Global,
+    reading: &Reading,
+    schemas: &SchemaList,
+    sights: &Sights,
+    newest: &Option<Version>,
+) -> Result<Row, OutOfMemory>
+    requires rise { AreRising schemas.now }
+    requires are { sights.now ≡ sights_of reading.now schemas.now }
+    ensures { IfOk result (λ row. row ≡ row_or_fill reading.now schemas.now newest.now) }
+{
+    match newest {
+        None => fills_of(alloc, &reading.there),
+        Some(version) => {
+            let sight = sight_at(reading, schemas, sights, version.schema);
+            if is_erased(&reading.erased, sight, version) {
+                fills_of(alloc, &reading.there)
+            } else {
+                show_row(alloc, &sight.attrs, &version.row, &reading.there.attrs)
+            }
+        }
+    }
+}
+
+// The cells of the newest versions, but of those that are erased, in row order.
+fn cells_left(
+    alloc: Global,
+    reading: &Reading,
+    schemas: &SchemaList,
+    sights: &Sights,
+    got: VersionList,
 ) -> Result<ShownList, OutOfMemory>
     requires rise { AreRising schemas.now }
     requires are { sights.now ≡ sights_of reading.now schemas.now }
-    ensures cells { IfOk result (λ cells. map placed cells ≡ all_shown reading.now schemas.now (values newest.now)) }
-    ensures ordered { IsOrdered (slice_cmp int_cmp) newest.now }
+    ensures { IfOk result (λ cells. map placed cells ≡ cells_left reading.now schemas.now got) }
 {
+    let newest = newest_of(alloc, got)?;
     let mut cells = ShownList::new(alloc);
     for version in newest.values() {
         let sight = sight_at(reading, schemas, sights, version.schema);

@@ -11,6 +11,7 @@ mod newest;
 mod opening;
 mod reader;
 mod sights;
+mod slots;
 mod steps;
 
 pub use reader::Reader;

@@ -38,8 +38,8 @@ fn add(newest: &mut BTreeMap<Coords, Version>, version: Version) -> Result<(), O
     Ok(())
 }
 
-// Whether there is no version, or one with a lower key.
-fn is_new(other: Option<&Version>, key: Key) -> bool
+/// Whether there is no version, or one with a lower key.
+pub(crate) fn is_new(other: Option<&Version>, key: Key) -> bool
     ensures { result ≡ option_map_or (λ v. key_lt v.key key) (option_copied other.entry) true }
 {
     match other {

@@ -20,13 +20,17 @@ use ts_store::Reply;
 /// A read on its way: it lists the commits and then the schemas, gets the schema that holds at the
 /// end of its interval, the frame, the head of each committed fragment whose span meets the
 /// interval, the further schemas that the heads name, and the deletes that are stamped in the
-/// interval. Then it fetches what lies in its box of one fragment after the other. It answers with
-/// the newest version of each cell, unless a delete with a greater key matches that version under its
-/// own schema; each row is shown through the schema that holds, and the query selects among these.
+/// interval. Then it fetches what lies in its box of one fragment after the other. What is left of
+/// these is the newest version of each cell, unless a delete with a greater key matches that version
+/// under its own schema; each row that is left is shown through the schema that holds. A sparse array
+/// shows these cells alone. A dense one shows every cell of the box, and where nothing is left the
+/// fill of each attribute of the schema that holds. The query selects among the cells that are shown,
+/// so its filter sees the fills too.
 ///
 /// A call that fails, an object that is not there and one that breaks its layout each end the read
-/// with the refusal that says so; so does an interval at whose end no schema holds, and a query that
-/// is refused, once the frame is got.
+/// with the refusal that says so; so does an interval at whose end no schema holds. Once the frame is
+/// got a query may be refused: for a dimension or field that there is not, for a bound outside, with
+/// `TooMany` where the array is dense and the box has more than 2^20 cells, and then for its filter.
 #[derive(Drop)]
 pub struct Reader<P: Pieces> {
     machine: Machine<Reads<P>>,

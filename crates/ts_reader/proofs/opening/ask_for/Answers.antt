@@ -1,7 +1,8 @@
--- A query that is ready asks for a box in the domain.
+-- A query that is ready asks for a box in the domain, and in a dense array for few cells.
 use Rattle.std.proofs.Common.{◌∙◌}
 use Rattle.std.proofs.lemmas.Result.{IfOk-weaker}
 use Rattle.ts_model.specs.Queries.{ready_in}
+use Rattle.ts_model.proofs.Referred.{ready_few, ready_is_box}
 use Rattle.ts_reader.proofs.Leads.{asked_for}
 use Rattle.ts_reader.proofs.QueryLaws.{ready_covered}
 use Rattle.ts_reader.proofs.opening.ask_for.Goals as goal
@@ -11,6 +12,8 @@ open_next-requires-clause-reading g c = record {
   is_frame = c.requires.frame;
   are_attrs = c.requires.attrs;
   inside = ready_covered c.args.frame c.args.there.attrs c.args.query.now c.in-Ok.ready c.in-Ok.ensures;
+  valid = ready_is_box c.args.frame c.args.there.attrs c.args.query.now c.in-Ok.ready c.requires.frame c.requires.bounds c.in-Ok.ensures;
+  few = ready_few c.args.frame c.args.there.attrs c.args.query.now c.in-Ok.ready c.in-Ok.ensures;
   near = c.requires.listed.near;
   deletes = c.requires.listed.deletes;
 }

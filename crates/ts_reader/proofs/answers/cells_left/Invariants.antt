@@ -1,7 +1,7 @@
 use Rattle.std.proofs.Common.{◌≡◌, map}
 use Rattle.ts_model.specs.Selections.{placed}
 use Rattle.ts_reader.specs.Erasing.{all_shown}
-use Rattle.ts_reader.proofs.answers.cells_shown.Given as goal
+use Rattle.ts_reader.proofs.answers.cells_left.Given as goal
 
 -- the cells of the versions so far
 abbrev pub invariant-loop-version : goal.invariant-loop-version
