@@ -1,6 +1,6 @@
 #!/usr/bin/env python3
 """Times scripts through `./tilestore - play`: many writes of one cell, one write of many cells, reads with a condition,
-many deletes, and long conditions.
+many deletes, long conditions, and dense arrays that are written and read whole.
 
 Each script runs five times; it prints the medians in milliseconds, and how they grow with the size.
 """
@@ -24,10 +24,11 @@ DELETES = 200
 DELETED_CELLS = 10000
 NODES = 1000
 PARSES = 500
+SIDES = (500, 1000)
 
 
-def create(dims, attrs):
-    return {"cmd": "create", "at": 0, "kind": "sparse", "dims": dims, "attrs": attrs}
+def create(dims, attrs, kind="sparse"):
+    return {"cmd": "create", "at": 0, "kind": kind, "dims": dims, "attrs": attrs}
 
 
 def dim(name, high, extent):
@@ -88,6 +89,15 @@ def long_conditions(nodes):
     return text_of([create([dim("x", 9, 10)], [attr("v", "int64")])] + [read] * PARSES), 0
 
 
+def dense(side):
+    """A create of a square of one space tile, one write of all its cells, and a read of them: the script, and the rows read."""
+    dims = [dim("x", side - 1, side), dim("y", side - 1, side)]
+    commands = [create(dims, [attr("v", "int32")], "dense")]
+    commands.append({"cmd": "write", "at": 1, "cols": {"v": list(range(side * side))}})
+    commands.append({"cmd": "read", "at": 9})
+    return text_of(commands), side * side
+
+
 def milliseconds(data, rows):
     start = time.perf_counter()
     done = subprocess.run([PROGRAM, "-", "play"], input=data, capture_output=True)
@@ -138,6 +148,15 @@ def parses(nodes):
     print("wanted: below 1 ms", flush=True)
 
 
+def squares(sides):
+    """How long dense squares take that are written in one write and read whole, and how the time grows from the first to the last."""
+    took = [median(*dense(side)) for side in sides]
+    for side, ms in zip(sides, took):
+        print("a dense array of %d by %d\t%.1f" % (side, side, ms))
+    print("times %.2f" % (took[-1] / took[0]))
+    print("wanted: below 3000 ms for %d by %d, at most 5 times the %d by %d" % (sides[-1], sides[-1], sides[0], sides[0]), flush=True)
+
+
 def main():
     subprocess.run([PROGRAM, "-", "play"], input=b"", check=True)
     table("writes", WRITES, many_writes)
@@ -148,6 +167,8 @@ def main():
     conditions_of_reads(CELLS[-1])
     deletes(DELETES, DELETED_CELLS)
     parses(NODES)
+    squares(SIDES)
 
 
-main()
+if __name__ == "__main__":
+    main()

@@ -12,6 +12,7 @@ use ts_schema::{AttrList, Evolution, SchemaFault};
 
 fn create(alloc: Global) -> Command {
     Command::Create(FrameIn {
+        dense: false,
         dims: DimList::new(alloc),
         cell: Order::Row,
         tile: Order::Row,
@@ -30,6 +31,8 @@ fn evolve(alloc: Global) -> Command {
 fn write(alloc: Global) -> Command {
     Command::Write(WriteIn {
         cols: ColInList::new(alloc),
+        sub: NamedBoxList::new(alloc),
+        layout: Order::Row,
     })
 }
 

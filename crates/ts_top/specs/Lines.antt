@@ -1,5 +1,5 @@
 -- The lines of a script: which object stands for which command.
-use Rattle.std.specs.Prelude.{ℕ, List, [], ◌∷◌, codes, ◌||◌, ◌&&◌, not, length, nat_lt, Option, None, is_some, if◌then◌else◌}
+use Rattle.std.specs.Prelude.{ℕ, List, [], ◌∷◌, codes, ◌||◌, ◌&&◌, not, length, nat_lt, Option, Some, None, Bool, true, false, is_some, if◌then◌else◌}
 use Rattle.std.specs.Str.{bytes_eq}
 use Rattle.serde_json.specs.Data.{Data}
 use Rattle.serde_json.specs.Find.{as_str, get}
@@ -25,7 +25,11 @@ name_of d = required as_str (codes "cmd") d
 abbrev pub create_keys : List (List ℕ)
 create_keys = codes "kind" ∷ codes "dims" ∷ codes "attrs" ∷ codes "cell_order" ∷ codes "tile_order" ∷ codes "capacity" ∷ []
 
--- a create: `kind` "sparse", `dims`, `attrs`, and optional `cell_order`, `tile_order` and `capacity`
+-- an array of this kind is dense
+abbrev pub kind_named : List ℕ → Option Bool
+kind_named kind = if bytes_eq kind (codes "dense") then Some true else (if bytes_eq kind (codes "sparse") then Some false else None)
+
+-- a create: `kind` "dense" or "sparse", `dims`, `attrs`, and optional `cell_order`, `tile_order` and `capacity`
 unfoldable pub create_of : Data → Option Command
 create_of d = do
   kind ← required as_str (codes "kind") d
@@ -34,7 +38,8 @@ create_of d = do
   cell ← optional order Row (codes "cell_order") d
   tile ← optional order Row (codes "tile_order") d
   capacity ← optional small 10000 (codes "capacity") d
-  when (bytes_eq kind (codes "sparse") && has_only common_keys create_keys d) (command.Create (record { dims = dims; cell = cell; tile = tile; capacity = capacity; attrs = attrs }))
+  dense ← kind_named kind
+  when (has_only common_keys create_keys d) (command.Create (record { dense = dense; dims = dims; cell = cell; tile = tile; capacity = capacity; attrs = attrs }))
 
 -- an evolve: optional `add` and `drop`, at least one of the two
 unfoldable pub evolve_of : Data → Option Command
@@ -43,11 +48,17 @@ evolve_of d = do
   less ← optional (list_of label) [] (codes "drop") d
   when ((is_some (get (codes "add") d) || is_some (get (codes "drop") d)) && has_only common_keys (codes "add" ∷ codes "drop" ∷ []) d) (command.Evolve (record { add = add; less = less }))
 
--- a write: `cols`
+-- the keys of a write
+abbrev pub write_keys : List (List ℕ)
+write_keys = codes "cols" ∷ codes "box" ∷ codes "layout" ∷ []
+
+-- a write: `cols`, and optional `box` and `layout`, which is "row" where it is not there
 unfoldable pub write_of : Data → Option Command
 write_of d = do
   cols ← required columns (codes "cols") d
-  when (has_only common_keys (codes "cols" ∷ []) d) (command.Write (record { cols = cols }))
+  sub ← box (get (codes "box") d)
+  cells ← optional order Row (codes "layout") d
+  when (has_only common_keys write_keys d) (command.Write (record { cols = cols; sub = sub; layout = cells }))
 
 -- what a read asks for: optional `box`, `fields`, of which there is at least one, `where` and `layout`, which is "row" where it is not there
 unfoldable pub query_of : Data → Option Query

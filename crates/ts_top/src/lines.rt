@@ -8,7 +8,7 @@ ghost use Rattle.serde_json.specs.View.{view};
 ghost use Rattle.ts_model.specs.Commands.{fits, is_spelled_attr, is_spelled_box, is_spelled_col, is_spelled_dim, is_spelled_query, is_spelled_val, is_byte, is_text};
 ghost use Rattle.ts_model.specs.Jobs.{IsFitLine};
 ghost use Rattle.ts_top.specs.Forms.{Gives};
-ghost use Rattle.ts_top.specs.Lines.{name_of, create_of, evolve_of, write_of, query_of, read_of, delete_of, command_of, line_of};
+ghost use Rattle.ts_top.specs.Lines.{name_of, kind_named, create_of, evolve_of, write_of, query_of, read_of, delete_of, command_of, line_of};
 
 use crate::json::{FromJson, JsonFault, has_only, optional, required, text_under};
 use crate::values::{read_box, read_columns, read_filter};
@@ -74,7 +74,7 @@ fn read_command(alloc: Global, name: &str, at: u64, value: &Value) -> Result<Com
     }
 }
 
-/// Reads a create of a sparse array.
+/// Reads a create.
 #[tactic(auto, unfolding(crate::specs::Lines::create_of))]
 fn read_create(alloc: Global, value: &Value) -> Result<Command, JsonFault>
     ensures { Gives result (create_of (view value.now)) }
@@ -87,6 +87,9 @@ fn read_create(alloc: Global, value: &Value) -> Result<Command, JsonFault>
     let cell = optional(alloc, value, "cell_order", Order::Row)?;
     let tile = optional(alloc, value, "tile_order", Order::Row)?;
     let capacity = optional(alloc, value, "capacity", CAPACITY)?;
+    let Some(dense) = is_dense(kind) else {
+        return Err(JsonFault::Form);
+    };
     let keys = [
         "kind",
         "dims",
@@ -95,16 +98,28 @@ fn read_create(alloc: Global, value: &Value) -> Result<Command, JsonFault>
         "tile_order",
         "capacity",
     ];
-    if kind != "sparse" || !has_only(value, &COMMON, &keys) {
+    if !has_only(value, &COMMON, &keys) {
         return Err(JsonFault::Form);
     }
     Ok(Command::Create(FrameIn {
+        dense,
         dims,
         cell,
         tile,
         capacity,
         attrs,
     }))
+}
+
+/// Whether an array of this kind is dense.
+fn is_dense(kind: &str) -> Option<bool>
+    ensures { result ≡ kind_named kind.now }
+{
+    match kind {
+        "dense" => Some(true),
+        "sparse" => Some(false),
+        _ => None,
+    }
 }
 
 /// Reads an evolve, which adds attributes or drops some, or both.
@@ -121,7 +136,7 @@ fn read_evolve(alloc: Global, value: &Value) -> Result<Command, JsonFault>
     Ok(Command::Evolve(Evolution { add, less }))
 }
 
-/// Reads a write: its columns.
+/// Reads a write: its columns, and to a dense array its box and the order of the cells in it.
 #[tactic(auto, unfolding(crate::specs::Lines::write_of))]
 fn read_write(alloc: Global, value: &Value) -> Result<Command, JsonFault>
     ensures { Gives result (write_of (view value.now)) }
@@ -130,10 +145,12 @@ fn read_write(alloc: Global, value: &Value) -> Result<Command, JsonFault>
         return Err(JsonFault::Form);
     };
     let cols = read_columns(alloc, found)?;
-    if !has_only(value, &COMMON, &["cols"]) {
+    let sub = read_box(alloc, value.get("box"))?;
+    let layout = optional(alloc, value, "layout", Order::Row)?;
+    if !has_only(value, &COMMON, &["cols", "box", "layout"]) {
         return Err(JsonFault::Form);
     }
-    Ok(Command::Write(WriteIn { cols }))
+    Ok(Command::Write(WriteIn { cols, sub, layout }))
 }
 
 /// Reads a read: its interval begins at 0 and ends at its own timestamp where it does not say else.
@@ -201,7 +218,9 @@ fn fits(command: &Command) -> bool
                 && are_spelled_attrs(made.attrs.as_slice())
         }
         Command::Evolve(change) => are_spelled_attrs(change.add.as_slice()),
-        Command::Write(cells) => are_spelled_cols(cells.cols.as_slice()),
+        Command::Write(cells) => {
+            are_spelled_cols(cells.cols.as_slice()) && are_spelled_boxes(cells.sub.as_slice())
+        }
         Command::Read { from, to, query } => {
             is_stamp(*from) && is_stamp(*to) && is_spelled_query(query)
         }

@@ -204,7 +204,7 @@ fn read_members(alloc: Global, members: &Map<String, Value>) -> Result<ColInList
     Ok(done)
 }
 
-/// The box of a read, if one is given: an object from names to bounds.
+/// The box of a read or of a write, if one is given: an object from names to bounds.
 pub(crate) fn read_box(alloc: Global, given: Option<&Value>) -> Result<NamedBoxList, JsonFault>
     ensures { Gives result (box (option_map (λ d. view d.now) given.entry)) }
 {

@@ -82,6 +82,7 @@ fn create(alloc: Global) -> Result<Command, Fail>
     let mut attrs = AttrList::new(alloc);
     attrs.push(attr(label("v")?))?;
     Ok(Command::Create(FrameIn {
+        dense: false,
         dims,
         cell: Order::Row,
         tile: Order::Row,
@@ -107,7 +108,11 @@ fn write(alloc: Global, value: u8) -> Result<Command, Fail>
     let mut cols = ColInList::new(alloc);
     cols.push(column(alloc, label("x")?, 5)?)?;
     cols.push(column(alloc, label("v")?, value)?)?;
-    Ok(Command::Write(WriteIn { cols }))
+    Ok(Command::Write(WriteIn {
+        cols,
+        sub: NamedBoxList::new(alloc),
+        layout: Order::Row,
+    }))
 }
 
 // Takes v away, and adds w.

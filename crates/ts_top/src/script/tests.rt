@@ -71,8 +71,10 @@ const NOT_BUILT: &[&str] = &[
     "{'cmd':'delete','at':9,'where':'v = 1','fields':['v']}",
     "{'cmd':'delete','at':9,'where':'v = 1','to':9}",
     "{'cmd':'delete','at':9,'where':'v = 1','lane':0}",
-    "{'cmd':'write','at':1,'cols':{'x':[5],'v':[1]},'box':{}}",
     "{'cmd':'write','at':1,'cols':{'x':[5]},'to':9}",
+    "{'cmd':'write','at':1,'cols':{'x':[5]},'box':{},'fields':['x']}",
+    "{'cmd':'write','at':1,'cols':{'x':[5]},'layout':'row','where':'x = 5'}",
+    "{'cmd':'write','at':1,'cols':{'x':[5]},'cell_order':'row'}",
     // An interval of no whole numbers from 0 to 2^64 - 1.
     "{'cmd':'read','at':9,'from':-1}",
     "{'cmd':'read','at':9,'from':null}",
@@ -93,6 +95,17 @@ const NOT_BUILT: &[&str] = &[
     "{'cmd':'read','at':9,'box':{'x':[-9223372036854775809,0]}}",
     "{'cmd':'read','at':9,'box':{'x':[0,1],'':[0,1]}}",
     "{'cmd':'read','at':9,'box':{'or':[0,1]}}",
+    "{'cmd':'write','at':1,'cols':{'v':[1]},'box':[[0,1]]}",
+    "{'cmd':'write','at':1,'cols':{'v':[1]},'box':null}",
+    "{'cmd':'write','at':1,'cols':{'v':[1]},'box':{'x':[]}}",
+    "{'cmd':'write','at':1,'cols':{'v':[1]},'box':{'x':[0,0,0]}}",
+    "{'cmd':'write','at':1,'cols':{'v':[1]},'box':{'x':[1,0]}}",
+    "{'cmd':'write','at':1,'cols':{'v':[1]},'box':{'x':[0,'0']}}",
+    "{'cmd':'write','at':1,'cols':{'v':[1]},'box':{'x':[0.0,0]}}",
+    "{'cmd':'write','at':1,'cols':{'v':[1]},'box':{'x':[null,0]}}",
+    "{'cmd':'write','at':1,'cols':{'v':[1]},'box':{'x':[0,18446744073709551616]}}",
+    "{'cmd':'write','at':1,'cols':{'v':[1]},'box':{'x':[0,0],'1x':[0,0]}}",
+    "{'cmd':'write','at':1,'box':{'x':[0,0]}}",
     // Fields that are no labels, or none; a filter that is no text; a layout of another name.
     "{'cmd':'read','at':9,'fields':[]}",
     "{'cmd':'read','at':9,'fields':'v'}",
@@ -106,6 +119,11 @@ const NOT_BUILT: &[&str] = &[
     "{'cmd':'read','at':9,'layout':'Row'}",
     "{'cmd':'read','at':9,'layout':'column'}",
     "{'cmd':'read','at':9,'layout':null}",
+    "{'cmd':'write','at':1,'cols':{'v':[1]},'layout':'global'}",
+    "{'cmd':'write','at':1,'cols':{'v':[1]},'layout':'Col'}",
+    "{'cmd':'write','at':1,'cols':{'v':[1]},'layout':''}",
+    "{'cmd':'write','at':1,'cols':{'v':[1]},'layout':['row']}",
+    "{'cmd':'write','at':1,'cols':{'v':[1]},'layout':null}",
     "{'cmd':'delete','at':9}",
     "{'cmd':'delete','where':'v = 1'}",
     "{'cmd':'delete','at':9,'where':1}",
@@ -188,7 +206,13 @@ const NO_DIMS: &[&str] = &[
 /// What stands behind `cmd` and `at` of a create of another form.
 const NO_CREATES: &[&str] = &[
     "'dims':[X],'attrs':[]",
-    "'kind':'dense','dims':[X],'attrs':[]",
+    "'kind':'Dense','dims':[X],'attrs':[]",
+    "'kind':'dense ','dims':[X],'attrs':[]",
+    "'kind':'','dims':[X],'attrs':[]",
+    "'kind':['dense'],'dims':[X],'attrs':[]",
+    "'kind':'dense','kind':null,'dims':[X],'attrs':[]",
+    "'kind':'dense','dims':[],'attrs':[]",
+    "'kind':'dense','dims':[X],'attrs':[],'box':{}",
     "'kind':5,'dims':[X],'attrs':[]",
     "'kind':'sparse','attrs':[]",
     "'kind':'sparse','dims':[X]",
@@ -334,8 +358,11 @@ fn reads_each_form_of_a_read(rt: HostRuntime) -> Result<(), Fail> {
     Ok(())
 }
 
-// A query of two bounds, two fields and a filter.
-fn query(alloc: Global, layout: Layout) -> Result<Query, Fail> {
+/// A box whose bounds for a come twice.
+const BOX: &str = "{'a':[0,1],'a':[5,5],'B':[-9223372036854775808,18446744073709551615]}";
+
+// The bounds that it has.
+fn bounds(alloc: Global) -> Result<NamedBoxList, Fail> {
     let mut sub = NamedBoxList::new(alloc);
     sub.push(NamedBox {
         name: label("B")?,
@@ -347,11 +374,16 @@ fn query(alloc: Global, layout: Layout) -> Result<Query, Fail> {
         low: 5,
         high: 5,
     })?;
+    Ok(sub)
+}
+
+// A query of two bounds, two fields and a filter.
+fn query(alloc: Global, layout: Layout) -> Result<Query, Fail> {
     let mut fields = LabelList::new(alloc);
     fields.push(label("v")?)?;
     fields.push(label("v")?)?;
     Ok(Query {
-        sub,
+        sub: bounds(alloc)?,
         fields,
         filter: Some(ByteList::of_bytes(alloc, b"v = \xc3\xa9 or")?),
         layout,
@@ -367,8 +399,7 @@ fn reads_what_is_asked_for_and_deleted(rt: HostRuntime) -> Result<(), Fail> {
         ("global", Layout::Global),
     ] {
         let text = format!(in alloc;
-            "{{'cmd':'read','at':9,'box':{{'a':[0,1],'a':[5,5],\
-            'B':[-9223372036854775808,18446744073709551615]}},'layout':'{name}',\
+            "{{'cmd':'read','at':9,'box':{BOX},'layout':'{name}',\
             'where':'v = \\u00e9 or','fields':['v','v'],'to':3}}"
         )?;
         let line = Line {
@@ -410,7 +441,11 @@ fn write(alloc: Global, first: (&str, Val), second: (&str, Val)) -> Result<Line,
         })?;
     }
     Ok(Line {
-        command: Command::Write(WriteIn { cols }),
+        command: Command::Write(WriteIn {
+            cols,
+            sub: NamedBoxList::new(alloc),
+            layout: Order::Row,
+        }),
         at: 1,
     })
 }
@@ -456,16 +491,55 @@ fn reads_each_form_of_a_write(rt: HostRuntime) -> Result<(), Fail> {
     for (text, line) in rows {
         assert_eq!(rt; told(alloc, text)?, Ok(lines(alloc, line)?), "{text}");
     }
-    let none = Line {
+    Ok(())
+}
+
+// A write at 1 of no column to a box, whose cells stand in an order.
+fn write_over(alloc: Global, sub: NamedBoxList, layout: Order) -> Line {
+    Line {
         command: Command::Write(WriteIn {
             cols: ColInList::new(alloc),
+            sub,
+            layout,
         }),
         at: 1,
-    };
-    assert_eq!(rt;
-        told(alloc, "{'cmd':'write','at':1,'cols':{}}")?,
-        Ok(lines(alloc, none)?)
-    );
+    }
+}
+
+#[test]
+fn reads_the_box_and_the_layout_of_a_write(rt: HostRuntime) -> Result<(), Fail> {
+    let alloc = rt.alloc();
+    for (more, layout) in [
+        ("", Order::Row),
+        (",'box':{}", Order::Row),
+        (",'layout':'row'", Order::Row),
+        (",'layout':'col'", Order::Col),
+        (",'box':{},'layout':'col'", Order::Col),
+        (",'layout':'global','layout':'row'", Order::Row),
+        (
+            ",'layout':'\\u0063ol','box':{'x':[0,1]},'box':{}",
+            Order::Col,
+        ),
+    ] {
+        let text = format!(in alloc; "{{'cmd':'write','at':1,'cols':{{}}{more}}}")?;
+        let line = write_over(alloc, NamedBoxList::new(alloc), layout);
+        assert_eq!(rt;
+            told(alloc, text.as_str())?,
+            Ok(lines(alloc, line)?),
+            "{more}"
+        );
+    }
+    for (name, layout) in [("row", Order::Row), ("col", Order::Col)] {
+        let text = format!(in alloc;
+            "{{'box':{BOX},'cols':{{}},'layout':'{name}','at':1,'cmd':'write'}}"
+        )?;
+        let line = write_over(alloc, bounds(alloc)?, layout);
+        assert_eq!(rt;
+            told(alloc, text.as_str())?,
+            Ok(lines(alloc, line)?),
+            "{name}"
+        );
+    }
     Ok(())
 }
 
@@ -480,7 +554,13 @@ fn attr(ty: ValType, fill: Val) -> Result<Attr, Fail> {
 }
 
 // A create at 1 of this array over the dimension that X stands for.
-fn create(alloc: Global, cell: Order, tile: Order, capacity: u32) -> Result<Line, Fail> {
+fn create(
+    alloc: Global,
+    dense: bool,
+    cell: Order,
+    tile: Order,
+    capacity: u32,
+) -> Result<Line, Fail> {
     let mut dims = DimList::new(alloc);
     dims.push(Dim {
         name: label("x")?,
@@ -491,6 +571,7 @@ fn create(alloc: Global, cell: Order, tile: Order, capacity: u32) -> Result<Line
     })?;
     Ok(Line {
         command: Command::Create(FrameIn {
+            dense,
             dims,
             cell,
             tile,
@@ -505,28 +586,39 @@ fn create(alloc: Global, cell: Order, tile: Order, capacity: u32) -> Result<Line
 fn reads_each_form_of_a_create(rt: HostRuntime) -> Result<(), Fail> {
     let alloc = rt.alloc();
     let rows = [
-        ("", create(alloc, Order::Row, Order::Row, 10000)?),
         (
-            ",'cell_order':'col','capacity':1",
-            create(alloc, Order::Col, Order::Row, 1)?,
+            "'sparse'",
+            create(alloc, false, Order::Row, Order::Row, 10000)?,
         ),
         (
-            ",'tile_order':'col','capacity':1000000",
-            create(alloc, Order::Row, Order::Col, 1000000)?,
+            "'sparse','cell_order':'col','capacity':1",
+            create(alloc, false, Order::Col, Order::Row, 1)?,
         ),
         (
-            ",'cell_order':'row','tile_order':'row'",
-            create(alloc, Order::Row, Order::Row, 10000)?,
+            "'sparse','tile_order':'col','capacity':1000000",
+            create(alloc, false, Order::Row, Order::Col, 1000000)?,
+        ),
+        (
+            "'dense'",
+            create(alloc, true, Order::Row, Order::Row, 10000)?,
+        ),
+        (
+            "'sparse','cell_order':'row','kind':'d\\u0065nse','capacity':2,'tile_order':'col'",
+            create(alloc, true, Order::Row, Order::Col, 2)?,
+        ),
+        (
+            "'dense','kind':'sparse','cell_order':'row','tile_order':'row'",
+            create(alloc, false, Order::Row, Order::Row, 10000)?,
         ),
     ];
-    for (more, line) in rows {
+    for (kind, line) in rows {
         let text = format!(in alloc;
-            "{{'cmd':'create','at':1,'kind':'sparse','dims':[X],'attrs':[]{more}}}"
+            "{{'cmd':'create','at':1,'dims':[X],'attrs':[],'kind':{kind}}}"
         )?;
         assert_eq!(rt;
             told(alloc, text.as_str())?,
             Ok(lines(alloc, line)?),
-            "{more}"
+            "{kind}"
         );
     }
     Ok(())

@@ -1,5 +1,7 @@
 //! Scripts with what they print, worked by hand, and many more against a plain list of writes.
 mod deletes;
+mod dense;
+mod kinds;
 mod plain;
 mod queries;
 mod refusals;
@@ -196,7 +198,7 @@ fn scripts_print_what_their_lines_say(rt: HostRuntime) -> Result<(), Fail> {
 /// Lines that name what is not built yet, each behind a create.
 const NOT_BUILT: [&str; 4] = [
     "{'cmd':'vacuum'}",
-    "{'cmd':'create','at':0,'kind':'dense',\
+    "{'cmd':'create','at':0,'kind':'Dense',\
     'dims':[{'name':'x','type':'int64','domain':[0,9],'extent':10}],\
     'attrs':[{'name':'v','type':'int64'}]}",
     "{'cmd':'read','at':9,'stop':2}",

@@ -1,9 +1,15 @@
-//! Random scripts against a plain list of writes and a plain list of deletes.
+//! Random scripts, over a sparse array and over a dense one, against a plain list of writes and a
+//! plain list of deletes.
 
 use super::{C1, printed, said};
 use std::alloc::{AllocError, Global};
 use std::test::Fail;
 use std::thread::Threads;
+
+/// The create of a dense array of ten cells, whose fill is 100.
+const DENSE: &str = "{'cmd':'create','at':0,'kind':'dense',\
+    'dims':[{'name':'x','type':'int64','domain':[0,9],'extent':3}],\
+    'attrs':[{'name':'v','type':'int64','fill':100}]}\n";
 
 /// A write of a value to a cell, with its stamp and its number in the script.
 #[derive(Clone, Copy)]
@@ -32,11 +38,13 @@ struct Asked {
     least: u64,
 }
 
-/// The writes and the deletes of a script, in their order.
+/// The writes and the deletes of a script, in their order, and what a cell shows that was not
+/// written: in a sparse array nothing, in a dense one the fill.
 #[derive(Drop)]
 struct Deeds {
     writes: Vec<Wrote>,
     deletes: Vec<Erased>,
+    fill: Option<u64>,
 }
 
 // The last write at a cell, by a scan, in the order of stamp and number among those in the interval.
@@ -68,15 +76,20 @@ fn is_erased(deletes: &[Erased], asked: Asked, last: Wrote) -> bool {
     false
 }
 
+// The value of a cell, whatever a read asks for of it.
+fn value_of(deeds: &Deeds, asked: Asked, x: u64) -> Option<u64> {
+    match last_write(deeds.writes.as_slice(), asked, x) {
+        Some(last) if is_erased(deeds.deletes.as_slice(), asked, last) => None,
+        Some(last) => Some(last.v),
+        None => deeds.fill,
+    }
+}
+
 // The value that a read shows at a cell.
 fn value_at(deeds: &Deeds, asked: Asked, x: u64) -> Option<u64> {
-    let last = last_write(deeds.writes.as_slice(), asked, x)?;
-    let is_shown = asked.least <= last.v && asked.low <= x && x <= asked.high;
-    if is_shown && !is_erased(deeds.deletes.as_slice(), asked, last) {
-        Some(last.v)
-    } else {
-        None
-    }
+    let v = value_of(deeds, asked, x)?;
+    let is_shown = asked.least <= v && asked.low <= x && x <= asked.high;
+    if is_shown { Some(v) } else { None }
 }
 
 // The next of a row of numbers that look random.
@@ -93,6 +106,32 @@ fn add_write(script: &mut String, text: &mut String, wrote: Wrote) -> Result<(),
     write!(
         script,
         "{{'cmd':'write','at':{at},'cols':{{'x':[{x}],'v':[{v}]}}}}\n"
+    )?;
+    write!(text, "0.{number}|write|ok|__{at}_{at}_{number:032x}_1\n")
+}
+
+// Adds a write to the cells of a box, of a value that grows by one from each to the next.
+fn add_box(
+    alloc: Global,
+    script: &mut String,
+    text: &mut String,
+    deeds: &mut Deeds,
+    wrote: Wrote,
+    high: u64,
+) -> Result<(), AllocError> {
+    let (at, number, low) = (wrote.at, wrote.number, wrote.x);
+    let mut values = String::new(alloc);
+    let mut v = wrote.v;
+    for x in low..high {
+        deeds.writes.push(Wrote { at, number, x, v })?;
+        write!(values, "{v},")?;
+        v = v.saturating_add(1);
+    }
+    let x = high;
+    deeds.writes.push(Wrote { at, number, x, v })?;
+    write!(
+        script,
+        "{{'cmd':'write','at':{at},'box':{{'x':[{low},{high}]}},'cols':{{'v':[{values}{v}]}}}}\n"
     )?;
     write!(text, "0.{number}|write|ok|__{at}_{at}_{number:032x}_1\n")
 }
@@ -182,6 +221,29 @@ fn add_command(
     }
 }
 
+// Adds a command for a dense array that looks random.
+fn add_to_dense(
+    alloc: Global,
+    script: &mut String,
+    text: &mut String,
+    deeds: &mut Deeds,
+    number: u64,
+    state: &mut u64,
+) -> Result<(), AllocError> {
+    if next(state) % 3 == 0 {
+        let asked = any_asked(state);
+        return add_read(alloc, script, text, deeds, number, asked);
+    }
+    let wrote = Wrote {
+        at: next(state) % 5,
+        number,
+        x: next(state) % 5,
+        v: next(state) % 300,
+    };
+    let high = wrote.x.saturating_add(next(state) % 6).min(9);
+    add_box(alloc, script, text, deeds, wrote, high)
+}
+
 // Whether a script of a create and sixty commands, made from a seed, prints what the plain lists give.
 fn agrees<R: Threads + Sync + AllocGlobal>(rt: &R, seed: u64) -> Result<bool, Fail> {
     let alloc = rt.alloc();
@@ -189,6 +251,7 @@ fn agrees<R: Threads + Sync + AllocGlobal>(rt: &R, seed: u64) -> Result<bool, Fa
     let mut deeds = Deeds {
         writes: Vec::new(alloc),
         deletes: Vec::new(alloc),
+        fill: None,
     };
     let mut state = seed;
     text.push_str("0.1|create|ok\n")?;
@@ -205,10 +268,38 @@ fn agrees<R: Threads + Sync + AllocGlobal>(rt: &R, seed: u64) -> Result<bool, Fa
     Ok(printed(rt, C1, script.as_str())? == said(alloc, text.as_str())?)
 }
 
+// Whether a script of the create of a dense array and forty commands prints what the plain list of
+// writes gives.
+fn agrees_on_dense<R: Threads + Sync + AllocGlobal>(rt: &R, seed: u64) -> Result<bool, Fail> {
+    let alloc = rt.alloc();
+    let (mut script, mut text) = (String::new(alloc), String::new(alloc));
+    let mut deeds = Deeds {
+        writes: Vec::new(alloc),
+        deletes: Vec::new(alloc),
+        fill: Some(100),
+    };
+    let mut state = seed;
+    text.push_str("0.1|create|ok\n")?;
+    for number in 2..42 {
+        add_to_dense(
+            alloc,
+            &mut script,
+            &mut text,
+            &mut deeds,
+            number,
+            &mut state,
+        )?;
+    }
+    Ok(printed(rt, DENSE, script.as_str())? == said(alloc, text.as_str())?)
+}
+
 #[test]
 fn reads_show_what_plain_lists_of_writes_and_deletes_give(rt: HostRuntime) -> Result<(), Fail> {
     for seed in 0..40 {
         assert!(rt; agrees(&rt, seed)?, "script {seed}");
+    }
+    for seed in 0..40 {
+        assert!(rt; agrees_on_dense(&rt, seed)?, "dense script {seed}");
     }
     Ok(())
 }
