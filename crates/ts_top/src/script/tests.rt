@@ -455,42 +455,39 @@ fn text(alloc: Global, text: &str) -> Result<Val, Fail> {
     Ok(Val::Bytes(ByteList::of_bytes(alloc, text.as_bytes())?))
 }
 
+// Whether a text is read as a write at 1 of two columns of one value.
+fn is_write(
+    alloc: Global,
+    text: &str,
+    first: (&str, Val),
+    second: (&str, Val),
+) -> Result<bool, Fail> {
+    let line = write(alloc, first, second)?;
+    Ok(told(alloc, text)? == Ok(lines(alloc, line)?))
+}
+
 #[test]
 fn reads_each_form_of_a_write(rt: HostRuntime) -> Result<(), Fail> {
     let alloc = rt.alloc();
-    let rows = [
-        (
-            "{'cmd':'write','at':1,'cols':{'x':[5],'v':[null]}}",
-            write(alloc, ("v", Val::Null), ("x", Val::Int(5)))?,
-        ),
-        (
-            "{'cols':{'a_1':[''],'B':['\\u0000 \\u00e9\\\"']},'at':1,'cmd':'write'}",
-            write(
-                alloc,
-                ("B", text(alloc, "\0 \u{e9}\"")?),
-                ("a_1", text(alloc, "")?),
-            )?,
-        ),
-        (
-            "{'cmd':'write','at':1,'cols':{'x':[1,2],'x':[-0,5],'v':[0],'x':[-9223372036854775808]}}",
-            write(
-                alloc,
-                ("v", Val::Int(0)),
-                ("x", Val::Int(-9223372036854775808)),
-            )?,
-        ),
-        (
-            "{'cmd':'write','at':1,'cols':{'at':[18446744073709551615],'cols':[-1]}}",
-            write(
-                alloc,
-                ("at", Val::Int(18446744073709551615)),
-                ("cols", Val::Int(-1)),
-            )?,
-        ),
-    ];
-    for (text, line) in rows {
-        assert_eq!(rt; told(alloc, text)?, Ok(lines(alloc, line)?), "{text}");
-    }
+    let of_nulls = "{'cmd':'write','at':1,'cols':{'x':[5],'v':[null]}}";
+    let (v, x) = (("v", Val::Null), ("x", Val::Int(5)));
+    assert!(rt; is_write(alloc, of_nulls, v, x)?);
+    let of_texts = "{'cols':{'a_1':[''],'B':['\\u0000 \\u00e9\\\"']},'at':1,'cmd':'write'}";
+    let (b, a) = (
+        ("B", text(alloc, "\0 \u{e9}\"")?),
+        ("a_1", text(alloc, "")?),
+    );
+    assert!(rt; is_write(alloc, of_texts, b, a)?);
+    let twice = "{'cmd':'write','at':1,\
+        'cols':{'x':[1,2],'x':[-0,5],'v':[0],'x':[-9223372036854775808]}}";
+    let (v, x) = (("v", Val::Int(0)), ("x", Val::Int(-9223372036854775808)));
+    assert!(rt; is_write(alloc, twice, v, x)?);
+    let of_keys = "{'cmd':'write','at':1,'cols':{'at':[18446744073709551615],'cols':[-1]}}";
+    let (at, cols) = (
+        ("at", Val::Int(18446744073709551615)),
+        ("cols", Val::Int(-1)),
+    );
+    assert!(rt; is_write(alloc, of_keys, at, cols)?);
     Ok(())
 }
 
@@ -586,32 +583,39 @@ fn create(
 fn reads_each_form_of_a_create(rt: HostRuntime) -> Result<(), Fail> {
     let alloc = rt.alloc();
     let rows = [
-        (
-            "'sparse'",
-            create(alloc, false, Order::Row, Order::Row, 10000)?,
-        ),
+        ("'sparse'", false, Order::Row, Order::Row, 10000),
         (
             "'sparse','cell_order':'col','capacity':1",
-            create(alloc, false, Order::Col, Order::Row, 1)?,
+            false,
+            Order::Col,
+            Order::Row,
+            1,
         ),
         (
             "'sparse','tile_order':'col','capacity':1000000",
-            create(alloc, false, Order::Row, Order::Col, 1000000)?,
+            false,
+            Order::Row,
+            Order::Col,
+            1000000,
         ),
-        (
-            "'dense'",
-            create(alloc, true, Order::Row, Order::Row, 10000)?,
-        ),
+        ("'dense'", true, Order::Row, Order::Row, 10000),
         (
             "'sparse','cell_order':'row','kind':'d\\u0065nse','capacity':2,'tile_order':'col'",
-            create(alloc, true, Order::Row, Order::Col, 2)?,
+            true,
+            Order::Row,
+            Order::Col,
+            2,
         ),
         (
             "'dense','kind':'sparse','cell_order':'row','tile_order':'row'",
-            create(alloc, false, Order::Row, Order::Row, 10000)?,
+            false,
+            Order::Row,
+            Order::Row,
+            10000,
         ),
     ];
-    for (kind, line) in rows {
+    for (kind, dense, cell, tile, capacity) in rows {
+        let line = create(alloc, dense, cell, tile, capacity)?;
         let text = format!(in alloc;
             "{{'cmd':'create','at':1,'dims':[X],'attrs':[],'kind':{kind}}}"
         )?;
