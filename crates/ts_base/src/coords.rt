@@ -4,8 +4,6 @@ ghost use Rattle.std.specs.Cmp.{int_eq_equiv, int_cmp_total, partial_equiv_from_
 ghost use Rattle.std.specs.Cmp.Lexicographic.{pointwise, slice_cmp, lists_per, lists_equiv, lists_total, lists_ties};
 ghost use Rattle.std.specs.Ordering.{int_eq, int_cmp, as_partial_cmp};
 
-use crate::lists::{Duplicate, OutOfMemory};
-use std::alloc::Global;
 use std::cmp::Ordering;
 use std::marker::Model;
 
@@ -115,14 +113,6 @@ impl PartialOrd for Coords {
 
     fn partial_cmp(&self, other: &Coords) -> Option<Ordering> {
         Some(self.cmp(other))
-    }
-}
-
-impl Duplicate for Coords {
-    fn copy(&self, _alloc: Global) -> Result<Coords, OutOfMemory>
-        ensures { result ≡ Ok self.now }
-    {
-        Ok(*self)
     }
 }
 

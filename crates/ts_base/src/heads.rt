@@ -6,7 +6,7 @@ use crate::values::Row;
 use std::alloc::Global;
 
 /// What a fragment's metadata says of the fragment as a whole.
-#[derive(Debug, Drop, PartialEq, Eq)]
+#[derive(Clone, Debug, Drop, PartialEq, Eq)]
 pub struct Head {
     /// The key of the fragment.
     pub frag: FragKey,
@@ -30,22 +30,13 @@ pub struct Head {
 pub type HeadList = Sequence<Head>;
 
 impl Duplicate for Head {
-    fn copy(&self, alloc: Global) -> Result<Head, OutOfMemory> {
-        Ok(Head {
-            frag: self.frag,
-            schema: self.schema,
-            dense: self.dense,
-            consolidated: self.consolidated,
-            low: self.low,
-            high: self.high,
-            cells: self.cells,
-            origins: self.origins.copy(alloc)?,
-        })
+    fn copy(&self, _alloc: Global) -> Result<Head, OutOfMemory> {
+        Ok(self.clone()?)
     }
 }
 
 /// A cell as one write laid it.
-#[derive(Debug, Drop, PartialEq, Eq)]
+#[derive(Clone, Debug, Drop, PartialEq, Eq)]
 pub struct Version {
     /// The key of the write.
     pub key: Key,
@@ -64,18 +55,13 @@ pub type VersionList = Sequence<Version>;
 pub type VersionLists = Sequence<VersionList>;
 
 impl Duplicate for Version {
-    fn copy(&self, alloc: Global) -> Result<Version, OutOfMemory> {
-        Ok(Version {
-            key: self.key,
-            schema: self.schema,
-            coords: self.coords,
-            row: self.row.copy(alloc)?,
-        })
+    fn copy(&self, _alloc: Global) -> Result<Version, OutOfMemory> {
+        Ok(self.clone()?)
     }
 }
 
 /// A fragment as its readers see it: the head, and each version of a cell that it keeps.
-#[derive(Debug, Drop, PartialEq, Eq)]
+#[derive(Clone, Debug, Drop, PartialEq, Eq)]
 pub struct Piece {
     /// The head of the fragment.
     pub head: Head,
@@ -84,16 +70,13 @@ pub struct Piece {
 }
 
 impl Duplicate for Piece {
-    fn copy(&self, alloc: Global) -> Result<Piece, OutOfMemory> {
-        Ok(Piece {
-            head: self.head.copy(alloc)?,
-            versions: self.versions.copy(alloc)?,
-        })
+    fn copy(&self, _alloc: Global) -> Result<Piece, OutOfMemory> {
+        Ok(self.clone()?)
     }
 }
 
 /// A cell and the values that a write gives it.
-#[derive(Debug, Drop, PartialEq, Eq)]
+#[derive(Clone, Debug, Drop, PartialEq, Eq)]
 pub struct Cell {
     /// The coordinates of the cell.
     pub coords: Coords,
@@ -105,11 +88,8 @@ pub struct Cell {
 pub type CellList = Sequence<Cell>;
 
 impl Duplicate for Cell {
-    fn copy(&self, alloc: Global) -> Result<Cell, OutOfMemory> {
-        Ok(Cell {
-            coords: self.coords,
-            row: self.row.copy(alloc)?,
-        })
+    fn copy(&self, _alloc: Global) -> Result<Cell, OutOfMemory> {
+        Ok(self.clone()?)
     }
 }
 

@@ -1,8 +1,7 @@
 //! Keys of schemas, writes and deletes, and of fragments.
 ghost use Rattle.std.specs.Prelude.{◌≡◌};
 
-use crate::lists::{Duplicate, OutOfMemory, Sequence};
-use std::alloc::Global;
+use crate::lists::Sequence;
 
 /// The key of a schema, a write or a delete: a timestamp and an identifier.
 ///
@@ -37,19 +36,3 @@ pub type KeyList = Sequence<Key>;
 
 /// A list of keys of fragments.
 pub type FragList = Sequence<FragKey>;
-
-impl Duplicate for Key {
-    fn copy(&self, _alloc: Global) -> Result<Key, OutOfMemory>
-        ensures { result ≡ Ok self.now }
-    {
-        Ok(*self)
-    }
-}
-
-impl Duplicate for FragKey {
-    fn copy(&self, _alloc: Global) -> Result<FragKey, OutOfMemory>
-        ensures { result ≡ Ok self.now }
-    {
-        Ok(*self)
-    }
-}

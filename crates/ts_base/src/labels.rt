@@ -7,8 +7,7 @@ ghost use Rattle.std.specs.List.{list_all};
 ghost use Rattle.ts_base.specs.Labels.{is_word_byte, is_word, is_reserved, is_label, label_of};
 
 use crate::ascii::ascii_text;
-use crate::lists::{Duplicate, OutOfMemory, Sequence};
-use std::alloc::Global;
+use crate::lists::Sequence;
 use std::cmp::Ordering;
 use std::marker::Model;
 
@@ -163,14 +162,6 @@ impl PartialOrd for Label {
 
     fn partial_cmp(&self, other: &Label) -> Option<Ordering> {
         Some(self.cmp(other))
-    }
-}
-
-impl Duplicate for Label {
-    fn copy(&self, _alloc: Global) -> Result<Label, OutOfMemory>
-        ensures { result ≡ Ok self.now }
-    {
-        Ok(*self)
     }
 }
 

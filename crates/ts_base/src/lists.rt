@@ -171,51 +171,50 @@ impl<T: Eq> Eq for Sequence<T> {
 }
 
 /// A type whose values can be copied into new memory.
-pub trait Duplicate: Drop {
+pub trait Duplicate: Drop + Sized {
     /// A value equal to this one.
     fn copy(&self, alloc: Global) -> Result<Self, OutOfMemory>
         ensures { IfOk result (λ twin. twin ≡ self.now) };
+
+    /// A vector of values equal to these, in one piece of memory.
+    fn copies(alloc: Global, items: &[Self]) -> Result<Vec<Self>, OutOfMemory>
+        ensures { IfOk result (λ twins. twins.items ≡ items.now) }
+    {
+        let mut twins = Vec::with_capacity(alloc, items.len())?;
+        for item in items {
+            twins.push(item.copy(alloc)?)?;
+        }
+        Ok(twins)
+    }
+}
+
+impl<T: Copy> Duplicate for T {
+    fn copy(&self, _alloc: Global) -> Result<T, OutOfMemory>
+        ensures { result ≡ Ok self.now }
+    {
+        Ok(*self)
+    }
+
+    fn copies(alloc: Global, items: &[T]) -> Result<Vec<T>, OutOfMemory> {
+        Ok(Vec::from_slice(alloc, items)?)
+    }
+}
+
+impl<T: Duplicate> Clone for Sequence<T> {
+    ghost is_clone = { λ sequence twin. twin ≡ sequence };
+
+    fn clone(&self) -> Result<Self, AllocError> {
+        match T::copies(*self.items.allocator(), self.as_slice()) {
+            Ok(items) => Ok(Sequence { items }),
+            Err(OutOfMemory) => Err(AllocError),
+        }
+    }
 }
 
 impl<T: Duplicate> Duplicate for Sequence<T> {
     fn copy(&self, alloc: Global) -> Result<Self, OutOfMemory> {
-        let mut twin = Sequence::new(alloc);
-        for item in self.as_slice() {
-            twin.push(item.copy(alloc)?)?;
-        }
-        Ok(twin)
-    }
-}
-
-impl Duplicate for u8 {
-    fn copy(&self, _alloc: Global) -> Result<u8, OutOfMemory>
-        ensures { result ≡ Ok self.now }
-    {
-        Ok(*self)
-    }
-}
-
-impl Duplicate for u32 {
-    fn copy(&self, _alloc: Global) -> Result<u32, OutOfMemory>
-        ensures { result ≡ Ok self.now }
-    {
-        Ok(*self)
-    }
-}
-
-impl Duplicate for u64 {
-    fn copy(&self, _alloc: Global) -> Result<u64, OutOfMemory>
-        ensures { result ≡ Ok self.now }
-    {
-        Ok(*self)
-    }
-}
-
-impl Duplicate for i128 {
-    fn copy(&self, _alloc: Global) -> Result<i128, OutOfMemory>
-        ensures { result ≡ Ok self.now }
-    {
-        Ok(*self)
+        let items = T::copies(alloc, self.as_slice())?;
+        Ok(Sequence { items })
     }
 }
 

@@ -116,7 +116,7 @@ pub enum Place {
 }
 
 /// A part of a fragment with the bytes of its object.
-#[derive(Debug, Drop, PartialEq, Eq)]
+#[derive(Clone, Debug, Drop, PartialEq, Eq)]
 pub struct PartBytes {
     /// Which part it is.
     pub part: Part,
@@ -130,24 +130,9 @@ pub type NameList = Sequence<Name>;
 /// The parts of a fragment with their bytes.
 pub type PartList = Sequence<PartBytes>;
 
-impl Duplicate for Name {
-    fn copy(&self, _alloc: Global) -> Result<Name, OutOfMemory> {
-        Ok(*self)
-    }
-}
-
-impl Duplicate for Part {
-    fn copy(&self, _alloc: Global) -> Result<Part, OutOfMemory> {
-        Ok(*self)
-    }
-}
-
 impl Duplicate for PartBytes {
-    fn copy(&self, alloc: Global) -> Result<PartBytes, OutOfMemory> {
-        Ok(PartBytes {
-            part: self.part,
-            bytes: self.bytes.copy(alloc)?,
-        })
+    fn copy(&self, _alloc: Global) -> Result<PartBytes, OutOfMemory> {
+        Ok(self.clone()?)
     }
 }
 

@@ -3,8 +3,7 @@ ghost use Rattle.std.specs.Prelude.{◌≡◌, ◌≤◌, ◌-◌, ◌^◌, ◌�
 ghost use Rattle.ts_domain.specs.Bounds.{count_between, least_corner, greatest_corner, do_meet};
 ghost use Rattle.ts_domain.specs.Boxes.{IsBox, cells_of, coords_of_box, do_boxes_meet, ShareCell, hull_of, IsHullOf};
 
-use std::alloc::Global;
-use ts_base::{Coords, Duplicate, OutOfMemory, Sequence};
+use ts_base::{Coords, Sequence};
 
 /// A box of cells: those whose coordinates lie between two corners, which count as inside.
 #[derive(Clone, Copy, Debug, PartialEq, Eq)]
@@ -64,12 +63,6 @@ impl SubBox {
             low: least_corner(&self.low, &other.low),
             high: greatest_corner(&self.high, &other.high),
         }
-    }
-}
-
-impl Duplicate for SubBox {
-    fn copy(&self, _alloc: Global) -> Result<SubBox, OutOfMemory> {
-        Ok(*self)
     }
 }
 

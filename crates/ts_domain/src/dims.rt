@@ -3,8 +3,7 @@ ghost use Rattle.std.specs.Prelude.{◌≡◌, ◌≤◌, ◌<◌, ◌≤ℤ◌,
 ghost use Rattle.std.specs.List.{All};
 ghost use Rattle.ts_domain.specs.Dims.{IsDim, has_bad_extent, is_past_type, has_name, dim_fault, fault_behind, end_of_tiles};
 
-use std::alloc::Global;
-use ts_base::{Duplicate, Label, OutOfMemory, Sequence, ValType};
+use ts_base::{Label, Sequence, ValType};
 
 /// A dimension: the integers from `low` to `high`, in space tiles.
 ///
@@ -42,12 +41,6 @@ pub enum DomainFault {
     PastType { dim: u8 },
     /// An earlier dimension has the name.
     DuplicateName { dim: u8 },
-}
-
-impl Duplicate for Dim {
-    fn copy(&self, _alloc: Global) -> Result<Dim, OutOfMemory> {
-        Ok(*self)
-    }
 }
 
 // The first fault of a dimension behind earlier ones.

@@ -6,9 +6,8 @@ ghost use Rattle.std.specs.Result.{result_err};
 use crate::boxes::SubBox;
 use crate::dims::{Dim, DomainFault, fault_in};
 use crate::outside::{Outside, first_bound_outside, first_outside};
-use std::alloc::Global;
 use std::marker::Model;
-use ts_base::{Coords, Duplicate, OutOfMemory};
+use ts_base::Coords;
 
 /// The domain of an array: 1 to 8 dimensions, in a buffer of fixed size.
 ///
@@ -143,10 +142,4 @@ impl Eq for Domain {
     ghost use Rattle.ts_domain.specs.contracts.dims.DimEq.TheImpl.Laws.{laws-law};
 
     ghost laws = { lists_equiv laws-law };
-}
-
-impl Duplicate for Domain {
-    fn copy(&self, _alloc: Global) -> Result<Domain, OutOfMemory> {
-        Ok(*self)
-    }
 }

@@ -1,17 +1,14 @@
 -- The fields are read exactly.
-use Rattle.std.proofs.Common.{◌≡◌, ℕ, zero, suc, ◌+◌, ◌^◌, ◌<◌, ◌≤◌, Bool, true, false, nat_le, nat_eq, if◌then◌else◌, List, [], ◌++◌, length, slice_index, refl, sym, ap, ◌∙◌, subst, arith, lit<, inl, inr, ◌⊎◌}
+use Rattle.std.proofs.Common.{◌≡◌, ℕ, zero, suc, ◌^◌, ◌<◌, ◌≤◌, Bool, true, false, nat_le, nat_eq, if◌then◌else◌, List, ◌++◌, length, refl, sym, ap, subst, arith, lit<}
 use Rattle.std.proofs.lemmas.Bool.{leb-true, le-leb}
-use Rattle.std.proofs.lemmas.List.{append-nil}
 use Rattle.ts_base.specs.Labels.{is_label}
-use Rattle.ts_base.specs.declared.keys.Key.{Key}
 use Rattle.ts_base.specs.declared.values.Val.{Val}
 use Rattle.ts_base.specs.declared.values.Val.TheVariants.{Null, Int, Bytes}
 use Rattle.ts_base.proofs.LabelText.{label_is_short, IsAscii-from_is_label}
-use Rattle.ts_wire.specs.Place.{Place, Read, place}
 use Rattle.ts_wire.specs.Exact.{IsBytes, Exact}
-use Rattle.ts_wire.specs.Numbers.{number_bytes, number_at, int_bytes, FitsInt}
+use Rattle.ts_wire.specs.Numbers.{number_bytes, int_bytes, FitsInt}
 use Rattle.ts_wire.specs.Fields.{bool_bytes, bool_at, sized_bytes, sized_at, FitsSized, label_bytes, label_at, key_bytes, key_at, FitsKey, tag_of, untagged_bytes, val_bytes, untagged_at, val_at, FitsVal}
-use Rattle.ts_wire.proofs.Laws.{AreBytes, bytes_exact, given_exact, mapped_exact, both_exact, field_exact, ruled_exact, restated}
+use Rattle.ts_wire.proofs.Laws.{bytes_exact, given_exact, mapped_exact, both_exact, field_exact, ruled_exact, restated}
 use Rattle.ts_wire.proofs.Numbers.{number_exact, int_exact}
 
 -- a label has 64 bytes at most

@@ -1,5 +1,5 @@
 -- Where a reader is broken, there is the first broken field.
-use Rattle.std.proofs.Common.{◌≡◌, ◌≢◌, ℕ, zero, suc, ◌+◌, ◌-◌, ◌*◌, ◌^◌, ◌<◌, ◌≤◌, pos, Bool, true, false, nat_eq, nat_lt, nat_le, if◌then◌else◌, List, [], ◌∷◌, ◌++◌, length, Result, Ok, Err, ◌⊎◌, inl, inr, refl, sym, ap, ◌∙◌, subst, arith, append_assoc, length-append, codes}
+use Rattle.std.proofs.Common.{◌≡◌, ℕ, zero, suc, ◌+◌, ◌-◌, ◌*◌, ◌^◌, ◌<◌, ◌≤◌, pos, Bool, true, false, nat_eq, nat_lt, nat_le, if◌then◌else◌, List, [], ◌∷◌, ◌++◌, length, Ok, Err, ◌⊎◌, inl, inr, refl, sym, ap, ◌∙◌, subst, arith, append_assoc, length-append, codes}
 use Rattle.std.proofs.lemmas.List.{append-nil, append_cancel_left}
 use Rattle.std.proofs.Math.Nat.{one-le-pow}
 use Rattle.std.proofs.Math.Dec.{eqb-suc-zero}
@@ -9,11 +9,11 @@ use Rattle.byteorder.specs.Endian.{little_number}
 use Rattle.ts_base.specs.Labels.{is_label}
 use Rattle.ts_base.specs.declared.values.Val.TheVariants.{Null}
 use Rattle.ts_wire.specs.Place.{Place, Read, place, ◌>>=◌, bytes_at, given, mapped, both, start_of, field, ruled, items_at, counted_at, numbered_at, each_at, whole}
-use Rattle.ts_wire.specs.Exact.{IsBytes, Takes, Exact, Says, InTurn, EachFits, each_bytes}
+use Rattle.ts_wire.specs.Exact.{IsBytes, Exact, Restates, InTurn, EachFits, each_bytes}
 use Rattle.ts_wire.specs.Numbers.{number_bytes, number_at, int_of, int_bytes, int_at, FitsInt}
 use Rattle.ts_wire.specs.Fields.{bool_bytes, bool_at, sized_at, label_bytes, label_at, key_bytes, key_at, FitsKey, val_bytes, val_at, FitsVal}
 use Rattle.ts_wire.specs.Broken.{joined, Broken, Surplus, each_fields, BreaksAtStart, BreaksFirst}
-use Rattle.ts_wire.proofs.Laws.{bound, failed, same_ok, same_err, not_both, cut_at, AreInTurn}
+use Rattle.ts_wire.proofs.Laws.{failed, same_ok, same_err, not_both, cut_at, AreInTurn}
 use Rattle.ts_wire.proofs.Numbers.{number_exact, int_exact}
 use Rattle.ts_wire.proofs.FieldLaws.{bool_exact, label_exact, key_exact, val_exact}
 
@@ -91,7 +91,7 @@ module _ {A : Type 0} {Fits : A → Type 0} {spell : A → List ℕ} {read : Pla
 module _ {A B : Type 0} where
   -- what f makes of a value, whose fields are those of what it makes
   pub mapped_broken : {FitsA : A → Type 0} {spellA : A → List ℕ} {FitsB : B → Type 0} {spellB : B → List ℕ} {f : A → B} {read : Place → Read A}
-      → Says FitsA spellA FitsB spellB f → (fieldsA : A → List (List ℕ)) (fieldsB : B → List (List ℕ)) → ((a : A) → FitsA a → fieldsA a ≡ fieldsB (f a))
+      → Restates FitsA spellA FitsB spellB f → (fieldsA : A → List (List ℕ)) (fieldsB : B → List (List ℕ)) → ((a : A) → FitsA a → fieldsA a ≡ fieldsB (f a))
       → BreaksFirst FitsA fieldsA read → BreaksFirst FitsB fieldsB (mapped f read)
   mapped_broken {FitsA = FitsA} {FitsB = FitsB} {f = f} {read = read} says fieldsA fieldsB alike first p at all h = elim (failed (read p) (λ x. Ok (f x.0, x.1)) at h) [
     | inl here ↦

@@ -1,10 +1,10 @@
 -- The laws of the readers: each way to put readers together keeps that a spelling is read exactly.
-use Rattle.std.proofs.Common.{◌≡◌, ℕ, zero, suc, ◌+◌, ◌-◌, ◌<◌, ◌≤◌, Bool, true, false, nat_lt, nat_eq, if◌then◌else◌, List, [], ◌∷◌, ◌++◌, length, take, drop, slice_index, Option, Some, None, Result, Ok, Err, ◌⊎◌, inl, inr, refl, sym, ap, ◌∙◌, subst, arith, append_assoc, length-append, length-drop}
-use Rattle.std.proofs.lemmas.Bool.{ltb-false, lt-ltb, le-ltb, eqb-true}
-use Rattle.std.proofs.lemmas.List.{append-nil, length-take-le, take-append-drop, take_at, drop_at, get_or-drop, get_or-take, get_or_past, nil_from_length}
+use Rattle.std.proofs.Common.{◌≡◌, ℕ, zero, suc, ◌+◌, ◌≤◌, Bool, true, false, nat_lt, nat_eq, if◌then◌else◌, List, [], ◌∷◌, ◌++◌, length, take, drop, Option, Some, None, Result, Ok, Err, ◌⊎◌, inl, inr, refl, sym, ap, ◌∙◌, subst, arith, append_assoc, length-append}
+use Rattle.std.proofs.lemmas.Bool.{ltb-false, le-ltb, eqb-true}
+use Rattle.std.proofs.lemmas.List.{append-nil, length-take-le, take-append-drop, take_at, drop_at, get_or-drop, nil_from_length}
 use Rattle.std.specs.List.{flat_map}
 use Rattle.ts_wire.specs.Place.{Place, Read, place, ◌>>=◌, bytes_at, given, mapped, both, start_of, field, ruled, judged_from, judged, items_at, counted_at, numbered_at, each_at, whole}
-use Rattle.ts_wire.specs.Exact.{IsBytes, Takes, Exact, Says, InTurn, EachFits, each_bytes}
+use Rattle.ts_wire.specs.Exact.{IsBytes, Takes, Exact, Restates, InTurn, EachFits, each_bytes}
 
 -- ---- answers
 
@@ -242,7 +242,7 @@ module _ {A B : Type 0} where
 
   -- what f makes of a value
   pub mapped_exact : {FitsA : A → Type 0} {spellA : A → List ℕ} {FitsB : B → Type 0} {spellB : B → List ℕ} {f : A → B} {read : Place → Read A}
-      → Exact FitsA spellA read → Says FitsA spellA FitsB spellB f → Exact FitsB spellB (mapped f read)
+      → Exact FitsA spellA read → Restates FitsA spellA FitsB spellB f → Exact FitsB spellB (mapped f read)
   mapped_exact {spellA = spellA} {FitsB = FitsB} {spellB = spellB} {f = f} {read = read} base says = record {
     takes = λ p y all h.
         let b = bound (read p) (λ x. Ok (f x.0, x.1)) y h in

@@ -1,3 +1,4 @@
+pub mod Bodies
 pub mod FieldLaws
 pub mod First
 pub mod Laws

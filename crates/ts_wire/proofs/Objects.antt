@@ -1,18 +1,18 @@
 -- Objects are read exactly: the envelope and its body, and a value that fills the body.
-use Rattle.std.proofs.Common.{◌≡◌, ◌≢◌, ℕ, zero, suc, ◌+◌, ◌^◌, ◌<◌, ◌≤◌, Bool, true, false, nat_eq, if◌then◌else◌, List, [], ◌∷◌, ◌++◌, length, take, drop, Result, Ok, Err, IfOk, IsOkAnd, IsErrAnd, refl, sym, ap, ◌∙◌, subst, arith, inl, inr, ◌⊎◌, codes, append_assoc, length-append}
+use Rattle.std.proofs.Common.{◌≡◌, ◌≢◌, ℕ, ◌+◌, ◌^◌, ◌<◌, ◌≤◌, Bool, true, false, nat_eq, if◌then◌else◌, List, [], ◌∷◌, ◌++◌, length, take, drop, Result, Ok, Err, IfOk, IsOkAnd, IsErrAnd, refl, sym, ap, ◌∙◌, subst, arith, inl, inr, codes, append_assoc, length-append}
 use Rattle.std.proofs.lemmas.Bool.{eqb-true, eq-eqb, ne_eqb}
-use Rattle.std.proofs.lemmas.List.{append-nil, take_at, drop_at, take-append-drop, drop-append-le, take-append-le, nil_from_length}
+use Rattle.std.proofs.lemmas.List.{take_at, drop_at, take-append-drop, drop-append-le, take-append-le, nil_from_length}
 use Rattle.ts_wire.specs.declared.faults.Damaged.{Damaged}
 use Rattle.ts_wire.specs.declared.faults.ReadFault.{ReadFault}
 use Rattle.ts_wire.specs.declared.faults.ReadFault.TheVariants as fault
 use Rattle.ts_wire.specs.declared.kinds.Kind.{Kind}
 use Rattle.ts_wire.specs.declared.kinds.Kind.TheVariants as kind
-use Rattle.ts_wire.specs.Place.{Place, Read, place, ◌>>=◌, both, whole}
+use Rattle.ts_wire.specs.Place.{Place, Read, place, ◌>>=◌, whole}
 use Rattle.ts_wire.specs.Exact.{IsBytes, Takes, Exact}
 use Rattle.ts_wire.specs.Numbers.{number_bytes, number_at, constant_at}
 use Rattle.ts_wire.specs.Envelope.{kind_code, magic, envelope_bytes, wrapped, front_at, length_at, unwrapped, IsCut, object_at}
 use Rattle.ts_wire.specs.Reading.{Decodes, DecodesOr, IsRead, IsDamagedAt}
-use Rattle.ts_wire.proofs.Laws.{Bound, bound, failed, goes_on, same_ok, same_err, not_both, both_exact, ruled_exact, restated, IsBytes-drop, whole_found, whole_only, whole_within}
+use Rattle.ts_wire.proofs.Laws.{bound, failed, goes_on, same_ok, same_err, not_both, both_exact, ruled_exact, restated, IsBytes-drop, whole_found, whole_only, whole_within}
 use Rattle.ts_wire.proofs.Numbers.{number_exact, one_byte, length-number_bytes}
 
 -- ---- the magic text, the kind and the version

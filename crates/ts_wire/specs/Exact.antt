@@ -1,5 +1,5 @@
 -- What it means that a spelling is read exactly: one spelling for each value, whatever follows it.
-use Rattle.std.specs.Prelude.{◌≡◌, ℕ, ◌+◌, ◌<◌, ◌≤◌, Bool, true, List, [], ◌∷◌, ◌++◌, length, slice_index, Option, Some, None, Ok, Err}
+use Rattle.std.specs.Prelude.{◌≡◌, ℕ, ◌+◌, ◌<◌, ◌≤◌, List, [], ◌∷◌, ◌++◌, length, slice_index, Ok, Err}
 use Rattle.ts_wire.specs.Place.{Place, Read, place}
 
 -- each of these numbers is a byte
@@ -19,7 +19,7 @@ pub record Exact {A : Type 0} (Fits : A → Type 0) (spell : A → List ℕ) (re
   pub within : (p : Place) (at : ℕ) → IsBytes p.rest → read p ≡ Err at → (p.at ≤ at) × (at ≤ p.at + length p.rest)
 
 -- what f makes of what fits, fits and is spelled the same, and each value that fits is made so
-pub record Says {A B : Type 0} (FitsA : A → Type 0) (spellA : A → List ℕ) (FitsB : B → Type 0) (spellB : B → List ℕ) (f : A → B) : Type 0 where
+pub record Restates {A B : Type 0} (FitsA : A → Type 0) (spellA : A → List ℕ) (FitsB : B → Type 0) (spellB : B → List ℕ) (f : A → B) : Type 0 where
   pub there : (a : A) → FitsA a → FitsB (f a) × (spellA a ≡ spellB (f a))
   pub back : (b : B) → FitsB b → (a : A) × FitsA a × (f a ≡ b) × (spellA a ≡ spellB b)
 

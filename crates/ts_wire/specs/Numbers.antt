@@ -1,5 +1,5 @@
 -- Numbers as fields: the lowest byte first, and two's complement for signed ones.
-use Rattle.std.specs.Prelude.{◌≡◌, ℕ, ◌+◌, ◌-◌, ◌*◌, ◌^◌, ◌<◌, ℤ, pos, negsuc, Bool, true, false, ◌&&◌, ◌||◌, nat_eq, if◌then◌else◌, List, ◌∷◌}
+use Rattle.std.specs.Prelude.{ℕ, ◌-◌, ◌*◌, ◌^◌, ◌<◌, ℤ, pos, negsuc, Bool, true, false, ◌&&◌, ◌||◌, nat_eq, if◌then◌else◌, List}
 use Rattle.std.specs.Int.{w128}
 use Rattle.byteorder.specs.Endian.{little_bytes, little_number, twos_complement, low_bytes}
 use Rattle.ts_wire.specs.Place.{Place, Read, bytes_at, mapped, ruled}

@@ -1,5 +1,5 @@
 -- What a call that reads says of its answer: it is the answer of a reader, value for value and offset for offset.
-use Rattle.std.specs.Prelude.{◌≡◌, ◌≢◌, ℕ, List, [], Option, Some, None, Result, Ok, Err, IsErr}
+use Rattle.std.specs.Prelude.{◌≡◌, ◌≢◌, ℕ, [], Option, Some, None, Result, Ok, Err, IsErr}
 use Rattle.ts_wire.specs.declared.faults.Damaged.{Damaged}
 use Rattle.ts_wire.specs.declared.faults.ReadFault.{ReadFault}
 use Rattle.ts_wire.specs.declared.faults.ReadFault.TheVariants as fault

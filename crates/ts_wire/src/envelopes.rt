@@ -32,7 +32,7 @@ pub fn wrap(alloc: Global, kind: Kind, body: &[u8]) -> Result<ByteList, OutOfMem
 
 // The envelope of a body of so many bytes.
 #[tactic(auto, unfolding(crate::specs::Envelope::envelope_bytes, crate::specs::Numbers::number_bytes))]
-fn envelope_of(kind: Kind, count: u64) -> [u8; 14]
+pub(crate) fn envelope_of(kind: Kind, count: u64) -> [u8; 14]
     ensures { result ≡ envelope_bytes kind count }
 {
     let mut envelope = *b"TDBU\0\0\0\0\0\0\0\0\0\0";

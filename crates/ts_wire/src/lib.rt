@@ -16,5 +16,4 @@ pub use cursor::Cursor;
 pub use envelopes::{unwrap_body, wrap};
 pub use faults::{Damaged, ReadFault};
 pub use kinds::Kind;
-pub use rules::{fields_are_exact, fields_break_where_they_begin};
 pub use scribe::Scribe;

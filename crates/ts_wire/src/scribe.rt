@@ -1,8 +1,11 @@
 //! Writing fields one after another.
-ghost use Rattle.std.specs.Prelude.{◌≡◌, ◌+◌, ◌≤◌, [], ◌++◌, length, take, IsTrue, OnOk, OnErr, vec_len, vec_capacity};
+ghost use Rattle.std.specs.Prelude.{◌≡◌, ◌+◌, ◌≤◌, ◌⊎◌, [], ◌++◌, length, drop, IsTrue, IfOk, OnOk, OnErr, vec_len, vec_capacity};
 ghost use Rattle.ts_wire.specs.Numbers.{number_bytes, int_bytes, is_width, FitsInt};
 ghost use Rattle.ts_wire.specs.Fields.{bool_bytes, label_bytes, key_bytes, val_bytes};
+ghost use Rattle.ts_wire.specs.Envelope.{wrapped};
 
+use crate::envelopes::envelope_of;
+use crate::kinds::Kind;
 use crate::spelling::{u8_bytes, u16_bytes, u32_bytes, u64_bytes, u128_bytes, write_int};
 use std::alloc::Global;
 use std::marker::Model;
@@ -12,17 +15,22 @@ use ts_base::{ByteList, Key, Label, OutOfMemory, Val};
 ///
 /// Each call appends the spelling of one field. Where there is no memory for it, the bytes are as
 /// they were. Contracts see the bytes so far.
+///
+/// Behind the first field stands room for an envelope in front, so that the bytes are written where
+/// an object will have them.
 #[derive(Debug, Drop)]
 pub struct Scribe {
     bytes: Vec<u8>,
 }
 
 impl Model for Scribe {
-    ghost use Rattle.std.specs.Prelude.{List, ℕ};
+    ghost use Rattle.std.specs.Prelude.{List, ℕ, ◌≡◌, ◌≤◌, ◌⊎◌, [], length, drop};
 
     ghost Value = { List ℕ };
 
-    ghost view = { λ scribe. scribe.bytes.items };
+    ghost view = { λ scribe. drop 14 scribe.bytes.items };
+
+    ghost invariant = { λ scribe. (scribe.bytes.items ≡ []) ⊎ (14 ≤ length scribe.bytes.items) };
 }
 
 impl Scribe {
@@ -39,16 +47,49 @@ impl Scribe {
     pub fn take(self) -> ByteList
         ensures { result ≡ self }
     {
-        let Scribe { bytes } = self;
+        let Scribe { mut bytes } = self;
+        without_front(&mut bytes);
         ByteList::from_vec(bytes)
     }
 
+    /// The object of this kind whose body was written: its envelope, and then the body.
+    ///
+    /// It is what [`wrap`](crate::wrap) gives of the body, without another copy of it.
+    #[tactic(auto, unfolding(crate::specs::Envelope::wrapped))]
+    pub fn into_object(self, kind: Kind) -> Result<ByteList, OutOfMemory>
+        ensures { IfOk result (λ object. object ≡ wrapped kind self) }
+    {
+        let Scribe { bytes: mut object } = self;
+        make_front(&mut object)?;
+        let count = object.len() as u64 - 14;
+        put_front(object.as_mut_slice(), &envelope_of(kind, count));
+        Ok(ByteList::from_vec(object))
+    }
+
     /// Appends bytes as they are.
+    #[tactic(auto, using(crate::proofs::Bodies::body_grows))]
     pub fn bytes(&mut self, bytes: &[u8]) -> Result<(), OutOfMemory>
         ensures ok { OnOk result (self.new ≡ self.old ++ bytes.now) }
         ensures err { OnErr result (self.new ≡ self.old) }
     {
+        make_front(&mut self.bytes)?;
         self.bytes.extend_from_slice(bytes)?;
+        Ok(())
+    }
+
+    // Appends three texts, one behind the other, or none of them.
+    #[tactic(auto, using(crate::proofs::Bodies::body_grows))]
+    fn texts(&mut self, first: &[u8], second: &[u8], third: &[u8]) -> Result<(), OutOfMemory>
+        requires { length first.now + length second.now ≤ 32 }
+        ensures ok { OnOk result (self.new ≡ self.old ++ (first.now ++ second.now ++ third.now)) }
+        ensures err { OnErr result (self.new ≡ self.old) }
+    {
+        make_front(&mut self.bytes)?;
+        self.bytes
+            .reserve(first.len() + second.len() + third.len())?;
+        put(&mut self.bytes, first);
+        put(&mut self.bytes, second);
+        put(&mut self.bytes, third);
         Ok(())
     }
 
@@ -117,10 +158,7 @@ impl Scribe {
     {
         let text = label.as_bytes();
         let count = text.len() as u8;
-        self.bytes.reserve(1 + text.len())?;
-        put(&mut self.bytes, &u8_bytes(count));
-        put(&mut self.bytes, text);
-        Ok(())
+        self.texts(&[], &u8_bytes(count), text)
     }
 
     /// Appends a key: its timestamp in eight bytes, and its identifier in sixteen.
@@ -129,10 +167,7 @@ impl Scribe {
         ensures ok { OnOk result (self.new ≡ self.old ++ key_bytes key) }
         ensures err { OnErr result (self.new ≡ self.old) }
     {
-        self.bytes.reserve(24)?;
-        put(&mut self.bytes, &u64_bytes(key.t));
-        put(&mut self.bytes, &u128_bytes(key.id));
-        Ok(())
+        self.texts(&[], &u64_bytes(key.t), &u128_bytes(key.id))
     }
 
     /// Appends a value: its tag in one byte, and then an integer in sixteen bytes, or bytes behind
@@ -147,18 +182,11 @@ impl Scribe {
             Val::Int(number) => {
                 let mut field = [0; 16];
                 write_int(&mut field, 16, *number);
-                self.bytes.reserve(17)?;
-                put(&mut self.bytes, &u8_bytes(1));
-                put(&mut self.bytes, &field);
-                Ok(())
+                self.texts(&[], &u8_bytes(1), &field)
             }
             Val::Bytes(list) => {
                 let bytes = list.as_slice();
-                self.bytes.reserve(9 + bytes.len())?;
-                put(&mut self.bytes, &u8_bytes(2));
-                put(&mut self.bytes, &u64_bytes(bytes.len() as u64));
-                put(&mut self.bytes, bytes);
-                Ok(())
+                self.texts(&u8_bytes(2), &u64_bytes(bytes.len() as u64), bytes)
             }
         }
     }
@@ -172,4 +200,36 @@ fn put(out: &mut Vec<u8>, piece: &[u8])
     ensures capacity { vec_capacity out.old ≤ vec_capacity out.new }
 {
     let _ = out.extend_from_slice(piece);
+}
+
+// Makes room for an envelope in front of bytes that have none.
+fn make_front(bytes: &mut Vec<u8>) -> Result<(), OutOfMemory>
+    requires { (bytes.old.items ≡ []) ⊎ (14 ≤ length bytes.old.items) }
+    ensures room { OnOk result (14 ≤ length bytes.new.items) }
+    ensures behind { OnOk result (drop 14 bytes.new.items ≡ drop 14 bytes.old.items) }
+    ensures err { OnErr result (bytes.new.items ≡ bytes.old.items) }
+{
+    if bytes.is_empty() {
+        bytes.extend_from_slice(&[0; 14])?;
+    }
+    Ok(())
+}
+
+// Takes the room for an envelope away.
+fn without_front(bytes: &mut Vec<u8>)
+    requires { (bytes.old.items ≡ []) ⊎ (14 ≤ length bytes.old.items) }
+    ensures { bytes.new.items ≡ drop 14 bytes.old.items }
+{
+    if !bytes.is_empty() {
+        bytes.as_mut_slice().rotate_left(14);
+        bytes.truncate(bytes.len() - 14);
+    }
+}
+
+// Writes a text over the front of another.
+fn put_front(text: &mut [u8], front: &[u8])
+    requires { length front.now ≤ length text.old }
+    ensures { text.new ≡ front.now ++ drop (length front.now) text.old }
+{
+    text[..front.len()].copy_from_slice(front);
 }
