@@ -45,7 +45,7 @@ next_by : (e : Expect) (k : Kind) (r : Reading) (p : Front) → r.expects ≡ e 
 next_by e k r p is same around may =
     let known : r.expects ≡ expected p.part = is ∙ same in
     let x : Rest = record { nodes = r.nodes; field = r.field; op = r.op; negated = r.negated; vals = r.vals } in
-    subst (λ f. stands f (is_inside r.outer) k ≡ true → Next k (reading f r.level r.outer r.met x) p) (sym known) (goes_on p.part k p.outer p.level r.level r.outer r.met x around) may
+    subst (λ f. stands f (is_inside r.outer) k ≡ true → Next k (reading f r.group r.outer r.naming x) p) (sym known) (goes_on p.part k p.outer p.group r.group r.outer r.naming x around) may
 
 pub record Further (all : Scan) (fields : List CondField) (ks : List Kind) (ts : Scan) (r : Reading) : Type 0 where
   pub front : Front
@@ -56,20 +56,20 @@ further : (all : Scan) (fields : List CondField) (ks : List Kind) (k : Kind) (at
 unfolding goes deepest largest
 further all fields ks k at rest r p seen may =
     let next = next_by r.expects k r p refl seen.expects seen.around may in
-    let joined = one_more ks k in
+    let gathered = one_more ks k in
     record {
       front = next.next;
       seen = record {
         splits = splits_next all ks k at rest seen.splits;
         expects = next.expects;
         around = next.around;
-        spells = λ more. joined more ∙ seen.spells (k ∷ more) ∙ next.spells more;
-        reached = λ more. ap (goes (start fields)) (joined more) ∙ seen.reached (k ∷ more) ∙ ap (λ b. if b then goes (moved k r) more else None) may;
+        spells = λ more. gathered more ∙ seen.spells (k ∷ more) ∙ next.spells more;
+        reached = λ more. ap (goes (start fields)) (gathered more) ∙ seen.reached (k ∷ more) ∙ ap (λ b. if b then goes (moved k r) more else None) may;
         deep = λ more.
-            let same : deepest (start fields) ((ks ++ k ∷ []) ++ more) ≡ deepest (start fields) (ks ++ k ∷ more) = ap (deepest (start fields)) (joined more) in
+            let same : deepest (start fields) ((ks ++ k ∷ []) ++ more) ≡ deepest (start fields) (ks ++ k ∷ more) = ap (deepest (start fields)) (gathered more) in
             omega (arith, seen.deep (k ∷ more));
         large = λ more.
-            let same : largest (start fields) ((ks ++ k ∷ []) ++ more) ≡ largest (start fields) (ks ++ k ∷ more) = ap (largest (start fields)) (joined more) in
+            let same : largest (start fields) ((ks ++ k ∷ []) ++ more) ≡ largest (start fields) (ks ++ k ∷ more) = ap (largest (start fields)) (gathered more) in
             omega (arith, seen.large (k ∷ more));
       };
     }
@@ -101,7 +101,7 @@ module _ (all : Scan) (fields : List CondField) where
       in
       cc (sym lands ∙ read)
 
-  is_deep : (ks : List Kind) (ts : Scan) (r : Reading) (p : Front) → Seen all fields ks ts r p → 32 < depth_in r.level → BeginsOnly all (λ c. 32 < depth_of c)
+  is_deep : (ks : List Kind) (ts : Scan) (r : Reading) (p : Front) → Seen all fields ks ts r p → 32 < depth_in r.group → BeginsOnly all (λ c. 32 < depth_of c)
   is_deep ks ts r p seen deep = (
     ks,
     ts,
@@ -151,7 +151,7 @@ step_case all false t at next bad good = bad refl
 
 ended : (all : Scan) (fields : List CondField) (ks : List Kind) (at : ℕ) (r : Reading) (p : Front) → Seen all fields ks (End at) r p → may_end r.expects r.outer ≡ true → Came all (Ok r)
 ended all fields ks at r p seen ends =
-    let found = tree_at_end p.part p.outer p.level r.outer seen.around (ap (λ e. may_end e r.outer) (sym seen.expects) ∙ ends) in
+    let found = tree_at_end p.part p.outer p.group r.outer seen.around (ap (λ e. may_end e r.outer) (sym seen.expects) ∙ ends) in
     let same : ks ≡ cond_then found.0 [] = sym (no_more ks) ∙ seen.spells [] ∙ found.1 in
     (found.0, subst (AreKinds all) same (splits_whole all ks at seen.splits))
 
@@ -167,13 +167,13 @@ came (Then k at rest) all fields ks r p seen =
     (λ may.
     let more = further all fields ks k at rest r p seen may in
     let t = moved k r in
-    within_case all (nat_lt 32 (depth_in t.level)) (nat_lt 1024 t.nodes) t at (λ s. reads s rest)
-    (λ deep. is_deep all fields (ks ++ k ∷ []) rest t more.front more.seen (ltb-true 32 (depth_in t.level) deep))
+    within_case all (nat_lt 32 (depth_in t.group)) (nat_lt 1024 t.nodes) t at (λ s. reads s rest)
+    (λ deep. is_deep all fields (ks ++ k ∷ []) rest t more.front more.seen (ltb-true 32 (depth_in t.group) deep))
     (λ large. is_large all fields (ks ++ k ∷ []) rest t more.front more.seen (ltb-true 1024 t.nodes large))
     (came rest all fields (ks ++ k ∷ []) t more.front more.seen))
 
 -- nothing is read yet
-at_start : (all : Scan) (fields : List CondField) → Seen all fields [] all (start fields) (record { outer = []; level = record { terms = []; facts = []; nots = 0 }; part = none })
+at_start : (all : Scan) (fields : List CondField) → Seen all fields [] all (start fields) (record { outer = []; group = record { terms = []; facts = []; nots = 0 }; part = none })
 at_start all fields = record {
   splits = refl;
   expects = refl;
@@ -194,8 +194,8 @@ settle_case (Some fault.TooLarge) r text fields is tree = absurd is
 settle_case (Some fault.OutOfMemory) r text fields is tree = absurd is
 
 cause_case : (x : Result Reading CondFault) (text : List ℕ) (fields : List CondField) → Came (tokens_of text) x
-    → ((c : Cond) → IsSpelled text c → IsReadAs (settled x) fields c) → ((c : Cond) (r : Reading) → IsSpelled text c → x ≡ Ok r → IsOfTest r.met.clash) → HasCause (settled x) text fields
-cause_case (Ok r) text fields came read test = settle_case r.met.clash r text fields (test came.0 r came.1 refl) (came.0, came.1, read came.0 came.1)
+    → ((c : Cond) → IsSpelled text c → IsReadAs (settled x) fields c) → ((c : Cond) (r : Reading) → IsSpelled text c → x ≡ Ok r → IsOfTest r.naming.clash) → HasCause (settled x) text fields
+cause_case (Ok r) text fields came read test = settle_case r.naming.clash r text fields (test came.0 r came.1 refl) (came.0, came.1, read came.0 came.1)
 cause_case (Err (fault.Syntax at)) text fields came read test = came
 cause_case (Err fault.TooDeep) text fields came read test = came
 cause_case (Err fault.TooLarge) text fields came read test = came

@@ -6,7 +6,7 @@ use Rattle.ts_base.specs.declared.values.Val.{Val}
 use Rattle.ts_cond.specs.Holds.{holds, all_hold, any_holds}
 use denote.Hole.Carrier.{hidden}
 use Rattle.ts_cond.specs.declared.nodes.CondNode.TheBlock.{hidden-the_row-CondNode-1}
-use Rattle.ts_cond.specs.Machine.{tests_from, joined, under}
+use Rattle.ts_cond.specs.Machine.{tests_from, gathered, under}
 use Rattle.ts_cond.specs.Tests.{Test, Tests, test}
 use Rattle.ts_cond.specs.Tests as plain
 use Rattle.ts_cond.specs.Views.{test_of, tests_of}
@@ -56,7 +56,7 @@ any_tests nodes =
     ap plain.Any (tests_of_row row.0 row.1 ∙ ap (λ items. tests_from (map test_of items)) (items_hidden-the_row-CondNode-0 nodes))
 
 -- a list that has not one node alone
-pub more_than_one : (make : Tests → Test) (nodes : List CondNode) → length nodes ≢ 1 → joined make (map test_of nodes) ≡ make (tests_from (map test_of nodes))
+pub more_than_one : (make : Tests → Test) (nodes : List CondNode) → length nodes ≢ 1 → gathered make (map test_of nodes) ≡ make (tests_from (map test_of nodes))
 more_than_one make [] none = refl
 more_than_one make (node ∷ []) none = absurd (none refl)
 more_than_one make (node ∷ next ∷ nodes) none = refl

@@ -25,10 +25,10 @@ pub data Part : Type 0 where
   asked : List ℕ → Part
   whole : Fact → Part
 
--- what was read: the levels that are open, the innermost first
+-- what was read: the groups that are open, the innermost first
 pub record Front : Type 0 where
   pub outer : List Opened
-  pub level : Opened
+  pub group : Opened
   pub part : Part
 
 -- what may come next
@@ -61,12 +61,12 @@ abbrev pub values_before : List Value → List Kind → List Kind
 values_before [] rest = rest
 values_before (v ∷ vs) rest = values_before vs (Comma ∷ kind_of v ∷ rest)
 
-abbrev pub level_then : Opened → List Kind → List Kind
-level_then l rest = terms_before l.terms (facts_before l.facts (nots_before l.nots rest))
+abbrev pub group_then : Opened → List Kind → List Kind
+group_then l rest = terms_before l.terms (facts_before l.facts (nots_before l.nots rest))
 
 abbrev pub outer_then : List Opened → List Kind → List Kind
 outer_then [] rest = rest
-outer_then (l ∷ outer) rest = outer_then outer (level_then l (Open ∷ rest))
+outer_then (l ∷ outer) rest = outer_then outer (group_then l (Open ∷ rest))
 
 abbrev pub part_then : Part → List Kind → List Kind
 part_then none rest = rest
@@ -81,7 +81,7 @@ part_then (asked name) rest = Label name ∷ Is ∷ rest
 part_then (whole f) rest = fact_then f rest
 
 abbrev pub front_then : Front → List Kind → List Kind
-front_then p rest = outer_then p.outer (level_then p.level (part_then p.part rest))
+front_then p rest = outer_then p.outer (group_then p.group (part_then p.part rest))
 
 -- values in the order of the text
 abbrev pub turned : List Value → List Value → List Value
@@ -126,7 +126,7 @@ cond_with l f = or_all l.terms (term (term_with l f))
 pub term_ends : (l : Opened) (f : Fact) (rest : List Kind) → facts_before l.facts (nots_before l.nots (fact_then f rest)) ≡ term_then (term_with l f) rest
 term_ends l f rest = ap (facts_before l.facts) (not_then l.nots f rest) ∙ and_then l.facts (fact (not_of_all l.nots f)) rest
 
-pub cond_ends : (l : Opened) (f : Fact) (rest : List Kind) → level_then l (fact_then f rest) ≡ cond_then (cond_with l f) rest
+pub cond_ends : (l : Opened) (f : Fact) (rest : List Kind) → group_then l (fact_then f rest) ≡ cond_then (cond_with l f) rest
 cond_ends l f rest = ap (terms_before l.terms) (term_ends l f rest) ∙ or_then l.terms (term (term_with l f)) rest
 
 -- a tree, whose tokens begin so
@@ -135,21 +135,21 @@ pub record Completed (begin : List Kind → List Kind) : Type 0 where
   pub rest : List Kind
   pub spells : cond_then tree [] ≡ begin rest
 
-abbrev shut_all : (outer : List Opened) (l : Opened) (f : Fact) → Completed (λ rest. outer_then outer (level_then l (fact_then f rest)))
+abbrev shut_all : (outer : List Opened) (l : Opened) (f : Fact) → Completed (λ rest. outer_then outer (group_then l (fact_then f rest)))
 shut_all [] l f = record { tree = cond_with l f; rest = []; spells = sym (cond_ends l f []) }
 shut_all (around ∷ outer) l f =
     let found = shut_all outer around (paren (cond_with l f)) in
     record {
       tree = found.tree;
       rest = Close ∷ found.rest;
-      spells = found.spells ∙ ap (λ ks. outer_then outer (level_then around (Open ∷ ks))) (sym (cond_ends l f (Close ∷ found.rest)));
+      spells = found.spells ∙ ap (λ ks. outer_then outer (group_then around (Open ∷ ks))) (sym (cond_ends l f (Close ∷ found.rest)));
     }
 
 -- with a fact in the place of what is not whole
 abbrev with_whole : (p : Front) (f : Fact) (more : List Kind → List Kind) → ((rest : List Kind) → fact_then f rest ≡ part_then p.part (more rest)) → Completed (front_then p)
 with_whole p f more same =
-    let found = shut_all p.outer p.level f in
-    record { tree = found.tree; rest = more found.rest; spells = found.spells ∙ ap (λ ks. outer_then p.outer (level_then p.level ks)) (same found.rest) }
+    let found = shut_all p.outer p.group f in
+    record { tree = found.tree; rest = more found.rest; spells = found.spells ∙ ap (λ ks. outer_then p.outer (group_then p.group ks)) (same found.rest) }
 
 abbrev a_label : List ℕ
 a_label = 97 ∷ []
@@ -157,22 +157,22 @@ a_label = 97 ∷ []
 abbrev nought : Value
 nought = number (pos 0)
 
-completed_by : (outer : List Opened) (l : Opened) (part : Part) → Completed (front_then (record { outer = outer; level = l; part = part }))
-completed_by outer l none = with_whole (record { outer = outer; level = l; part = none }) (is_null a_label) (λ rest. Label a_label ∷ Is ∷ Null ∷ rest) (λ rest. refl)
-completed_by outer l (named name) = with_whole (record { outer = outer; level = l; part = named name }) (is_null name) (λ rest. Is ∷ Null ∷ rest) (λ rest. refl)
-completed_by outer l (compared name op) = with_whole (record { outer = outer; level = l; part = compared name op }) (compare name op nought) (λ rest. Number (pos 0) ∷ rest) (λ rest. refl)
-completed_by outer l (denied name) = with_whole (record { outer = outer; level = l; part = denied name }) (member name true nought []) (λ rest. In ∷ Open ∷ Number (pos 0) ∷ Close ∷ rest) (λ rest. refl)
-completed_by outer l (chosen name negated) = with_whole (record { outer = outer; level = l; part = chosen name negated }) (member name negated nought []) (λ rest. Open ∷ Number (pos 0) ∷ Close ∷ rest) (λ rest. refl)
-completed_by outer l (opened name negated) = with_whole (record { outer = outer; level = l; part = opened name negated }) (member name negated nought []) (λ rest. Number (pos 0) ∷ Close ∷ rest) (λ rest. refl)
+completed_by : (outer : List Opened) (l : Opened) (part : Part) → Completed (front_then (record { outer = outer; group = l; part = part }))
+completed_by outer l none = with_whole (record { outer = outer; group = l; part = none }) (is_null a_label) (λ rest. Label a_label ∷ Is ∷ Null ∷ rest) (λ rest. refl)
+completed_by outer l (named name) = with_whole (record { outer = outer; group = l; part = named name }) (is_null name) (λ rest. Is ∷ Null ∷ rest) (λ rest. refl)
+completed_by outer l (compared name op) = with_whole (record { outer = outer; group = l; part = compared name op }) (compare name op nought) (λ rest. Number (pos 0) ∷ rest) (λ rest. refl)
+completed_by outer l (denied name) = with_whole (record { outer = outer; group = l; part = denied name }) (member name true nought []) (λ rest. In ∷ Open ∷ Number (pos 0) ∷ Close ∷ rest) (λ rest. refl)
+completed_by outer l (chosen name negated) = with_whole (record { outer = outer; group = l; part = chosen name negated }) (member name negated nought []) (λ rest. Open ∷ Number (pos 0) ∷ Close ∷ rest) (λ rest. refl)
+completed_by outer l (opened name negated) = with_whole (record { outer = outer; group = l; part = opened name negated }) (member name negated nought []) (λ rest. Number (pos 0) ∷ Close ∷ rest) (λ rest. refl)
 completed_by outer l (listed name negated v vs) =
-    with_whole (record { outer = outer; level = l; part = listed name negated v vs }) (member name negated v (turned vs [])) (λ rest. Close ∷ rest)
+    with_whole (record { outer = outer; group = l; part = listed name negated v vs }) (member name negated v (turned vs [])) (λ rest. Close ∷ rest)
     (λ rest. ap (λ ks. Label name ∷ in_then negated (Open ∷ kind_of v ∷ ks)) (sym (turned_then vs [] rest)))
 completed_by outer l (listing name negated v vs) =
-    with_whole (record { outer = outer; level = l; part = listing name negated v vs }) (member name negated v (turned vs (nought ∷ []))) (λ rest. Number (pos 0) ∷ Close ∷ rest)
+    with_whole (record { outer = outer; group = l; part = listing name negated v vs }) (member name negated v (turned vs (nought ∷ []))) (λ rest. Number (pos 0) ∷ Close ∷ rest)
     (λ rest. ap (λ ks. Label name ∷ in_then negated (Open ∷ kind_of v ∷ ks)) (sym (turned_then vs (nought ∷ []) rest)))
-completed_by outer l (asked name) = with_whole (record { outer = outer; level = l; part = asked name }) (is_null name) (λ rest. Null ∷ rest) (λ rest. refl)
-completed_by outer l (whole f) = with_whole (record { outer = outer; level = l; part = whole f }) f (λ rest. rest) (λ rest. refl)
+completed_by outer l (asked name) = with_whole (record { outer = outer; group = l; part = asked name }) (is_null name) (λ rest. Null ∷ rest) (λ rest. refl)
+completed_by outer l (whole f) = with_whole (record { outer = outer; group = l; part = whole f }) f (λ rest. rest) (λ rest. refl)
 
 -- whatever was read, a tree begins so
 pub completed : (p : Front) → Completed (front_then p)
-completed p = completed_by p.outer p.level p.part
+completed p = completed_by p.outer p.group p.part

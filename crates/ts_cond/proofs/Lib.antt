@@ -2,8 +2,8 @@ pub mod Children
 pub mod CondLaws
 pub mod ConditionLaws
 pub mod Counts
-pub mod LevelLaws
-pub mod MetLaws
+pub mod GroupLaws
+pub mod NamingLaws
 pub mod NodeSteps
 pub mod Pairs
 pub mod ParsedLaws

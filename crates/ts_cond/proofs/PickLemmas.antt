@@ -4,7 +4,7 @@ use Rattle.ts_base.specs.declared.values.Val.{Val}
 use Rattle.ts_cond.specs.declared.fields.CondField.{CondField}
 use Rattle.ts_cond.specs.Tests.{Test}
 use Rattle.ts_cond.specs.Holds.{holds}
-use Rattle.ts_cond.specs.Picks.{agrees, value_under, value_by, field_value, place_from, place_or_fill, pick_by, picks_of, val_or, picked, picked_value}
+use Rattle.ts_cond.specs.Picks.{is_same_field, value_under, value_by, field_value, place_from, place_or_fill, pick_by, picks_of, val_or, picked, picked_value}
 
 -- the value at the place that is found, or else the fill
 abbrev at_place : Option ℕ → CondField → List Val → Val
@@ -22,20 +22,20 @@ step_back : (field : CondField) (attrs : List CondField) (val : Val) (row : List
 step_back field [] val row place = refl
 step_back field (attr ∷ attrs) val row place =
     let next : suc place + 1 ≡ suc (place + 1) = omega arith in
-    chosen (λ found. at_place found field (val ∷ row)) (λ found. at_place found field row) (agrees field attr) (Some (suc place)) (place_from field (suc place + 1) attrs) (Some place) (place_from field (place + 1) attrs) refl
+    chosen (λ found. at_place found field (val ∷ row)) (λ found. at_place found field row) (is_same_field field attr) (Some (suc place)) (place_from field (suc place + 1) attrs) (Some place) (place_from field (place + 1) attrs) refl
     (ap (λ n. at_place (place_from field n attrs) field (val ∷ row)) next ∙ step_back field attrs val row (place + 1))
 
 -- in an empty row nothing is found
 none_found : (field : CondField) (attrs : List CondField) (place : ℕ) → at_place (place_from field place attrs) field [] ≡ field.fill
 none_found field [] place = refl
 none_found field (attr ∷ attrs) place =
-    chosen (λ found. at_place found field []) (λ _. field.fill) (agrees field attr) _ _ place place refl (none_found field attrs (place + 1))
+    chosen (λ found. at_place found field []) (λ _. field.fill) (is_same_field field attr) _ _ place place refl (none_found field attrs (place + 1))
 
 found : (field : CondField) (attrs : List CondField) (row : List Val) → at_place (place_from field 0 attrs) field row ≡ value_under field attrs row
 found field [] row = refl
 found field (attr ∷ attrs) [] = none_found field (attr ∷ attrs) 0
 found field (attr ∷ attrs) (val ∷ row) =
-    chosen (λ found. at_place found field (val ∷ row)) (λ found. found) (agrees field attr) _ _ _ _ refl (step_back field attrs val row 0 ∙ found field attrs row)
+    chosen (λ found. at_place found field (val ∷ row)) (λ found. found) (is_same_field field attr) _ _ _ _ refl (step_back field attrs val row 0 ∙ found field attrs row)
 
 placed : (place : Option ℕ) (field : CondField) (coords : List ℤ) (row : List Val) → picked (place_or_fill place field) field coords row ≡ at_place place field row
 placed (Some place) field coords row = refl

@@ -7,15 +7,15 @@ use Rattle.ts_base.specs.declared.values.Val.TheVariants as val
 use Rattle.ts_cond.specs.declared.fields.CondField.{CondField}
 use Rattle.ts_cond.specs.declared.machine.Expect.{Expect}
 use Rattle.ts_cond.specs.declared.machine.Expect.TheVariants as expect
-use Rattle.ts_cond.specs.declared.met.Met.{Met}
+use Rattle.ts_cond.specs.declared.naming.Naming.{Naming}
 use Rattle.ts_cond.specs.CondTexts.{indexes, compared, nodes_of, height_of, IsWide, more_named, named_by, AreInTurn, suits_field, FitsCompared, AreCompared}
-use Rattle.ts_cond.specs.Machine.{suits, judges, meets, Level, level_at, depth_in, closed, with_fact, with_term, with_not, Reading, stands, expecting, fact_ends, under, list_begins, choice_begins, left, moved, is_inside}
+use Rattle.ts_cond.specs.Machine.{suits, judges, meets, Group, group_at, depth_in, closed, with_fact, with_term, with_not, Reading, stands, expecting, fact_ends, under, list_begins, choice_begins, left, moved, is_inside}
 use Rattle.ts_cond.specs.Tests.{Test}
 use Rattle.ts_cond.specs.Tests as tree
 use Rattle.ts_cond.specs.Tokens.{Kind, Open, Close, Comma, And, Or, Not, In, Is, Null, Compares, Label, Number, Text, Blob, unquoted, unhexed}
 use Rattle.ts_cond.proofs.GoodTokens.{IsGood}
-use Rattle.ts_cond.proofs.LevelLaws.{level_flat, around_flat, indexes_flatten, compared_flatten, flat_fact, flat_term, flat_closed, LevelFits, fresh_fits, fact_fits, term_fits, closed_wide, closed_low, cost, costs_around, fact_cost, term_cost, and_cost, closed_cost, some_terms}
-use Rattle.ts_cond.proofs.MetLaws.{MetFits, IsOld, IsNew, meets_fits, IsSpelledBy, number_spelled, text_spelled, blob_spelled, judges_clear}
+use Rattle.ts_cond.proofs.GroupLaws.{group_flat, around_flat, indexes_flatten, compared_flatten, flat_fact, flat_term, flat_closed, GroupFits, fresh_fits, fact_fits, term_fits, closed_wide, closed_low, cost, costs_around, fact_cost, term_cost, and_cost, closed_cost, some_terms}
+use Rattle.ts_cond.proofs.NamingLaws.{NamingFits, IsOld, IsNew, meets_fits, IsSpelledBy, number_spelled, text_spelled, blob_spelled, judges_clear}
 use Rattle.ts_cond.proofs.TreeLaws.{named_by-append, in_turn-append, in_turn_last, compared-append, compared_first, compared_last}
 
 -- ---- what is kept
@@ -55,45 +55,45 @@ abbrev pub HasVal : Expect → List Val → Type 0
 HasVal expect.MoreMembers vals = 1 ≤ length vals
 HasVal _ vals = Unit {0}
 
-abbrev pub AroundFits : List Level → Type 0
+abbrev pub AroundFits : List Group → Type 0
 AroundFits [] = Unit {0}
-AroundFits (l ∷ outer) = LevelFits l × AroundFits outer
+AroundFits (l ∷ outer) = GroupFits l × AroundFits outer
 
--- each level stands one deeper than the fact around it
-abbrev pub Nested : ℕ → List Level → Type 0
+-- each group stands one deeper than the fact around it
+abbrev pub Nested : ℕ → List Group → Type 0
 Nested depth [] = Unit {0}
 Nested depth (l ∷ outer) = (depth ≡ l.depth + l.nots + 1) × Nested l.depth outer
 
 -- the tests that are whole, one after the other
-abbrev pub seen : {X : Type 0} → (Test → List X) → List Level → Level → List X
-seen g outer l = around_flat g outer ++ level_flat g l
+abbrev pub seen : {X : Type 0} → (Test → List X) → List Group → Group → List X
+seen g outer l = around_flat g outer ++ group_flat g l
 
 pub record Kept (r : Reading) : Type 0 where
-  pub met : MetFits r.met
-  pub turn : AreInTurn (length r.met.used) 0 (seen indexes r.outer r.level ++ open_indexes r.expects r.field)
-  pub named : named_by 0 (seen indexes r.outer r.level ++ open_indexes r.expects r.field) ≡ length r.met.used
-  pub vals : AreCompared r.met.used (seen compared r.outer r.level ++ open_vals r.expects r.field r.vals)
-  pub level : LevelFits r.level
+  pub naming : NamingFits r.naming
+  pub turn : AreInTurn (length r.naming.used) 0 (seen indexes r.outer r.group ++ open_indexes r.expects r.field)
+  pub named : named_by 0 (seen indexes r.outer r.group ++ open_indexes r.expects r.field) ≡ length r.naming.used
+  pub vals : AreCompared r.naming.used (seen compared r.outer r.group ++ open_vals r.expects r.field r.vals)
+  pub group : GroupFits r.group
   pub around : AroundFits r.outer
-  pub nested : Nested r.level.depth r.outer
-  pub fact : HasFact r.expects r.level.facts
+  pub nested : Nested r.group.depth r.outer
+  pub fact : HasFact r.expects r.group.facts
   pub val : HasVal r.expects r.vals
-  pub nodes : costs_around r.outer + cost (begun r.expects) r.level + open_nodes r.expects r.vals ≤ r.nodes
+  pub nodes : costs_around r.outer + cost (begun r.expects) r.group + open_nodes r.expects r.vals ≤ r.nodes
 
 -- and it is within the limits
 pub record Sound (r : Reading) : Type 0 where
   pub kept : Kept r
-  pub deep : depth_in r.level ≤ 32
+  pub deep : depth_in r.group ≤ 32
   pub few : r.nodes ≤ 1024
 
 -- ---- a test that is not whole
 
-record IsOpen (outer : List Level) (l : Level) (nodes : ℕ) (m : Met) (field : ℕ) (vals : List Val) : Type 0 where
-  pub met : MetFits m
+record IsOpen (outer : List Group) (l : Group) (nodes : ℕ) (m : Naming) (field : ℕ) (vals : List Val) : Type 0 where
+  pub naming : NamingFits m
   pub turn : AreInTurn (length m.used) 0 (seen indexes outer l ++ field ∷ [])
   pub named : named_by 0 (seen indexes outer l ++ field ∷ []) ≡ length m.used
   pub pairs : AreCompared m.used (seen compared outer l ++ pairs field vals)
-  pub level : LevelFits l
+  pub group : GroupFits l
   pub around : AroundFits outer
   pub nested : Nested l.depth outer
   pub nodes_are : costs_around outer + cost true l + (1 + length vals) ≤ nodes
@@ -103,64 +103,64 @@ Within expect.Fact = ⊥
 Within expect.Joint = ⊥
 Within _ = Unit {0}
 
-opened_by : (e : Expect) (r : Reading) → Within e → Kept (expecting e r) → IsOpen r.outer r.level r.nodes r.met r.field r.vals
+opened_by : (e : Expect) (r : Reading) → Within e → Kept (expecting e r) → IsOpen r.outer r.group r.nodes r.naming r.field r.vals
 opened_by expect.Fact r is k = absurd is
 opened_by expect.Joint r is k = absurd is
-opened_by expect.Verb r is k = record { met = k.met; turn = k.turn; named = k.named; pairs = k.vals; level = k.level; around = k.around; nested = k.nested; nodes_are = k.nodes }
-opened_by expect.Operand r is k = record { met = k.met; turn = k.turn; named = k.named; pairs = k.vals; level = k.level; around = k.around; nested = k.nested; nodes_are = k.nodes }
-opened_by expect.Within r is k = record { met = k.met; turn = k.turn; named = k.named; pairs = k.vals; level = k.level; around = k.around; nested = k.nested; nodes_are = k.nodes }
-opened_by expect.Members r is k = record { met = k.met; turn = k.turn; named = k.named; pairs = k.vals; level = k.level; around = k.around; nested = k.nested; nodes_are = k.nodes }
-opened_by expect.Member r is k = record { met = k.met; turn = k.turn; named = k.named; pairs = k.vals; level = k.level; around = k.around; nested = k.nested; nodes_are = k.nodes }
-opened_by expect.MoreMembers r is k = record { met = k.met; turn = k.turn; named = k.named; pairs = k.vals; level = k.level; around = k.around; nested = k.nested; nodes_are = k.nodes }
-opened_by expect.Nothing r is k = record { met = k.met; turn = k.turn; named = k.named; pairs = k.vals; level = k.level; around = k.around; nested = k.nested; nodes_are = k.nodes }
+opened_by expect.Verb r is k = record { naming = k.naming; turn = k.turn; named = k.named; pairs = k.vals; group = k.group; around = k.around; nested = k.nested; nodes_are = k.nodes }
+opened_by expect.Operand r is k = record { naming = k.naming; turn = k.turn; named = k.named; pairs = k.vals; group = k.group; around = k.around; nested = k.nested; nodes_are = k.nodes }
+opened_by expect.Within r is k = record { naming = k.naming; turn = k.turn; named = k.named; pairs = k.vals; group = k.group; around = k.around; nested = k.nested; nodes_are = k.nodes }
+opened_by expect.Members r is k = record { naming = k.naming; turn = k.turn; named = k.named; pairs = k.vals; group = k.group; around = k.around; nested = k.nested; nodes_are = k.nodes }
+opened_by expect.Member r is k = record { naming = k.naming; turn = k.turn; named = k.named; pairs = k.vals; group = k.group; around = k.around; nested = k.nested; nodes_are = k.nodes }
+opened_by expect.MoreMembers r is k = record { naming = k.naming; turn = k.turn; named = k.named; pairs = k.vals; group = k.group; around = k.around; nested = k.nested; nodes_are = k.nodes }
+opened_by expect.Nothing r is k = record { naming = k.naming; turn = k.turn; named = k.named; pairs = k.vals; group = k.group; around = k.around; nested = k.nested; nodes_are = k.nodes }
 
-goes_on_as : (e : Expect) (r : Reading) → Within e → HasVal e r.vals → IsOpen r.outer r.level r.nodes r.met r.field r.vals → Kept (expecting e r)
+goes_on_as : (e : Expect) (r : Reading) → Within e → HasVal e r.vals → IsOpen r.outer r.group r.nodes r.naming r.field r.vals → Kept (expecting e r)
 goes_on_as expect.Fact r is some o = absurd is
 goes_on_as expect.Joint r is some o = absurd is
-goes_on_as expect.Verb r is some o = record { met = o.met; turn = o.turn; named = o.named; vals = o.pairs; level = o.level; around = o.around; nested = o.nested; fact = tt; val = some; nodes = o.nodes_are }
-goes_on_as expect.Operand r is some o = record { met = o.met; turn = o.turn; named = o.named; vals = o.pairs; level = o.level; around = o.around; nested = o.nested; fact = tt; val = some; nodes = o.nodes_are }
-goes_on_as expect.Within r is some o = record { met = o.met; turn = o.turn; named = o.named; vals = o.pairs; level = o.level; around = o.around; nested = o.nested; fact = tt; val = some; nodes = o.nodes_are }
-goes_on_as expect.Members r is some o = record { met = o.met; turn = o.turn; named = o.named; vals = o.pairs; level = o.level; around = o.around; nested = o.nested; fact = tt; val = some; nodes = o.nodes_are }
-goes_on_as expect.Member r is some o = record { met = o.met; turn = o.turn; named = o.named; vals = o.pairs; level = o.level; around = o.around; nested = o.nested; fact = tt; val = some; nodes = o.nodes_are }
-goes_on_as expect.MoreMembers r is some o = record { met = o.met; turn = o.turn; named = o.named; vals = o.pairs; level = o.level; around = o.around; nested = o.nested; fact = tt; val = some; nodes = o.nodes_are }
-goes_on_as expect.Nothing r is some o = record { met = o.met; turn = o.turn; named = o.named; vals = o.pairs; level = o.level; around = o.around; nested = o.nested; fact = tt; val = some; nodes = o.nodes_are }
+goes_on_as expect.Verb r is some o = record { naming = o.naming; turn = o.turn; named = o.named; vals = o.pairs; group = o.group; around = o.around; nested = o.nested; fact = tt; val = some; nodes = o.nodes_are }
+goes_on_as expect.Operand r is some o = record { naming = o.naming; turn = o.turn; named = o.named; vals = o.pairs; group = o.group; around = o.around; nested = o.nested; fact = tt; val = some; nodes = o.nodes_are }
+goes_on_as expect.Within r is some o = record { naming = o.naming; turn = o.turn; named = o.named; vals = o.pairs; group = o.group; around = o.around; nested = o.nested; fact = tt; val = some; nodes = o.nodes_are }
+goes_on_as expect.Members r is some o = record { naming = o.naming; turn = o.turn; named = o.named; vals = o.pairs; group = o.group; around = o.around; nested = o.nested; fact = tt; val = some; nodes = o.nodes_are }
+goes_on_as expect.Member r is some o = record { naming = o.naming; turn = o.turn; named = o.named; vals = o.pairs; group = o.group; around = o.around; nested = o.nested; fact = tt; val = some; nodes = o.nodes_are }
+goes_on_as expect.MoreMembers r is some o = record { naming = o.naming; turn = o.turn; named = o.named; vals = o.pairs; group = o.group; around = o.around; nested = o.nested; fact = tt; val = some; nodes = o.nodes_are }
+goes_on_as expect.Nothing r is some o = record { naming = o.naming; turn = o.turn; named = o.named; vals = o.pairs; group = o.group; around = o.around; nested = o.nested; fact = tt; val = some; nodes = o.nodes_are }
 
 -- ---- a fact that is whole
 
 -- a fact stands behind those before it
-fact_seen : {X : Type 0} (g : Test → List X) (outer : List Level) (l : Level) (t : Test) → level_flat g (with_fact t l) ≡ level_flat g l ++ g t → seen g outer (with_fact t l) ++ [] ≡ seen g outer l ++ g t
+fact_seen : {X : Type 0} (g : Test → List X) (outer : List Group) (l : Group) (t : Test) → group_flat g (with_fact t l) ≡ group_flat g l ++ g t → seen g outer (with_fact t l) ++ [] ≡ seen g outer l ++ g t
 fact_seen g outer l t same =
-    append-nil (around_flat g outer ++ level_flat g (with_fact t l)) ∙ ap (λ more. around_flat g outer ++ more) same ∙ sym (append_assoc (around_flat g outer) (level_flat g l) (g t))
+    append-nil (around_flat g outer ++ group_flat g (with_fact t l)) ∙ ap (λ more. around_flat g outer ++ more) same ∙ sym (append_assoc (around_flat g outer) (group_flat g l) (g t))
 
-ends : (r : Reading) (t : Test) → MetFits r.met → AreInTurn (length r.met.used) 0 (seen indexes r.outer r.level ++ indexes t) → named_by 0 (seen indexes r.outer r.level ++ indexes t) ≡ length r.met.used
-    → AreCompared r.met.used (seen compared r.outer r.level ++ compared t) → LevelFits r.level → AroundFits r.outer → Nested r.level.depth r.outer
-    → IsWide t → r.level.nots + height_of t ≤ 65 - 2 * r.level.depth → costs_around r.outer + cost true r.level + nodes_of t ≤ r.nodes → Kept (fact_ends t r)
-ends r t met turn named vals level around nested wide low nodes =
-    let named_same = fact_seen indexes r.outer r.level t (flat_fact indexes indexes_flatten t r.level) in
-    let vals_same = fact_seen compared r.outer r.level t (flat_fact compared compared_flatten t r.level) in
+ends : (r : Reading) (t : Test) → NamingFits r.naming → AreInTurn (length r.naming.used) 0 (seen indexes r.outer r.group ++ indexes t) → named_by 0 (seen indexes r.outer r.group ++ indexes t) ≡ length r.naming.used
+    → AreCompared r.naming.used (seen compared r.outer r.group ++ compared t) → GroupFits r.group → AroundFits r.outer → Nested r.group.depth r.outer
+    → IsWide t → r.group.nots + height_of t ≤ 65 - 2 * r.group.depth → costs_around r.outer + cost true r.group + nodes_of t ≤ r.nodes → Kept (fact_ends t r)
+ends r t naming turn named vals group around nested wide low nodes =
+    let named_same = fact_seen indexes r.outer r.group t (flat_fact indexes indexes_flatten t r.group) in
+    let vals_same = fact_seen compared r.outer r.group t (flat_fact compared compared_flatten t r.group) in
     record {
-      met = met;
-      turn = subst (AreInTurn (length r.met.used) 0) (sym named_same) turn;
+      naming = naming;
+      turn = subst (AreInTurn (length r.naming.used) 0) (sym named_same) turn;
       named = ap (named_by 0) named_same ∙ named;
-      vals = subst (AreCompared r.met.used) (sym vals_same) vals;
-      level = fact_fits t r.level level wide low;
+      vals = subst (AreCompared r.naming.used) (sym vals_same) vals;
+      group = fact_fits t r.group group wide low;
       around = around;
       nested = nested;
-      fact = some_terms r.level.facts (under r.level.nots t);
+      fact = some_terms r.group.facts (under r.group.nots t);
       val = tt;
-      nodes = omega (arith, nodes, fact_cost t r.level);
+      nodes = omega (arith, nodes, fact_cost t r.group);
     }
 
 -- a test of one field that was read whole
-leaf_ends : (r : Reading) (t : Test) → IsOpen r.outer r.level r.nodes r.met r.field r.vals → depth_in r.level ≤ 32 → indexes t ≡ r.field ∷ []
-    → AreCompared r.met.used (compared t) → IsWide t → height_of t ≡ 1 → nodes_of t ≤ 1 + length r.vals → Kept (fact_ends t r)
+leaf_ends : (r : Reading) (t : Test) → IsOpen r.outer r.group r.nodes r.naming r.field r.vals → depth_in r.group ≤ 32 → indexes t ≡ r.field ∷ []
+    → AreCompared r.naming.used (compared t) → IsWide t → height_of t ≡ 1 → nodes_of t ≤ 1 + length r.vals → Kept (fact_ends t r)
 leaf_ends r t o deep same vals wide low few =
-    let flat = seen indexes r.outer r.level in
-    ends r t o.met
-    (subst (λ is. AreInTurn (length r.met.used) 0 (flat ++ is)) (sym same) o.turn)
+    let flat = seen indexes r.outer r.group in
+    ends r t o.naming
+    (subst (λ is. AreInTurn (length r.naming.used) 0 (flat ++ is)) (sym same) o.turn)
     (ap (λ is. named_by 0 (flat ++ is)) same ∙ o.named)
-    (compared-append r.met.used (seen compared r.outer r.level) (compared t) (compared_first r.met.used (seen compared r.outer r.level) (pairs r.field r.vals) o.pairs) vals)
-    o.level o.around o.nested wide (omega (arith, deep, low)) (let nodes = o.nodes_are in omega (arith, nodes, few))
+    (compared-append r.naming.used (seen compared r.outer r.group) (compared t) (compared_first r.naming.used (seen compared r.outer r.group) (pairs r.field r.vals) o.pairs) vals)
+    o.group o.around o.nested wide (omega (arith, deep, low)) (let nodes = o.nodes_are in omega (arith, nodes, few))
 
 -- ---- fields and values
 
@@ -171,8 +171,8 @@ got (x ∷ xs) zero few = (x, refl)
 got (x ∷ xs) (suc n) few = got xs n (omega (arith, few))
 
 -- the field of a test that is not whole is one that was named
-open_field : (r : Reading) → IsOpen r.outer r.level r.nodes r.met r.field r.vals → r.field < length r.met.used
-open_field r o = (in_turn_last (length r.met.used) 0 (seen indexes r.outer r.level) (r.field ∷ []) o.turn).0
+open_field : (r : Reading) → IsOpen r.outer r.group r.nodes r.naming r.field r.vals → r.field < length r.naming.used
+open_field r o = (in_turn_last (length r.naming.used) 0 (seen indexes r.outer r.group) (r.field ∷ []) o.turn).0
 
 -- a value is of its field's kind
 value_fits : (kind : Kind) (v : Val) (used : List CondField) (field : ℕ) → IsSpelledBy kind v → field < length used
@@ -204,35 +204,35 @@ named_new count = rw (eq-eqb count count refl) refl
 -- ---- token by token
 
 -- a field is named
-label_kept : (name : List ℕ) (r : Reading) → Kept (expecting expect.Fact r) → (meets name r.met).1.clash ≡ None → Kept (moved (Label name) (expecting expect.Fact r))
-label_kept name r k clear = by_met (meets_fits name r.met k.met clear)
+label_kept : (name : List ℕ) (r : Reading) → Kept (expecting expect.Fact r) → (meets name r.naming).1.clash ≡ None → Kept (moved (Label name) (expecting expect.Fact r))
+label_kept name r k clear = by_met (meets_fits name r.naming k.naming clear)
   where
     flat : List ℕ
-    flat = seen indexes r.outer r.level
+    flat = seen indexes r.outer r.group
 
     no_more : flat ++ [] ≡ flat
     no_more = append-nil flat
 
-    turn : AreInTurn (length r.met.used) 0 flat
-    turn = subst (AreInTurn (length r.met.used) 0) no_more k.turn
+    turn : AreInTurn (length r.naming.used) 0 flat
+    turn = subst (AreInTurn (length r.naming.used) 0) no_more k.turn
 
-    named : named_by 0 flat ≡ length r.met.used
+    named : named_by 0 flat ≡ length r.naming.used
     named = sym (ap (named_by 0) no_more) ∙ k.named
 
-    vals : AreCompared r.met.used (seen compared r.outer r.level)
-    vals = compared_first r.met.used (seen compared r.outer r.level) [] k.vals
+    vals : AreCompared r.naming.used (seen compared r.outer r.group)
+    vals = compared_first r.naming.used (seen compared r.outer r.group) [] k.vals
 
     s : Reading
     s = moved (Label name) (expecting expect.Fact r)
 
-    by_met : IsOld r.met (meets name r.met) ⊎ IsNew r.met (meets name r.met) → Kept s
+    by_met : IsOld r.naming (meets name r.naming) ⊎ IsNew r.naming (meets name r.naming) → Kept s
     by_met (inl old) = record {
-      met = subst MetFits (sym old.same) k.met;
+      naming = subst NamingFits (sym old.same) k.naming;
       turn = subst (λ m. AreInTurn (length m.used) 0 (flat ++ s.field ∷ [])) (sym old.same)
-          (in_turn-append (length r.met.used) 0 flat (s.field ∷ []) turn (old.within, let few = old.within in omega (arith, few, named), tt));
-      named = named_by-append 0 flat (s.field ∷ []) ∙ ap (λ n. more_named n s.field) named ∙ named_old (length r.met.used) s.field old.within ∙ sym (ap (λ m. length m.used) old.same);
-      vals = subst (λ m. AreCompared m.used (seen compared r.outer r.level ++ [])) (sym old.same) k.vals;
-      level = k.level;
+          (in_turn-append (length r.naming.used) 0 flat (s.field ∷ []) turn (old.within, let few = old.within in omega (arith, few, named), tt));
+      named = named_by-append 0 flat (s.field ∷ []) ∙ ap (λ n. more_named n s.field) named ∙ named_old (length r.naming.used) s.field old.within ∙ sym (ap (λ m. length m.used) old.same);
+      vals = subst (λ m. AreCompared m.used (seen compared r.outer r.group ++ [])) (sym old.same) k.vals;
+      group = k.group;
       around = k.around;
       nested = k.nested;
       fact = tt;
@@ -240,14 +240,14 @@ label_kept name r k clear = by_met (meets_fits name r.met k.met clear)
       nodes = let nodes = k.nodes in omega (arith, nodes);
     }
     by_met (inr new) =
-        let count : length s.met.used ≡ length r.met.used + 1 = ap length new.used ∙ length-append r.met.used (new.field ∷ []) ∙ omega arith in
+        let count : length s.naming.used ≡ length r.naming.used + 1 = ap length new.used ∙ length-append r.naming.used (new.field ∷ []) ∙ omega arith in
         record {
-          met = new.fits;
-          turn = in_turn-append (length s.met.used) 0 flat (s.field ∷ []) (in_turn_wider (length r.met.used) (length s.met.used) 0 flat (omega (arith, count)) turn)
+          naming = new.fits;
+          turn = in_turn-append (length s.naming.used) 0 flat (s.field ∷ []) (in_turn_wider (length r.naming.used) (length s.naming.used) 0 flat (omega (arith, count)) turn)
               (let place = new.place in omega (arith, place, count), let place = new.place in omega (arith, place, named), tt);
-          named = named_by-append 0 flat (s.field ∷ []) ∙ ap (λ n. more_named n s.field) named ∙ ap (more_named (length r.met.used)) new.place ∙ named_new (length r.met.used) ∙ sym count;
-          vals = subst (λ used. AreCompared used (seen compared r.outer r.level ++ [])) (sym new.used) (compared_wider r.met.used (new.field ∷ []) (seen compared r.outer r.level ++ []) k.vals);
-          level = k.level;
+          named = named_by-append 0 flat (s.field ∷ []) ∙ ap (λ n. more_named n s.field) named ∙ ap (more_named (length r.naming.used)) new.place ∙ named_new (length r.naming.used) ∙ sym count;
+          vals = subst (λ used. AreCompared used (seen compared r.outer r.group ++ [])) (sym new.used) (compared_wider r.naming.used (new.field ∷ []) (seen compared r.outer r.group ++ []) k.vals);
+          group = k.group;
           around = k.around;
           nested = k.nested;
           fact = tt;
@@ -256,32 +256,32 @@ label_kept name r k clear = by_met (meets_fits name r.met k.met clear)
         }
 
 -- a value is compared with its field
-operand_kept : (kind : Kind) (v : Val) (r : Reading) → IsSpelledBy kind v → Kept (expecting expect.Operand r) → depth_in r.level ≤ 32 → (judges r.field kind r.met).clash ≡ None
-    → Kept (fact_ends (tree.Compare r.op r.field v) (record r { expects = expect.Operand; met = judges r.field kind r.met }))
+operand_kept : (kind : Kind) (v : Val) (r : Reading) → IsSpelledBy kind v → Kept (expecting expect.Operand r) → depth_in r.group ≤ 32 → (judges r.field kind r.naming).clash ≡ None
+    → Kept (fact_ends (tree.Compare r.op r.field v) (record r { expects = expect.Operand; naming = judges r.field kind r.naming }))
 operand_kept kind v r spelled k deep clear =
-    let judged_as = judges_clear (slice_get r.met.used r.field) kind r.met clear in
+    let judged_as = judges_clear (slice_get r.naming.used r.field) kind r.naming clear in
     let o = opened_by expect.Operand r tt k in
-    let one = value_fits kind v r.met.used r.field spelled (open_field r o) judged_as.1 in
-    subst (λ m. Kept (fact_ends (tree.Compare r.op r.field v) (record r { expects = expect.Operand; met = m }))) (sym judged_as.0)
+    let one = value_fits kind v r.naming.used r.field spelled (open_field r o) judged_as.1 in
+    subst (λ m. Kept (fact_ends (tree.Compare r.op r.field v) (record r { expects = expect.Operand; naming = m }))) (sym judged_as.0)
     (leaf_ends (expecting expect.Operand r) (tree.Compare r.op r.field v) o deep refl (one, tt) tt refl (omega arith))
 
 -- a value of a membership
-member_kept : (kind : Kind) (v : Val) (r : Reading) → IsSpelledBy kind v → Kept (expecting expect.Member r) → (judges r.field kind r.met).clash ≡ None
-    → Kept (record r { expects = expect.MoreMembers; nodes = r.nodes + 1; met = judges r.field kind r.met; vals = r.vals ++ v ∷ [] })
+member_kept : (kind : Kind) (v : Val) (r : Reading) → IsSpelledBy kind v → Kept (expecting expect.Member r) → (judges r.field kind r.naming).clash ≡ None
+    → Kept (record r { expects = expect.MoreMembers; nodes = r.nodes + 1; naming = judges r.field kind r.naming; vals = r.vals ++ v ∷ [] })
 member_kept kind v r spelled k clear =
-    let judged_as = judges_clear (slice_get r.met.used r.field) kind r.met clear in
+    let judged_as = judges_clear (slice_get r.naming.used r.field) kind r.naming clear in
     let o = opened_by expect.Member r tt k in
-    let one = value_fits kind v r.met.used r.field spelled (open_field r o) judged_as.1 in
-    let flat = seen compared r.outer r.level in
+    let one = value_fits kind v r.naming.used r.field spelled (open_field r o) judged_as.1 in
+    let flat = seen compared r.outer r.group in
     let count = length-append r.vals (v ∷ []) in
     let same : flat ++ pairs r.field (r.vals ++ v ∷ []) ≡ (flat ++ pairs r.field r.vals) ++ (r.field, v) ∷ [] =
     ap (λ more. flat ++ more) (map-append (λ u. (r.field, u)) r.vals (v ∷ [])) ∙ sym (append_assoc flat (pairs r.field r.vals) ((r.field, v) ∷ [])) in
-    subst (λ m. Kept (record r { expects = expect.MoreMembers; nodes = r.nodes + 1; met = m; vals = r.vals ++ v ∷ [] })) (sym judged_as.0) (record {
-      met = o.met;
+    subst (λ m. Kept (record r { expects = expect.MoreMembers; nodes = r.nodes + 1; naming = m; vals = r.vals ++ v ∷ [] })) (sym judged_as.0) (record {
+      naming = o.naming;
       turn = o.turn;
       named = o.named;
-      vals = subst (AreCompared r.met.used) (sym same) (compared-append r.met.used (flat ++ pairs r.field r.vals) ((r.field, v) ∷ []) o.pairs (one, tt));
-      level = o.level;
+      vals = subst (AreCompared r.naming.used) (sym same) (compared-append r.naming.used (flat ++ pairs r.field r.vals) ((r.field, v) ∷ []) o.pairs (one, tt));
+      group = o.group;
       around = o.around;
       nested = o.nested;
       fact = tt;
@@ -290,46 +290,46 @@ member_kept kind v r spelled k clear =
     })
 
 -- a membership is whole
-membership_kept : (r : Reading) → Kept (expecting expect.MoreMembers r) → depth_in r.level ≤ 32 → Kept (fact_ends (tree.Member r.negated r.field r.vals) (expecting expect.MoreMembers r))
+membership_kept : (r : Reading) → Kept (expecting expect.MoreMembers r) → depth_in r.group ≤ 32 → Kept (fact_ends (tree.Member r.negated r.field r.vals) (expecting expect.MoreMembers r))
 membership_kept r k deep =
     let o = opened_by expect.MoreMembers r tt k in
-    leaf_ends (expecting expect.MoreMembers r) (tree.Member r.negated r.field r.vals) o deep refl (last_pairs (seen compared r.outer r.level) (pairs r.field r.vals) o.pairs) k.val refl (omega arith)
+    leaf_ends (expecting expect.MoreMembers r) (tree.Member r.negated r.field r.vals) o deep refl (last_pairs (seen compared r.outer r.group) (pairs r.field r.vals) o.pairs) k.val refl (omega arith)
   where
-    last_pairs : (xs ys : List (ℕ × Val)) → AreCompared r.met.used (xs ++ ys) → AreCompared r.met.used ys
-    last_pairs xs ys are = compared_last r.met.used xs ys are
+    last_pairs : (xs ys : List (ℕ × Val)) → AreCompared r.naming.used (xs ++ ys) → AreCompared r.naming.used ys
+    last_pairs xs ys are = compared_last r.naming.used xs ys are
 
 -- a pair of parentheses is whole
-left_kept : (outer : List Level) (r : Reading) → is_inside outer ≡ true → Kept (record r { expects = expect.Joint; outer = outer }) → depth_in r.level ≤ 32
-    → Kept (left outer (closed r.level) (record r { expects = expect.Joint; outer = outer }))
+left_kept : (outer : List Group) (r : Reading) → is_inside outer ≡ true → Kept (record r { expects = expect.Joint; outer = outer }) → depth_in r.group ≤ 32
+    → Kept (left outer (closed r.group) (record r { expects = expect.Joint; outer = outer }))
 left_kept [] r inside k deep = absurd (let same : false ≡ true = inside in cc)
 left_kept (l ∷ outer) r inside k deep =
-    let t = closed r.level in
-    let depth : r.level.depth ≤ 32 = omega (arith, deep) in
-    let height = closed_low r.level k.level k.fact depth in
+    let t = closed r.group in
+    let depth : r.group.depth ≤ 32 = omega (arith, deep) in
+    let height = closed_low r.group k.group k.fact depth in
     let nested = k.nested.0 in
     let nodes = k.nodes in
-    let idx = whole_seen indexes outer l r.level t (flat_closed indexes indexes_flatten r.level) in
-    let cmp = whole_seen compared outer l r.level t (flat_closed compared compared_flatten r.level) in
-    ends (record r { level = l; outer = outer }) t k.met (subst (AreInTurn (length r.met.used) 0) idx k.turn) (sym (ap (named_by 0) idx) ∙ k.named)
-    (subst (AreCompared r.met.used) cmp k.vals) k.around.0 k.around.1 k.nested.1 (closed_wide r.level k.level k.fact)
-    (omega (arith, height, nested, deep)) (omega (arith, nodes, closed_cost r.level k.fact))
+    let idx = whole_seen indexes outer l r.group t (flat_closed indexes indexes_flatten r.group) in
+    let cmp = whole_seen compared outer l r.group t (flat_closed compared compared_flatten r.group) in
+    ends (record r { group = l; outer = outer }) t k.naming (subst (AreInTurn (length r.naming.used) 0) idx k.turn) (sym (ap (named_by 0) idx) ∙ k.named)
+    (subst (AreCompared r.naming.used) cmp k.vals) k.around.0 k.around.1 k.nested.1 (closed_wide r.group k.group k.fact)
+    (omega (arith, height, nested, deep)) (omega (arith, nodes, closed_cost r.group k.fact))
   where
-    whole_seen : {X : Type 0} (g : Test → List X) (around : List Level) (l m : Level) (t : Test) → g t ≡ level_flat g m → seen g (l ∷ around) m ++ [] ≡ seen g around l ++ g t
+    whole_seen : {X : Type 0} (g : Test → List X) (around : List Group) (l m : Group) (t : Test) → g t ≡ group_flat g m → seen g (l ∷ around) m ++ [] ≡ seen g around l ++ g t
     whole_seen g around l m t same = append-nil (seen g (l ∷ around) m) ∙ ap (λ more. seen g around l ++ more) (sym same)
 
 -- parentheses open
-open_kept : (r : Reading) → Kept (expecting expect.Fact r) → depth_in r.level ≤ 32 → Kept (record r { expects = expect.Fact; level = level_at (depth_in r.level + 1); outer = r.level ∷ r.outer })
+open_kept : (r : Reading) → Kept (expecting expect.Fact r) → depth_in r.group ≤ 32 → Kept (record r { expects = expect.Fact; group = group_at (depth_in r.group + 1); outer = r.group ∷ r.outer })
 open_kept r k deep =
     let nodes = k.nodes in
-    let idx : seen indexes (r.level ∷ r.outer) (level_at (depth_in r.level + 1)) ≡ seen indexes r.outer r.level = append-nil (seen indexes r.outer r.level) in
-    let cmp : seen compared (r.level ∷ r.outer) (level_at (depth_in r.level + 1)) ≡ seen compared r.outer r.level = append-nil (seen compared r.outer r.level) in
+    let idx : seen indexes (r.group ∷ r.outer) (group_at (depth_in r.group + 1)) ≡ seen indexes r.outer r.group = append-nil (seen indexes r.outer r.group) in
+    let cmp : seen compared (r.group ∷ r.outer) (group_at (depth_in r.group + 1)) ≡ seen compared r.outer r.group = append-nil (seen compared r.outer r.group) in
     record {
-      met = k.met;
-      turn = subst (λ is. AreInTurn (length r.met.used) 0 (is ++ [])) (sym idx) k.turn;
+      naming = k.naming;
+      turn = subst (λ is. AreInTurn (length r.naming.used) 0 (is ++ [])) (sym idx) k.turn;
       named = ap (λ is. named_by 0 (is ++ [])) idx ∙ k.named;
-      vals = subst (λ xs. AreCompared r.met.used (xs ++ [])) (sym cmp) k.vals;
-      level = fresh_fits (depth_in r.level + 1);
-      around = (k.level, k.around);
+      vals = subst (λ xs. AreCompared r.naming.used (xs ++ [])) (sym cmp) k.vals;
+      group = fresh_fits (depth_in r.group + 1);
+      around = (k.group, k.around);
       nested = (refl, k.nested);
       fact = tt;
       val = tt;
@@ -337,16 +337,16 @@ open_kept r k deep =
     }
 
 -- `not` before a fact
-not_kept : (r : Reading) → Kept (expecting expect.Fact r) → Kept (record r { expects = expect.Fact; level = with_not r.level; nodes = r.nodes + 1 })
+not_kept : (r : Reading) → Kept (expecting expect.Fact r) → Kept (record r { expects = expect.Fact; group = with_not r.group; nodes = r.nodes + 1 })
 not_kept r k =
     let nodes = k.nodes in
-    let level = k.level in
+    let group = k.group in
     record {
-      met = k.met;
+      naming = k.naming;
       turn = k.turn;
       named = k.named;
       vals = k.vals;
-      level = record { terms_low = level.terms_low; facts_low = level.facts_low; terms_wide = level.terms_wide; facts_wide = level.facts_wide };
+      group = record { terms_low = group.terms_low; facts_low = group.facts_low; terms_wide = group.terms_wide; facts_wide = group.facts_wide };
       around = k.around;
       nested = k.nested;
       fact = tt;
@@ -355,45 +355,45 @@ not_kept r k =
     }
 
 -- `and` behind a fact
-and_kept : (r : Reading) → Kept (expecting expect.Joint r) → Kept (record r { expects = expect.Fact; nodes = r.nodes + list_begins r.level.facts })
+and_kept : (r : Reading) → Kept (expecting expect.Joint r) → Kept (record r { expects = expect.Fact; nodes = r.nodes + list_begins r.group.facts })
 and_kept r k =
     let nodes = k.nodes in
     record {
-      met = k.met;
+      naming = k.naming;
       turn = k.turn;
       named = k.named;
       vals = k.vals;
-      level = k.level;
+      group = k.group;
       around = k.around;
       nested = k.nested;
       fact = tt;
       val = tt;
-      nodes = omega (arith, nodes, and_cost r.level);
+      nodes = omega (arith, nodes, and_cost r.group);
     }
 
 -- `or` behind a fact
-or_kept : (r : Reading) → Kept (expecting expect.Joint r) → depth_in r.level ≤ 32
-    → Kept (record r { expects = expect.Fact; nodes = r.nodes + choice_begins r.level.terms; level = with_term r.level })
+or_kept : (r : Reading) → Kept (expecting expect.Joint r) → depth_in r.group ≤ 32
+    → Kept (record r { expects = expect.Fact; nodes = r.nodes + choice_begins r.group.terms; group = with_term r.group })
 or_kept r k deep =
     let nodes = k.nodes in
-    let idx = ap (λ more. around_flat indexes r.outer ++ more) (flat_term indexes indexes_flatten r.level) in
-    let cmp = ap (λ more. around_flat compared r.outer ++ more) (flat_term compared compared_flatten r.level) in
+    let idx = ap (λ more. around_flat indexes r.outer ++ more) (flat_term indexes indexes_flatten r.group) in
+    let cmp = ap (λ more. around_flat compared r.outer ++ more) (flat_term compared compared_flatten r.group) in
     record {
-      met = k.met;
-      turn = subst (λ is. AreInTurn (length r.met.used) 0 (is ++ [])) (sym idx) k.turn;
+      naming = k.naming;
+      turn = subst (λ is. AreInTurn (length r.naming.used) 0 (is ++ [])) (sym idx) k.turn;
       named = ap (λ is. named_by 0 (is ++ [])) idx ∙ k.named;
-      vals = subst (λ xs. AreCompared r.met.used (xs ++ [])) (sym cmp) k.vals;
-      level = term_fits r.level k.level k.fact (omega (arith, deep));
+      vals = subst (λ xs. AreCompared r.naming.used (xs ++ [])) (sym cmp) k.vals;
+      group = term_fits r.group k.group k.fact (omega (arith, deep));
       around = k.around;
       nested = k.nested;
       fact = tt;
       val = tt;
-      nodes = omega (arith, nodes, term_cost r.level k.fact);
+      nodes = omega (arith, nodes, term_cost r.group k.fact);
     }
 
 -- a token that may stand there
 pub moved_kept : (kind : Kind) (e : Expect) (r : Reading) → stands e (is_inside r.outer) kind ≡ true → IsGood kind → Sound (expecting e r)
-    → (moved kind (expecting e r)).met.clash ≡ None → Kept (moved kind (expecting e r))
+    → (moved kind (expecting e r)).naming.clash ≡ None → Kept (moved kind (expecting e r))
 moved_kept Open expect.Fact r may good s clear = open_kept r s.kept s.deep
 moved_kept Open expect.Members r may good s clear = goes_on_as expect.Member r tt tt (opened_by expect.Members r tt s.kept)
 moved_kept Close expect.MoreMembers r may good s clear = membership_kept r s.kept s.deep

@@ -61,9 +61,9 @@ abbrev test_made : (Test → Test) → List Test → List Tests → Built
 test_made make [] lists = record { tests = []; lists = lists }
 test_made make (t ∷ tests) lists = record { tests = make t ∷ tests; lists = lists }
 
-abbrev joined : List Test → List Tests → Built
-joined (t ∷ tests) (ts ∷ lists) = record { tests = tests; lists = test t ts ∷ lists }
-joined tests lists = record { tests = tests; lists = lists }
+abbrev put_before : List Test → List Tests → Built
+put_before (t ∷ tests) (ts ∷ lists) = record { tests = tests; lists = test t ts ∷ lists }
+put_before tests lists = record { tests = tests; lists = lists }
 
 abbrev compare_made : ℕ → ℕ → List Val → Built → Built
 compare_made op field [] b = b
@@ -78,7 +78,7 @@ build n b =
     (cond (n.kind == 4) (with_test (Member true n.field n.values) b)
     (cond (n.kind == 5) (with_test (Member false n.field n.values) b)
     (cond (n.kind == 6) (with_test (IsNull n.field) b)
-    (cond (n.kind == 7) (with_list no_test b) (joined b.tests b.lists))))))))
+    (cond (n.kind == 7) (with_list no_test b) (put_before b.tests b.lists))))))))
 
 abbrev build_all : List Node → Built → Built
 build_all [] b = b

@@ -4,9 +4,9 @@ use Rattle.ts_base.specs.declared.values.Val.{Val}
 use Rattle.ts_base.specs.declared.values.Val.TheVariants as val
 use Rattle.ts_cond.specs.declared.faults.CondFault.{CondFault}
 use Rattle.ts_cond.specs.declared.fields.CondField.{CondField}
-use Rattle.ts_cond.specs.declared.met.Met.{Met}
+use Rattle.ts_cond.specs.declared.naming.Naming.{Naming}
 use Rattle.ts_cond.specs.declared.nodes.CondOp.{CondOp}
-use Rattle.ts_cond.specs.Machine.{meets, judges, joined}
+use Rattle.ts_cond.specs.Machine.{meets, judges, gathered}
 use Rattle.ts_cond.specs.Tests.{Test, Tests, Condition}
 use Rattle.ts_cond.specs.Tests as tree
 use Rattle.ts_cond.specs.Tokens.{Kind, Open, Close, Comma, And, Or, Not, In, Is, Null, Compares, Label, Number, Text, Blob, Scan, End, Then, tokens_of, unquoted, unhexed}
@@ -72,26 +72,26 @@ abbrev mutual
   fact_then (is_null name) rest = Label name ∷ Is ∷ Null ∷ rest
 
 -- the values of a membership are compared with its field
-abbrev pub all_judged : ℕ → List Value → Met → Met
-all_judged field [] met = met
-all_judged field (v ∷ vs) met = all_judged field vs (judges field (kind_of v) met)
+abbrev pub all_judged : ℕ → List Value → Naming → Naming
+all_judged field [] naming = naming
+all_judged field (v ∷ vs) naming = all_judged field vs (judges field (kind_of v) naming)
 
--- what a tree means, where these fields were met before: a test, or a list of them, and the fields that were met then
+-- what a tree means, where these fields were naming before: a test, or a list of them, and the fields that were naming then
 abbrev mutual
-  pub terms_of : Cond → Met → List Test × Met
-  terms_of (term t) met = (joined tree.All (facts_of t met).0 ∷ [], (facts_of t met).1)
-  terms_of (or t c) met = (joined tree.All (facts_of t met).0 ∷ (terms_of c (facts_of t met).1).0, (terms_of c (facts_of t met).1).1)
+  pub terms_of : Cond → Naming → List Test × Naming
+  terms_of (term t) naming = (gathered tree.All (facts_of t naming).0 ∷ [], (facts_of t naming).1)
+  terms_of (or t c) naming = (gathered tree.All (facts_of t naming).0 ∷ (terms_of c (facts_of t naming).1).0, (terms_of c (facts_of t naming).1).1)
 
-  pub facts_of : Term → Met → List Test × Met
-  facts_of (fact f) met = ((test_in f met).0 ∷ [], (test_in f met).1)
-  facts_of (and f t) met = ((test_in f met).0 ∷ (facts_of t (test_in f met).1).0, (facts_of t (test_in f met).1).1)
+  pub facts_of : Term → Naming → List Test × Naming
+  facts_of (fact f) naming = ((test_in f naming).0 ∷ [], (test_in f naming).1)
+  facts_of (and f t) naming = ((test_in f naming).0 ∷ (facts_of t (test_in f naming).1).0, (facts_of t (test_in f naming).1).1)
 
-  pub test_in : Fact → Met → Test × Met
-  test_in (not_of f) met = (tree.Not (test_in f met).0, (test_in f met).1)
-  test_in (paren c) met = (joined tree.Any (terms_of c met).0, (terms_of c met).1)
-  test_in (compare name op v) met = (tree.Compare op (meets name met).0 (val_of v), judges (meets name met).0 (kind_of v) (meets name met).1)
-  test_in (member name negated v vs) met = (tree.Member negated (meets name met).0 (map val_of (v ∷ vs)), all_judged (meets name met).0 (v ∷ vs) (meets name met).1)
-  test_in (is_null name) met = (tree.IsNull (meets name met).0, (meets name met).1)
+  pub test_in : Fact → Naming → Test × Naming
+  test_in (not_of f) naming = (tree.Not (test_in f naming).0, (test_in f naming).1)
+  test_in (paren c) naming = (gathered tree.Any (terms_of c naming).0, (terms_of c naming).1)
+  test_in (compare name op v) naming = (tree.Compare op (meets name naming).0 (val_of v), judges (meets name naming).0 (kind_of v) (meets name naming).1)
+  test_in (member name negated v vs) naming = (tree.Member negated (meets name naming).0 (map val_of (v ∷ vs)), all_judged (meets name naming).0 (v ∷ vs) (meets name naming).1)
+  test_in (is_null name) naming = (tree.IsNull (meets name naming).0, (meets name naming).1)
 
 -- the text's tokens are these, and each byte of it belongs to one, or is a blank
 abbrev pub AreKinds : Scan → List Kind → Type 0
@@ -111,4 +111,4 @@ concluded None t fields = Ok (record { fields = fields; root = t })
 abbrev pub meant : List CondField → Cond → Result Condition CondFault
 meant fields c =
     let found = terms_of c (record { used = []; unused = fields; clash = None }) in
-    concluded found.1.clash (joined tree.Any found.0) found.1.used
+    concluded found.1.clash (gathered tree.Any found.0) found.1.used

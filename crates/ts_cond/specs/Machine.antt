@@ -11,7 +11,7 @@ use Rattle.ts_cond.specs.declared.faults.CondFault.TheVariants as fault
 use Rattle.ts_cond.specs.declared.fields.CondField.{CondField}
 use Rattle.ts_cond.specs.declared.machine.Expect.{Expect}
 use Rattle.ts_cond.specs.declared.machine.Expect.TheVariants as expect
-use Rattle.ts_cond.specs.declared.met.Met.{Met}
+use Rattle.ts_cond.specs.declared.naming.Naming.{Naming}
 use Rattle.ts_cond.specs.declared.machine.Wrong.{Wrong}
 use Rattle.ts_cond.specs.declared.machine.Wrong.TheVariants as wrong
 use Rattle.ts_cond.specs.declared.nodes.CondOp.{CondOp}
@@ -30,23 +30,23 @@ abbrev pub named_from : ℕ → List ℕ → List CondField → Option ℕ
 named_from place name [] = None
 named_from place name (field ∷ fields) = if pointwise nat_eq field.name name then Some place else named_from (place + 1) name fields
 
--- the field at this place, taken out of those that were not named
-abbrev pub taken : ℕ → Option CondField → Met → Met
-taken place (Some field) met = record { used = met.used ++ field ∷ []; unused = take place met.unused ++ drop (place + 1) met.unused; clash = met.clash }
-taken place None met = met
+-- the field at this place, newly_named out of those that were not named
+abbrev pub newly_named : ℕ → Option CondField → Naming → Naming
+newly_named place (Some field) naming = record { used = naming.used ++ field ∷ []; unused = take place naming.unused ++ drop (place + 1) naming.unused; clash = naming.clash }
+newly_named place None naming = naming
 
 -- a field that was not named before: its place is behind those that were
-abbrev pub newly : Option ℕ → List ℕ → Met → ℕ × Met
-newly (Some place) name met = (length met.used, taken place (slice_get met.unused place) met)
-newly None name met = (0, record { used = met.used; unused = met.unused; clash = first met.clash (fault.UnknownField name) })
+abbrev pub newly : Option ℕ → List ℕ → Naming → ℕ × Naming
+newly (Some place) name naming = (length naming.used, newly_named place (slice_get naming.unused place) naming)
+newly None name naming = (0, record { used = naming.used; unused = naming.unused; clash = first naming.clash (fault.UnknownField name) })
 
-abbrev pub meets_by : Option ℕ → List ℕ → Met → ℕ × Met
-meets_by (Some place) name met = (place, met)
-meets_by None name met = newly (named_from 0 name met.unused) name met
+abbrev pub meets_by : Option ℕ → List ℕ → Naming → ℕ × Naming
+meets_by (Some place) name naming = (place, naming)
+meets_by None name naming = newly (named_from 0 name naming.unused) name naming
 
 -- a field is named: its place among the fields that were named
-abbrev pub meets : List ℕ → Met → ℕ × Met
-meets name met = meets_by (named_from 0 name met.used) name met
+abbrev pub meets : List ℕ → Naming → ℕ × Naming
+meets name naming = meets_by (named_from 0 name naming.used) name naming
 
 -- whether a value that is spelled so is of a type's kind
 abbrev pub suits : ValType → Kind → Bool
@@ -55,14 +55,14 @@ suits ty.Blob (Blob digits) = true
 suits t (Number z) = is_integer t
 suits _ _ = false
 
-abbrev pub judged : Option CondField → Kind → Met → Met
-judged None kind met = met
-judged (Some field) kind met =
-    if suits field.ty kind then met else record { used = met.used; unused = met.unused; clash = first met.clash (fault.TypeClash field.name) }
+abbrev pub judged : Option CondField → Kind → Naming → Naming
+judged None kind naming = naming
+judged (Some field) kind naming =
+    if suits field.ty kind then naming else record { used = naming.used; unused = naming.unused; clash = first naming.clash (fault.TypeClash field.name) }
 
 -- a value is compared with the field at this place
-abbrev pub judges : ℕ → Kind → Met → Met
-judges field kind met = judged (slice_get met.used field) kind met
+abbrev pub judges : ℕ → Kind → Naming → Naming
+judges field kind naming = judged (slice_get naming.used field) kind naming
 
 -- a list of tests as the tests of one node
 abbrev pub tests_from : List Test → Tests
@@ -70,9 +70,9 @@ tests_from [] = no_test
 tests_from (t ∷ ts) = test t (tests_from ts)
 
 -- one test is itself, more are a list
-abbrev pub joined : (Tests → Test) → List Test → Test
-joined make (t ∷ []) = t
-joined make ts = make (tests_from ts)
+abbrev pub gathered : (Tests → Test) → List Test → Test
+gathered make (t ∷ []) = t
+gathered make ts = make (tests_from ts)
 
 -- a test under so many `not`
 abbrev pub under : ℕ → Test → Test
@@ -80,41 +80,41 @@ under zero t = t
 under (suc n) t = tree.Not (under n t)
 
 -- a pair of parentheses that is open, or the whole text: the terms that are whole, the facts of the term that is not, the `not` before the next fact, and how many parentheses and `not` are open around
-pub record Level : Type 0 where
+pub record Group : Type 0 where
   pub terms : List Test
   pub facts : List Test
   pub nots : ℕ
   pub depth : ℕ
 
-abbrev pub level_at : ℕ → Level
-level_at depth = record { terms = []; facts = []; nots = 0; depth = depth }
+abbrev pub group_at : ℕ → Group
+group_at depth = record { terms = []; facts = []; nots = 0; depth = depth }
 
 -- how deep the next fact stands
-abbrev pub depth_in : Level → ℕ
+abbrev pub depth_in : Group → ℕ
 depth_in l = l.depth + l.nots
 
--- the tree of a level whose text is whole
-abbrev pub closed : Level → Test
-closed l = joined tree.Any (l.terms ++ joined tree.All l.facts ∷ [])
+-- the tree of a group whose text is whole
+abbrev pub closed : Group → Test
+closed l = gathered tree.Any (l.terms ++ gathered tree.All l.facts ∷ [])
 
 -- a fact is whole
-abbrev pub with_fact : Test → Level → Level
+abbrev pub with_fact : Test → Group → Group
 with_fact t l = record { terms = l.terms; facts = l.facts ++ under l.nots t ∷ []; nots = 0; depth = l.depth }
 
 -- a term is whole
-abbrev pub with_term : Level → Level
-with_term l = record { terms = l.terms ++ joined tree.All l.facts ∷ []; facts = []; nots = 0; depth = l.depth }
+abbrev pub with_term : Group → Group
+with_term l = record { terms = l.terms ++ gathered tree.All l.facts ∷ []; facts = []; nots = 0; depth = l.depth }
 
-abbrev pub with_not : Level → Level
+abbrev pub with_not : Group → Group
 with_not l = record { terms = l.terms; facts = l.facts; nots = suc l.nots; depth = l.depth }
 
--- what was read: what is expected next; the innermost level and those around it; the nodes; the fields that were met; and of the test that is not whole its field, operator, negation and values
+-- what was read: what is expected next; the innermost group and those around it; the nodes; the fields that were naming; and of the test that is not whole its field, operator, negation and values
 pub record Reading : Type 0 where
   pub expects : Expect
-  pub level : Level
-  pub outer : List Level
+  pub group : Group
+  pub outer : List Group
   pub nodes : ℕ
-  pub met : Met
+  pub naming : Naming
   pub field : ℕ
   pub op : CondOp
   pub negated : Bool
@@ -151,7 +151,7 @@ expecting e r = record r { expects = e }
 
 -- a fact is whole
 abbrev pub fact_ends : Test → Reading → Reading
-fact_ends t r = record r { expects = expect.Joint; level = with_fact t r.level }
+fact_ends t r = record r { expects = expect.Joint; group = with_fact t r.group }
 
 -- `and` counts a list where its term has one fact so far
 abbrev pub list_begins : List Test → ℕ
@@ -164,34 +164,34 @@ choice_begins [] = 1
 choice_begins _ = 0
 
 abbrev pub opened : Expect → Reading → Reading
-opened expect.Fact r = record r { level = level_at (depth_in r.level + 1); outer = r.level ∷ r.outer }
+opened expect.Fact r = record r { group = group_at (depth_in r.group + 1); outer = r.group ∷ r.outer }
 opened _ r = expecting expect.Member r
 
-abbrev pub left : List Level → Test → Reading → Reading
+abbrev pub left : List Group → Test → Reading → Reading
 left [] t r = r
-left (l ∷ outer) t r = record r { expects = expect.Joint; level = with_fact t l; outer = outer }
+left (l ∷ outer) t r = record r { expects = expect.Joint; group = with_fact t l; outer = outer }
 
 abbrev pub shut : Expect → Reading → Reading
 shut expect.MoreMembers r = fact_ends (tree.Member r.negated r.field r.vals) r
-shut _ r = left r.outer (closed r.level) r
+shut _ r = left r.outer (closed r.group) r
 
 abbrev pub denied : Expect → Reading → Reading
-denied expect.Fact r = record r { level = with_not r.level; nodes = r.nodes + 1 }
+denied expect.Fact r = record r { group = with_not r.group; nodes = r.nodes + 1 }
 denied _ r = record r { expects = expect.Within; negated = true }
 
 abbrev pub named : List ℕ → Reading → Reading
 named name r = record r {
   expects = expect.Verb;
   nodes = r.nodes + 1;
-  met = (meets name r.met).1;
-  field = (meets name r.met).0;
+  naming = (meets name r.naming).1;
+  field = (meets name r.naming).0;
   negated = false;
   vals = [];
 }
 
 abbrev pub valued : Expect → Kind → Val → Reading → Reading
-valued expect.Operand kind v r = fact_ends (tree.Compare r.op r.field v) (record r { met = judges r.field kind r.met })
-valued _ kind v r = record r { expects = expect.MoreMembers; nodes = r.nodes + 1; met = judges r.field kind r.met; vals = r.vals ++ v ∷ [] }
+valued expect.Operand kind v r = fact_ends (tree.Compare r.op r.field v) (record r { naming = judges r.field kind r.naming })
+valued _ kind v r = record r { expects = expect.MoreMembers; nodes = r.nodes + 1; naming = judges r.field kind r.naming; vals = r.vals ++ v ∷ [] }
 
 -- what was read, with one token more that may stand there
 abbrev pub moved : Kind → Reading → Reading
@@ -199,8 +199,8 @@ moved Open r = opened r.expects r
 moved Close r = shut r.expects r
 moved Comma r = expecting expect.Member r
 moved Not r = denied r.expects r
-moved And r = record r { expects = expect.Fact; nodes = r.nodes + list_begins r.level.facts }
-moved Or r = record r { expects = expect.Fact; nodes = r.nodes + choice_begins r.level.terms; level = with_term r.level }
+moved And r = record r { expects = expect.Fact; nodes = r.nodes + list_begins r.group.facts }
+moved Or r = record r { expects = expect.Fact; nodes = r.nodes + choice_begins r.group.terms; group = with_term r.group }
 moved In r = expecting expect.Members r
 moved Is r = expecting expect.Nothing r
 moved Null r = fact_ends (tree.IsNull r.field) r
@@ -212,9 +212,9 @@ moved (Blob digits) r = valued r.expects (Blob digits) (val.Bytes (unhexed digit
 
 -- at most 32 parentheses and `not` are open, and there are at most 1,024 nodes
 abbrev pub within : Reading → Result Reading Wrong
-within r = if nat_lt 32 (depth_in r.level) then Err wrong.TooDeep else (if nat_lt 1024 r.nodes then Err wrong.TooLarge else Ok r)
+within r = if nat_lt 32 (depth_in r.group) then Err wrong.TooDeep else (if nat_lt 1024 r.nodes then Err wrong.TooLarge else Ok r)
 
-abbrev pub is_inside : List Level → Bool
+abbrev pub is_inside : List Group → Bool
 is_inside [] = false
 is_inside (l ∷ outer) = true
 
@@ -240,7 +240,7 @@ front_step None at r = Ok r
 front_step (Some kind) at r = after (step kind r) at Ok
 
 -- the text may end here
-abbrev pub may_end : Expect → List Level → Bool
+abbrev pub may_end : Expect → List Group → Bool
 may_end expect.Joint outer = not (is_inside outer)
 may_end _ outer = false
 
@@ -254,10 +254,10 @@ reads r (Then kind at rest) = after (step kind r) at (λ s. reads s rest)
 abbrev pub start : List CondField → Reading
 start fields = record {
   expects = expect.Fact;
-  level = level_at 0;
+  group = group_at 0;
   outer = [];
   nodes = 0;
-  met = record { used = []; unused = fields; clash = None };
+  naming = record { used = []; unused = fields; clash = None };
   field = 0;
   op = op.Equal;
   negated = false;
@@ -267,10 +267,10 @@ start fields = record {
 -- the condition whose text was read whole, unless its tests clash with the fields
 abbrev pub settled_by : Option CondFault → Reading → Result Condition CondFault
 settled_by (Some fault) r = Err fault
-settled_by None r = Ok (record { fields = r.met.used; root = closed r.level })
+settled_by None r = Ok (record { fields = r.naming.used; root = closed r.group })
 
 abbrev pub settled : Result Reading CondFault → Result Condition CondFault
-settled (Ok r) = settled_by r.met.clash r
+settled (Ok r) = settled_by r.naming.clash r
 settled (Err fault) = Err fault
 
 -- the condition that a text spells over these fields, or the fault

@@ -17,12 +17,12 @@ abbrev pub is_type : ValType → ValType → Bool
 is_type = (types.ghosts).eq
 
 -- an attribute counts as the field: name, type and nullability agree
-abbrev pub agrees : CondField → CondField → Bool
-agrees field attr = pointwise nat_eq field.name attr.name && (is_type field.ty attr.ty && beq field.nullable attr.nullable)
+abbrev pub is_same_field : CondField → CondField → Bool
+is_same_field field attr = pointwise nat_eq field.name attr.name && (is_type field.ty attr.ty && beq field.nullable attr.nullable)
 
 -- the value of the agreeing attribute in the row, or else the recorded fill
 abbrev pub value_under : CondField → List CondField → List Val → Val
-value_under field (attr ∷ attrs) (val ∷ row) = if agrees field attr then val else value_under field attrs row
+value_under field (attr ∷ attrs) (val ∷ row) = if is_same_field field attr then val else value_under field attrs row
 value_under field _ _ = field.fill
 
 -- the coordinate, or else the recorded fill
@@ -53,7 +53,7 @@ matches condition coords attrs row = holds (field_value condition.fields coords 
 -- the place of the agreeing attribute, if there is one; `place` attributes stand before these
 abbrev pub place_from : CondField → ℕ → List CondField → Option ℕ
 place_from field place [] = None
-place_from field place (attr ∷ attrs) = if agrees field attr then Some place else place_from field (place + 1) attrs
+place_from field place (attr ∷ attrs) = if is_same_field field attr then Some place else place_from field (place + 1) attrs
 
 -- the place in the row, or else the recorded fill
 abbrev pub place_or_fill : Option ℕ → CondField → Pick

@@ -4,23 +4,23 @@ use Rattle.ts_base.specs.declared.lists.OutOfMemory.{OutOfMemory}
 use Rattle.ts_cond.specs.declared.faults.CondFault.{CondFault}
 use Rattle.ts_cond.specs.declared.faults.CondFault.TheVariants as fault
 use Rattle.ts_cond.specs.Tests.{Condition}
-use Rattle.ts_cond.specs.declared.machine.Level as code
+use Rattle.ts_cond.specs.declared.machine.Group as code
 use Rattle.ts_cond.specs.declared.machine.State.{State}
 use Rattle.ts_cond.specs.declared.machine.Wrong.{Wrong}
 use Rattle.ts_cond.specs.declared.machine.Wrong.TheVariants as wrong
-use Rattle.ts_cond.specs.Machine.{Level, Reading}
+use Rattle.ts_cond.specs.Machine.{Group, Reading}
 use Rattle.ts_cond.specs.Views.{test_of}
 
-abbrev pub level_of : code.Level → Level
-level_of l = record { terms = map test_of l.terms; facts = map test_of l.facts; nots = l.nots; depth = l.depth }
+abbrev pub group_of : code.Group → Group
+group_of l = record { terms = map test_of l.terms; facts = map test_of l.facts; nots = l.nots; depth = l.depth }
 
 abbrev pub reading_of : State → Reading
 reading_of s = record {
   expects = s.expects;
-  level = level_of s.level;
-  outer = reverse (map level_of s.outer);
+  group = group_of s.group;
+  outer = reverse (map group_of s.outer);
   nodes = s.nodes;
-  met = s.met;
+  naming = s.naming;
   field = s.field;
   op = s.op;
   negated = s.negated;

@@ -1,6 +1,6 @@
 //! Where a condition finds the values of its fields.
 ghost use Rattle.std.specs.Prelude.{◌≡◌, ◌<◌, ◌^◌, length, IfOk};
-ghost use Rattle.ts_cond.specs.Picks.{agrees, place_or_fill, place_from, pick_of, picks_of};
+ghost use Rattle.ts_cond.specs.Picks.{is_same_field, place_or_fill, place_from, pick_of, picks_of};
 
 use crate::cond::Cond;
 use crate::fields::{CondField, CondFieldList, Pick, PickList};
@@ -48,7 +48,7 @@ fn place_of(field: &CondField, attrs: &[CondField]) -> Option<u32>
     ensures { result ≡ place_from field.now 0 attrs.now }
 {
     for place in 0..attrs.len() {
-        if agrees(field, &attrs[place]) {
+        if is_same_field(field, &attrs[place]) {
             return Some(place as u32);
         }
     }
@@ -56,8 +56,8 @@ fn place_of(field: &CondField, attrs: &[CondField]) -> Option<u32>
 }
 
 // Whether an attribute counts as the field.
-fn agrees(field: &CondField, attr: &CondField) -> bool
-    ensures { result ≡ agrees field.now attr.now }
+fn is_same_field(field: &CondField, attr: &CondField) -> bool
+    ensures { result ≡ is_same_field field.now attr.now }
 {
     field.name == attr.name && field.ty == attr.ty && field.nullable == attr.nullable
 }

@@ -14,7 +14,7 @@ use crate::tags::{Tag, write_op, write_tag};
 use std::alloc::Global;
 use ts_base::{ByteList, OutOfMemory, Val};
 use ts_schema::write_type;
-use ts_wire::{Kind, Scribe, wrap};
+use ts_wire::{Kind, Scribe};
 
 /// The object that spells the condition.
 #[tactic(auto, unfolding(crate::specs::CondTexts::cond_object, crate::specs::CondTexts::cond_bytes))]
@@ -24,7 +24,7 @@ pub fn write_cond(alloc: Global, cond: &Cond) -> Result<ByteList, OutOfMemory>
     let mut scribe = Scribe::new(alloc);
     write_fields(&mut scribe, &cond.fields)?;
     write_node(&mut scribe, &cond.root)?;
-    wrap(alloc, Kind::Delete, scribe.take().as_slice())
+    scribe.into_object(Kind::Delete)
 }
 
 #[tactic(auto, unfolding(crate::specs::CondTexts::fields_bytes))]

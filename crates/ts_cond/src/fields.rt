@@ -5,7 +5,7 @@ use std::alloc::Global;
 use ts_base::{Duplicate, Label, OutOfMemory, Sequence, Val, ValType};
 
 /// A field of an array, a dimension or an attribute, as a condition records it.
-#[derive(Debug, Drop, PartialEq, Eq)]
+#[derive(Clone, Debug, Drop, PartialEq, Eq)]
 pub struct CondField {
     /// The field's name.
     pub name: Label,
@@ -37,13 +37,7 @@ pub enum Pick {
 pub type PickList = Sequence<Pick>;
 
 impl Duplicate for CondField {
-    fn copy(&self, alloc: Global) -> Result<CondField, OutOfMemory> {
-        Ok(CondField {
-            name: self.name,
-            dim: self.dim,
-            ty: self.ty,
-            nullable: self.nullable,
-            fill: self.fill.copy(alloc)?,
-        })
+    fn copy(&self, _alloc: Global) -> Result<CondField, OutOfMemory> {
+        Ok(self.clone()?)
     }
 }

@@ -1,17 +1,17 @@
 //! Reading a condition token by token: what may stand where, and the tree that it spells.
 ghost use Rattle.std.specs.Prelude.{◌≡◌, ◌+◌, ◌++◌, ◌≤◌, ◌<◌, ◌∷◌, List, [], length, map, IfOk, OnOk};
-ghost use Rattle.ts_cond.specs.Machine.{depth_in, start, level_at, joined, under, closed, with_fact, with_term, with_not, stands, fact_ends, opened, left, shut, denied, named, valued, moved, step, within, is_inside, list_begins, choice_begins};
+ghost use Rattle.ts_cond.specs.Machine.{depth_in, start, group_at, gathered, under, closed, with_fact, with_term, with_not, stands, fact_ends, opened, left, shut, denied, named, valued, moved, step, within, is_inside, list_begins, choice_begins};
 ghost use Rattle.ts_cond.specs.Tests as tree;
 ghost use Rattle.ts_cond.specs.Tokens as tokens;
 ghost use Rattle.ts_cond.specs.Tokens.{unquoted, unhexed};
-ghost use Rattle.ts_cond.specs.States.{level_of, reading_of, Went, Moves};
+ghost use Rattle.ts_cond.specs.States.{group_of, reading_of, Went, Moves};
 ghost use Rattle.ts_cond.specs.Spelled.{kind_of};
 ghost use Rattle.ts_cond.specs.Views.{test_of};
 ghost use Rattle.ts_cond.specs.declared.machine.Wrong.TheVariants as variants;
 
 use crate::fields::CondFieldList;
 use crate::literals::{unhexed, unquoted};
-use crate::met::Met;
+use crate::naming::Naming;
 use crate::nodes::{CondNode, CondOp, NodeList};
 use crate::tokens::Kind;
 use std::alloc::Global;
@@ -64,7 +64,7 @@ impl From<OutOfMemory> for Wrong {
 
 /// A pair of parentheses that is open, or the whole text.
 #[derive(Debug, Drop)]
-pub struct Level {
+pub struct Group {
     /// The terms that are whole.
     pub terms: NodeList,
     /// The whole facts of the term that is not.
@@ -81,13 +81,13 @@ pub struct State {
     /// What may come next.
     pub expects: Expect,
     /// The innermost pair of parentheses.
-    pub level: Level,
+    pub group: Group,
     /// Those around it, the outermost first.
-    pub outer: Sequence<Level>,
+    pub outer: Sequence<Group>,
     /// The nodes so far.
     pub nodes: u16,
     /// The fields that were named.
-    pub met: Met,
+    pub naming: Naming,
     /// The field of the test that is not whole.
     pub field: u8,
     /// Its comparison.
@@ -98,10 +98,10 @@ pub struct State {
     pub vals: Row,
 }
 
-fn level_at(alloc: Global, depth: u8) -> Level
-    ensures { level_of result ≡ level_at depth }
+fn group_at(alloc: Global, depth: u8) -> Group
+    ensures { group_of result ≡ group_at depth }
 {
-    Level {
+    Group {
         terms: NodeList::new(alloc),
         facts: NodeList::new(alloc),
         nots: 0,
@@ -116,10 +116,10 @@ impl State {
     {
         Ok(State {
             expects: Expect::Fact,
-            level: level_at(alloc, 0),
+            group: group_at(alloc, 0),
             outer: Sequence::new(alloc),
             nodes: 0,
-            met: Met {
+            naming: Naming {
                 used: CondFieldList::new(alloc),
                 unused: fields.copy(alloc)?,
                 clash: None,
@@ -133,13 +133,13 @@ impl State {
 
     /// One token more.
     pub fn step(&mut self, alloc: Global, kind: &Kind) -> Result<(), Wrong>
-        requires depth { depth_in (level_of self.old.level) ≤ 32 }
+        requires depth { depth_in (group_of self.old.group) ≤ 32 }
         requires nodes { self.old.nodes ≤ 1024 }
-        requires fields { length self.old.met.used + length self.old.met.unused ≤ 255 }
+        requires fields { length self.old.naming.used + length self.old.naming.unused ≤ 255 }
         ensures went { Went result (reading_of self.new) (step (kind_of kind.now) (reading_of self.old)) }
-        ensures depth { OnOk result (depth_in (level_of self.new.level) ≤ 32) }
+        ensures depth { OnOk result (depth_in (group_of self.new.group) ≤ 32) }
         ensures nodes { OnOk result (self.new.nodes ≤ 1024) }
-        ensures fields { OnOk result (length self.new.met.used + length self.new.met.unused ≤ 255) }
+        ensures fields { OnOk result (length self.new.naming.used + length self.new.naming.unused ≤ 255) }
     {
         if can_stand(self.expects, is_inside(self), kind) {
             go_on(self, alloc, kind)
@@ -158,13 +158,13 @@ pub fn is_inside(state: &State) -> bool
 
 // A token that may stand there: what it does, unless it is too deep or too large.
 fn go_on(state: &mut State, alloc: Global, kind: &Kind) -> Result<(), Wrong>
-    requires depth { depth_in (level_of state.old.level) ≤ 32 }
+    requires depth { depth_in (group_of state.old.group) ≤ 32 }
     requires nodes { state.old.nodes ≤ 1024 }
-    requires fields { length state.old.met.used + length state.old.met.unused ≤ 255 }
+    requires fields { length state.old.naming.used + length state.old.naming.unused ≤ 255 }
     ensures went { Went result (reading_of state.new) (within (moved (kind_of kind.now) (reading_of state.old))) }
-    ensures depth { OnOk result (depth_in (level_of state.new.level) ≤ 32) }
+    ensures depth { OnOk result (depth_in (group_of state.new.group) ≤ 32) }
     ensures nodes { OnOk result (state.new.nodes ≤ 1024) }
-    ensures fields { OnOk result (length state.new.met.used + length state.new.met.unused ≤ 255) }
+    ensures fields { OnOk result (length state.new.naming.used + length state.new.naming.unused ≤ 255) }
 {
     advance(state, alloc, kind)?;
     within(state)
@@ -173,10 +173,10 @@ fn go_on(state: &mut State, alloc: Global, kind: &Kind) -> Result<(), Wrong>
 // Whether what was read is neither too deep nor too large.
 fn within(state: &State) -> Result<(), Wrong>
     ensures tests { Went result (reading_of state.now) (within (reading_of state.now)) }
-    ensures depth { OnOk result (depth_in (level_of state.now.level) ≤ 32) }
+    ensures depth { OnOk result (depth_in (group_of state.now.group) ≤ 32) }
     ensures nodes { OnOk result (state.now.nodes ≤ 1024) }
 {
-    if state.level.depth as u16 + state.level.nots as u16 > 32 {
+    if state.group.depth as u16 + state.group.nots as u16 > 32 {
         Err(Wrong::TooDeep)
     } else if state.nodes > 1024 {
         Err(Wrong::TooLarge)
@@ -208,14 +208,14 @@ fn can_stand(expects: Expect, inside: bool, kind: &Kind) -> bool
 
 // What a token that may stand there does.
 fn advance(state: &mut State, alloc: Global, kind: &Kind) -> Result<(), OutOfMemory>
-    requires depth { depth_in (level_of state.old.level) ≤ 32 }
+    requires depth { depth_in (group_of state.old.group) ≤ 32 }
     requires nodes { state.old.nodes ≤ 1024 }
-    requires fields { length state.old.met.used + length state.old.met.unused ≤ 255 }
+    requires fields { length state.old.naming.used + length state.old.naming.unused ≤ 255 }
     ensures moves { Moves result (reading_of state.new) (moved (kind_of kind.now) (reading_of state.old)) }
-    ensures fields { OnOk result (length state.new.met.used + length state.new.met.unused ≡ length state.old.met.used + length state.old.met.unused) }
+    ensures fields { OnOk result (length state.new.naming.used + length state.new.naming.unused ≡ length state.old.naming.used + length state.old.naming.unused) }
 {
     match kind {
-        Kind::Open => open_level(state, alloc),
+        Kind::Open => open_group(state, alloc),
         Kind::Close => shut(state, alloc),
         Kind::Comma => {
             state.expects = Expect::Member;
@@ -251,34 +251,34 @@ fn advance(state: &mut State, alloc: Global, kind: &Kind) -> Result<(), OutOfMem
     }
 }
 
-fn open_level(state: &mut State, alloc: Global) -> Result<(), OutOfMemory>
-    requires depth { depth_in (level_of state.old.level) ≤ 32 }
+fn open_group(state: &mut State, alloc: Global) -> Result<(), OutOfMemory>
+    requires depth { depth_in (group_of state.old.group) ≤ 32 }
     ensures moves { Moves result (reading_of state.new) (opened state.old.expects (reading_of state.old)) }
-    ensures fields { state.new.met ≡ state.old.met }
+    ensures fields { state.new.naming ≡ state.old.naming }
 {
     if !matches!(state.expects, Expect::Fact) {
         state.expects = Expect::Member;
         return Ok(());
     }
-    let depth = state.level.depth + state.level.nots + 1;
-    let around = mem::replace(&mut state.level, level_at(alloc, depth));
+    let depth = state.group.depth + state.group.nots + 1;
+    let around = mem::replace(&mut state.group, group_at(alloc, depth));
     state.outer.push(around)
 }
 
 fn shut(state: &mut State, alloc: Global) -> Result<(), OutOfMemory>
     ensures moves { Moves result (reading_of state.new) (shut state.old.expects (reading_of state.old)) }
-    ensures fields { state.new.met ≡ state.old.met }
+    ensures fields { state.new.naming ≡ state.old.naming }
 {
     if matches!(state.expects, Expect::MoreMembers) {
         end_member(state, alloc)
     } else {
-        leave_level(state, alloc)
+        leave_group(state, alloc)
     }
 }
 
 fn end_member(state: &mut State, alloc: Global) -> Result<(), OutOfMemory>
     ensures moves { Moves result (reading_of state.new) (fact_ends (tree.Member state.old.negated state.old.field state.old.vals) (reading_of state.old)) }
-    ensures fields { state.new.met ≡ state.old.met }
+    ensures fields { state.new.naming ≡ state.old.naming }
 {
     let node = CondNode::Member {
         negated: state.negated,
@@ -288,13 +288,13 @@ fn end_member(state: &mut State, alloc: Global) -> Result<(), OutOfMemory>
     end_fact(state, alloc, node)
 }
 
-fn leave_level(state: &mut State, alloc: Global) -> Result<(), OutOfMemory>
-    ensures moves { Moves result (reading_of state.new) (left (reading_of state.old).outer (closed (level_of state.old.level)) (reading_of state.old)) }
-    ensures fields { state.new.met ≡ state.old.met }
+fn leave_group(state: &mut State, alloc: Global) -> Result<(), OutOfMemory>
+    ensures moves { Moves result (reading_of state.new) (left (reading_of state.old).outer (closed (group_of state.old.group)) (reading_of state.old)) }
+    ensures fields { state.new.naming ≡ state.old.naming }
 {
     match state.outer.pop() {
         Some(around) => {
-            let inner = mem::replace(&mut state.level, around);
+            let inner = mem::replace(&mut state.group, around);
             let node = closed(inner)?;
             end_fact(state, alloc, node)
         }
@@ -303,13 +303,13 @@ fn leave_level(state: &mut State, alloc: Global) -> Result<(), OutOfMemory>
 }
 
 fn deny(state: &mut State)
-    requires depth { depth_in (level_of state.old.level) ≤ 32 }
+    requires depth { depth_in (group_of state.old.group) ≤ 32 }
     requires nodes { state.old.nodes ≤ 1024 }
     ensures moves { reading_of state.new ≡ denied state.old.expects (reading_of state.old) }
-    ensures fields { state.new.met ≡ state.old.met }
+    ensures fields { state.new.naming ≡ state.old.naming }
 {
     if matches!(state.expects, Expect::Fact) {
-        state.level.nots += 1;
+        state.group.nots += 1;
         state.nodes += 1;
     } else {
         state.expects = Expect::Within;
@@ -321,9 +321,9 @@ fn deny(state: &mut State)
 fn begin_fact(state: &mut State)
     requires nodes { state.old.nodes ≤ 1024 }
     ensures moves { reading_of state.new ≡ moved tokens.And (reading_of state.old) }
-    ensures fields { state.new.met ≡ state.old.met }
+    ensures fields { state.new.naming ≡ state.old.naming }
 {
-    if state.level.facts.len() == 1 {
+    if state.group.facts.len() == 1 {
         state.nodes += 1;
     }
     state.expects = Expect::Fact;
@@ -333,25 +333,25 @@ fn begin_fact(state: &mut State)
 fn begin_term(state: &mut State, alloc: Global) -> Result<(), OutOfMemory>
     requires nodes { state.old.nodes ≤ 1024 }
     ensures moves { Moves result (reading_of state.new) (moved tokens.Or (reading_of state.old)) }
-    ensures fields { state.new.met ≡ state.old.met }
+    ensures fields { state.new.naming ≡ state.old.naming }
 {
-    if state.level.terms.is_empty() {
+    if state.group.terms.is_empty() {
         state.nodes += 1;
     }
-    let facts = mem::replace(&mut state.level.facts, NodeList::new(alloc));
-    state.level.terms.push(all_of(facts))?;
-    state.level.nots = 0;
+    let facts = mem::replace(&mut state.group.facts, NodeList::new(alloc));
+    state.group.terms.push(all_of(facts))?;
+    state.group.nots = 0;
     state.expects = Expect::Fact;
     Ok(())
 }
 
 fn name_field(state: &mut State, alloc: Global, name: &Label) -> Result<(), OutOfMemory>
     requires nodes { state.old.nodes ≤ 1024 }
-    requires fields { length state.old.met.used + length state.old.met.unused ≤ 255 }
+    requires fields { length state.old.naming.used + length state.old.naming.unused ≤ 255 }
     ensures moves { Moves result (reading_of state.new) (named name.now (reading_of state.old)) }
-    ensures fields { OnOk result (length state.new.met.used + length state.new.met.unused ≡ length state.old.met.used + length state.old.met.unused) }
+    ensures fields { OnOk result (length state.new.naming.used + length state.new.naming.unused ≡ length state.old.naming.used + length state.old.naming.unused) }
 {
-    state.field = state.met.meet(alloc, name)?;
+    state.field = state.naming.meet(alloc, name)?;
     state.expects = Expect::Verb;
     state.nodes += 1;
     state.negated = false;
@@ -362,9 +362,9 @@ fn name_field(state: &mut State, alloc: Global, name: &Label) -> Result<(), OutO
 fn take_value(state: &mut State, alloc: Global, kind: &Kind, val: Val) -> Result<(), OutOfMemory>
     requires nodes { state.old.nodes ≤ 1024 }
     ensures moves { Moves result (reading_of state.new) (valued state.old.expects (kind_of kind.now) val (reading_of state.old)) }
-    ensures fields { OnOk result (length state.new.met.used + length state.new.met.unused ≡ length state.old.met.used + length state.old.met.unused) }
+    ensures fields { OnOk result (length state.new.naming.used + length state.new.naming.unused ≡ length state.old.naming.used + length state.old.naming.unused) }
 {
-    state.met.judge(state.field, kind);
+    state.naming.judge(state.field, kind);
     if matches!(state.expects, Expect::Operand) {
         let node = CondNode::Compare {
             op: state.op,
@@ -382,11 +382,11 @@ fn take_value(state: &mut State, alloc: Global, kind: &Kind, val: Val) -> Result
 // A fact is whole.
 fn end_fact(state: &mut State, alloc: Global, node: CondNode) -> Result<(), OutOfMemory>
     ensures moves { Moves result (reading_of state.new) (fact_ends (test_of node) (reading_of state.old)) }
-    ensures fields { state.new.met ≡ state.old.met }
+    ensures fields { state.new.naming ≡ state.old.naming }
 {
-    let node = under(alloc, state.level.nots, node)?;
-    state.level.facts.push(node)?;
-    state.level.nots = 0;
+    let node = under(alloc, state.group.nots, node)?;
+    state.group.facts.push(node)?;
+    state.group.nots = 0;
     state.expects = Expect::Joint;
     Ok(())
 }
@@ -402,22 +402,22 @@ fn under(alloc: Global, nots: u8, node: CondNode) -> Result<CondNode, OutOfMemor
     Ok(found)
 }
 
-// The tree of a level whose text is whole.
-pub fn closed(level: Level) -> Result<CondNode, OutOfMemory>
-    ensures { IfOk result (λ node. test_of node ≡ closed (level_of level)) }
+// The tree of a group whose text is whole.
+pub fn closed(group: Group) -> Result<CondNode, OutOfMemory>
+    ensures { IfOk result (λ node. test_of node ≡ closed (group_of group)) }
 {
-    let Level {
+    let Group {
         mut terms,
         facts,
         ..
-    } = level;
+    } = group;
     terms.push(all_of(facts))?;
     Ok(any_of(terms))
 }
 
 // One node is itself, more are a list.
 fn all_of(nodes: NodeList) -> CondNode
-    ensures { test_of result ≡ joined tree.All (map test_of nodes) }
+    ensures { test_of result ≡ gathered tree.All (map test_of nodes) }
 {
     let mut nodes = nodes;
     if nodes.len() == 1 {
@@ -431,7 +431,7 @@ fn all_of(nodes: NodeList) -> CondNode
 }
 
 fn any_of(nodes: NodeList) -> CondNode
-    ensures { test_of result ≡ joined tree.Any (map test_of nodes) }
+    ensures { test_of result ≡ gathered tree.Any (map test_of nodes) }
 {
     let mut nodes = nodes;
     if nodes.len() == 1 {

@@ -3,7 +3,7 @@ ghost use Rattle.std.specs.Prelude.{◌≡◌, List};
 ghost use Rattle.ts_cond.specs.declared.fields.CondField.{CondField as AnyField};
 ghost use Rattle.ts_cond.specs.Holds.{holds, is_null, passes, compares, is_one_of, is_member};
 ghost use Rattle.ts_cond.specs.Picks.{matches, picks_of, picked, picked_value};
-ghost use Rattle.ts_cond.specs.Seen.{seen_val};
+ghost use Rattle.ts_cond.specs.Seen.{seen_val, value_in};
 ghost use Rattle.ts_cond.specs.Views.{test_of};
 ghost use Rattle.ts_value.specs.Order.{val_cmp};
 ghost use Rattle.std.specs.List.{list_all, list_any};
@@ -22,6 +22,7 @@ impl Cond {
     /// A null satisfies `is null` alone: every comparison and every membership test on it is false,
     /// also `!=` and `not in`. `not` is plain negation. A dimension that the coordinates lack
     /// counts as its recorded fill. It takes no memory.
+    #[tactic(auto, unfolding(crate::specs::Seen::value_in))]
     pub fn matches(&self, picks: &PickList, coords: &Coords, row: &Row) -> bool
         ensures picked { result ≡ holds (picked_value picks.now self.now.fields coords.now row.now) self.now.root }
         ensures matches { (attrs : List AnyField) → picks.now ≡ picks_of attrs self.now.fields → result ≡ matches self.now coords.now attrs row.now }
@@ -57,7 +58,7 @@ enum Seen<'a> {
 
 #[cycle(sizes)]
 fn node_holds(node: &CondNode, sight: &Sight) -> bool
-    ensures { result ≡ holds (picked_value sight.now.picks.now sight.now.fields.now sight.now.coords.now sight.now.row.now) (test_of node.now) }
+    ensures { result ≡ holds (value_in sight.now) (test_of node.now) }
 {
     match node {
         CondNode::All(nodes) => all_hold(nodes.as_slice(), sight),
@@ -75,7 +76,7 @@ fn node_holds(node: &CondNode, sight: &Sight) -> bool
 
 #[cycle(sizes)]
 fn all_hold(nodes: &[CondNode], sight: &Sight) -> bool
-    ensures { result ≡ list_all (λ node. holds (picked_value sight.now.picks.now sight.now.fields.now sight.now.coords.now sight.now.row.now) (test_of node)) nodes.now }
+    ensures { result ≡ list_all (λ node. holds (value_in sight.now) (test_of node)) nodes.now }
 {
     for node in nodes {
         if !node_holds(node, sight) {
@@ -87,7 +88,7 @@ fn all_hold(nodes: &[CondNode], sight: &Sight) -> bool
 
 #[cycle(sizes)]
 fn any_holds(nodes: &[CondNode], sight: &Sight) -> bool
-    ensures { result ≡ list_any (λ node. holds (picked_value sight.now.picks.now sight.now.fields.now sight.now.coords.now sight.now.row.now) (test_of node)) nodes.now }
+    ensures { result ≡ list_any (λ node. holds (value_in sight.now) (test_of node)) nodes.now }
 {
     for node in nodes {
         if node_holds(node, sight) {
@@ -97,8 +98,9 @@ fn any_holds(nodes: &[CondNode], sight: &Sight) -> bool
     false
 }
 
+#[tactic(auto, unfolding(crate::specs::Seen::value_in))]
 fn seen_at<'a>(sight: &Sight<'a>, field: u8) -> Seen<'a>
-    ensures { seen_val result ≡ picked_value sight.now.picks.now sight.now.fields.now sight.now.coords.now sight.now.row.now field }
+    ensures { seen_val result ≡ value_in sight.now field }
 {
     let place = field as usize;
     if place < sight.picks.len() && place < sight.fields.len() {

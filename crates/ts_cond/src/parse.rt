@@ -1,18 +1,18 @@
 //! Reading a condition from its text.
 ghost use Rattle.std.specs.Prelude.{◌≡◌, ◌≤◌, ◌+◌, ℕ, length, drop, IfOk, Ok, OnOk};
-ghost use Rattle.ts_cond.specs.Causes.{HasCause, IsReadAs, IsBroken, IsRefusedAt};
+ghost use Rattle.ts_cond.specs.Causes.{HasCause, IsReadAs, IsBroken, IsOneOfTwo, IsRefusedAt};
 ghost use Rattle.ts_cond.specs.CondTexts.{AreFields, IsCond};
 ghost use Rattle.ts_cond.specs.Grammar.{Cond as Tree, IsSpelled};
 ghost use Rattle.ts_cond.specs.Machine.{start, depth_in, step, after, at_token, front_step, may_end, reads, settled, parsed};
 ghost use Rattle.ts_cond.specs.Spelled.{kind_of, some_kind};
-ghost use Rattle.ts_cond.specs.States.{level_of, reading_of, Comes, Ends, Parses};
+ghost use Rattle.ts_cond.specs.States.{group_of, reading_of, Comes, Ends, Parses};
 ghost use Rattle.ts_cond.specs.Tokens.{scan, tokens_of};
 
 use crate::cond::Cond;
 use crate::faults::CondFault;
 use crate::fields::CondFieldList;
 use crate::machine::{Expect, State, Wrong, closed, is_inside};
-use crate::met::Met;
+use crate::naming::Naming;
 use crate::tokens::{Front, Kind, front_of};
 use std::alloc::Global;
 
@@ -25,15 +25,16 @@ impl Cond {
     ///
     /// `parses` tells the answer by the automaton that reads the tokens. `cause`, `spelled` and
     /// `broken` tell it by the grammar: why each answer comes; and the other way round what is
-    /// answered to a text that spells a tree, and to one that is broken at an offset. Each text is
-    /// one of the two, by `texts_are_spelled_or_broken`. `object` says that the condition has an
-    /// object, where the fields are those of an array.
+    /// answered to a text that spells a tree, and to one that is broken at an offset. `either` says
+    /// that each text is one of the two. `object` says that the condition has an object, where the
+    /// fields are those of an array.
     pub fn parse(alloc: Global, text: &[u8], fields: &CondFieldList) -> Result<Cond, CondFault>
         requires { length fields.now ≤ 255 }
         ensures parses { Parses result (parsed text.now fields.now) }
         ensures cause { HasCause result text.now fields.now }
         ensures spelled { (tree : Tree) → IsSpelled text.now tree → IsReadAs result fields.now tree }
         ensures broken { (at : ℕ) → IsBroken (tokens_of text.now) at → IsRefusedAt result at }
+        ensures either { IsOneOfTwo text.now }
         ensures object { AreFields fields.now → IfOk result IsCond }
     {
         read_text(alloc, text, fields)
@@ -52,9 +53,9 @@ fn read_text(alloc: Global, text: &[u8], fields: &CondFieldList) -> Result<Cond,
 }
 
 fn read_tokens(alloc: Global, text: &[u8], start: State) -> Result<State, CondFault>
-    requires depth { depth_in (level_of start.level) ≤ 32 }
+    requires depth { depth_in (group_of start.group) ≤ 32 }
     requires nodes { start.nodes ≤ 1024 }
-    requires fields { length start.met.used + length start.met.unused ≤ 255 }
+    requires fields { length start.naming.used + length start.naming.unused ≤ 255 }
     ensures { Ends result (reads (reading_of start) (scan 0 0 text.now)) }
 {
     let mut state = start;
@@ -82,13 +83,13 @@ fn read_tokens(alloc: Global, text: &[u8], start: State) -> Result<State, CondFa
 
 // One token more, which has this offset.
 fn step_at(state: &mut State, alloc: Global, kind: &Kind, at: u64) -> Result<(), CondFault>
-    requires depth { depth_in (level_of state.old.level) ≤ 32 }
+    requires depth { depth_in (group_of state.old.group) ≤ 32 }
     requires nodes { state.old.nodes ≤ 1024 }
-    requires fields { length state.old.met.used + length state.old.met.unused ≤ 255 }
+    requires fields { length state.old.naming.used + length state.old.naming.unused ≤ 255 }
     ensures went { Comes result (reading_of state.new) (after (step (kind_of kind.now) (reading_of state.old)) at Ok) }
-    ensures depth { OnOk result (depth_in (level_of state.new.level) ≤ 32) }
+    ensures depth { OnOk result (depth_in (group_of state.new.group) ≤ 32) }
     ensures nodes { OnOk result (state.new.nodes ≤ 1024) }
-    ensures fields { OnOk result (length state.new.met.used + length state.new.met.unused ≤ 255) }
+    ensures fields { OnOk result (length state.new.naming.used + length state.new.naming.unused ≤ 255) }
 {
     match state.step(alloc, kind) {
         Ok(()) => Ok(()),
@@ -109,13 +110,13 @@ fn at_token(wrong: Wrong, at: u64) -> CondFault
 
 // What stands at the front, if it is a token.
 fn step_front(state: &mut State, alloc: Global, front: &Front, at: u64) -> Result<(), CondFault>
-    requires depth { depth_in (level_of state.old.level) ≤ 32 }
+    requires depth { depth_in (group_of state.old.group) ≤ 32 }
     requires nodes { state.old.nodes ≤ 1024 }
-    requires fields { length state.old.met.used + length state.old.met.unused ≤ 255 }
+    requires fields { length state.old.naming.used + length state.old.naming.unused ≤ 255 }
     ensures went { Comes result (reading_of state.new) (front_step (some_kind front.now.kind) at (reading_of state.old)) }
-    ensures depth { OnOk result (depth_in (level_of state.new.level) ≤ 32) }
+    ensures depth { OnOk result (depth_in (group_of state.new.group) ≤ 32) }
     ensures nodes { OnOk result (state.new.nodes ≤ 1024) }
-    ensures fields { OnOk result (length state.new.met.used + length state.new.met.unused ≤ 255) }
+    ensures fields { OnOk result (length state.new.naming.used + length state.new.naming.unused ≤ 255) }
 {
     match &front.kind {
         Some(kind) => step_at(state, alloc, kind, at),
@@ -141,11 +142,11 @@ fn may_end(state: &State) -> bool
 fn settle(state: State) -> Result<Cond, CondFault>
     ensures { Parses result (settled (Ok (reading_of state))) }
 {
-    let State { level, met, .. } = state;
-    let Met { used, clash, .. } = met;
+    let State { group, naming, .. } = state;
+    let Naming { used, clash, .. } = naming;
     match clash {
         Some(fault) => Err(fault),
-        None => match closed(level) {
+        None => match closed(group) {
             Ok(root) => Ok(Cond { fields: used, root }),
             Err(_) => Err(CondFault::OutOfMemory),
         },

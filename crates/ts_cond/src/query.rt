@@ -20,7 +20,7 @@ pub struct NamedBox {
 pub type NamedBoxList = Sequence<NamedBox>;
 
 /// What a read asks for.
-#[derive(Debug, Drop, PartialEq, Eq)]
+#[derive(Clone, Debug, Drop, PartialEq, Eq)]
 pub struct Query {
     /// The box of the cells.
     pub sub: NamedBoxList,
@@ -35,22 +35,7 @@ pub struct Query {
 }
 
 impl Duplicate for Query {
-    fn copy(&self, alloc: Global) -> Result<Query, OutOfMemory> {
-        let filter = match &self.filter {
-            None => None,
-            Some(text) => Some(text.copy(alloc)?),
-        };
-        Ok(Query {
-            sub: self.sub.copy(alloc)?,
-            fields: self.fields.copy(alloc)?,
-            filter,
-            layout: self.layout,
-        })
-    }
-}
-
-impl Duplicate for NamedBox {
-    fn copy(&self, _alloc: Global) -> Result<NamedBox, OutOfMemory> {
-        Ok(*self)
+    fn copy(&self, _alloc: Global) -> Result<Query, OutOfMemory> {
+        Ok(self.clone()?)
     }
 }

@@ -12,7 +12,7 @@ use Rattle.std.proofs.lemmas.Grind.{flat_map-append}
 use Rattle.ts_base.specs.declared.keys.Key.{Key}
 use Rattle.ts_base.specs.declared.heads.Version.{Version}
 use Rattle.ts_base.specs.Keys.{key_cmp, key_lt, greater, greatest}
-use Rattle.ts_plain.specs.Merges.{Order, Climbs, one_at, IsMerged, version_cmp, Ascends, is_last, last_alone, is_at, all_at, IsMergedAll}
+use Rattle.ts_plain.specs.Merges.{Order, Climbs, one_at, IsMerged, version_cmp, VersionsAscend, is_last, last_alone, is_at, all_at, IsMergedAll}
 use Rattle.ts_plain.proofs.KeyLemmas.{below_on, not_below_on}
 
 -- the key of a version
@@ -77,7 +77,7 @@ module _ (cmp : Order) (total : IsTotalOrder cmp) where
   above_all u v (w ∷ ws) less all = (above_on u v w less all.0, above_all u v ws less all.1)
 
   -- all that follow a version that is the last of its place are behind that place
-  above_last : (v : Version) (vs : List Version) → Ascends cmp (v ∷ vs) → is_last cmp v vs ≡ true → AllByRecursion (λ (w : Version). cmp v.coords w.coords ≡ Less) vs
+  above_last : (v : Version) (vs : List Version) → VersionsAscend cmp (v ∷ vs) → is_last cmp v vs ≡ true → AllByRecursion (λ (w : Version). cmp v.coords w.coords ≡ Less) vs
   above_last v [] asc last = tt
   above_last v (w ∷ ws) asc last = let here = by (cmp v.coords w.coords) refl asc.0.0 last in (here, above_all v.coords w ws here asc.1.0)
     where
@@ -87,7 +87,7 @@ module _ (cmp : Order) (total : IsTotalOrder cmp) where
       by Greater e h l = absurd (cc)
 
   -- the last versions of a list that ascends climb
-  pub last_climbs : (vs : List Version) → Ascends cmp vs → Climbs cmp (last_alone cmp vs)
+  pub last_climbs : (vs : List Version) → VersionsAscend cmp vs → Climbs cmp (last_alone cmp vs)
   last_climbs [] asc = tt
   last_climbs (v ∷ vs) asc = by (is_last cmp v vs) refl (last_climbs vs asc.1)
     where
@@ -127,7 +127,7 @@ module _ (cmp : Order) (total : IsTotalOrder cmp) where
       by false e rest = rest
 
   -- what stands at a place among the last versions is the newest one there
-  pub last_at : (c : List ℤ) (vs : List Version) → Ascends cmp vs → one_at cmp c (last_alone cmp vs) ≡ greatest key_of (filter (is_at cmp c) vs)
+  pub last_at : (c : List ℤ) (vs : List Version) → VersionsAscend cmp vs → one_at cmp c (last_alone cmp vs) ≡ greatest key_of (filter (is_at cmp c) vs)
   last_at c [] asc = refl
   last_at c (v ∷ vs) asc = by (is_last cmp v vs) refl (is_at cmp c v) refl (last_at c vs asc.1)
     where
@@ -165,7 +165,7 @@ module _ (cmp : Order) (total : IsTotalOrder cmp) where
   none_merged = record { climbs = tt; at = λ c. refl }
 
   -- the last versions of one list are that list merged
-  pub one_merged : (vs : List Version) → Ascends cmp vs → IsMergedAll cmp (vs ∷ []) (last_alone cmp vs)
+  pub one_merged : (vs : List Version) → VersionsAscend cmp vs → IsMergedAll cmp (vs ∷ []) (last_alone cmp vs)
   one_merged vs asc = record { climbs = last_climbs vs asc; at = λ c. last_at c vs asc ∙ ap (greatest key_of) (sym (append-nil (filter (is_at cmp c) vs))) }
 
   -- what merges some lists and what merges others, merged, merges all

@@ -30,7 +30,7 @@ use Rattle.ts_plain.specs.declared.stored.StoredCell.{StoredCell}
 use Rattle.ts_plain.specs.Rules.{last_of, coords_rise, origin_rises}
 use Rattle.ts_plain.specs.Plain.{FitsCoord, FitsSide, FitsCell}
 use Rattle.ts_plain.specs.Pieces.{no_key, version_in, piece_of, IsPlainObject}
-use Rattle.ts_plain.specs.Merges.{global_order, version_cmp, Ascends, LiesInside, IsOrdered}
+use Rattle.ts_plain.specs.Merges.{global_order, version_cmp, VersionsAscend, LiesInside, IsOrdered}
 use Rattle.ts_plain.proofs.WrittenPieces.{last_pushed, origins_ascend}
 
 -- coordinates on the sides of a hull lie in the domain
@@ -96,7 +96,7 @@ module _ (frame : Frame) where
         (here, below_all u b (front ++ b ∷ []) cells (last_pushed front b) (λ w next. version_total.trans u (version_in head b) w here next) fits.1)
 
     -- the versions of cells ascend
-    cells_ascend : (front cells : List StoredCell) → InTurn (FitsCell frame attrs head) front cells → Ascends (global_order frame) (map (version_in head) cells)
+    cells_ascend : (front cells : List StoredCell) → InTurn (FitsCell frame attrs head) front cells → VersionsAscend (global_order frame) (map (version_in head) cells)
     cells_ascend front [] fits = tt
     cells_ascend front (a ∷ cells) fits =
         (below_all (version_in head a) a (front ++ a ∷ []) cells (last_pushed front a) (λ w less. less) fits.1, cells_ascend (front ++ a ∷ []) cells fits.1)

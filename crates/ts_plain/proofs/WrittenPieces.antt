@@ -119,7 +119,7 @@ hull_back [] = refl
 hull_back (side ∷ hull) = let rest = hull_back hull in λ i. side ∷ rest i
 
 -- what is stored of the piece that an object holds is what the object stores
-stored_back : (frame : Frame) (attrs : List Attr) (frag : FragKey) (stored : StoredPiece) → FitsPlain frame attrs frag stored → stored_for (piece_of frag stored) ≡ stored
+pub stored_back : (frame : Frame) (attrs : List Attr) (frag : FragKey) (stored : StoredPiece) → FitsPlain frame attrs frag stored → stored_for (piece_of frag stored) ≡ stored
 unfolding piece_of head_of
 stored_back frame attrs frag stored fits =
     let up = origins_ascend frag stored.head.consolidated stored.head.origins fits.head.some_origin fits.head.origins in
@@ -131,7 +131,7 @@ stored_back frame attrs frag stored fits =
       cells = cells i;
     }
 
-names_of : (frame : Frame) (attrs : List Attr) (frag : FragKey) (stored : StoredPiece) → FitsPlain frame attrs frag stored → NamesWrites (piece_of frag stored)
+pub names_of : (frame : Frame) (attrs : List Attr) (frag : FragKey) (stored : StoredPiece) → FitsPlain frame attrs frag stored → NamesWrites (piece_of frag stored)
 unfolding piece_of head_of
 names_of frame attrs frag stored fits =
     let up = origins_ascend frag stored.head.consolidated stored.head.origins fits.head.some_origin fits.head.origins in

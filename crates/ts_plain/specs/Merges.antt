@@ -59,14 +59,14 @@ abbrev pub version_cmp : Order → Version → Version → Ordering
 version_cmp cmp v w = ordering_then (cmp v.coords w.coords) (key_cmp v.key w.key)
 
 -- each version comes before all behind it, those of one place by ascending key
-abbrev pub Ascends : Order → List Version → Type 0
-Ascends cmp [] = Unit {0}
-Ascends cmp (v ∷ vs) = AllByRecursion (λ w. version_cmp cmp v w ≡ Less) vs × Ascends cmp vs
+abbrev pub VersionsAscend : Order → List Version → Type 0
+VersionsAscend cmp [] = Unit {0}
+VersionsAscend cmp (v ∷ vs) = AllByRecursion (λ w. version_cmp cmp v w ≡ Less) vs × VersionsAscend cmp vs
 
 -- the versions lie in the domain, and ascend in global order
 pub record IsOrdered (frame : Frame) (versions : List Version) : Type 0 where
   pub inside : All (LiesInside frame) versions
-  pub ascend : Ascends (global_order frame) versions
+  pub ascend : VersionsAscend (global_order frame) versions
 
 -- the next version, if there is one, stands at another place
 abbrev pub is_last : Order → Version → List Version → Bool

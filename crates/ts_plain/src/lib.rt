@@ -14,4 +14,4 @@ pub use merging::{merge_all, merge_two, newest_alone};
 pub use reading::{read_head, read_plain};
 pub use stored::{Side, SideList, StoredCell, StoredCellList, StoredHead, StoredPiece};
 pub use ts_schema::{Want, taken};
-pub use writing::{parts_spell_one_piece, spelled_pieces_can_be_written, write_plain};
+pub use writing::write_plain;

@@ -1,7 +1,7 @@
 //! Merging lists of versions.
 ghost use Rattle.std.specs.Prelude.{◌≡◌, ◌<◌, ◌++◌, [], ◌∷◌, length, slice_get, Some, drop, IfOk, OnOk};
 ghost use Rattle.std.specs.List.{All};
-ghost use Rattle.ts_plain.specs.Merges.{newer, merged, Climbs, global_order, LiesInside, IsMerged, Ascends, is_last, last_alone, IsMergedAll};
+ghost use Rattle.ts_plain.specs.Merges.{newer, merged, Climbs, global_order, LiesInside, IsMerged, VersionsAscend, is_last, last_alone, IsMergedAll};
 
 use std::alloc::Global;
 use std::cmp::Ordering;
@@ -135,7 +135,7 @@ pub fn newest_alone(
     versions: &VersionList,
 ) -> Result<VersionList, OutOfMemory>
     requires inside { All (LiesInside frame.now) versions.now }
-    requires ascends { Ascends (global_order frame.now) versions.now }
+    requires ascends { VersionsAscend (global_order frame.now) versions.now }
     ensures newest { IfOk result (IsMergedAll (global_order frame.now) (versions.now ∷ [])) }
     ensures inside { IfOk result (All (LiesInside frame.now)) }
 {
@@ -154,7 +154,7 @@ pub fn merge_all(
     lists: &[VersionList],
 ) -> Result<VersionList, OutOfMemory>
     requires inside { All (All (LiesInside frame.now)) lists.now }
-    requires ascend { All (Ascends (global_order frame.now)) lists.now }
+    requires ascend { All (VersionsAscend (global_order frame.now)) lists.now }
     ensures merged { IfOk result (IsMergedAll (global_order frame.now) lists.now) }
     ensures inside { IfOk result (All (LiesInside frame.now)) }
 {

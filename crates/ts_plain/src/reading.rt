@@ -420,7 +420,8 @@ fn read_piece_head(
 /// object's start, is that of the first field in the order of the layout that the object ends within
 /// or that breaks its rule. A body that goes on after its layout is broken at the first byte too
 /// many; an object that is cut behind its first 14 bytes is broken at 6, where its length stands.
-/// The versions of a piece stand in global order, those of one cell by ascending key.
+/// The versions of a piece stand in global order, those of one cell by ascending key. So an object
+/// spells one piece at most (`only`), and a piece that was read can be written (`names`).
 pub fn read_plain(
     alloc: Global,
     frame: &Frame,

@@ -2,8 +2,7 @@
 //!
 //! The piece that a fragment holds follows from what is stored: a cell names its write by a place in
 //! the list of the fragment's origins, where a version has the write's key.
-use std::alloc::Global;
-use ts_base::{Coords, Duplicate, Key, KeyList, OutOfMemory, Row, Sequence};
+use ts_base::{Coords, Key, KeyList, Row, Sequence};
 
 /// The coordinates along one dimension from `low` to `high`, which both count.
 #[derive(Clone, Copy, Debug, PartialEq, Eq)]
@@ -16,12 +15,6 @@ pub struct Side {
 
 /// A side for each dimension of an array.
 pub type SideList = Sequence<Side>;
-
-impl Duplicate for Side {
-    fn copy(&self, _alloc: Global) -> Result<Side, OutOfMemory> {
-        Ok(*self)
-    }
-}
 
 /// What stands before the cells, in the order of the layout.
 #[derive(Debug, Drop, PartialEq, Eq)]

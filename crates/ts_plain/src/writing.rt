@@ -1,10 +1,8 @@
 //! Writing plain objects.
-ghost use Rattle.std.specs.Prelude.{◌≡◌, ◌^◌, ◌<◌, ◌++◌, ℕ, List, Option, length, map, All, IfOk, OnOk};
+ghost use Rattle.std.specs.Prelude.{◌≡◌, ◌^◌, ◌<◌, ◌++◌, List, length, map, All, IfOk, OnOk};
 ghost use Rattle.std.specs.List.{flat_map};
 ghost use Rattle.std.specs.List.Sorted.{IsStrictlySortedBy};
 ghost use Rattle.ts_base.specs.Keys.{key_cmp};
-ghost use Rattle.ts_base.specs.declared.heads.Piece.{Piece as AnyPiece};
-ghost use Rattle.ts_base.specs.declared.names.Part.{Part as AnyPart};
 ghost use Rattle.ts_base.specs.declared.heads.Version.{Version as AnyVersion};
 ghost use Rattle.ts_wire.specs.declared.kinds.Kind.TheVariants as kind;
 ghost use Rattle.ts_wire.specs.Envelope.{wrapped};
@@ -12,16 +10,15 @@ ghost use Rattle.ts_wire.specs.Numbers.{int_bytes};
 ghost use Rattle.ts_wire.specs.Fields.{val_bytes};
 ghost use Rattle.ts_schema.specs.declared.attrs.Attr.{Attr as AnyAttr};
 ghost use Rattle.ts_schema.specs.declared.frames.Frame.{Frame as AnyFrame};
-ghost use Rattle.ts_schema.specs.declared.schemas.Schema.{Schema as AnySchema};
 ghost use Rattle.ts_plain.specs.Plain.{origins_bytes, hull_bytes, head_bytes, cell_bytes, plain_bytes};
-ghost use Rattle.ts_plain.specs.Pieces.{IsPlainObject, IsPlain};
+ghost use Rattle.ts_plain.specs.Pieces.{IsPlainObject};
 ghost use Rattle.ts_plain.specs.Writes.{HasPlain, place_of, HasPlace, sides_of, stored_head, stored_cell, stored_for, NamesWrites};
 
 use std::alloc::Global;
 use ts_base::{
     ByteList, Coords, Head, Key, KeyList, OutOfMemory, Piece, Row, Version, VersionList,
 };
-use ts_wire::{Kind, Scribe, wrap};
+use ts_wire::{Kind, Scribe};
 
 fn place_of(origins: &KeyList, key: Key) -> u32
     requires few { length origins.now < 2 ^ 32 }
@@ -137,7 +134,7 @@ fn write_piece(alloc: Global, piece: &Piece) -> Result<ByteList, OutOfMemory>
     let mut scribe = Scribe::new(alloc);
     write_head(&mut scribe, &piece.head)?;
     write_versions(&mut scribe, &piece.head.origins, &piece.versions)?;
-    wrap(alloc, Kind::Plain, scribe.take().as_slice())
+    scribe.into_object(Kind::Plain)
 }
 
 /// The plain object of a piece, in the layout of FORMATS.md, "The plain fragment".
@@ -153,13 +150,3 @@ pub fn write_plain(alloc: Global, piece: &Piece) -> Result<ByteList, OutOfMemory
 {
     write_piece(alloc, piece)
 }
-
-/// A piece that some plain object spells can be written. The call itself does nothing.
-pub fn spelled_pieces_can_be_written()
-    ensures { (frame : AnyFrame) (attrs : List AnyAttr) (piece : AnyPiece) → HasPlain frame attrs piece → NamesWrites piece }
-{}
-
-/// Two pieces of one fragment with the same parts are one piece. The call itself does nothing.
-pub fn parts_spell_one_piece()
-    ensures { (frame : AnyFrame) (schema : AnySchema) (p q : AnyPiece) (parts : AnyPart → Option (List ℕ)) → p.head.frag ≡ q.head.frag → IsPlain frame schema p parts → IsPlain frame schema q parts → p ≡ q }
-{}

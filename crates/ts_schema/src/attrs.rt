@@ -6,7 +6,7 @@ use std::alloc::Global;
 use ts_base::{Duplicate, Label, OutOfMemory, Sequence, Val, ValType};
 
 /// An attribute: a value that each cell has. See the TileDB format specification, "Attribute".
-#[derive(Debug, Drop, PartialEq, Eq)]
+#[derive(Clone, Debug, Drop, PartialEq, Eq)]
 pub struct Attr {
     /// The name.
     pub name: Label,
@@ -22,13 +22,8 @@ pub struct Attr {
 pub type AttrList = Sequence<Attr>;
 
 impl Duplicate for Attr {
-    fn copy(&self, alloc: Global) -> Result<Attr, OutOfMemory> {
-        Ok(Attr {
-            name: self.name,
-            ty: self.ty,
-            nullable: self.nullable,
-            fill: self.fill.copy(alloc)?,
-        })
+    fn copy(&self, _alloc: Global) -> Result<Attr, OutOfMemory> {
+        Ok(self.clone()?)
     }
 }
 

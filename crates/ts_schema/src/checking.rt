@@ -1,11 +1,13 @@
 //! What is wrong with the attributes of a schema.
-ghost use Rattle.std.specs.Prelude.{◌≡◌, [], length};
+ghost use Rattle.std.specs.Prelude.{◌≡◌, [], length, IfOk};
 ghost use Rattle.ts_domain.specs.Dims.{has_name};
-ghost use Rattle.ts_schema.specs.Faults.{attr_fault, fault_behind, count_fault, schema_fault};
+ghost use Rattle.ts_schema.specs.Faults.{fault_of, fault_behind, count_fault, schema_fault};
 
 use crate::attrs::{Attr, has_attr};
 use crate::faults::SchemaFault;
-use ts_base::Label;
+use std::alloc::Global;
+use std::collections::BTreeSet;
+use ts_base::{Label, OutOfMemory};
 use ts_domain::{Dim, Domain};
 use ts_value::fits;
 
@@ -15,11 +17,11 @@ fn has_dim(dims: &[Dim], name: &Label) -> bool
     dims.iter().any(|dim| dim.name == *name)
 }
 
-// The fault of an attribute behind earlier ones.
-fn attr_fault(dims: &[Dim], earlier: &[Attr], attr: &Attr) -> Option<SchemaFault>
-    ensures { result ≡ attr_fault dims.now earlier.now attr.now }
+// The fault of an attribute, whose name came before or not.
+fn fault_of(dims: &[Dim], again: bool, attr: &Attr) -> Option<SchemaFault>
+    ensures { result ≡ fault_of dims.now again attr.now }
 {
-    if has_attr(earlier, &attr.name) || has_dim(dims, &attr.name) {
+    if again || has_dim(dims, &attr.name) {
         Some(SchemaFault::DuplicateAttr(attr.name))
     } else if fits(attr.ty, attr.nullable, &attr.fill) {
         None
@@ -28,12 +30,31 @@ fn attr_fault(dims: &[Dim], earlier: &[Attr], attr: &Attr) -> Option<SchemaFault
     }
 }
 
-// The first fault of an attribute.
-fn first_fault(dims: &[Dim], attrs: &[Attr]) -> Option<SchemaFault>
+// The first fault of an attribute, by a set of the names before each.
+fn first_fault(
+    alloc: Global,
+    dims: &[Dim],
+    attrs: &[Attr],
+) -> Result<Option<SchemaFault>, OutOfMemory>
+    ensures { IfOk result (λ found. found ≡ fault_behind dims.now [] attrs.now) }
+{
+    let mut names = BTreeSet::new(alloc);
+    for attr in attrs {
+        let new = names.insert(attr.name)?;
+        if let Some(fault) = fault_of(dims, !new, attr) {
+            return Ok(Some(fault));
+        }
+    }
+    Ok(None)
+}
+
+// The first fault of an attribute. It takes no memory, and the square of the number of attributes.
+fn first_fault_in_place(dims: &[Dim], attrs: &[Attr]) -> Option<SchemaFault>
     ensures { result ≡ fault_behind dims.now [] attrs.now }
 {
     for (place, attr) in attrs.iter().enumerate() {
-        if let Some(fault) = attr_fault(dims, &attrs[..place], attr) {
+        let again = has_attr(&attrs[..place], &attr.name);
+        if let Some(fault) = fault_of(dims, again, attr) {
             return Some(fault);
         }
     }
@@ -54,10 +75,18 @@ fn count_fault(count: u64) -> Option<SchemaFault>
 
 /// The first fault of attributes beside the dimensions of their array: that of an attribute, or else
 /// that of their number.
-pub fn schema_fault(domain: &Domain, attrs: &[Attr]) -> Option<SchemaFault>
+///
+/// It keeps the names in memory, so that many attributes take little more than their number. Where
+/// there is no memory for them, each name is compared with all before it: the answer is the same.
+pub fn schema_fault(alloc: Global, domain: &Domain, attrs: &[Attr]) -> Option<SchemaFault>
     ensures { result ≡ schema_fault domain.now attrs.now }
 {
-    match first_fault(domain.as_slice(), attrs) {
+    let dims = domain.as_slice();
+    let found = match first_fault(alloc, dims, attrs) {
+        Ok(found) => found,
+        Err(_) => first_fault_in_place(dims, attrs),
+    };
+    match found {
         Some(fault) => Some(fault),
         None => count_fault(attrs.len() as u64),
     }

@@ -1,15 +1,16 @@
 //! Evolution: which attributes a schema loses and gets.
 ghost use Rattle.std.specs.Prelude.{◌≡◌, [], IfOk};
-ghost use Rattle.ts_schema.specs.Attrs.{has_label};
+ghost use Rattle.ts_schema.specs.Attrs.{has_attr, has_label, HasNames};
 ghost use Rattle.ts_schema.specs.Evolutions.{less_fault, without, evolved_attrs};
 
-use crate::attrs::{AttrList, has_attr};
+use crate::attrs::{Attr, AttrList};
 use crate::faults::SchemaFault;
 use std::alloc::Global;
+use std::collections::BTreeSet;
 use ts_base::{Duplicate, Label, LabelList, OutOfMemory};
 
 /// A change of a schema. See the TileDB format specification, "Array Schema".
-#[derive(Debug, Drop, PartialEq, Eq)]
+#[derive(Clone, Debug, Drop, PartialEq, Eq)]
 pub struct Evolution {
     /// The attributes that are added behind the others.
     pub add: AttrList,
@@ -18,39 +19,57 @@ pub struct Evolution {
 }
 
 impl Duplicate for Evolution {
-    fn copy(&self, alloc: Global) -> Result<Evolution, OutOfMemory> {
-        Ok(Evolution {
-            add: self.add.copy(alloc)?,
-            less: self.less.copy(alloc)?,
-        })
+    fn copy(&self, _alloc: Global) -> Result<Evolution, OutOfMemory> {
+        Ok(self.clone()?)
     }
 }
 
-fn has_label(names: &[Label], name: &Label) -> bool
-    ensures { result ≡ has_label names.now name.now }
+// The names of attributes.
+fn attr_names(alloc: Global, attrs: &[Attr]) -> Result<BTreeSet<Label>, OutOfMemory>
+    ensures { IfOk result (λ names. HasNames names (has_attr attrs.now)) }
 {
-    names.iter().any(|other| *other == *name)
+    let mut names = BTreeSet::new(alloc);
+    for attr in attrs {
+        names.insert(attr.name)?;
+    }
+    Ok(names)
+}
+
+// The labels of a list.
+fn label_set(alloc: Global, labels: &[Label]) -> Result<BTreeSet<Label>, OutOfMemory>
+    ensures { IfOk result (λ names. HasNames names (has_label labels.now)) }
+{
+    let mut names = BTreeSet::new(alloc);
+    for label in labels {
+        names.insert(*label)?;
+    }
+    Ok(names)
 }
 
 /// The fault of the first name that cannot be taken away.
-pub fn less_fault(attrs: &AttrList, less: &LabelList) -> Option<SchemaFault>
-    ensures { result ≡ less_fault attrs.now [] less.now }
+pub fn less_fault(
+    alloc: Global,
+    attrs: &AttrList,
+    less: &LabelList,
+) -> Result<Option<SchemaFault>, OutOfMemory>
+    ensures { IfOk result (λ fault. fault ≡ less_fault attrs.now [] less.now) }
 {
-    let names = less.as_slice();
-    for (place, name) in names.iter().enumerate() {
-        if !has_attr(attrs.as_slice(), name) || has_label(&names[..place], name) {
-            return Some(SchemaFault::UnknownAttr(*name));
+    let mut left = attr_names(alloc, attrs.as_slice())?;
+    for name in less.as_slice() {
+        if !left.remove(name) {
+            return Ok(Some(SchemaFault::UnknownAttr(*name)));
         }
     }
-    None
+    Ok(None)
 }
 
 fn without(alloc: Global, less: &LabelList, attrs: &AttrList) -> Result<AttrList, OutOfMemory>
     ensures { IfOk result (λ kept. kept ≡ without less.now attrs.now) }
 {
+    let names = label_set(alloc, less.as_slice())?;
     let mut kept = AttrList::new(alloc);
     for attr in attrs.as_slice() {
-        if !has_label(less.as_slice(), &attr.name) {
+        if !names.contains(&attr.name) {
             kept.push(attr.copy(alloc)?)?;
         }
     }

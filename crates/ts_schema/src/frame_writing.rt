@@ -7,7 +7,7 @@ use crate::types::write_type;
 use std::alloc::Global;
 use ts_base::{ByteList, OutOfMemory};
 use ts_domain::{Dim, Domain, Order};
-use ts_wire::{Kind, Scribe, wrap};
+use ts_wire::{Kind, Scribe};
 
 fn code_of(order: Order) -> u8
     ensures { result ≡ order_code order }
@@ -65,5 +65,5 @@ pub fn write_frame(alloc: Global, frame: &Frame) -> Result<ByteList, OutOfMemory
 {
     let mut scribe = Scribe::new(alloc);
     write_fields(&mut scribe, frame)?;
-    wrap(alloc, Kind::Domain, scribe.take().as_slice())
+    scribe.into_object(Kind::Domain)
 }

@@ -8,7 +8,7 @@ ghost use Rattle.ts_schema.specs.FrameTexts.{frame_bytes, frame_object, frame_of
 use crate::frame_reading::read_frame;
 use crate::frame_writing::write_frame;
 use std::alloc::Global;
-use ts_base::{ByteList, Duplicate, OutOfMemory};
+use ts_base::{ByteList, OutOfMemory};
 use ts_domain::{Domain, Order};
 use ts_wire::Damaged;
 
@@ -26,12 +26,6 @@ pub struct Frame {
     pub tile: Order,
     /// The number of cells in a data tile of a sparse array, from 1 to 1,000,000.
     pub capacity: u32,
-}
-
-impl Duplicate for Frame {
-    fn copy(&self, _alloc: Global) -> Result<Frame, OutOfMemory> {
-        Ok(*self)
-    }
 }
 
 impl Frame {

@@ -7,7 +7,7 @@ use crate::attrs::{Attr, AttrList};
 use crate::types::write_type;
 use std::alloc::Global;
 use ts_base::{ByteList, OutOfMemory};
-use ts_wire::{Kind, Scribe, wrap};
+use ts_wire::{Kind, Scribe};
 
 #[tactic(auto, unfolding(crate::specs::SchemaTexts::attr_bytes))]
 fn write_attr(scribe: &mut Scribe, attr: &Attr) -> Result<(), OutOfMemory>
@@ -46,5 +46,5 @@ pub fn write_schema(alloc: Global, attrs: &AttrList) -> Result<ByteList, OutOfMe
 {
     let mut scribe = Scribe::new(alloc);
     write_attrs(&mut scribe, attrs)?;
-    wrap(alloc, Kind::Schema, scribe.take().as_slice())
+    scribe.into_object(Kind::Schema)
 }

@@ -22,7 +22,7 @@ use ts_wire::ReadFault;
 
 /// A schema: the attributes that an array has from a timestamp on. See the TileDB format
 /// specification, "Array Schema".
-#[derive(Debug, Drop, PartialEq, Eq)]
+#[derive(Clone, Debug, Drop, PartialEq, Eq)]
 pub struct Schema {
     /// The key, whose timestamp is the one from which on the schema holds.
     pub key: Key,
@@ -34,11 +34,8 @@ pub struct Schema {
 pub type SchemaList = Sequence<Schema>;
 
 impl Duplicate for Schema {
-    fn copy(&self, alloc: Global) -> Result<Schema, OutOfMemory> {
-        Ok(Schema {
-            key: self.key,
-            attrs: self.attrs.copy(alloc)?,
-        })
+    fn copy(&self, _alloc: Global) -> Result<Schema, OutOfMemory> {
+        Ok(self.clone()?)
     }
 }
 
@@ -46,13 +43,18 @@ impl Schema {
     /// The schema of these attributes, under this key, of an array of this frame.
     ///
     /// It gives the first fault, if there is one: attribute by attribute `DuplicateAttr` and then
-    /// `BadFill`, then `NoAttrLeft`, then `TooManyAttrs`. It takes no memory.
-    pub fn new(frame: &Frame, key: Key, attrs: AttrList) -> Result<Schema, SchemaFault>
+    /// `BadFill`, then `NoAttrLeft`, then `TooManyAttrs`. See [`schema_fault`] for its memory.
+    pub fn new(
+        alloc: Global,
+        frame: &Frame,
+        key: Key,
+        attrs: AttrList,
+    ) -> Result<Schema, SchemaFault>
         ensures ok { IfOk result (λ schema. schema ≡ record { key = key; attrs = attrs }) }
         ensures fault { result_err result ≡ schema_fault frame.now.domain attrs }
         ensures count { IfOk result (λ schema. (1 ≤ length schema.attrs) × (length schema.attrs ≤ 64)) }
     {
-        match schema_fault(&frame.domain, attrs.as_slice()) {
+        match schema_fault(alloc, &frame.domain, attrs.as_slice()) {
             Some(fault) => Err(fault),
             None => Ok(Schema { key, attrs }),
         }
@@ -75,11 +77,11 @@ impl Schema {
         ensures fault { FailsAs (evolution_fault frame.now.domain self.now.attrs change.now) result }
         ensures count { IfOk result (λ schema. (1 ≤ length schema.attrs) × (length schema.attrs ≤ 64)) }
     {
-        if let Some(fault) = less_fault(&self.attrs, &change.less) {
+        if let Some(fault) = less_fault(alloc, &self.attrs, &change.less)? {
             return Err(fault);
         }
         let attrs = evolved_attrs(alloc, &self.attrs, change)?;
-        Schema::new(frame, key, attrs)
+        Schema::new(alloc, frame, key, attrs)
     }
 
     /// The object that spells the schema. Its key is not in the object but in its name.

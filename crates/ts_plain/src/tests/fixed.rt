@@ -1,7 +1,7 @@
 //! Objects of an array of one dimension from 0 to 9 and one attribute of 64-bit integers.
 ghost use Rattle.std.specs.Prelude.{IfOk};
 ghost use Rattle.std.specs.List.{All};
-ghost use Rattle.ts_plain.specs.Merges.{global_order, LiesInside, Ascends};
+ghost use Rattle.ts_plain.specs.Merges.{global_order, LiesInside, VersionsAscend};
 
 use super::{Change, broken_at, read_at};
 use crate::{Want, merge_all, read_head, read_plain, taken, write_plain};
@@ -260,7 +260,7 @@ fn a_piece_is_read_and_written_back_and_taken_from(rt: HostRuntime) -> Result<()
 // A list of one version, of the write with this timestamp, at a coordinate of the domain.
 fn alone(alloc: Global, frame: &Frame, t: u64, x: i128) -> Result<VersionList, Fail>
     ensures inside { IfOk result (All (LiesInside frame.now)) }
-    ensures ascends { IfOk result (Ascends (global_order frame.now)) }
+    ensures ascends { IfOk result (VersionsAscend (global_order frame.now)) }
 {
     let coords = Coords::new(&[x]);
     if frame.domain.count() != 1 || frame.domain.check(&coords).is_err() {

@@ -24,32 +24,15 @@ pub const FRAME: [u8; 73] = [
 // A byte of the object, what it is changed to, and the offset that then is broken.
 struct Change(u64, u8, u64);
 
-const CHANGES: [Change; 27] = [
-    Change(0, 0x74, 0),
+const CHANGES: [Change; 10] = [
     Change(4, 2, 4),
-    Change(5, 2, 5),
-    Change(6, 0x3a, 6),
-    Change(14, 2, 14),
     Change(15, 2, 15),
-    Change(16, 2, 16),
     Change(19, 0x10, 17),
-    Change(20, 0xff, 17),
-    Change(21, 0, 21),
-    Change(21, 9, 21),
     Change(21, 2, 73),
-    Change(22, 0, 22),
     Change(22, 65, 22),
-    Change(23, 0x30, 22),
-    Change(24, 0, 24),
     Change(24, 9, 24),
-    Change(24, 10, 24),
-    Change(24, 11, 24),
     Change(25, 10, 41),
     Change(33, 2, 25),
-    Change(40, 0x80, 25),
-    Change(49, 2, 41),
-    Change(56, 0x80, 41),
-    Change(57, 0, 57),
     Change(57, 11, 57),
     Change(65, 2, 57),
 ];

@@ -21,26 +21,14 @@ const KEY: Key = Key { t: 5, id: 3 };
 // A byte of the object, what it is changed to, and the offset that then is broken.
 struct Change(u64, u8, Option<u64>);
 
-const CHANGES: [Change; 21] = [
-    Change(0, 0x74, Some(0)),
+const CHANGES: [Change; 9] = [
     Change(4, 1, Some(4)),
-    Change(5, 2, Some(5)),
-    Change(6, 0x15, Some(6)),
-    Change(14, 0, Some(14)),
     Change(14, 65, Some(14)),
     Change(14, 2, Some(36)),
-    Change(15, 0, Some(15)),
-    Change(15, 65, Some(15)),
     Change(16, 0x2d, Some(15)),
-    Change(17, 0, Some(17)),
     Change(17, 11, Some(17)),
-    Change(17, 3, Some(19)),
     Change(17, 8, Some(19)),
-    Change(17, 9, Some(19)),
-    Change(18, 2, Some(18)),
     Change(18, 1, None),
-    Change(19, 3, Some(19)),
-    Change(19, 0, Some(19)),
     Change(19, 2, Some(19)),
     Change(27, 0x7f, Some(19)),
 ];

@@ -6,7 +6,7 @@ use Rattle.std.proofs.lemmas.List.Elements.{All-from_recursion, recursion_from_A
 use Rattle.ts_base.specs.declared.heads.Version.{Version}
 use Rattle.ts_order.proofs.OrderLemmas.{global_total}
 use Rattle.ts_schema.specs.declared.frames.Frame.{Frame}
-use Rattle.ts_plain.specs.Merges.{Ascends, last_alone, global_order, LiesInside, IsMergedAll}
+use Rattle.ts_plain.specs.Merges.{VersionsAscend, last_alone, global_order, LiesInside, IsMergedAll}
 use Rattle.ts_plain.proofs.MergeAllLaws.{one_merged, last_all}
 use Rattle.ts_plain.proofs.merging.newest_alone.Goals as goal
 
@@ -15,7 +15,7 @@ abbrev Are : {E : Type 0} → Frame → List Version → Result (List Version) E
 Are frame vs result = IfOk result (λ list. list ≡ last_alone (global_order frame) vs)
 
 -- the last versions are the newest
-newest_so : {E : Type 0} (frame : Frame) (vs : List Version) (result : Result (List Version) E) → Ascends (global_order frame) vs → Are frame vs result
+newest_so : {E : Type 0} (frame : Frame) (vs : List Version) (result : Result (List Version) E) → VersionsAscend (global_order frame) vs → Are frame vs result
     → IfOk result (IsMergedAll (global_order frame) (vs ∷ []))
 newest_so frame vs result asc =
     let law = one_merged (global_order frame) (global_total frame.domain frame.tile frame.cell) vs asc in

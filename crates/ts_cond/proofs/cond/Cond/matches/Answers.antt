@@ -1,10 +1,12 @@
 use Rattle.std.proofs.Common.{rules, ◌≡◌, ap, ◌∙◌}
 use Rattle.ts_cond.specs.Holds.{holds}
 use Rattle.ts_cond.specs.Picks.{picked_value}
+use Rattle.ts_cond.specs.Seen.{value_in}
 use Rattle.ts_cond.proofs.PickLemmas.{holds_as_picked}
 use Rattle.ts_cond.proofs.cond.Cond.matches.Goals as goal
 
 pub returns-clause-matches : goal.returns-clause-matches
+unfolding value_in
 returns-clause-matches c = λ attrs same.
     let picks = c.args.picks.now in
     let condition = c.args.self.now in

@@ -4,7 +4,7 @@ use Rattle.ts_wire.specs.Exact.{IsBytes}
 use Rattle.ts_cond.proofs.ParsedLaws.{parses_object}
 use Rattle.ts_cond.specs.Machine.{parsed}
 use Rattle.ts_cond.proofs.BreakLaws.{broken_is_refused}
-use Rattle.ts_cond.proofs.CauseLaws.{has_cause, answer_has_cause, answer_is_read}
+use Rattle.ts_cond.proofs.CauseLaws.{has_cause, one_of_two, answer_has_cause, answer_is_read}
 use Rattle.ts_cond.proofs.GrammarReads.{grammar_is_read}
 use Rattle.ts_cond.proofs.cond.Cond.parse.Goals as goal
 
@@ -25,6 +25,9 @@ returns-clause-broken c = λ at is.
     let text = c.args.text.now in
     let fields = c.args.fields.now in
     broken_is_refused text fields at is c.read_text.result (answer_has_cause c.read_text.result (parsed text fields) text fields c.read_text.ensures (has_cause text fields))
+
+pub returns-clause-either : goal.returns-clause-either
+returns-clause-either c = one_of_two c.args.text.now
 
 pub returns-clause-object : goal.returns-clause-object
 returns-clause-object c are =

@@ -1,6 +1,6 @@
 //! The fields that a condition names, as its text is read.
 ghost use Rattle.std.specs.Prelude.{◌≡◌, ◌+◌, ◌++◌, ◌≤◌, take, drop, ◌<◌, length, slice_get, IfOk, IfSome, OnOk};
-ghost use Rattle.ts_cond.specs.Machine.{named_from, meets, newly, taken, first, judges, suits};
+ghost use Rattle.ts_cond.specs.Machine.{named_from, meets, newly, newly_named, first, judges, suits};
 ghost use Rattle.ts_cond.specs.Spelled.{kind_of};
 
 use crate::faults::CondFault;
@@ -13,13 +13,13 @@ use ts_base::{Label, OutOfMemory, ValType};
 /// The fields that were named, in the order of their first names, those that were not, and the
 /// first fault of a test.
 #[derive(Debug, Drop)]
-pub struct Met {
+pub struct Naming {
     pub used: CondFieldList,
     pub unused: CondFieldList,
     pub clash: Option<CondFault>,
 }
 
-impl Met {
+impl Naming {
     /// A field is named: its place among the fields that were named. Where no field has this name,
     /// the fault is kept, unless there is one before it, and the place is 0.
     pub fn meet(&mut self, alloc: Global, name: &Label) -> Result<u8, OutOfMemory>
@@ -52,7 +52,7 @@ impl Met {
         requires room { length self.old.used + length self.old.unused ≤ 255 }
         requires within { place < length self.old.unused }
         ensures place { IfOk result (λ found. found ≡ length self.old.used) }
-        ensures meets { OnOk result (self.new ≡ taken place (slice_get self.old.unused place) self.old) }
+        ensures meets { OnOk result (self.new ≡ newly_named place (slice_get self.old.unused place) self.old) }
         ensures room { OnOk result (length self.new.used + length self.new.unused ≡ length self.old.used + length self.old.unused) }
     {
         let found = self.used.len() as u8;

@@ -1,4 +1,4 @@
--- The fields that were met go on fitting as more are named, and a value that clashes with none is of its field's kind.
+-- The fields that were naming go on fitting as more are named, and a value that clashes with none is of its field's kind.
 use Rattle.std.proofs.Common.{◌≡◌, ℕ, zero, suc, ◌+◌, ◌<◌, ◌≤◌, Bool, true, false, not, ◌&&◌, ◌||◌, nat_eq, if◌then◌else◌, List, [], ◌∷◌, ◌++◌, length, take, drop, slice_get, Option, Some, None, ◌⊎◌, inl, inr, refl, sym, ap, ◌∙◌, subst, arith, append_assoc, length-append}
 use Rattle.std.proofs.lemmas.List.{append-nil}
 use Rattle.std.specs.Cmp.Lexicographic.{pointwise}
@@ -11,9 +11,9 @@ use Rattle.ts_wire.specs.Fields.{FitsVal}
 use Rattle.ts_cond.specs.declared.faults.CondFault.{CondFault}
 use Rattle.ts_cond.specs.declared.faults.CondFault.TheVariants as fault
 use Rattle.ts_cond.specs.declared.fields.CondField.{CondField}
-use Rattle.ts_cond.specs.declared.met.Met.{Met}
+use Rattle.ts_cond.specs.declared.naming.Naming.{Naming}
 use Rattle.ts_cond.specs.CondTexts.{has_field, FitsField, is_of_kind}
-use Rattle.ts_cond.specs.Machine.{first, named_from, taken, newly, meets_by, meets, suits, judged}
+use Rattle.ts_cond.specs.Machine.{first, named_from, newly_named, newly, meets_by, meets, suits, judged}
 use Rattle.ts_cond.specs.Tokens.{Kind, Number, Text, Blob, unquoted, unhexed}
 use Rattle.ts_cond.proofs.GoodTokens.{IsGood}
 
@@ -123,25 +123,25 @@ in_turn_join front [] ys some more = subst (λ zs. InTurn FitsField zs ys) (appe
 in_turn_join front (x ∷ xs) ys some more =
     (some.0, in_turn_join (front ++ x ∷ []) xs ys some.1 (subst (λ zs. InTurn FitsField zs ys) (sym (append_assoc front (x ∷ []) xs)) more))
 
--- ---- fields that were met
+-- ---- fields that were naming
 
 -- the fields that were named and those that were not fit one behind the other, and they are few
-pub record MetFits (met : Met) : Type 0 where
-  pub each : InTurn FitsField [] (met.used ++ met.unused)
-  pub few : length met.used + length met.unused ≤ 72
+pub record NamingFits (naming : Naming) : Type 0 where
+  pub each : InTurn FitsField [] (naming.used ++ naming.unused)
+  pub few : length naming.used + length naming.unused ≤ 72
 
 -- a field that was named before, at this place
-pub record IsOld (met : Met) (x : ℕ × Met) : Type 0 where
-  pub same : x.1 ≡ met
-  pub within : x.0 < length met.used
+pub record IsOld (naming : Naming) (x : ℕ × Naming) : Type 0 where
+  pub same : x.1 ≡ naming
+  pub within : x.0 < length naming.used
 
 -- a field that is named for the first time
-pub record IsNew (met : Met) (x : ℕ × Met) : Type 0 where
+pub record IsNew (naming : Naming) (x : ℕ × Naming) : Type 0 where
   pub field : CondField
-  pub place : x.0 ≡ length met.used
-  pub used : x.1.used ≡ met.used ++ field ∷ []
-  pub fits : MetFits x.1
-  pub clash : x.1.clash ≡ met.clash
+  pub place : x.0 ≡ length naming.used
+  pub used : x.1.used ≡ naming.used ++ field ∷ []
+  pub fits : NamingFits x.1
+  pub clash : x.1.clash ≡ naming.clash
 
 pub some_first : (c : Option CondFault) (w : CondFault) → first c w ≡ None → ⊥
 some_first None w h = let some : Some w ≡ None = h in cc
@@ -166,46 +166,46 @@ parted_at (x ∷ xs) (suc n) f h = ap (λ ys. x ∷ ys) (parted_at xs n f h)
 parted : (xs : List CondField) (n : ℕ) (f : CondField) → slice_get xs n ≡ Some f → xs ≡ take n xs ++ f ∷ drop (n + 1) xs
 parted xs n f h = let next : suc n ≡ n + 1 = omega arith in parted_at xs n f h ∙ ap (λ m. take n xs ++ f ∷ drop m xs) next
 
-taken_new : (place : ℕ) (got : Option CondField) (met : Met) → MetFits met → slice_get met.unused place ≡ got → place < length met.unused
-    → IsNew met (length met.used, taken place got met)
-taken_new place None met fits h few = absurd (none_within met.unused place h few)
+taken_new : (place : ℕ) (got : Option CondField) (naming : Naming) → NamingFits naming → slice_get naming.unused place ≡ got → place < length naming.unused
+    → IsNew naming (length naming.used, newly_named place got naming)
+taken_new place None naming fits h few = absurd (none_within naming.unused place h few)
   where
     none_within : (xs : List CondField) (n : ℕ) → slice_get xs n ≡ None → n < length xs → ⊥
     none_within [] n h few = omega (arith, few)
     none_within (x ∷ xs) zero h few = let some : Some x ≡ None = h in cc
     none_within (x ∷ xs) (suc n) h few = none_within xs n h (omega (arith, few))
-taken_new place (Some f) met fits h few =
-    let left = take place met.unused ++ drop (place + 1) met.unused in
-    let parts = parted met.unused place f h in
-    let split = in_turn_split [] met.used met.unused fits.each in
-    let next = bubbled met.used (take place met.unused) f (drop (place + 1) met.unused) (subst (InTurn FitsField met.used) parts split.1) in
-    let whole = in_turn_join [] met.used (f ∷ left) split.0 next in
-    let count = ap length parts ∙ length-append (take place met.unused) (f ∷ drop (place + 1) met.unused) in
+taken_new place (Some f) naming fits h few =
+    let left = take place naming.unused ++ drop (place + 1) naming.unused in
+    let parts = parted naming.unused place f h in
+    let split = in_turn_split [] naming.used naming.unused fits.each in
+    let next = bubbled naming.used (take place naming.unused) f (drop (place + 1) naming.unused) (subst (InTurn FitsField naming.used) parts split.1) in
+    let whole = in_turn_join [] naming.used (f ∷ left) split.0 next in
+    let count = ap length parts ∙ length-append (take place naming.unused) (f ∷ drop (place + 1) naming.unused) in
     record {
       field = f;
       place = refl;
       used = refl;
       fits = record {
-        each = subst (InTurn FitsField []) (sym (append_assoc met.used (f ∷ []) left)) whole;
-        few = omega (arith, fits.few, count, length-append met.used (f ∷ []), length-append (take place met.unused) (drop (place + 1) met.unused));
+        each = subst (InTurn FitsField []) (sym (append_assoc naming.used (f ∷ []) left)) whole;
+        few = omega (arith, fits.few, count, length-append naming.used (f ∷ []), length-append (take place naming.unused) (drop (place + 1) naming.unused));
       };
       clash = refl;
     }
 
-newly_case : (found : Option ℕ) (name : List ℕ) (met : Met) → MetFits met → named_from 0 name met.unused ≡ found → (newly found name met).1.clash ≡ None
-    → IsNew met (newly found name met)
-newly_case None name met fits h clear = absurd (some_first met.clash (fault.UnknownField name) clear)
-newly_case (Some place) name met fits h clear =
-    taken_new place (slice_get met.unused place) met fits refl (let few = named_within 0 name met.unused place h in omega (arith, few))
+newly_case : (found : Option ℕ) (name : List ℕ) (naming : Naming) → NamingFits naming → named_from 0 name naming.unused ≡ found → (newly found name naming).1.clash ≡ None
+    → IsNew naming (newly found name naming)
+newly_case None name naming fits h clear = absurd (some_first naming.clash (fault.UnknownField name) clear)
+newly_case (Some place) name naming fits h clear =
+    taken_new place (slice_get naming.unused place) naming fits refl (let few = named_within 0 name naming.unused place h in omega (arith, few))
 
-meets_case : (found : Option ℕ) (name : List ℕ) (met : Met) → MetFits met → named_from 0 name met.used ≡ found → (meets_by found name met).1.clash ≡ None
-    → IsOld met (meets_by found name met) ⊎ IsNew met (meets_by found name met)
-meets_case None name met fits h clear = inr (newly_case (named_from 0 name met.unused) name met fits refl clear)
-meets_case (Some place) name met fits h clear = inl (record { same = refl; within = let few = named_within 0 name met.used place h in omega (arith, few) })
+meets_case : (found : Option ℕ) (name : List ℕ) (naming : Naming) → NamingFits naming → named_from 0 name naming.used ≡ found → (meets_by found name naming).1.clash ≡ None
+    → IsOld naming (meets_by found name naming) ⊎ IsNew naming (meets_by found name naming)
+meets_case None name naming fits h clear = inr (newly_case (named_from 0 name naming.unused) name naming fits refl clear)
+meets_case (Some place) name naming fits h clear = inl (record { same = refl; within = let few = named_within 0 name naming.used place h in omega (arith, few) })
 
 -- a field that is named is an old one or a new one, unless there is a fault
-pub meets_fits : (name : List ℕ) (met : Met) → MetFits met → (meets name met).1.clash ≡ None → IsOld met (meets name met) ⊎ IsNew met (meets name met)
-meets_fits name met fits clear = meets_case (named_from 0 name met.used) name met fits refl clear
+pub meets_fits : (name : List ℕ) (naming : Naming) → NamingFits naming → (meets name naming).1.clash ≡ None → IsOld naming (meets name naming) ⊎ IsNew naming (meets name naming)
+meets_fits name naming fits clear = meets_case (named_from 0 name naming.used) name naming fits refl clear
 
 -- ---- values
 
@@ -239,16 +239,16 @@ blob_spelled digits good = record { value = good; suits = suit }
     suit ty.Blob h = refl
     suit t h = absurd (none_true h)
 
-judged_case : (b : Bool) (field : CondField) (met : Met)
-    → (if b then met else record { used = met.used; unused = met.unused; clash = first met.clash (fault.TypeClash field.name) }).clash ≡ None
-    → ((if b then met else record { used = met.used; unused = met.unused; clash = first met.clash (fault.TypeClash field.name) }) ≡ met) × (b ≡ true)
-judged_case true field met clear = (refl, refl)
-judged_case false field met clear = absurd (some_first met.clash (fault.TypeClash field.name) clear)
+judged_case : (b : Bool) (field : CondField) (naming : Naming)
+    → (if b then naming else record { used = naming.used; unused = naming.unused; clash = first naming.clash (fault.TypeClash field.name) }).clash ≡ None
+    → ((if b then naming else record { used = naming.used; unused = naming.unused; clash = first naming.clash (fault.TypeClash field.name) }) ≡ naming) × (b ≡ true)
+judged_case true field naming clear = (refl, refl)
+judged_case false field naming clear = absurd (some_first naming.clash (fault.TypeClash field.name) clear)
 
--- the met fields are as they were, and the value is of the field's kind, if there is the field
-pub judges_clear : (got : Option CondField) (kind : Kind) (met : Met) → (judged got kind met).clash ≡ None
-    → (judged got kind met ≡ met) × ((f : CondField) → got ≡ Some f → suits f.ty kind ≡ true)
-judges_clear None kind met clear = (refl, λ f none. absurd (let no_field : None ≡ Some f = none in cc))
-judges_clear (Some g) kind met clear =
-    let case = judged_case (suits g.ty kind) g met clear in
+-- the naming fields are as they were, and the value is of the field's kind, if there is the field
+pub judges_clear : (got : Option CondField) (kind : Kind) (naming : Naming) → (judged got kind naming).clash ≡ None
+    → (judged got kind naming ≡ naming) × ((f : CondField) → got ≡ Some f → suits f.ty kind ≡ true)
+judges_clear None kind naming clear = (refl, λ f none. absurd (let no_field : None ≡ Some f = none in cc))
+judges_clear (Some g) kind naming clear =
+    let case = judged_case (suits g.ty kind) g naming clear in
     (case.0, λ f same. let is : g ≡ f = cc in subst (λ e. suits e.ty kind ≡ true) is case.1)
