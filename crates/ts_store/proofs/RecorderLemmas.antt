@@ -14,7 +14,7 @@ use Rattle.ts_store.specs.declared.recorder.Recorder.{Recorder}
 use Rattle.ts_store.specs.Calls.{is_no_memory, reply_to}
 use Rattle.ts_store.specs.Stores.{HasCause}
 use Rattle.ts_store.specs.Journals.{entry, EntersIf, Enters}
-use Rattle.ts_store.specs.Recorders.{found_none, vacant, Recorded}
+use Rattle.ts_store.specs.Recorders.{found_none, vacant, WasMade, Recorded}
 use Rattle.ts_store.proofs.JournalLemmas.{failures-Enters}
 
 -- a call found no memory exactly where its reply says so
@@ -32,13 +32,19 @@ kept_served : (missed : Bool) (did kept : Fate) → kept ≡ cond missed fate.Do
 kept_served true did kept is served = is
 kept_served false did kept is served = is ∙ served
 
+-- the fate that is kept is the one that the store told
+kept_tied : (missed : Bool) (said : Reply) (did kept told : Fate) → missed ≡ is_no_memory said → kept ≡ cond missed fate.Done did → did ≡ told → (said ≢ reply.Failed → told ≡ fate.Done) → kept ≡ told
+kept_tied true said did kept told same is tied served = is ∙ sym (served (λ failed. let other : is_no_memory said ≡ false = ap is_no_memory failed in cc))
+kept_tied false said did kept told same is tied served = is ∙ tied
+
 -- a call was made: its place was taken before, and then it was entered there
-pub recorded : {S : Type 0} (faults : S → ℕ) (notes : S → Call → Reply → S → Type 0) (before now : Recorder S) (opened : Book) (call : Call) (said : Reply) (missed : Bool) (did : Fate)
+pub recorded : {S : Type 0} (faults asked : S → ℕ) (told : S → Fate) (notes : S → Call → Reply → S → Type 0) (before now : Recorder S) (opened : Book) (call : Call) (said : Reply) (missed : Bool) (did : Fate)
     → opened.lane ≡ before.book.lane → opened.journal ≡ before.book.journal ++ vacant before.book.lane ∷ []
     → ((front : List Entry) (e : Entry) → opened.journal ≡ front ++ e ∷ [] → EntersIf missed front now.book.journal (entry opened.lane call did))
     → now.book.last ≡ cond missed fate.Done did → now.book.lane ≡ opened.lane → missed ≡ is_no_memory said
-    → notes before.store call said now.store → HasCause (faults before.store) (faults now.store) said → (said ≢ reply.Failed → did ≡ fate.Done) → Recorded faults notes before now call said
-recorded faults notes before now opened call said missed did lane place closes last stays is noted cause served =
+    → WasMade asked notes before.store call said now.store → did ≡ told now.store → HasCause (faults before.store) (faults now.store) said → (said ≢ reply.Failed → told now.store ≡ fate.Done)
+    → Recorded faults asked told notes before now call said
+recorded faults asked told notes before now opened call said missed did lane place closes last stays is made tied cause served =
     let L : ℕ → Type 0 = λ l. EntersIf missed before.book.journal now.book.journal (entry l call did) in
     let enters = subst L lane (closes before.book.journal (vacant before.book.lane) place) in
     let kept = kept_entry missed before.book.lane call did now.book.last before.book.journal now.book.journal enters last in
@@ -47,6 +53,6 @@ recorded faults notes before now opened call said missed did lane place closes l
     record {
       lane = stays ∙ lane;
       enters = entered;
-      noted = inr noted;
-      counted = λ base counts. failures-Enters base _ _ _ _ before.book.lane call now.book.last said counts cause (λ other. kept_served missed did now.book.last last (served other)) entered;
+      noted = inr (made, kept_tied missed said did now.book.last (told now.store) is last tied served);
+      counted = λ base counts. failures-Enters base _ _ _ _ before.book.lane call now.book.last said counts cause (λ other. kept_served missed did now.book.last last (tied ∙ served other)) entered;
     }

@@ -36,9 +36,9 @@ abbrev pub calls_by : ℕ → List Entry → List Entry
 calls_by lane [] = []
 calls_by lane (e ∷ entries) = if e.lane == lane then e ∷ calls_by lane entries else calls_by lane entries
 
--- the second journal begins with the first
-abbrev pub Begins : List Entry → List Entry → Type 0
-Begins journal longer = (rest : List Entry) × (longer ≡ journal ++ rest)
+-- the second journal is the first, and maybe more calls after it
+abbrev pub GrowsInto : List Entry → List Entry → Type 0
+GrowsInto journal longer = (rest : List Entry) × (longer ≡ journal ++ rest)
 
 -- the journal after a call: for want of memory as before, and else with the call's entry
 abbrev pub EntersIf : Bool → List Entry → List Entry → Entry → Type 0

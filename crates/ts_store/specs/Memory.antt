@@ -1,5 +1,5 @@
 -- The store in memory: its plan of faults, and a fresh one.
-use Rattle.std.specs.Prelude.{◌≡◌, false, [], if◌then◌else◌}
+use Rattle.std.specs.Prelude.{◌≡◌, ◌≢◌, false, [], if◌then◌else◌}
 use Rattle.std.specs.FinMap as map
 use Rattle.ts_base.specs.Held.{Held}
 use Rattle.ts_store.specs.declared.fate.Fate.{Fate}
@@ -8,6 +8,7 @@ use Rattle.ts_store.specs.declared.memory.MemStore.{MemStore}
 use Rattle.ts_store.specs.declared.memory.Next.{Next}
 use Rattle.ts_store.specs.declared.memory.Next.TheVariants.{AsPlanned, Works, Fails}
 use Rattle.ts_store.specs.declared.call.Reply.{Reply}
+use Rattle.ts_store.specs.declared.call.Reply.TheVariants as reply
 use Rattle.ts_store.specs.Calls.{is_no_memory}
 use Rattle.ts_store.specs.Counts.{one_more}
 use Rattle.ts_store.specs.Faults.{planned_fate}
@@ -38,3 +39,6 @@ pub record GoesByPlan (before now : MemStore) (said : Reply) : Type 0 where
   pub plan : now.plan ≡ before.plan
   pub calls : now.calls ≡ one_more before.calls
   pub next : now.next ≡ AsPlanned
+  -- its count of faults goes up by one with each failed call, and stays with any other
+  pub failed : said ≡ reply.Failed → now.faults ≡ one_more before.faults
+  pub served : said ≢ reply.Failed → now.faults ≡ before.faults

@@ -7,7 +7,7 @@ use thiserror::Error;
 use ts_base::{ByteList, Duplicate, Name, NameList, OutOfMemory, Prefix};
 
 /// A call to a store.
-#[derive(Debug, Drop, PartialEq, Eq)]
+#[derive(Clone, Debug, Drop, PartialEq, Eq)]
 pub enum Call {
     /// Puts an object with these bytes, unless its name is held.
     Put(Name, ByteList),
@@ -22,7 +22,7 @@ pub enum Call {
 }
 
 /// What a call to a store is answered.
-#[derive(Debug, Drop, PartialEq, Eq)]
+#[derive(Clone, Debug, Drop, PartialEq, Eq)]
 pub enum Reply {
     /// No call was made yet.
     Start,
@@ -88,30 +88,13 @@ impl Reply {
 }
 
 impl Duplicate for Call {
-    fn copy(&self, alloc: Global) -> Result<Call, OutOfMemory> {
-        match self {
-            Call::Put(name, bytes) => Ok(Call::Put(*name, bytes.copy(alloc)?)),
-            Call::Remove(name) => Ok(Call::Remove(*name)),
-            Call::List(prefix) => Ok(Call::List(*prefix)),
-            Call::Get(name, from, len) => Ok(Call::Get(*name, *from, *len)),
-            Call::Size(name) => Ok(Call::Size(*name)),
-        }
+    fn copy(&self, _alloc: Global) -> Result<Call, OutOfMemory> {
+        Ok(self.clone()?)
     }
 }
 
 impl Duplicate for Reply {
-    fn copy(&self, alloc: Global) -> Result<Reply, OutOfMemory> {
-        match self {
-            Reply::Start => Ok(Reply::Start),
-            Reply::Made => Ok(Reply::Made),
-            Reply::Taken => Ok(Reply::Taken),
-            Reply::Removed => Ok(Reply::Removed),
-            Reply::Names(names) => Ok(Reply::Names(names.copy(alloc)?)),
-            Reply::Bytes(bytes) => Ok(Reply::Bytes(bytes.copy(alloc)?)),
-            Reply::Absent => Ok(Reply::Absent),
-            Reply::Length(len) => Ok(Reply::Length(*len)),
-            Reply::Failed => Ok(Reply::Failed),
-            Reply::NoMemory => Ok(Reply::NoMemory),
-        }
+    fn copy(&self, _alloc: Global) -> Result<Reply, OutOfMemory> {
+        Ok(self.clone()?)
     }
 }

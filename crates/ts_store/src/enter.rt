@@ -5,6 +5,7 @@ ghost use Rattle.ts_store.specs.Calls.{is_no_memory, asked_after, FitsCall, IsSp
 ghost use Rattle.ts_store.specs.Counts.{capped};
 ghost use Rattle.ts_store.specs.Stores.{Answers, Steps, HasCause};
 ghost use Rattle.ts_store.specs.Journals.{held_after, failures, Enters};
+ghost use Rattle.ts_store.specs.Recorders.{Unmade, WasMade};
 
 use crate::call::{Call, Reply};
 use crate::fate::Fate;
@@ -34,8 +35,8 @@ pub fn enter_call<S: Store>(
     ensures told { IfSome (S.held store.old) (λ m. Steps (is_no_memory result) m (S.held store.new) (S.last store.new) call result) }
     ensures asked { (S.asked store.new ≡ S.asked store.old) ⊎ (S.asked store.new ≡ asked_after (S.asked store.old) call) }
 
-    // The store's own notes on the call, unless there was no memory to enter it.
-    ensures notes { (store.new ≡ store.old) ⊎ S.notes store.old call result store.new }
+    // The store made the call, unless there was no memory to enter it.
+    ensures notes { Unmade store.old result store.new ⊎ WasMade S.asked S.notes store.old call result store.new }
 
     // The count of faults keeps up with the failed calls of the journal.
     ensures counted { (base : ℕ) → capped (base + failures journal.old) ≤ S.faults store.old → capped (base + failures journal.new) ≤ S.faults store.new }

@@ -4,8 +4,7 @@ ghost use Rattle.ts_store.specs.declared.fate.Fate.TheVariants.{Unknown};
 ghost use Rattle.ts_store.specs.Calls.{took_effect};
 ghost use Rattle.ts_store.specs.Faults.{fault_at, planned_fate};
 
-use std::alloc::Global;
-use ts_base::{Duplicate, OutOfMemory, Sequence};
+use ts_base::Sequence;
 
 /// What the last call to a store did. The answer `Failed` alone does not tell.
 #[derive(Clone, Copy, Debug, PartialEq, Eq)]
@@ -40,18 +39,6 @@ pub struct Fault {
 
 /// The calls that are to fail. Where two of them have one number, the first counts.
 pub type FaultList = Sequence<Fault>;
-
-impl Duplicate for Fault {
-    fn copy(&self, _alloc: Global) -> Result<Fault, OutOfMemory> {
-        Ok(*self)
-    }
-}
-
-impl Duplicate for Fate {
-    fn copy(&self, _alloc: Global) -> Result<Fate, OutOfMemory> {
-        Ok(*self)
-    }
-}
 
 /// The fault that is planned for a call, if one is. It goes over the whole plan.
 pub(crate) fn planned(plan: &FaultList, call: u64) -> Option<Fault>

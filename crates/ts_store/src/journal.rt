@@ -6,7 +6,7 @@ use std::alloc::Global;
 use ts_base::{Duplicate, OutOfMemory, Sequence};
 
 /// A call that was made of a store, and what it did.
-#[derive(Debug, Drop, PartialEq, Eq)]
+#[derive(Clone, Debug, Drop, PartialEq, Eq)]
 pub struct Entry {
     /// The lane that made it.
     pub lane: u32,
@@ -21,11 +21,7 @@ pub struct Entry {
 pub type Journal = Sequence<Entry>;
 
 impl Duplicate for Entry {
-    fn copy(&self, alloc: Global) -> Result<Entry, OutOfMemory> {
-        Ok(Entry {
-            lane: self.lane,
-            call: self.call.copy(alloc)?,
-            fate: self.fate,
-        })
+    fn copy(&self, _alloc: Global) -> Result<Entry, OutOfMemory> {
+        Ok(self.clone()?)
     }
 }

@@ -149,6 +149,7 @@ impl MemStore {
     fn end<T: Drop>(&mut self, fate: Fate, answer: T) -> Result<T, StoreError>
         ensures done { fate ≡ Done → (result ≡ Ok answer) × (self.new ≡ self.old) }
         ensures cause { StreamCause self.old.faults self.new.faults result }
+        ensures counted { OnErr result (self.new.faults ≡ one_more self.old.faults) }
         ensures failed { fate ≢ Done → (result ≡ Err error.Failed) × (self.new ≡ record self.old { faults = one_more self.old.faults; last = fate }) }
     {
         if fate == Fate::Done {

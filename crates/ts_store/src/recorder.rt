@@ -99,7 +99,7 @@ impl<S: Store> Store for Recorder<S> {
 
     ghost last = { λ recorder. recorder.book.last };
 
-    ghost notes = { λ before call said now. Recorded S.faults S.notes before now call said };
+    ghost notes = { λ before call said now. Recorded S.faults S.asked S.last S.notes before now call said };
 
     fn put(&mut self, alloc: Global, name: Name, bytes: &[u8]) -> Result<Made, StoreError> {
         let Ok(copied) = ByteList::of_bytes(alloc, bytes) else {

@@ -17,9 +17,9 @@ use ts_base::{ByteList, Name, NameList, Prefix};
 /// A place where objects are kept by name.
 ///
 /// A store in memory tells what it holds; one over a device does not, and then the clauses say
-/// only which kinds of answer come. Every call answers `Failed` only where the count of faults
-/// went up, and `fate` tells what it did all the same. A call that answers `OutOfMemory` changed
-/// nothing.
+/// only which kinds of answer come. The count of faults never falls, every call answers `Failed` only
+/// where it went up, and `fate` tells what the call did all the same. A call that answers
+/// `OutOfMemory` changed nothing.
 pub trait Store: Send {
     /// The bytes of each object that is held, where the store tells them.
     ghost held: { Self → Option Held };

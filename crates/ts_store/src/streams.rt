@@ -180,8 +180,9 @@ impl Source for MemSource {
         ensures bytes { ReadConsumes (Some self.old.left) (Some self.new.left) result buf.new }
         ensures cause { StreamCause self.old.faults self.new.faults result }
 
-        // It fails exactly as planned.
+        // It fails exactly as planned, and counts one fault each time.
         ensures planned { IsErr result ↔ IsSome (fault_at self.old.plan self.old.calls) }
+        ensures failed { OnErr result (self.new.faults ≡ one_more self.old.faults) }
         ensures counted { (self.new.plan ≡ self.old.plan) × (self.new.calls ≡ one_more self.old.calls) }
     {
         let call = self.calls;
@@ -263,8 +264,10 @@ impl Sink for MemSink {
         ensures bytes { WriteAppends (Some self.old.bytes) (Some self.new.bytes) result piece.now }
         ensures cause { StreamCause self.old.faults self.new.faults result }
 
-        // It fails where that is planned, and else only for want of memory. It never takes a part.
+        // It fails where that is planned, and else only for want of memory, and counts one fault each
+        // time. It never takes a part.
         ensures planned { IsSome (fault_at self.old.plan self.old.calls) → IsErr result }
+        ensures failed { OnErr result (self.new.faults ≡ one_more self.old.faults) }
         ensures whole { IfOk result (λ count. count ≡ length piece.now) }
         ensures counted { (self.new.plan ≡ self.old.plan) × (self.new.calls ≡ one_more self.old.calls) }
     {

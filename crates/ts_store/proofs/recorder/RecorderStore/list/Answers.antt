@@ -7,7 +7,7 @@ use Rattle.ts_store.proofs.recorder.RecorderStore.list.Goals as goal
 
 pub returns-clause-notes : goal.returns-clause-notes
 returns-clause-notes g c =
-    recorded g.S.Store.faults g.S.Store.notes c.args.self.now _ c.open.new.self (call.List c.args.prefix) _ c.found_none.result c.fate-fate.result
+    recorded g.S.Store.faults g.S.Store.asked g.S.Store.last g.S.Store.notes c.args.self.now _ c.open.new.self (call.List c.args.prefix) _ c.found_none.result c.fate-fate.result
     (ap (λ b. b.lane) c.in_ok-open.ensures.ok) (ap (λ b. b.journal) c.in_ok-open.ensures.ok) c.close.ensures.enters c.close.ensures.last (ap (λ b. b.lane) c.close.ensures.same)
     (c.found_none.ensures ∙ found_none_reply reply.Names (λ _. refl) c.list-answer.result)
-    c.list-answer.ensures.notes c.list-answer.ensures.cause (λ other. c.fate-fate.ensures ∙ c.list-answer.ensures.answers.served other)
+    (c.list-answer.ensures.notes, c.list-answer.ensures.asked) c.fate-fate.ensures c.list-answer.ensures.cause c.list-answer.ensures.answers.served

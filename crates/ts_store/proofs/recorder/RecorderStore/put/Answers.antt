@@ -16,7 +16,7 @@ EntersPut missed front journal lane name did bytes = EntersIf missed front journ
 
 pub returns-clause-notes : goal.returns-clause-notes
 returns-clause-notes g c =
-    recorded g.S.Store.faults g.S.Store.notes c.args.self.now _ c.open.new.self (call.Put c.args.name c.args.bytes.now) _ c.found_none.result c.fate-fate.result
+    recorded g.S.Store.faults g.S.Store.asked g.S.Store.last g.S.Store.notes c.args.self.now _ c.open.new.self (call.Put c.args.name c.args.bytes.now) _ c.found_none.result c.fate-fate.result
     (ap (λ b. b.lane) c.in_ok-open.ensures.ok) (ap (λ b. b.journal) c.in_ok-open.ensures.ok) (λ front e is. subst (EntersPut c.found_none.result front c.close.new.self.journal c.open.new.self.lane c.args.name c.fate-fate.result) c.in-Ok.ensures (c.close.ensures.enters front e is)) c.close.ensures.last (ap (λ b. b.lane) c.close.ensures.same)
     (c.found_none.ensures ∙ found_none_reply made_reply (elim [ made.New ↦ refl | made.Taken ↦ refl ]) c.put-answer.result)
-    c.put-answer.ensures.notes c.put-answer.ensures.cause (λ other. c.fate-fate.ensures ∙ c.put-answer.ensures.answers.served other)
+    (c.put-answer.ensures.notes, c.put-answer.ensures.asked) c.fate-fate.ensures c.put-answer.ensures.cause c.put-answer.ensures.answers.served

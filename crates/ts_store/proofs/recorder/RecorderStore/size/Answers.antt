@@ -7,7 +7,7 @@ use Rattle.ts_store.proofs.recorder.RecorderStore.size.Goals as goal
 
 pub returns-clause-notes : goal.returns-clause-notes
 returns-clause-notes g c =
-    recorded g.S.Store.faults g.S.Store.notes c.args.self.now _ c.open.new.self (call.Size c.args.name) _ c.found_none.result c.fate-fate.result
+    recorded g.S.Store.faults g.S.Store.asked g.S.Store.last g.S.Store.notes c.args.self.now _ c.open.new.self (call.Size c.args.name) _ c.found_none.result c.fate-fate.result
     (ap (λ b. b.lane) c.in_ok-open.ensures.ok) (ap (λ b. b.journal) c.in_ok-open.ensures.ok) c.close.ensures.enters c.close.ensures.last (ap (λ b. b.lane) c.close.ensures.same)
     (c.found_none.ensures ∙ found_none_reply length_reply (elim [ None ↦ refl | Some len ↦ refl ]) c.size-answer.result)
-    c.size-answer.ensures.notes c.size-answer.ensures.cause (λ other. c.fate-fate.ensures ∙ c.size-answer.ensures.answers.served other)
+    (c.size-answer.ensures.notes, c.size-answer.ensures.asked) c.fate-fate.ensures c.size-answer.ensures.cause c.size-answer.ensures.answers.served
