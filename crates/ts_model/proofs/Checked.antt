@@ -16,19 +16,19 @@ use Rattle.ts_schema.specs.declared.attrs.Attr.{Attr}
 use Rattle.ts_schema.specs.declared.frames.Frame.{Frame}
 use Rattle.ts_schema.specs.SchemaTexts.{AreAttrs}
 use Rattle.ts_schema.specs.Attrs.{same_name}
-use Rattle.ts_model.specs.Queries.{numbers_from, attr_field, attr_fields, dim_fields, fields_in, low_of, high_of}
+use Rattle.ts_model.specs.Queries.{places_from, attr_field, attr_fields, dim_fields, fields_in, low_of, high_of}
 use Rattle.ts_model.specs.Selections.{IsNamedBox}
 
 -- one number more
-numbers_more_from : (first n : ℕ) → numbers_from first (suc n) ≡ numbers_from first n ++ (first + n) ∷ []
+numbers_more_from : (first n : ℕ) → places_from first (suc n) ≡ places_from first n ++ (first + n) ∷ []
 numbers_more_from first zero = ap (λ x. x ∷ []) (omega arith)
-numbers_more_from first (suc n) = ap (λ xs. first ∷ xs) (numbers_more_from (suc first) n ∙ ap (λ x. numbers_from (suc first) n ++ x ∷ []) (omega arith))
+numbers_more_from first (suc n) = ap (λ xs. first ∷ xs) (numbers_more_from (suc first) n ∙ ap (λ x. places_from (suc first) n ++ x ∷ []) (omega arith))
 
-pub numbers_more : (n : ℕ) → numbers_from 0 (n + 1) ≡ numbers_from 0 n ++ n ∷ []
+pub numbers_more : (n : ℕ) → places_from 0 (n + 1) ≡ places_from 0 n ++ n ∷ []
 numbers_more n =
     let next : n + 1 ≡ suc n = omega arith in
     let last : 0 + n ≡ n = omega arith in
-    ap (numbers_from 0) next ∙ numbers_more_from 0 n ∙ ap (λ x. numbers_from 0 n ++ x ∷ []) last
+    ap (places_from 0) next ∙ numbers_more_from 0 n ∙ ap (λ x. places_from 0 n ++ x ∷ []) last
 
 -- there is a field for each dimension
 pub length-dim_fields : (place : ℕ) (dims : List Dim) → length (dim_fields place dims) ≡ length dims

@@ -8,7 +8,7 @@ use Rattle.ts_base.specs.Keys.{is_within}
 use Rattle.ts_cond.specs.declared.fields.CondField.{CondField}
 use Rattle.ts_cond.specs.Holds.{holds}
 use Rattle.ts_cond.specs.Tests.{Condition}
-use Rattle.ts_cond.specs.Picks.{agrees, value_under, value_by, field_value, picked, picked_value, matches}
+use Rattle.ts_cond.specs.Picks.{is_same_field, value_under, value_by, field_value, picked, picked_value, matches}
 use Rattle.ts_schema.specs.declared.attrs.Attr.{Attr}
 use Rattle.ts_model.specs.declared.deeds.Written.{Written}
 use Rattle.ts_model.specs.declared.deeds.Deed.{Deed}
@@ -29,18 +29,18 @@ value_none place field attrs row all = ap (value_under field attrs) (drop_all pl
 -- the next attribute and value, where there are both
 next : (place : ℕ) (field : CondField) (attrs : List Attr) (row : List Val) (a : Attr) (val : Val) → place < length attrs → place < length row → a ≡ get_or attrs place a
     → value_under field (attr_fields (drop place attrs)) (drop place row)
-    ≡ (if agrees field (attr_field a) then get_or row place val else value_under field (attr_fields (drop (place + 1) attrs)) (drop (place + 1) row))
+    ≡ (if is_same_field field (attr_field a) then get_or row place val else value_under field (attr_fields (drop (place + 1) attrs)) (drop (place + 1) row))
 next place field attrs row a val few short is =
     ap (λ xs. value_under field (attr_fields xs) (drop place row)) (drop_more attrs place a few ∙ ap (λ b. b ∷ drop (place + 1) attrs) (sym is))
     ∙ ap (value_under field (attr_fields (a ∷ drop (place + 1) attrs))) (drop_more row place val short)
 
 pub value_on : (place : ℕ) (field : CondField) (attrs : List Attr) (row : List Val) (a : Attr) (all : Val) → place < length attrs → place < length row → a ≡ get_or attrs place a
-    → agrees field (attr_field a) ≡ false → value_under field (attr_fields (drop place attrs)) (drop place row) ≡ all → value_under field (attr_fields (drop (place + 1) attrs)) (drop (place + 1) row) ≡ all
+    → is_same_field field (attr_field a) ≡ false → value_under field (attr_fields (drop place attrs)) (drop place row) ≡ all → value_under field (attr_fields (drop (place + 1) attrs)) (drop (place + 1) row) ≡ all
 value_on place field attrs row a all few short is other was =
     sym (next place field attrs row a all few short is ∙ ap (λ b. if b then get_or row place all else value_under field (attr_fields (drop (place + 1) attrs)) (drop (place + 1) row)) other) ∙ was
 
 pub value_here : (place : ℕ) (field : CondField) (attrs : List Attr) (row : List Val) (a : Attr) (val : Val) (all : Val) → place < length attrs → place < length row → a ≡ get_or attrs place a
-    → val ≡ get_or row place val → agrees field (attr_field a) ≡ true → value_under field (attr_fields (drop place attrs)) (drop place row) ≡ all → val ≡ all
+    → val ≡ get_or row place val → is_same_field field (attr_field a) ≡ true → value_under field (attr_fields (drop place attrs)) (drop place row) ≡ all → val ≡ all
 value_here place field attrs row a val all few short is val_is same was =
     val_is ∙ sym (next place field attrs row a val few short is ∙ ap (λ b. if b then get_or row place val else value_under field (attr_fields (drop (place + 1) attrs)) (drop (place + 1) row)) same) ∙ was
 

@@ -1,6 +1,6 @@
 -- The end of a scan: the cells of its box lie in the domain, they are those in row order, and the later history has a frame.
 use Rattle.std.proofs.Common.{◌≡◌, ℕ, ℤ, Bool, true, false, cond, ◌&&◌, List, [], ◌∷◌, map, length, Option, Some, None, Ok, Result, refl, sym, ◌∙◌, ap, subst, suc, arith}
-use Rattle.std.specs.Prelude.{◌≤◌, ◌-◌, ◌^◌, IsTrue, if◌then◌else◌, int_le, min, nat_lt, option_map}
+use Rattle.std.specs.Prelude.{◌≤◌, ◌-◌, Err, ◌^◌, IsTrue, if◌then◌else◌, int_le, min, nat_lt, option_map}
 use Rattle.std.specs.Option.{option_or, IsSome}
 use Rattle.std.specs.BTreeMap.{BTreeMap}
 use Rattle.std.specs.List.{All}
@@ -31,16 +31,28 @@ use Rattle.ts_model.specs.declared.queries.Ready.{Ready}
 use Rattle.ts_model.specs.declared.queries.Shown.{Shown}
 use Rattle.ts_model.specs.Answers.{shown_at, shown_inside, unwritten}
 use Rattle.ts_model.specs.Deeds.{History, IsHistory, frame_in, schema_there}
-use Rattle.ts_model.specs.Queries.{box_of, low_of, high_of, most_cells, too_many, query_refusal, filter_in, ready_with, ready_in}
+use Rattle.ts_model.specs.Queries.{box_of, field_places, low_of, high_of, most_cells, too_many, query_refusal, filter_in, ready_with, ready_in}
 use Rattle.ts_model.specs.Scans.{cells_in, shown_of, AreInside}
 use Rattle.ts_model.specs.Selections.{IsNamedBox, placed}
 use Rattle.ts_model.specs.declared.answers.Refusal.TheVariants as refusal
 use Rattle.ts_model.proofs.Checked.{box_ordered}
 use Rattle.ts_model.proofs.HistoryLaws.{there_is_with, framed_by_schema, frame_facts, schema_facts}
 use Rattle.ts_model.proofs.Newest.{coords_total}
-use Rattle.ts_model.proofs.QueryRefusals.{ready_box}
 
--- ---- the box lies in the domain
+-- ---- the box is that of the bounds, and lies in the domain
+
+-- the box of a query that is not refused is that of its bounds
+ready_box_by : (frame : Frame) (attrs : List Attr) (q : Query) (r : Option Refusal) (filter : Result (Option Condition) Refusal) (ready : Ready) → ready_with frame attrs q r filter ≡ Ok ready → ready.sub ≡ box_of q.sub frame.domain
+ready_box_by frame attrs q (Some r) filter ready is = cc
+ready_box_by frame attrs q None (Err r) ready is = cc
+ready_box_by frame attrs q None (Ok found) ready is =
+    let made : Ready = record { sub = box_of q.sub frame.domain; fields = field_places frame.domain attrs q.fields; filter = found; layout = q.layout } in
+    let same : made ≡ ready = cc in
+    ap (λ x. x.sub) (sym same)
+
+-- so is that of a query that is ready
+pub ready_box : (frame : Frame) (attrs : List Attr) (q : Query) (ready : Ready) → ready_in frame attrs q ≡ Ok ready → ready.sub ≡ box_of q.sub frame.domain
+ready_box frame attrs q ready is = ready_box_by frame attrs q (query_refusal frame attrs q) (filter_in frame.domain attrs q.filter) ready is
 
 -- where neither of two is there the second is not
 second_none : {A : Type 0} (a b : Option A) → option_or a b ≡ None → b ≡ None

@@ -24,7 +24,7 @@ use Rattle.ts_base.specs.Values.{is_integer}
 use Rattle.ts_value.specs.Fits.{fits_of}
 use Rattle.ts_domain.specs.declared.boxes.SubBox.{SubBox}
 use Rattle.ts_domain.specs.Boxes.{IsBox, is_in_box, cells_of as box_cells}
-use Rattle.ts_domain.specs.Domains.{first_outside, first_bound_outside}
+use Rattle.ts_domain.specs.Domains.{first_outside}
 use Rattle.ts_domain.specs.Dims.{domain_fault, has_name}
 use Rattle.ts_domain.specs.Bounds.{least_corner, greatest_corner}
 use Rattle.ts_order.specs.Orders.{global_cmp, coords_in_order}

@@ -7,16 +7,9 @@ pub mod Queries
 pub mod Places
 pub mod Selections
 pub mod Forms
-pub mod Stands
 pub mod States
 pub mod Stops
 pub mod Told
-pub mod Rows
-pub mod Fresh
-pub mod Ends
-pub mod Runs
 pub mod Driven
-pub mod Kept
 pub mod Driving
-pub mod Steps
 pub mod Scans

@@ -78,14 +78,14 @@ attr_place place name (a ∷ attrs) = if same_name a.name name then Some place e
 abbrev pub field_place : List Dim → List Attr → List ℕ → Option ℕ
 field_place dims attrs name = option_or (dim_place 0 name dims) (attr_place (length dims) name attrs)
 
--- the numbers from one on, so many
-abbrev pub numbers_from : ℕ → ℕ → List ℕ
-numbers_from first zero = []
-numbers_from first (suc more) = first ∷ numbers_from (suc first) more
+-- so many places, from one on
+abbrev pub places_from : ℕ → ℕ → List ℕ
+places_from first zero = []
+places_from first (suc more) = first ∷ places_from (suc first) more
 
 -- the places of the fields that are shown: all where none is named
 abbrev pub field_places : List Dim → List Attr → List (List ℕ) → List ℕ
-field_places dims attrs [] = numbers_from 0 (length dims + length attrs)
+field_places dims attrs [] = places_from 0 (length dims + length attrs)
 field_places dims attrs (name ∷ names) = filter_map (field_place dims attrs) (name ∷ names)
 
 -- ---- why a query is refused

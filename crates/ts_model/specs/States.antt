@@ -1,5 +1,5 @@
 -- How a job goes: the call that it makes next, and where a reply leads it.
-use Rattle.std.specs.Prelude.{ℕ, ℤ, ◌-◌, ◌^◌, Bool, false, cond, not, ◌&&◌, if◌then◌else◌, List, [], ◌∷◌, ◌++◌, Option, Some, None, option_map, option_and_then, filter, filter_map, length, nat_le, nat_lt, nat_eq, slice_get, Result, Ok, Err, find, drop, suc, zero, map as list_map}
+use Rattle.std.specs.Prelude.{ℕ, ℤ, ◌-◌, ◌^◌, Bool, false, cond, not, ◌&&◌, if◌then◌else◌, List, [], ◌∷◌, ◌++◌, Option, Some, None, option_map, option_and_then, filter, filter_map, length, nat_le, nat_lt, nat_eq, slice_get, Result, Ok, Err, find, drop, suc, map as list_map}
 use Rattle.ts_base.specs.declared.keys.Key.{Key}
 use Rattle.ts_base.specs.declared.keys.FragKey.{FragKey}
 use Rattle.ts_base.specs.declared.names.Name.{Name}
@@ -51,7 +51,7 @@ use Rattle.ts_model.specs.Jobs.{key_of, frag_of_job, written_as, refused_before,
 use Rattle.ts_model.specs.Deeds.{schemas, keys}
 use Rattle.ts_model.specs.Answers.{fills_of}
 use Rattle.ts_model.specs.Commands.{frame_made, laid, piece_of}
-use Rattle.ts_model.specs.Queries.{attr_fields, numbers_from, erasing_in, ready_in, selected, types_shown}
+use Rattle.ts_model.specs.Queries.{attr_fields, places_from, erasing_in, ready_in, selected, types_shown}
 use Rattle.ts_base.specs.declared.names.Name.TheVariants as name
 use Rattle.ts_base.specs.declared.names.Place.TheVariants as place
 use Rattle.ts_store.specs.declared.call.Call.TheVariants as call
@@ -243,7 +243,7 @@ answer_of r schemas got = record {
 
 -- what is wanted of a fragment with so many attributes: the cells of a box that are stamped in [a, b], with all their values
 abbrev pub wanted : SubBox → ℕ → ℕ → List Attr → Want
-wanted sub a b attrs = record { sub = sub; attrs = numbers_from 0 (length attrs); a = a; b = b }
+wanted sub a b attrs = record { sub = sub; attrs = places_from 0 (length attrs); a = a; b = b }
 
 -- what a read wants of a fragment
 abbrev pub want_of : Reading → List Attr → Want

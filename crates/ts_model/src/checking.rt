@@ -7,7 +7,7 @@ ghost use Rattle.ts_domain.specs.Dims.{has_name};
 ghost use Rattle.ts_schema.specs.Attrs.{same_name, has_attr};
 ghost use Rattle.ts_schema.specs.FrameTexts.{IsFrame};
 ghost use Rattle.ts_schema.specs.SchemaTexts.{AreAttrs};
-ghost use Rattle.ts_model.specs.Queries.{low_of, high_of, box_of, stray_bound, bound_outside, over_most, unknown_in, query_refusal, condition_in, filter_in, ready_in, erasing_in, field_place, field_places, numbers_from, dim_place, attr_place, too_many};
+ghost use Rattle.ts_model.specs.Queries.{low_of, high_of, box_of, stray_bound, bound_outside, over_most, unknown_in, query_refusal, condition_in, filter_in, ready_in, erasing_in, field_place, field_places, places_from, dim_place, attr_place, too_many};
 ghost use Rattle.ts_model.specs.Selections.{IsChecked, IsNamedBox};
 
 use crate::answers::Refusal;
@@ -292,7 +292,7 @@ fn field_places(
 
 fn all_places(alloc: Global, count: usize) -> Result<PlaceList, OutOfMemory>
     requires { count < 2 ^ 32 }
-    ensures { IfOk result (λ places. places ≡ numbers_from 0 count) }
+    ensures { IfOk result (λ places. places ≡ places_from 0 count) }
 {
     let mut places = PlaceList::new(alloc);
     for place in 0..count {

@@ -7,7 +7,7 @@ use ts_domain::{DimList, Order};
 use ts_schema::{AttrList, Evolution};
 
 /// An array that is to be made: its frame, and the attributes of its first schema.
-#[derive(Debug, Drop, PartialEq, Eq)]
+#[derive(Clone, Debug, Drop, PartialEq, Eq)]
 pub struct FrameIn {
     /// Whether the array is dense: it has a value at each cell of its domain.
     pub dense: bool,
@@ -24,20 +24,13 @@ pub struct FrameIn {
 }
 
 impl Duplicate for FrameIn {
-    fn copy(&self, alloc: Global) -> Result<FrameIn, OutOfMemory> {
-        Ok(FrameIn {
-            dense: self.dense,
-            dims: self.dims.copy(alloc)?,
-            cell: self.cell,
-            tile: self.tile,
-            capacity: self.capacity,
-            attrs: self.attrs.copy(alloc)?,
-        })
+    fn copy(&self, _alloc: Global) -> Result<FrameIn, OutOfMemory> {
+        Ok(self.clone()?)
     }
 }
 
 /// A column of a write: a value for each of its cells.
-#[derive(Debug, Drop, PartialEq, Eq)]
+#[derive(Clone, Debug, Drop, PartialEq, Eq)]
 pub struct ColIn {
     /// The name of the dimension or of the attribute.
     pub name: Label,
@@ -49,16 +42,13 @@ pub struct ColIn {
 pub type ColInList = Sequence<ColIn>;
 
 impl Duplicate for ColIn {
-    fn copy(&self, alloc: Global) -> Result<ColIn, OutOfMemory> {
-        Ok(ColIn {
-            name: self.name,
-            values: self.values.copy(alloc)?,
-        })
+    fn copy(&self, _alloc: Global) -> Result<ColIn, OutOfMemory> {
+        Ok(self.clone()?)
     }
 }
 
 /// What is to be written.
-#[derive(Debug, Drop, PartialEq, Eq)]
+#[derive(Clone, Debug, Drop, PartialEq, Eq)]
 pub struct WriteIn {
     /// A column for each attribute, and in a sparse array for each dimension too, in any order.
     pub cols: ColInList,
@@ -70,17 +60,13 @@ pub struct WriteIn {
 }
 
 impl Duplicate for WriteIn {
-    fn copy(&self, alloc: Global) -> Result<WriteIn, OutOfMemory> {
-        Ok(WriteIn {
-            cols: self.cols.copy(alloc)?,
-            sub: self.sub.copy(alloc)?,
-            layout: self.layout,
-        })
+    fn copy(&self, _alloc: Global) -> Result<WriteIn, OutOfMemory> {
+        Ok(self.clone()?)
     }
 }
 
 /// A command on the array.
-#[derive(Debug, Drop, PartialEq, Eq)]
+#[derive(Clone, Debug, Drop, PartialEq, Eq)]
 pub enum Command {
     /// Makes the array.
     Create(FrameIn),
@@ -104,24 +90,14 @@ pub enum Command {
 }
 
 impl Duplicate for Command {
-    fn copy(&self, alloc: Global) -> Result<Command, OutOfMemory> {
-        match self {
-            Command::Create(frame) => Ok(Command::Create(frame.copy(alloc)?)),
-            Command::Evolve(change) => Ok(Command::Evolve(change.copy(alloc)?)),
-            Command::Write(cells) => Ok(Command::Write(cells.copy(alloc)?)),
-            Command::Read { from, to, query } => Ok(Command::Read {
-                from: *from,
-                to: *to,
-                query: query.copy(alloc)?,
-            }),
-            Command::Delete(text) => Ok(Command::Delete(text.copy(alloc)?)),
-        }
+    fn copy(&self, _alloc: Global) -> Result<Command, OutOfMemory> {
+        Ok(self.clone()?)
     }
 }
 
 /// A command with its stamp, the identifier that everything which it makes will carry, and where it
 /// is stopped.
-#[derive(Debug, Drop, PartialEq, Eq)]
+#[derive(Clone, Debug, Drop, PartialEq, Eq)]
 pub struct Job {
     /// The command.
     pub command: Command,
@@ -137,13 +113,8 @@ pub struct Job {
 pub type JobList = Sequence<Job>;
 
 impl Duplicate for Job {
-    fn copy(&self, alloc: Global) -> Result<Job, OutOfMemory> {
-        Ok(Job {
-            command: self.command.copy(alloc)?,
-            at: self.at,
-            id: self.id,
-            stop: self.stop,
-        })
+    fn copy(&self, _alloc: Global) -> Result<Job, OutOfMemory> {
+        Ok(self.clone()?)
     }
 }
 

@@ -1,6 +1,6 @@
 //! Which cells the deletes of a history erase.
 ghost use Rattle.std.specs.Prelude.{◌≡◌, [], ◌∷◌, map, IfOk};
-ghost use Rattle.ts_cond.specs.Picks.{agrees, value_under, matches};
+ghost use Rattle.ts_cond.specs.Picks.{is_same_field, value_under, matches};
 ghost use Rattle.ts_model.specs.Answers.{erases_cell, is_erased};
 ghost use Rattle.ts_model.specs.Queries.{attr_field, attr_fields};
 ghost use Rattle.ts_model.specs.Scans.{erased_under, pick_at};
@@ -142,7 +142,7 @@ fn value_under<'a>(field: &'a CondField, row: &'a [Val], attrs: &[Attr]) -> &'a 
     ensures { result.now ≡ value_under field.now (attr_fields attrs.now) row.now }
 {
     for place in 0..attrs.len().min(row.len()) {
-        if agrees(field, &attrs[place]) {
+        if is_same_field(field, &attrs[place]) {
             return &row[place];
         }
     }
@@ -150,8 +150,8 @@ fn value_under<'a>(field: &'a CondField, row: &'a [Val], attrs: &[Attr]) -> &'a 
 }
 
 // Whether an attribute counts as the field.
-fn agrees(field: &CondField, attr: &Attr) -> bool
-    ensures { result ≡ agrees field.now (attr_field attr.now) }
+fn is_same_field(field: &CondField, attr: &Attr) -> bool
+    ensures { result ≡ is_same_field field.now (attr_field attr.now) }
 {
     field.name == attr.name && field.ty == attr.ty && field.nullable == attr.nullable
 }

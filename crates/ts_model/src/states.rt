@@ -12,7 +12,7 @@ use ts_schema::{Frame, Schema, SchemaList};
 use ts_store::Call;
 
 /// An object that a job is to put.
-#[derive(Debug, Drop, PartialEq, Eq)]
+#[derive(Clone, Debug, Drop, PartialEq, Eq)]
 pub struct NewObject {
     /// Its name.
     pub name: Name,
@@ -24,16 +24,13 @@ pub struct NewObject {
 pub type NewObjectList = Sequence<NewObject>;
 
 impl Duplicate for NewObject {
-    fn copy(&self, alloc: Global) -> Result<NewObject, OutOfMemory> {
-        Ok(NewObject {
-            name: self.name,
-            bytes: self.bytes.copy(alloc)?,
-        })
+    fn copy(&self, _alloc: Global) -> Result<NewObject, OutOfMemory> {
+        Ok(self.clone()?)
     }
 }
 
 /// A fragment whose head was read.
-#[derive(Debug, Drop, PartialEq, Eq)]
+#[derive(Clone, Debug, Drop, PartialEq, Eq)]
 pub struct Opened {
     /// The fragment, as the listing has it.
     pub frag: FragKey,
@@ -47,12 +44,8 @@ pub struct Opened {
 pub type OpenedList = Sequence<Opened>;
 
 impl Duplicate for Opened {
-    fn copy(&self, alloc: Global) -> Result<Opened, OutOfMemory> {
-        Ok(Opened {
-            frag: self.frag,
-            head: self.head.copy(alloc)?,
-            object: self.object.copy(alloc)?,
-        })
+    fn copy(&self, _alloc: Global) -> Result<Opened, OutOfMemory> {
+        Ok(self.clone()?)
     }
 }
 

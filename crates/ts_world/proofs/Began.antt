@@ -7,7 +7,7 @@ use Rattle.ts_store.specs.Journals.{held_after}
 use Rattle.ts_model.specs.Forms.{Forms, Spelled}
 use Rattle.ts_model.specs.Told.{Told, IsReplied, Replied, after_told, held_told}
 use Rattle.ts_model.proofs.Traces.{held_told-append}
-use Rattle.ts_model.proofs.Journals.{journal_held}
+use Rattle.ts_law.proofs.Journals.{journal_held}
 use Rattle.ts_world.specs.declared.events.Event.{Event}
 use Rattle.ts_world.specs.declared.events.Event.TheVariants.{Spawn, Step, Stop, Restart}
 use Rattle.ts_world.specs.declared.events.WorldFault.{WorldFault}

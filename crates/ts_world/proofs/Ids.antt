@@ -14,7 +14,7 @@ use Rattle.ts_base.specs.declared.keys.Key.{Key}
 use Rattle.ts_base.specs.Names.{name_cmp}
 use Rattle.ts_base.specs.Exact.{name_total, name_exact}
 use Rattle.ts_model.specs.Deeds.{keys}
-use Rattle.ts_model.specs.Fresh.{id_in, IsNewId}
+use Rattle.ts_law.specs.Fresh.{id_in, IsNewId}
 use Rattle.ts_model.proofs.ListLemmas.{slice_get-Contains}
 use Rattle.ts_model.proofs.KeyLemmas.{same_from_tie}
 use Rattle.ts_world.specs.Views.{WorldView}

@@ -16,17 +16,17 @@ use Rattle.ts_model.specs.declared.commands.Job.{Job}
 use Rattle.ts_model.specs.Deeds.{History}
 use Rattle.ts_model.specs.Jobs.{IsFit}
 use Rattle.ts_model.specs.States.{Exchange, asks, begun, state_from, state_of}
-use Rattle.ts_model.specs.Stands.{Stands}
-use Rattle.ts_model.specs.Fresh.{IsNewId}
+use Rattle.ts_law.specs.Stands.{Stands}
+use Rattle.ts_law.specs.Fresh.{IsNewId}
 use Rattle.ts_model.specs.Told.{Told, IsShortCall, is_by, trace_of, entry_of, entries_of, after_told, IsReplied}
 use Rattle.ts_model.specs.Driven.{AskedFrom}
-use Rattle.ts_model.specs.Kept.{IsOfJobs, Kept}
+use Rattle.ts_law.specs.Kept.{IsOfJobs, Kept}
 use Rattle.ts_model.proofs.ListLemmas.{Contains-nil, slice_get_push}
 use Rattle.ts_model.proofs.Traces.{trace_of-own, trace_of-other}
 use Rattle.ts_model.proofs.Asked.{asked-push}
 use Rattle.ts_model.specs.Forms.{Forms, FormsLaws, Spelled, Tracking}
-use Rattle.ts_model.proofs.KeptLaws.{step_kept}
-use Rattle.ts_model.proofs.Spawns.{spawn_kept, starts_kept}
+use Rattle.ts_law.proofs.KeptLaws.{step_kept}
+use Rattle.ts_law.proofs.Spawns.{spawn_kept, starts_kept}
 use Rattle.ts_actor.specs.Traces.{asking}
 use Rattle.ts_actor.proofs.MachineLaws.{asks_next}
 use Rattle.ts_writer.specs.Writing.{IsCreateJob, IsCreateState, IsDeleteJob, IsEvolveJob, IsWriteJob, IsLaterState}

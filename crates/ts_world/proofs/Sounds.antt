@@ -15,12 +15,12 @@ use Rattle.ts_model.specs.States.{Exchange}
 use Rattle.ts_model.specs.Forms.{Forms, Spelled, Tracking, AsksLooks}
 use Rattle.ts_model.specs.Stops.{Uncut}
 use Rattle.ts_model.specs.Told.{Told, trace_of}
-use Rattle.ts_model.specs.Ends.{IsTrueEnd}
+use Rattle.ts_law.specs.Ends.{IsTrueEnd}
 use Rattle.ts_model.specs.Driven.{EndsFrom, IsDriven}
 use Rattle.ts_model.specs.States.{begun}
 use Rattle.ts_model.proofs.ListLemmas.{Contains-nil}
-use Rattle.ts_model.proofs.KeptLaws.{end_is_true}
-use Rattle.ts_model.proofs.Segments.{segment_of}
+use Rattle.ts_law.proofs.KeptLaws.{end_is_true}
+use Rattle.ts_law.proofs.Segments.{segment_of}
 use Rattle.ts_world.specs.declared.slots.Slot.{Slot}
 use Rattle.ts_world.specs.declared.slots.Slot.TheVariants as slot
 use Rattle.ts_world.specs.Views.{WorldView, Ended}

@@ -19,12 +19,12 @@ use Rattle.ts_model.specs.Deeds.{History, keys}
 use Rattle.ts_model.specs.Commands.{fits}
 use Rattle.ts_model.specs.Forms.{Forms, Spelled}
 use Rattle.ts_model.specs.Jobs.{AreApart}
-use Rattle.ts_model.specs.Stands.{Stands}
+use Rattle.ts_law.specs.Stands.{Stands}
 use Rattle.ts_model.specs.States.{begun, asks, state_of}
-use Rattle.ts_model.specs.Fresh.{id_in}
+use Rattle.ts_law.specs.Fresh.{id_in}
 use Rattle.ts_model.specs.Told.{trace_of, entries_of, IsReplied, Replied, after_told, held_told, history_told}
-use Rattle.ts_model.specs.Ends.{IsTrueEnd}
-use Rattle.ts_model.specs.Rows.{IsSegment}
+use Rattle.ts_law.specs.Ends.{IsTrueEnd}
+use Rattle.ts_law.specs.Rows.{IsSegment}
 use Rattle.ts_model.specs.Driven.{AskedFrom, IsDriven}
 use Rattle.ts_world.specs.declared.events.Event.{Event}
 use Rattle.ts_world.specs.declared.events.Event.TheVariants.{Spawn, Step, Stop, Restart}

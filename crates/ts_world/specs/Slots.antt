@@ -18,9 +18,9 @@ use Rattle.ts_model.specs.Deeds.{History}
 use Rattle.ts_model.specs.States.{Exchange, begun}
 use Rattle.ts_model.specs.Told.{Told, IsShortCall, trace_of, entries_of, changes}
 use Rattle.ts_model.specs.Forms.{Forms, Spelled, Tracking}
-use Rattle.ts_model.specs.Fresh.{id_in}
+use Rattle.ts_law.specs.Fresh.{id_in}
 use Rattle.ts_model.specs.Driven.{AskedFrom, EndsFrom}
-use Rattle.ts_model.specs.Kept.{Kept}
+use Rattle.ts_law.specs.Kept.{Kept}
 use Rattle.ts_actor.specs.Traces.{asking}
 use Rattle.ts_world.specs.declared.events.WorldFault.{WorldFault}
 use Rattle.ts_world.specs.declared.events.WorldFault.TheVariants.{IdTaken, NoActor, OutOfMemory}

@@ -4,7 +4,7 @@ ghost use Rattle.std.specs.List.{list_any};
 ghost use Rattle.ts_store.specs.declared.fate.Fate.TheVariants.{Unknown};
 ghost use Rattle.ts_store.specs.Calls.{IsSpelledCall};
 ghost use Rattle.ts_store.specs.Memory.{held_in};
-ghost use Rattle.ts_model.specs.Fresh.{id_in};
+ghost use Rattle.ts_law.specs.Fresh.{id_in};
 ghost use Rattle.ts_model.specs.Told.{IsShortCall};
 ghost use Rattle.ts_world.specs.declared.events.Event.TheVariants as event;
 ghost use Rattle.ts_world.specs.Views.{Dropped};

@@ -3,7 +3,7 @@ ghost use Rattle.std.specs.Prelude.{◌≡◌, ◌≢◌, [], OnOk, OnErr};
 ghost use Rattle.std.specs.Option.{option_copied};
 ghost use Rattle.ts_base.specs.Held.{Held};
 ghost use Rattle.ts_store.specs.Memory.{held_in};
-ghost use Rattle.ts_model.specs.Stands.{Stands};
+ghost use Rattle.ts_law.specs.Stands.{Stands};
 ghost use Rattle.ts_world.specs.Views.{end_of};
 ghost use Rattle.ts_world.specs.Clauses.{IsSound, BeganWith, MayCome, Happens, HasCause, new_world};
 

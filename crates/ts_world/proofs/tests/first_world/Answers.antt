@@ -4,8 +4,8 @@ use Rattle.ts_base.specs.Held.{Held}
 use Rattle.ts_store.specs.Memory.{held_in}
 use Rattle.ts_plain.specs.Pieces.{IsPlain}
 use Rattle.ts_model.specs.Deeds.{History}
-use Rattle.ts_model.specs.Stands.{Stands}
-use Rattle.ts_model.proofs.FirstStands.{nothing_stands}
+use Rattle.ts_law.specs.Stands.{Stands}
+use Rattle.ts_law.proofs.FirstStands.{nothing_stands}
 use Rattle.ts_world.proofs.tests.first_world.Goals as goal
 
 pub new-requires-3 : goal.new-requires-3

@@ -1,0 +1,68 @@
+-- A fault of the store has its cause in a call that has another fate than Done.
+use Rattle.std.proofs.Common.{◌≡◌, ◌≢◌, ℕ, Bool, true, false, cond, List, Option, Some, None, inl, inr, refl, sym, ◌∙◌, ap, subst}
+use Rattle.std.specs.Prelude.{All, Contains, option_map}
+use Rattle.std.specs.Option.{option_or}
+use Rattle.std.proofs.lemmas.Option.{same_Some, none-some}
+use Rattle.std.proofs.lemmas.List.Elements.{All-contains, Contains-push}
+use Rattle.ts_base.specs.declared.names.Place.{Place}
+use Rattle.ts_domain.specs.Dims.{domain_fault}
+use Rattle.ts_schema.specs.Faults.{schema_fault}
+use Rattle.ts_store.specs.declared.fate.Fate.TheVariants as fate
+use Rattle.ts_store.specs.declared.call.Reply.TheVariants as reply
+use Rattle.ts_model.specs.declared.commands.Command.{Command}
+use Rattle.ts_model.specs.declared.commands.Command.TheVariants.{Create, Evolve, Write, Read, Delete}
+use Rattle.ts_model.specs.declared.commands.Job.{Job}
+use Rattle.ts_model.specs.declared.answers.Driven.TheVariants.{Done}
+use Rattle.ts_model.specs.declared.answers.Outcome.TheVariants as outcome
+use Rattle.ts_model.specs.declared.answers.Refusal.{Refusal}
+use Rattle.ts_model.specs.declared.answers.Refusal.TheVariants as refusal
+use Rattle.ts_model.specs.Forms.{Forms}
+use Rattle.ts_model.specs.Jobs.{refused_before}
+use Rattle.ts_model.specs.States.{Exchange}
+use Rattle.ts_model.specs.Told.{Told, is_by, exchange_of, trace_of, Suits}
+use Rattle.ts_law.specs.Rows.{Found, IsCause, MayEndAs, IsSegment}
+use Rattle.ts_model.proofs.ListLemmas.{filter_map-Contains}
+
+-- only the reply Failed calls for it
+pub only_failed : {F : Type 0} (forms : Forms F) (job : Job) (found : Found) (trace : List Exchange) (last : Exchange) (p : Place) → IsCause forms job found trace last (refusal.StoreFault p) → last.reply ≡ reply.Failed
+only_failed forms job found trace last p cause = cause.1
+
+-- a fault of the dimensions or of the attributes is none of the store
+not_of_faults : {A B : Type 0} (f : A → Refusal) (g : B → Refusal) (a : Option A) (b : Option B) (p : Place) → ((x : A) → f x ≡ refusal.StoreFault p → ⊥) → ((y : B) → g y ≡ refusal.StoreFault p → ⊥)
+    → option_or (option_map f a) (option_map g b) ≡ Some (refusal.StoreFault p) → ⊥
+not_of_faults f g None None p f_not g_not is = none-some _ is
+not_of_faults f g None (Some y) p f_not g_not is = g_not y (same_Some _ _ is)
+not_of_faults f g (Some x) b p f_not g_not is = f_not x (same_Some _ _ is)
+
+-- a job is refused before its first call for its dimensions or its attributes alone
+not_before : (command : Command) (r : Refusal) (p : Place) → refused_before command ≡ Some r → outcome.Refused (refusal.StoreFault p) ≡ outcome.Refused r → ⊥
+not_before (Create f) r p is e =
+    let same : refusal.StoreFault p ≡ r = cc in
+    not_of_faults refusal.DomainBad refusal.SchemaBad (domain_fault f.dims) (schema_fault f.dims f.attrs) p (λ x q. cc) (λ y q. cc) (is ∙ ap Some (sym same))
+not_before (Evolve change) r p is e = none-some _ is
+not_before (Write w) r p is e = none-some _ is
+not_before (Read from to query) r p is e = none-some _ is
+not_before (Delete text) r p is e = none-some _ is
+
+-- a reply in a trace is that of a call of the job
+told_with : (number : ℕ) (own : List Told) (x : Exchange) → Contains (trace_of number own) x → (e : Told) × Contains own e × (e.reply ≡ x.reply)
+told_with number own x at =
+    let (e, there, is) = filter_map-Contains (exchange_of number) own x at in
+    (e, there, by_test e (is_by number e.job) is)
+  where
+    by_test : (e : Told) (b : Bool) → cond b (Some (record { call = e.call; reply = e.reply })) None ≡ Some x → e.reply ≡ x.reply
+    by_test e true is = ap (λ y. y.reply) (same_Some _ x is)
+    by_test e false is = absurd (none-some _ is)
+
+-- where a job ends because a call failed, it made a call whose fate is not Done
+pub fault_has_cause : {F : Type 0} (forms : Forms F) (number : ℕ) (job : Job) (own : List Told) (p : Place) → All Suits own
+    → IsSegment forms job (trace_of number own) (Done (outcome.Refused (refusal.StoreFault p))) → (e : Told) × Contains own e × (e.fate ≢ fate.Done)
+fault_has_cause forms number job own p suit segment = by_refusal (refused_before job.command) refl segment.ends
+  where
+    by_refusal : (r : Option Refusal) → refused_before job.command ≡ r → MayEndAs forms job segment.found (trace_of number own) (outcome.Refused (refusal.StoreFault p)) r → (e : Told) × Contains own e × (e.fate ≢ fate.Done)
+    by_refusal None is (last, at, cause) =
+        let there : Contains (trace_of number own) last = subst (λ t. Contains t last) (sym at.parts) (Contains-push at.before last) in
+        let (e, among, same) = told_with number own last there in
+        (e, among, (All-contains Suits own e suit among).failed (same ∙ only_failed forms job segment.found (trace_of number own) last p cause))
+    by_refusal (Some r) is (none, inl same) = absurd (not_before job.command r p is same)
+    by_refusal (Some r) is (none, inr same) = let other : outcome.Refused (refusal.StoreFault p) ≡ outcome.OutOfMemory = same in cc

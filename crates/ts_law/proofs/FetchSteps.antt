@@ -1,0 +1,331 @@
+-- The calls of fetches: each leads to another call, to the next fragment, or to the answer of the read.
+use Rattle.std.proofs.Common.{◌≡◌, ℕ, suc, zero, ◌+◌, ◌-◌, ◌≤◌, true, ◌⊎◌, inl, inr, List, [], ◌∷◌, ◌++◌, Some, Ok, length, length-drop, take, drop, arith, refl, sym, ◌∙◌, ap, subst}
+use Rattle.std.specs.Prelude.{Contains, slice_get, option_map, map as list_map}
+use Rattle.std.specs.FinMap as map
+use Rattle.std.proofs.lemmas.Bool.{true≢false}
+use Rattle.std.proofs.lemmas.Option.{none-some, same_Some, slice_get-map}
+use Rattle.std.proofs.lemmas.List.{take_all}
+use Rattle.std.proofs.lemmas.List.Elements.{Contains-append_left}
+use Rattle.ts_base.specs.declared.keys.FragKey.{FragKey}
+use Rattle.ts_base.specs.declared.keys.Key.{Key}
+use Rattle.ts_base.specs.declared.names.Name.{Name}
+use Rattle.ts_base.specs.declared.names.Name.TheVariants as name
+use Rattle.ts_base.specs.declared.names.Part.{Part}
+use Rattle.ts_base.specs.declared.names.Place.TheVariants as place
+use Rattle.ts_base.specs.declared.heads.Version.{Version}
+use Rattle.ts_base.specs.Keys.{frag_of, is_within}
+use Rattle.ts_base.specs.Held.{Held}
+use Rattle.ts_schema.specs.declared.schemas.Schema.{Schema}
+use Rattle.ts_schema.specs.Wants.{taken}
+use Rattle.ts_store.specs.declared.fate.Fate.{Fate}
+use Rattle.ts_store.specs.declared.fate.Fate.TheVariants as fate
+use Rattle.ts_store.specs.declared.call.Call.{Call}
+use Rattle.ts_store.specs.declared.call.Call.TheVariants as call
+use Rattle.ts_store.specs.declared.call.Reply.{Reply}
+use Rattle.ts_store.specs.declared.call.Reply.TheVariants as reply
+use Rattle.ts_store.specs.Calls.{answer, reply_of, is_no_memory, part_of, part_reply, length_reply}
+use Rattle.ts_model.specs.declared.commands.Job.{Job}
+use Rattle.ts_model.specs.declared.deeds.Erasure.{Erasure}
+use Rattle.ts_model.specs.declared.deeds.Written.{Written}
+use Rattle.ts_model.specs.declared.answers.Refusal.TheVariants as refusal
+use Rattle.ts_model.specs.declared.states.Opened.{Opened}
+use Rattle.ts_model.specs.declared.states.Reading.{Reading}
+use Rattle.ts_model.specs.declared.states.State.{State}
+use Rattle.ts_model.specs.declared.states.State.TheVariants.{Fetches}
+use Rattle.ts_model.specs.Deeds.{History, IsHistory, erases, writes, schema_with, schema_there, attrs_with}
+use Rattle.ts_model.specs.Forms.{Forms, Spelled, Tracking, FormsLaws, OpensWell, GoesWell, Stepped, IsToldOf, SpeaksOf}
+use Rattle.ts_model.specs.Forms.Stepped.{Asks, Takes, Breaks}
+use Rattle.ts_model.specs.Jobs.{looks_at}
+use Rattle.ts_law.specs.Stands.{HoldsOne}
+use Rattle.ts_model.specs.States.{known_schema, known_attrs, want_of, ended, fetch_leads, fetch_begins, fetches_one, fetching, after_fetched}
+use Rattle.ts_law.specs.Kept.{AreGot, Clean, Erasing, Gathering, Fetching, Claims}
+use Rattle.ts_model.specs.Told.{Told, IsReplied, after_told, history_told}
+use Rattle.ts_law.specs.Ends.{IsTrueRefusal}
+use Rattle.ts_law.specs.Steps.{Comes, Advances}
+use Rattle.ts_model.proofs.ListLemmas.{Contains-slice_get, take_next}
+use Rattle.ts_model.proofs.HistoryLaws.{IsHistory-front, erases-append, schema_with-append}
+use Rattle.ts_law.proofs.Erasing.{all_erased, erased_in}
+use Rattle.ts_model.proofs.Traces.{history_told_grows}
+use Rattle.ts_law.proofs.Effects.{IsLook, look_stays, look_history, look_leads}
+use Rattle.ts_law.proofs.Stays.{clean_look, fetching_stays, on_way_stays}
+use Rattle.ts_law.proofs.Fetches.{got_more, knows, knows_attrs, map-Contains}
+use Rattle.ts_law.proofs.ReadingLaw.{answer_is}
+
+-- ---- where a list is dropped up to a place
+
+-- the first item that is left stands at the place, and the others are left from the next place on
+drop_first : {X : Type 0} (xs : List X) (i : ℕ) (x : X) (rest : List X) → drop i xs ≡ x ∷ rest → (slice_get xs i ≡ Some x) × (drop (suc i) xs ≡ rest)
+drop_first [] zero x rest is = absurd (none-some x (ap (λ l. slice_get l 0) is))
+drop_first [] (suc i) x rest is = absurd (none-some x (ap (λ l. slice_get l 0) is))
+drop_first (y ∷ xs) zero x rest is = (ap (λ l. slice_get l 0) is, ap (λ l. drop 1 l) is)
+drop_first (y ∷ xs) (suc i) x rest is = drop_first xs i x rest is
+
+-- a place from which on nothing is left is at the end
+drop_none : {X : Type 0} (xs : List X) (i : ℕ) → drop i xs ≡ [] → length xs ≤ i
+drop_none xs i is = let none : length xs - i ≡ 0 = sym (length-drop i xs) ∙ ap length is in omega arith
+
+-- ---- histories at listings
+
+-- the history at a listing is the beginning of the history now
+begins_now : (jobs : List Job) (past : History) (seen before : List Told) (listing : Told) (later : List Told) → seen ≡ before ++ listing ∷ later
+    → (more : History) × (history_told jobs past seen ≡ history_told jobs past before ++ more)
+begins_now jobs past seen before listing later place = let grown = history_told_grows jobs past before (listing ∷ later) in (grown.0, ap (history_told jobs past) place ∙ grown.1)
+
+-- ---- what a read claims while it fetches
+
+module _ {F : Type 0} (forms : Forms F) (spelled : Spelled) (tracks : Tracking F) (laws : FormsLaws forms spelled tracks)
+    (past : History) (jobs : List Job) (seen : List Told) (m : Held) (number : ℕ) (job : Job) (clean : Clean m (history_told jobs past seen) job)
+    (r : Reading) (opened : List Opened) (schemas : List Schema) (erasing : Erasing forms spelled past jobs seen m number job r opened schemas) (all_deletes : length r.erased ≡ length r.deletes) where
+  -- what the read gathered
+  abbrev gathers : Gathering forms spelled past jobs seen m number job r opened schemas
+  gathers = erasing.gathers
+
+  -- the state's claims hold
+  abbrev Holds : State F → Type 0
+  Holds s = Claims forms spelled tracks past jobs seen m number job s
+
+  -- the history at the listing of the commits
+  abbrev g : History
+  g = history_told jobs past (((((gathers.opens).reads).at).listed).commits).before
+
+  -- the history now
+  abbrev h : History
+  h = history_told jobs past seen
+
+  -- the versions in the fragments before the next one were got
+  abbrev IsFound : ℕ → List Version → Type 0
+  IsFound next got = AreGot g r.from r.to (r.ready).sub (take next r.near) got
+
+  -- what is wanted of a fragment that holds one write
+  abbrev wanted_of : (frag : FragKey) → HoldsOne spelled g m frag → List Version
+  wanted_of frag one = taken (want_of r (one.schema).attrs) (one.piece).versions
+
+  -- a step of a fetch leads to a call, or on with the versions that are wanted
+  step_claims : (next : ℕ) (frag : FragKey) (got : List Version) (on : List Version → State F) → slice_get r.near next ≡ Some frag → (one : HoldsOne spelled g m frag) → one.frame ≡ r.frame → IsFound next got
+      → ((vs : List Version) → vs ≡ wanted_of frag one → Holds (on vs))
+      → (s : Stepped F) → GoesWell (tracks r.frame one.schema one.piece (one.spells).look (want_of r (one.schema).attrs)) (wanted_of frag one) s → Holds (fetch_leads r opened schemas next frag got on s)
+  step_claims next frag got on at one same_frame found rest (Asks f c) well =
+      (clean, at, (record { erasing = erasing; all_deletes = all_deletes; found = found }, record { one = one; same_frame = same_frame; way = well }))
+  step_claims next frag got on at one same_frame found rest (Takes vs) well = rest vs well
+  step_claims next frag got on at one same_frame found rest (Breaks part at_offset) well = absurd well
+
+  -- the fragments of the open ones are all that were listed
+  all_frags : list_map (λ o. o.frag) opened ≡ r.near
+  all_frags = ((gathers.opens).are_open).frags ∙ ap (λ n. take n r.near) gathers.all ∙ take_all (length r.near) r.near (omega arith)
+
+  -- the fragment of the open one at a place is the one listed there
+  frag_at : (next : ℕ) (o : Opened) → slice_get opened next ≡ Some o → slice_get r.near next ≡ Some o.frag
+  frag_at next o at = ap (λ fs. slice_get fs next) (sym all_frags) ∙ slice_get-map (λ o. o.frag) opened next ∙ ap (option_map (λ o. o.frag)) at
+
+  module _ (is_g : IsHistory g) (is_h : IsHistory h) where
+    -- the history now begins with that at the listing of the commits
+    from_g : (more : History) × (h ≡ g ++ more)
+    from_g = begins_now jobs past seen _ _ _ (((((gathers.opens).reads).at).listed).commits).place
+
+    -- a schema of that history is one of this
+    grows : (k : Key) (s : Schema) → schema_with g k ≡ Some s → schema_with h k ≡ Some s
+    grows k s is = ap (λ x. schema_with x k) from_g.1 ∙ schema_with-append g from_g.0 k s is
+
+    -- a delete of that history is one of this
+    erases_grow : (x : Erasure) → Contains (erases g) x → Contains (erases h) x
+    erases_grow x at = subst (λ y. Contains (erases y) x) (sym from_g.1) (rw (erases-append g from_g.0) (Contains-append_left (erases g) (erases from_g.0) x at))
+
+    -- what the read knows of schemas
+    known_to : (w : Written) → Contains (writes g) w → is_within r.from r.to w.key ≡ true → known_attrs r schemas w.schema ≡ attrs_with g w.schema
+    known_to w at within =
+        let near = ((((gathers.opens).reads).at).listed).covered w at within in
+        let o = map-Contains (λ o. o.frag) opened (frag_of w.key) (subst (λ fs. Contains fs (frag_of w.key)) (sym all_frags) near) in
+        knows_attrs forms spelled g h m r opened schemas grows ((((gathers.opens).reads).at).works).declared (gathers.opens).are_open gathers.gathered erasing.all_schemas w is_g at o.0 o.1 o.2
+
+    -- after the last fragment the answer is that of the history
+    end_claims : (next : ℕ) (got : List Version) → drop next opened ≡ [] → IsFound next got → Holds (fetching forms r opened schemas next [] got)
+    end_claims next got none found =
+        let reads = (gathers.opens).reads in
+        let past_end = drop_none opened next none in
+        let whole : take next r.near ≡ r.near = take_all next r.near (let all = gathers.all in omega arith) in (
+          r.from,
+          r.to,
+          reads.query,
+          reads.reads,
+          record {
+            commits = ((reads.at).listed).commits;
+            schemas = ((reads.at).works).schemas;
+            between = (reads.at).between;
+            order = (reads.at).order;
+            answers = answer_is g is_g r.from r.to (r.ready).sub r.near got (subst (λ fs. AreGot g r.from r.to (r.ready).sub fs got) whole found) ((reads.at).listed).covered r schemas refl known_to
+                (erased_in spelled past jobs seen m number r.from r.to r.near r.deletes (reads.at).listed is_h erases_grow r.erased erasing.erases all_deletes)
+                (all_erased spelled past jobs seen m number r.from r.to r.near r.deletes (reads.at).listed is_h erases_grow r.erased erasing.erases all_deletes)
+                (history_told jobs past (((reads.at).works).schemas).before) reads.query reads.framed
+                (subst (λ command. schema_there (history_told jobs past (((reads.at).works).schemas).before) (looks_at job command) ≡ Some r.there) reads.reads ((reads.at).works).holds)
+                reads.is_ready;
+          },
+        )
+
+    -- a fragment in its schema, which the read knows, is opened
+    one_claims : (next : ℕ) (o : Opened) (got : List Version) (on : List Version → State F) → slice_get opened next ≡ Some o → (one : Contains opened o) → IsFound next got
+        → ((vs : List Version) → vs ≡ wanted_of o.frag (((gathers.opens).are_open).each o one).one → Holds (on vs))
+        → Holds (fetches_one forms r opened schemas next o got on (known_schema r schemas (o.head).schema))
+    one_claims next o got on at there found rest =
+        let opens = ((gathers.opens).are_open).each o there in
+        let one = opens.one in
+        let want = want_of r (one.schema).attrs in
+        let well : OpensWell forms (tracks r.frame one.schema one.piece (one.spells).look want) r.frame one.schema one.piece o.object want =
+        laws.opens r.frame one.schema one.piece (one.spells).look want o.object (subst (λ frame. spelled frame one.schema one.piece (one.spells).look) opens.same_frame (one.spells).spells) opens.object in
+        let begins : forms.opens r.frame one.schema o.frag o.object want ≡ Ok well.fetch = ap (λ f. forms.opens r.frame one.schema f o.object want) (sym (one.spells).named) ∙ well.opens in
+        let known = knows forms spelled g h m r opened schemas grows ((((gathers.opens).reads).at).works).declared (gathers.opens).are_open gathers.gathered erasing.all_schemas o there in
+        subst (λ s. Holds (fetches_one forms r opened schemas next o got on s)) (sym known)
+        (subst (λ x. Holds (fetch_begins forms r opened schemas next o.frag got on x)) (sym begins)
+        (step_claims next o.frag got on (frag_at next o at) one opens.same_frame found rest (forms.steps well.fetch reply.Start) well.starts))
+
+    -- with one fragment more, its versions were got
+    found_more : (next : ℕ) (frag : FragKey) (got : List Version) → slice_get r.near next ≡ Some frag → (one : HoldsOne spelled g m frag) → one.frame ≡ r.frame → IsFound next got
+        → (vs : List Version) → vs ≡ wanted_of frag one → IsFound (suc next) (got ++ vs)
+    found_more next frag got at one same_frame found vs all =
+        let one_more : next + 1 ≡ suc next = omega arith in
+        subst (λ fs. AreGot g r.from r.to (r.ready).sub fs (got ++ vs)) (sym (take_next r.near next frag at) ∙ ap (λ n. take n r.near) one_more)
+        (subst (λ us. AreGot g r.from r.to (r.ready).sub (take next r.near ++ frag ∷ []) (got ++ us)) (sym all) (got_more spelled g is_g m frag one r same_frame (take next r.near) got found))
+
+    -- the fragments from a place on are fetched
+    rest_claims : (rest : List Opened) (next : ℕ) (got : List Version) → drop next opened ≡ rest → IsFound next got → Holds (fetching forms r opened schemas next rest got)
+    rest_claims [] next got left found = end_claims next got left found
+    rest_claims (o ∷ rest) next got left found =
+        let parts = drop_first opened next o rest left in
+        let there = Contains-slice_get opened next o parts.0 in
+        let opens = ((gathers.opens).are_open).each o there in
+        one_claims next o got _ parts.0 there found
+        (λ vs all. rest_claims rest (suc next) (got ++ vs) parts.1 (found_more next o.frag got (frag_at next o parts.0) opens.one opens.same_frame found vs all))
+
+    -- ---- replies
+
+    -- a call on a part that finds no memory ends the read
+    no_memory_claims : (c : Call) (n : Name) → SpeaksOf c n → Holds (ended c reply.NoMemory)
+    no_memory_claims (call.Get q from len) n speaks = tt
+    no_memory_claims (call.Size q) n speaks = tt
+    no_memory_claims (call.Put q bytes) n speaks = absurd speaks
+    no_memory_claims (call.Remove q) n speaks = absurd speaks
+    no_memory_claims (call.List p) n speaks = absurd speaks
+
+    -- a call on a part that fails ends the read, which has no deed
+    failed_claims : (c : Call) (f : FragKey) (part : Part) → SpeaksOf c (name.Part f part) → Holds (ended c reply.Failed)
+    failed_claims (call.Get q from len) f part speaks = subst (λ n. IsTrueRefusal h job (refusal.StoreFault (place.Name n))) (sym speaks) clean.undone
+    failed_claims (call.Size q) f part speaks = subst (λ n. IsTrueRefusal h job (refusal.StoreFault (place.Name n))) (sym speaks) clean.undone
+    failed_claims (call.Put q bytes) f part speaks = absurd speaks
+    failed_claims (call.Remove q) f part speaks = absurd speaks
+    failed_claims (call.List p) f part speaks = absurd speaks
+
+    module _ (next : ℕ) (frag : FragKey) (got : List Version) (at : slice_get r.near next ≡ Some frag) (found : IsFound next got) (fetch : F) where
+      -- where the read goes on with the versions of the fragment
+      abbrev goes_on : List Version → State F
+      goes_on vs = fetching forms r opened schemas (suc next) (drop (suc next) opened) (got ++ vs)
+
+      module _ (one : HoldsOne spelled g m frag) (same_frame : one.frame ≡ r.frame) where
+        -- a step that goes well leads the read on
+        on_claims : (s : Stepped F) → GoesWell (tracks r.frame one.schema one.piece (one.spells).look (want_of r (one.schema).attrs)) (wanted_of frag one) s
+            → Holds (fetch_leads r opened schemas next frag got goes_on s)
+        on_claims s well = step_claims next frag got goes_on at one same_frame found
+            (λ vs all. rest_claims (drop (suc next) opened) (suc next) (got ++ vs) refl (found_more next frag got at one same_frame found vs all)) s well
+
+        -- what a part tells leads the read on
+        told_claims : (c : Call) (part : Part) (bytes : List ℕ) (said : Reply) → tracks r.frame one.schema one.piece (one.spells).look (want_of r (one.schema).attrs) fetch c → (one.spells).look part ≡ Some bytes
+            → SpeaksOf c (name.Part ((one.piece).head).frag part) → IsToldOf c bytes said → Holds (after_fetched forms r opened schemas next frag got fetch c said)
+        told_claims (call.Get q from len) part bytes said way held speaks told =
+            subst (λ x. Holds (after_fetched forms r opened schemas next frag got fetch (call.Get q from len) x)) (sym told)
+            (on_claims (forms.steps fetch (reply.Bytes (part_of from len bytes)))
+            (laws.goes r.frame one.schema one.piece (one.spells).look (want_of r (one.schema).attrs) fetch (call.Get q from len) part bytes (reply.Bytes (part_of from len bytes)) way held speaks refl))
+        told_claims (call.Size q) part bytes said way held speaks told =
+            subst (λ x. Holds (after_fetched forms r opened schemas next frag got fetch (call.Size q) x)) (sym told)
+            (on_claims (forms.steps fetch (reply.Length (length bytes)))
+            (laws.goes r.frame one.schema one.piece (one.spells).look (want_of r (one.schema).attrs) fetch (call.Size q) part bytes (reply.Length (length bytes)) way held speaks refl))
+        told_claims (call.Put q more) part bytes said way held speaks told = absurd speaks
+        told_claims (call.Remove q) part bytes said way held speaks told = absurd speaks
+        told_claims (call.List p) part bytes said way held speaks told = absurd speaks
+
+        -- where a reply leads the read
+        reply_claims : (c : Call) (part : Part) (bytes : List ℕ) (said : Reply) → tracks r.frame one.schema one.piece (one.spells).look (want_of r (one.schema).attrs) fetch c → (one.spells).look part ≡ Some bytes
+            → SpeaksOf c (name.Part ((one.piece).head).frag part) → (said ≡ reply.NoMemory) ⊎ ((said ≡ reply.Failed) ⊎ IsToldOf c bytes said) → Holds (after_fetched forms r opened schemas next frag got fetch c said)
+        reply_claims c part bytes said way held speaks (inl none) =
+            subst (λ x. Holds (after_fetched forms r opened schemas next frag got fetch c x)) (sym none) (no_memory_claims c (name.Part ((one.piece).head).frag part) speaks)
+        reply_claims c part bytes said way held speaks (inr (inl failed)) =
+            subst (λ x. Holds (after_fetched forms r opened schemas next frag got fetch c x)) (sym failed) (failed_claims c ((one.piece).head).frag part speaks)
+        reply_claims c part bytes said way held speaks (inr (inr told)) = told_claims c part bytes said way held speaks told
+
+-- a read that fetches the fragments from a place on claims what is true
+pub fetching_claims : {F : Type 0} (forms : Forms F) (spelled : Spelled) (tracks : Tracking F) (past : History) (jobs : List Job) (seen : List Told) (m : Held) (number : ℕ) (job : Job)
+    (r : Reading) (opened : List Opened) (schemas : List Schema) (next : ℕ) (got : List Version) → FormsLaws forms spelled tracks → Clean m (history_told jobs past seen) job
+    → (fetches : Fetching forms spelled past jobs seen m number job r opened schemas next got)
+    → IsHistory (history_told jobs past (((((((fetches.erasing).gathers).opens).reads).at).listed).commits).before) → IsHistory (history_told jobs past seen)
+    → Claims forms spelled tracks past jobs seen m number job (fetching forms r opened schemas next (drop next opened) got)
+fetching_claims forms spelled tracks past jobs seen m number job r opened schemas next got laws clean fetches is_g is_h =
+    rest_claims forms spelled tracks laws past jobs seen m number job clean r opened schemas fetches.erasing fetches.all_deletes is_g is_h (drop next opened) next got refl fetches.found
+
+-- ---- what a call on a part tells
+
+-- the reply for want of memory is the one
+no_memory_is : (said : Reply) → is_no_memory said ≡ true → said ≡ reply.NoMemory
+no_memory_is reply.NoMemory is = refl
+no_memory_is _ is = absurd (true≢false (sym is))
+
+module _ (m : Held) (n : Name) (bytes : List ℕ) (held : map.get m n ≡ Some bytes) where
+  -- a call that is served tells of what is held
+  told_done : (c : Call) → SpeaksOf c n → IsToldOf c bytes (answer m c)
+  told_done (call.Get q from len) speaks = ap (λ o. part_reply (option_map (part_of from len) o)) (ap (map.get m) speaks ∙ held)
+  told_done (call.Size q) speaks = ap (λ o. length_reply (option_map length o)) (ap (map.get m) speaks ∙ held)
+  told_done (call.Put q more) speaks = absurd speaks
+  told_done (call.Remove q) speaks = absurd speaks
+  told_done (call.List p) speaks = absurd speaks
+
+  -- a call tells of what is held, or fails
+  told_or_failed : (c : Call) → SpeaksOf c n → (f : Fate) → (reply_of m c f ≡ reply.Failed) ⊎ IsToldOf c bytes (reply_of m c f)
+  told_or_failed c speaks fate.Done = inr (told_done c speaks)
+  told_or_failed c speaks _ = inl refl
+
+  -- a call on an object that is held finds no memory, or fails, or tells of it
+  tells_of : (e : Told) (c : Call) → e.call ≡ c → SpeaksOf c n → IsReplied m e → (e.reply ≡ reply.NoMemory) ⊎ ((e.reply ≡ reply.Failed) ⊎ IsToldOf c bytes e.reply)
+  tells_of e c is speaks (inl none) = inl (no_memory_is e.reply none.0)
+  tells_of e c is speaks (inr replied) =
+      let said : e.reply ≡ reply_of m c e.fate = replied.0 ∙ ap (λ x. reply_of m x e.fate) is in
+      inr (subst (λ x. (x ≡ reply.Failed) ⊎ IsToldOf c bytes x) (sym said) (told_or_failed c speaks e.fate))
+
+-- a call on an object only looks
+speaks_look : (c : Call) (n : Name) → SpeaksOf c n → IsLook c
+speaks_look (call.Get q from len) n speaks = tt
+speaks_look (call.Size q) n speaks = tt
+speaks_look (call.Put q bytes) n speaks = absurd speaks
+speaks_look (call.Remove q) n speaks = absurd speaks
+speaks_look (call.List p) n speaks = absurd speaks
+
+-- ---- the call of a fetch
+
+module _ {F : Type 0} (forms : Forms F) (spelled : Spelled) (tracks : Tracking F) (past : History) (jobs : List Job) (seen : List Told) (e : Told) (m : Held) (number : ℕ) (job : Job)
+    (r : Reading) (opened : List Opened) (schemas : List Schema) (next : ℕ) (frag : FragKey) (got : List Version) (fetch : F) (c : Call) where
+  -- the call of a fetch leads its read on
+  pub fetch_steps : FormsLaws forms spelled tracks → Comes forms spelled tracks past jobs seen e m number job (Fetches r opened schemas next frag got fetch c)
+      → Advances forms spelled tracks past jobs seen e m number job (Fetches r opened schemas next frag got fetch c)
+  fetch_steps laws comes =
+      let fetches = comes.claims.2.0 in
+      let way = comes.claims.2.1 in
+      let asks = laws.asks r.frame (way.one).schema (way.one).piece ((way.one).spells).look (want_of r ((way.one).schema).attrs) fetch c way.way in
+      let is : e.call ≡ c = sym (same_Some c e.call comes.asked) in
+      let look : IsLook e.call = subst IsLook (sym is) (speaks_look c (name.Part (((way.one).piece).head).frag asks.part) asks.named) in
+      let leads = look_leads spelled past jobs seen e m job.id comes.stands look comes.replied in
+      let same_held = (look_stays m e look comes.replied).0 in
+      let same_history = look_history jobs past seen e m look comes.replied in
+      let clean = clean_look m (after_told m e) (history_told jobs past seen) (history_told jobs past (seen ++ e ∷ [])) job same_held same_history comes.claims.0 in
+      let later = fetching_stays spelled past jobs seen e m (after_told m e) job.id leads.leaves number forms job r opened schemas next got
+      (λ own lists. subst (λ x. SpeaksOf x (name.Part (((way.one).piece).head).frag asks.part)) (sym is ∙ lists) asks.named) fetches in
+      let on_way = on_way_stays spelled past jobs seen e m (after_told m e) job.id leads.leaves number tracks
+      (history_told jobs past (((((((fetches.erasing).gathers).opens).reads).at).listed).commits).before) r frag fetch c way in
+      let one = on_way.one in
+      let again = laws.asks r.frame one.schema one.piece (one.spells).look (want_of r (one.schema).attrs) fetch c on_way.way in
+      let held : map.get m (name.Part frag again.part) ≡ Some again.bytes = subst (λ x. map.get x (name.Part frag again.part) ≡ Some again.bytes) same_held ((one.spells).held again.part again.bytes again.held) in
+      let speaks : SpeaksOf c (name.Part frag again.part) = subst (λ f. SpeaksOf c (name.Part f again.part)) (one.spells).named again.named in
+      let is_h : IsHistory (history_told jobs past seen) = (comes.stands).history in
+      let commits = ((((((fetches.erasing).gathers).opens).reads).at).listed).commits in
+      let from_g = begins_now jobs past seen commits.before commits.listing commits.later commits.place in
+      let is_g = IsHistory-front (history_told jobs past commits.before) from_g.0 (subst IsHistory from_g.1 is_h) in
+      record {
+        leads = leads;
+        own = reply_claims forms spelled tracks laws past jobs (seen ++ e ∷ []) (after_told m e) number job clean r opened schemas later.erasing later.all_deletes is_g (subst IsHistory (sym same_history) is_h)
+            next frag got comes.claims.1 later.found fetch one on_way.same_frame c again.part again.bytes e.reply on_way.way again.held again.named
+            (tells_of m (name.Part frag again.part) again.bytes held e c is speaks comes.replied);
+      }

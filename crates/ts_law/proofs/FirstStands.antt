@@ -1,0 +1,63 @@
+-- Where a run may begin: the empty map stands for the empty history, and each seed is fresh over it.
+use Rattle.std.proofs.Common.{◌≡◌, ℕ, ◌^◌, ◌<◌, inl, inr, List, [], None, length, sym, ◌∙◌, ap}
+use Rattle.std.specs.Prelude.{All}
+use Rattle.std.specs.Option.{is_some}
+use Rattle.std.specs.FinMap as map
+use Rattle.std.proofs.lemmas.Bool.{true≢false}
+use Rattle.std.proofs.lemmas.Option.{none-some}
+use Rattle.ts_base.specs.declared.names.Name.{Name}
+use Rattle.ts_base.specs.declared.names.Name.TheVariants as name
+use Rattle.ts_base.specs.declared.names.CommitKind.TheVariants.{Del}
+use Rattle.ts_base.specs.Names.{name_cmp, wrt_of}
+use Rattle.ts_base.specs.Held.{Held}
+use Rattle.ts_model.specs.declared.commands.Line.{Line}
+use Rattle.ts_model.specs.declared.answers.Driven.{Driven}
+use Rattle.ts_model.specs.declared.answers.Outcome.{Outcome}
+use Rattle.ts_model.specs.Forms.{Forms, Spelled, Tracking, FormsLaws}
+use Rattle.ts_model.specs.Jobs.{IsFitLine}
+use Rattle.ts_law.specs.Stands.{Stands}
+use Rattle.ts_law.specs.Fresh.{IsFreshSeed, jobs_of}
+use Rattle.ts_model.specs.Told.{Told, Suits, Replied}
+use Rattle.ts_model.specs.Driven.{AreDriven}
+use Rattle.ts_law.specs.Runs.{IsTrueRun}
+use Rattle.ts_model.proofs.ListLemmas.{Contains-nil}
+use Rattle.ts_law.proofs.HeldLemmas.{Holds}
+use Rattle.ts_law.proofs.TrueRuns.{true_run}
+
+-- nothing is held
+abbrev pub nothing : Held
+nothing = map.empty
+
+-- no name is held
+pub none_held : (n : Name) → Holds nothing n → ⊥
+none_held n held = true≢false (sym held ∙ ap is_some (map.get-empty name_cmp n))
+
+-- nothing is held under any name
+none_there : (n : Name) → map.get nothing n ≡ None
+none_there n = map.get-empty name_cmp n
+
+-- the empty map stands for the empty history
+pub nothing_stands : (spelled : Spelled) → Stands spelled nothing []
+nothing_stands spelled = record {
+  history = tt;
+  frame = none_there name.Domain;
+  schemas = λ k. none_there (name.Schema k);
+  deletes = λ f. none_there (name.Commit f Del);
+  short_frame = λ bytes is. absurd (none-some bytes (sym (none_there name.Domain) ∙ is));
+  short_schemas = λ k bytes is. absurd (none-some bytes (sym (none_there (name.Schema k)) ∙ is));
+  short_deletes = λ f bytes is. absurd (none-some bytes (sym (none_there (name.Commit f Del)) ∙ is));
+  whole = λ f committed. absurd (none_held (wrt_of f) committed);
+  covered = λ w at. absurd (Contains-nil w at);
+}
+
+-- each seed is fresh over nothing
+pub fresh_over_nothing : (seed : ℕ) → IsFreshSeed nothing [] seed
+fresh_over_nothing seed id upper (inl (k, at, is)) = Contains-nil k at
+fresh_over_nothing seed id upper (inr (n, held, is)) = none_held n held
+
+-- a run over nothing is true of the empty history
+pub true_from_nothing : {F : Type 0} (forms : Forms F) (spelled : Spelled) (tracks : Tracking F) → FormsLaws forms spelled tracks → (seed : ℕ) (lines : List Line) (told : List Told) (results : List (Driven Outcome))
+    → seed < 2 ^ 64 → length lines < 2 ^ 32 → All IsFitLine lines → Replied nothing told → All Suits told → AreDriven forms 0 (jobs_of seed lines) results told
+    → IsTrueRun spelled (jobs_of seed lines) [] nothing told results
+true_from_nothing forms spelled tracks laws seed lines told results seed_fits few fit replied suit driven =
+    true_run forms spelled tracks laws seed lines [] nothing told results (nothing_stands spelled) (fresh_over_nothing seed) seed_fits few fit replied suit driven

@@ -1,0 +1,156 @@
+-- What jobs are to put, and what is known of it before the first put.
+use Rattle.std.proofs.Common.{List, None, Option, Some, [], ap, arith, cond, false, inl, inr, length, length-append, refl, suc, sym, true, zero, ℕ, ◌++◌, ◌<◌, ◌∙◌, ◌∷◌, ◌≡◌}
+use Rattle.std.proofs.lemmas.Bool.{eqb-true}
+use Rattle.std.proofs.lemmas.List.{length-map}
+use Rattle.std.proofs.lemmas.Option.{none-some, same_Some, slice_get-map}
+use Rattle.std.specs.Prelude.{option_map, slice_get}
+use Rattle.ts_base.specs.Held.{Held}
+use Rattle.ts_base.specs.Names.{wrt_of}
+use Rattle.ts_cond.specs.Tests.{Condition}
+use Rattle.ts_base.specs.declared.keys.FragKey.{FragKey}
+use Rattle.ts_base.specs.declared.names.Part.{Part}
+use Rattle.ts_base.specs.declared.names.PartBytes.{PartBytes}
+use Rattle.ts_schema.specs.Parts.{look_in}
+use Rattle.ts_schema.specs.declared.attrs.Attr.{Attr}
+use Rattle.ts_model.specs.Deeds.{History}
+use Rattle.ts_model.specs.Forms.{Forms}
+use Rattle.ts_law.specs.Fresh.{id_in}
+use Rattle.ts_law.specs.Kept.{Aims, Clean, Putting}
+use Rattle.ts_model.specs.States.{delete_object_of, part_objects, schema_object_of}
+use Rattle.ts_model.specs.Told.{Told, history_told}
+use Rattle.ts_model.specs.declared.answers.Outcome.{Outcome}
+use Rattle.ts_model.specs.declared.commands.Job.{Job}
+use Rattle.ts_model.specs.declared.states.NewObject.{NewObject}
+use Rattle.ts_model.proofs.ListLemmas.{slice_get_left, slice_get_push}
+use Rattle.ts_base.specs.declared.names.Name.TheVariants as name
+use Rattle.ts_base.specs.declared.names.Part.TheVariants as part_kind
+use Rattle.ts_base.specs.contracts.names.PartPartialEq.TheImpl as part
+
+-- each of the objects carries the identifier
+abbrev pub CarryAll : ℕ → List NewObject → Type 0
+CarryAll id objects = (i : ℕ) (o : NewObject) → slice_get objects i ≡ Some o → id_in o.name ≡ Some id
+
+-- the schema object of a job carries its identifier
+pub schema_carries : (job : Job) (attrs : List Attr) → CarryAll job.id (schema_object_of job attrs ∷ [])
+schema_carries job attrs zero o at = ap (λ x. id_in x.name) (sym (same_Some (schema_object_of job attrs) o at))
+schema_carries job attrs (suc i) o at = absurd (none-some o at)
+
+-- the object of a delete job carries its identifier
+pub delete_carries : (job : Job) (condition : Condition) → CarryAll job.id (delete_object_of job condition ∷ [])
+delete_carries job condition zero o at = ap (λ x. id_in x.name) (sym (same_Some (delete_object_of job condition) o at))
+delete_carries job condition (suc i) o at = absurd (none-some o at)
+
+-- the object of a part
+abbrev pub part_object : FragKey → PartBytes → NewObject
+part_object frag x = record { name = name.Part frag x.part; bytes = x.bytes }
+
+-- an object at a place of the parts is that of the part there
+part_at : (frag : FragKey) (parts : List PartBytes) (i : ℕ) (o : NewObject) → slice_get (part_objects frag parts) i ≡ Some o
+    → (x : PartBytes) × (slice_get parts i ≡ Some x) × (o ≡ part_object frag x)
+part_at frag parts i o at = from (slice_get parts i) refl (sym (slice_get-map (part_object frag) parts i) ∙ at)
+  where
+    from : (found : Option PartBytes) → slice_get parts i ≡ found → option_map (part_object frag) found ≡ Some o
+        → (x : PartBytes) × (slice_get parts i ≡ Some x) × (o ≡ part_object frag x)
+    from None is same = absurd (none-some o same)
+    from (Some x) is same = (x, is, sym (same_Some (part_object frag x) o same))
+
+-- there are as many objects as parts
+pub part_count : (frag : FragKey) (parts : List PartBytes) → length (part_objects frag parts) ≡ length parts
+part_count frag parts = length-map parts (part_object frag)
+
+-- the objects of a write: those of its parts, and then the `.wrt`
+abbrev pub objects_of : FragKey → List PartBytes → List NewObject
+objects_of frag parts = part_objects frag parts ++ record { name = wrt_of frag; bytes = [] } ∷ []
+
+-- the last item is at the place behind the others
+pub last_at : (xs : List NewObject) (y : NewObject) → slice_get (xs ++ y ∷ []) (length xs) ≡ Some y
+last_at [] y = refl
+last_at (x ∷ xs) y = last_at xs y
+
+-- the object of a part is at the place of the part
+pub part_here : (frag : FragKey) (parts : List PartBytes) (i : ℕ) (x : PartBytes) → slice_get parts i ≡ Some x → slice_get (objects_of frag parts) i ≡ Some (part_object frag x)
+part_here frag parts i x at =
+    slice_get_left (part_objects frag parts) (record { name = wrt_of frag; bytes = [] } ∷ []) i (part_object frag x)
+    (slice_get-map (part_object frag) parts i ∙ ap (option_map (part_object frag)) at)
+
+-- one object more than parts
+pub object_count : (frag : FragKey) (parts : List PartBytes) → length (objects_of frag parts) ≡ suc (length parts)
+object_count frag parts = length-append (part_objects frag parts) (record { name = wrt_of frag; bytes = [] } ∷ []) ∙ omega (arith, part_count frag parts)
+
+-- what a write puts at a place: a part, or last the `.wrt`
+pub data PutAt (frag : FragKey) (parts : List PartBytes) (i : ℕ) (o : NewObject) : Type 0 where
+  APart : (x : PartBytes) → slice_get parts i ≡ Some x → o ≡ part_object frag x → PutAt frag parts i o
+  ACommit : i ≡ length parts → o ≡ record { name = wrt_of frag; bytes = [] } → PutAt frag parts i o
+
+-- what is at a place of the objects of a write is a part there or the `.wrt`
+pub put_at : (frag : FragKey) (parts : List PartBytes) (i : ℕ) (o : NewObject) → slice_get (objects_of frag parts) i ≡ Some o → PutAt frag parts i o
+put_at frag parts i o at = elim (slice_get_push (part_objects frag parts) (record { name = wrt_of frag; bytes = [] }) i o at) [
+  | inl part ↦ let found = part_at frag parts i o part in APart found.0 found.1 found.2
+  | inr last ↦ ACommit (last.0 ∙ part_count frag parts) (sym last.1)
+]
+
+-- the objects of a write carry the identifier of its fragment
+pub write_carries : (frag : FragKey) (parts : List PartBytes) → CarryAll frag.id (objects_of frag parts)
+write_carries frag parts i o at = elim (put_at frag parts i o at) [
+  | APart x is same ↦ ap (λ y. id_in y.name) same
+  | ACommit is same ↦ ap (λ y. id_in y.name) same
+]
+
+-- no two parts of a list are one
+abbrev pub IsOnce : List PartBytes → Type 0
+IsOnce parts = (i k : ℕ) (x y : PartBytes) → slice_get parts i ≡ Some x → slice_get parts k ≡ Some y → x.part ≡ y.part → i ≡ k
+
+-- one name of a fragment is of one part
+same_part_name : (frag : FragKey) (p q : Part) → name.Part frag p ≡ name.Part frag q → p ≡ q
+same_part_name frag p q same = cc
+
+-- a part is no `.wrt`
+part_no_commit : (frag : FragKey) (p : Part) → name.Part frag p ≡ wrt_of frag → ⊥
+part_no_commit frag p same = cc
+
+-- no two objects of a write have one name
+pub objects_apart : (frag : FragKey) (parts : List PartBytes) → IsOnce parts → (i k : ℕ) (y z : NewObject)
+    → slice_get (objects_of frag parts) i ≡ Some y → slice_get (objects_of frag parts) k ≡ Some z → y.name ≡ z.name → i ≡ k
+objects_apart frag parts once i k y z at too same = elim (put_at frag parts i y at) [
+  | APart x is named ↦ elim (put_at frag parts k z too) [
+    | APart x' is' named' ↦ once i k x x' is is' (same_part_name frag x.part x'.part (ap (λ o. o.name) (sym named) ∙ same ∙ ap (λ o. o.name) named'))
+    | ACommit is' named' ↦ absurd (part_no_commit frag x.part (ap (λ o. o.name) (sym named) ∙ same ∙ ap (λ o. o.name) named'))
+  ]
+  | ACommit is named ↦ elim (put_at frag parts k z too) [
+    | APart x' is' named' ↦ absurd (part_no_commit frag x'.part (ap (λ o. o.name) (sym named') ∙ sym same ∙ ap (λ o. o.name) named))
+    | ACommit is' named' ↦ is ∙ sym is'
+  ]
+]
+
+-- parts that test equal are one
+same_part : (p q : Part) → (part.ghosts).eq p q ≡ true → p ≡ q
+same_part part_kind.Meta part_kind.Meta e = refl
+same_part (part_kind.Attr n) (part_kind.Attr k) e = ap part_kind.Attr (eqb-true n k e)
+same_part (part_kind.Var n) (part_kind.Var k) e = ap part_kind.Var (eqb-true n k e)
+same_part (part_kind.Validity n) (part_kind.Validity k) e = ap part_kind.Validity (eqb-true n k e)
+same_part (part_kind.Dim n) (part_kind.Dim k) e = ap part_kind.Dim (eqb-true n k e)
+same_part part_kind.Origin part_kind.Origin e = refl
+same_part part_kind.Plain part_kind.Plain e = refl
+same_part _ _ e = cc
+
+-- a part that a look finds in a list is at some place of it
+pub look_finds : (parts : List PartBytes) (p : Part) (bytes : List ℕ) → look_in parts p ≡ Some bytes → (i : ℕ) × (slice_get parts i ≡ Some (record { part = p; bytes = bytes }))
+look_finds [] p bytes e = absurd (none-some bytes e)
+look_finds (x ∷ parts) p bytes e = elim ((part.ghosts).eq x.part p) as (λ b. (part.ghosts).eq x.part p ≡ b → cond b (Some x.bytes) (look_in parts p) ≡ Some bytes
+    → (i : ℕ) × (slice_get (x ∷ parts) i ≡ Some (record { part = p; bytes = bytes }))) [
+      | true ↦ λ same found. (0, λ i. Some (record { part = same_part x.part p same i; bytes = same_Some x.bytes bytes found i }))
+      | false ↦ λ _ found. let later = look_finds parts p bytes found in (suc later.0, later.1)
+    ] refl e
+
+-- a job that puts nothing yet has the objects before it free, where nothing carries its identifier
+pub begins_putting : {F : Type 0} (forms : Forms F) (past : History) (jobs : List Job) (told : List Told) (n : Held) (number : ℕ) (job : Job) (objects : List NewObject) (end : Outcome)
+    → Clean n (history_told jobs past told) job → CarryAll job.id objects → 0 < length objects → Aims forms past jobs told number job objects end
+    → Putting forms past jobs told n number job objects 0 end
+begins_putting forms past jobs told n number job objects end clean carry some aims = record {
+  held = λ i o before at. absurd (omega arith);
+  short = λ i o before at. absurd (omega arith);
+  free = λ i o behind at. clean.free o.name (carry i o at);
+  some = some;
+  undone = clean.undone;
+  aims = aims;
+}

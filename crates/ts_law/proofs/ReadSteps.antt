@@ -1,0 +1,435 @@
+-- The gets of a job that lists the schemas: the schema there, the frame, and what a read gets before it fetches.
+use Rattle.std.proofs.Common.{◌≡◌, ℕ, ◌-◌, ◌^◌, ◌≤◌, true, false, cond, inl, inr, List, [], ◌∷◌, ◌++◌, Option, Some, None, Ok, Result, length, take, refl, sym, ◌∙◌, ap, subst, arith}
+use Rattle.std.specs.Prelude.{Contains, Err, option_map, filter, not, nat_lt, slice_get, map as list_map}
+use Rattle.std.specs.FinMap as map
+use Rattle.std.specs.Option.{is_some}
+use Rattle.std.proofs.lemmas.Bool.{true≢false, cond_both, ltb-false}
+use Rattle.std.proofs.lemmas.Option.{same_Some, none-some}
+use Rattle.std.proofs.lemmas.List.{take_all, length-map, map-append, length_push}
+use Rattle.std.proofs.lemmas.List.Elements.{Contains-push_cases}
+use Rattle.std.proofs.lemmas.Cmp.{eq_by_cmp_equiv}
+use Rattle.std.proofs.lemmas.Map.Views.{list_any-from_Contains}
+use Rattle.ts_base.specs.declared.keys.Key.{Key}
+use Rattle.ts_base.specs.declared.keys.FragKey.{FragKey}
+use Rattle.ts_base.specs.declared.names.Name.{Name}
+use Rattle.ts_base.specs.declared.names.Name.TheVariants as name
+use Rattle.ts_base.specs.declared.names.Place.TheVariants as place
+use Rattle.ts_base.specs.declared.names.Prefix.{Prefix}
+use Rattle.ts_base.specs.declared.heads.Head.{Head}
+use Rattle.ts_base.specs.Keys.{frag_of, key_eq, key_cmp}
+use Rattle.ts_base.specs.Held.{Held}
+use Rattle.ts_base.specs.Exact.{key_total}
+use Rattle.ts_store.specs.declared.call.Call.{Call}
+use Rattle.ts_store.specs.declared.call.Reply.{Reply}
+use Rattle.ts_store.specs.declared.call.Reply.TheVariants as reply
+use Rattle.ts_cond.specs.declared.query.Query.{Query}
+use Rattle.ts_schema.specs.declared.frames.Frame.{Frame}
+use Rattle.ts_schema.specs.declared.schemas.Schema.{Schema}
+use Rattle.ts_schema.specs.declared.attrs.Attr.{Attr}
+use Rattle.ts_schema.specs.FrameTexts.{frame_object, frame_of}
+use Rattle.ts_schema.specs.SchemaTexts.{schema_object, schema_of}
+use Rattle.ts_schema.specs.Parts.{IsShort}
+use Rattle.ts_model.specs.declared.answers.Refusal.TheVariants as refusal
+use Rattle.ts_model.specs.declared.commands.Command.{Command}
+use Rattle.ts_model.specs.declared.commands.Command.TheVariants.{Create, Delete, Evolve, Write, Read}
+use Rattle.ts_model.specs.declared.commands.Job.{Job}
+use Rattle.ts_model.specs.declared.answers.Refusal.{Refusal}
+use Rattle.ts_model.specs.declared.queries.Ready.{Ready}
+use Rattle.ts_model.specs.declared.states.Listed.{Listed}
+use Rattle.ts_model.specs.declared.states.State.{State}
+use Rattle.ts_model.specs.declared.states.State.TheVariants.{GetsSchema, GetsFrame, GetsHeads, GetsSchemas, GetsDeletes}
+use Rattle.ts_model.specs.declared.states.Opened.{Opened}
+use Rattle.ts_model.specs.declared.states.Reading.{Reading}
+use Rattle.ts_model.specs.Deeds.{History, IsHistory, frame_in, schema_with}
+use Rattle.ts_model.specs.Forms.{Forms, FormsLaws, Spelled, Tracking}
+use Rattle.ts_model.specs.Jobs.{looked_at, IsFit, AreApart}
+use Rattle.ts_law.specs.Stands.{HoldsOne, Stands}
+use Rattle.ts_model.specs.States.{list_schemas, get_all, get_frame, get_head, get_schema, on_bytes, on_read, keys_named, fetching, erasing, gathering, opening, reading_of, asks_for, works, after_head, after_schema, with_item}
+use Rattle.ts_model.specs.Told.{Told, after_told, IsReplied, history_told}
+use Rattle.ts_law.specs.Ends.{IsTrueRefusal, IsUndone, ListedAt}
+use Rattle.ts_law.specs.Kept.{AreErasures, Clean, Works, HasListed, ReadsAt, IsOpen, Opening, Gathering, Erasing, Claims}
+use Rattle.ts_model.specs.Queries.{ready_in}
+use Rattle.ts_law.specs.Steps.{Advances, Comes}
+use Rattle.ts_model.proofs.ListLemmas.{Contains-nil, Contains-here, Contains-there, filter-Contains, Contains-slice_get, take_next}
+use Rattle.ts_model.proofs.KeyLemmas.{key_same}
+use Rattle.ts_model.proofs.HistoryLaws.{IsHistory-front, frame_facts, framed_by_schema, frame_in-append, schema_with-is, schema_with-append, there_is_with, schema_facts}
+use Rattle.ts_model.proofs.Traces.{history_told_grows}
+use Rattle.ts_law.proofs.Declaring.{frame_again, attrs_again}
+use Rattle.ts_law.proofs.Effects.{got}
+use Rattle.ts_law.proofs.PutSteps.{works_delete, works_evolve, works_write}
+use Rattle.ts_law.proofs.QueryRefusals.{FailsByQuery, query_true, ready_fails}
+use Rattle.ts_law.proofs.Fetches.{got_none}
+use Rattle.ts_law.proofs.FetchSteps.{fetching_claims}
+use Rattle.ts_law.proofs.ListSteps.{looked}
+use Rattle.ts_law.proofs.Stays.{has_listed_stays, opening_stays, gathering_stays}
+
+-- ---- the keys that heads name
+
+-- a schema that a look-up finds among heads is that of one of them
+named_from_found : (k : Key) (os : List Opened) → is_some (map.find key_cmp k (list_map (λ o. (o.head.schema, o.head.schema)) os)) ≡ true
+    → (o : Opened) × Contains os o × (o.head.schema ≡ k)
+named_from_found k [] found = absurd (true≢false (sym found))
+named_from_found k (o ∷ os) found = cond_both (key_eq k o.head.schema) (Some o.head.schema) (map.find key_cmp k (list_map (λ x. (x.head.schema, x.head.schema)) os))
+    (λ x. is_some x ≡ true → (y : Opened) × Contains (o ∷ os) y × (y.head.schema ≡ k))
+    (λ tie _. (o, Contains-here o os, sym (key_same k o.head.schema tie)))
+    (λ _ later. let rest = named_from_found k os later in (rest.0, Contains-there o os rest.0 rest.1, rest.2)) found
+
+-- a key that heads name is that of one of them
+named_by : (r : Reading) (opened : List Opened) (k : Key) → Contains (keys_named r opened) k → (o : Opened) × Contains opened o × (o.head.schema ≡ k)
+named_by r opened k at =
+    let others = filter (λ o. not (key_eq o.head.schema r.there.key)) opened in
+    let pairs = list_map (λ o. (o.head.schema, o.head.schema)) others in
+    let held : map.contains_key (map.from_entries {R = key_cmp} pairs) k ≡ true =
+    map.contains_key-keys (map.from_entries {R = key_cmp} pairs) k ∙ list_any-from_Contains (eq_by_cmp_equiv key_total) k (keys_named r opened) at in
+    let named = named_from_found k others (ap is_some (sym (map.get-from_entries key_total pairs k)) ∙ held) in
+    (named.0, (filter-Contains (λ o. not (key_eq o.head.schema r.there.key)) opened named.0 named.1).0, named.2)
+
+-- ---- what a read knows leads on
+
+-- as many as all, where the first so many of all are they
+as_many : {X Y : Type 0} (f : X → Y) (xs : List X) (ys : List Y) → list_map f xs ≡ take (length xs) ys → length ys ≤ length xs → length xs ≡ length ys
+as_many f xs ys are enough = sym (length-map xs f) ∙ ap length (are ∙ take_all (length xs) ys enough)
+
+-- one item more where the first so many of all are they
+pub push_next : {X Y : Type 0} (f : X → Y) (xs : List X) (x : X) (ys : List Y) → list_map f xs ≡ take (length xs) ys → slice_get ys (length xs) ≡ Some (f x)
+    → list_map f (xs ++ x ∷ []) ≡ take (length (xs ++ x ∷ [])) ys
+push_next f xs x ys are next =
+    map-append f xs (x ∷ []) ∙ ap (λ zs. zs ++ f x ∷ []) are ∙ sym (take_next ys (length xs) (f x) next) ∙ ap (λ n. take n ys) (sym (length_push xs x))
+
+-- what a job asks for next is at its place
+pub asked_of : {A : Type 0} (ask : A → Call) (o : Option A) (c : Call) → option_map ask o ≡ Some c → (x : A) × (o ≡ Some x) × (c ≡ ask x)
+asked_of ask None c is = absurd (none-some c is)
+asked_of ask (Some x) c is = (x, refl, sym (same_Some (ask x) c is))
+
+module _ {F : Type 0} (forms : Forms F) (spelled : Spelled) (tracks : Tracking F) (past : History) (jobs : List Job) (seen : List Told) (m : Held) (number : ℕ) (job : Job) where
+  -- the history now
+  abbrev now : History
+  now = history_told jobs past seen
+
+  -- what a state claims
+  abbrev Claimed : State F → Type 0
+  Claimed s = Claims forms spelled tracks past jobs seen m number job s
+
+  -- the history at a listing is the front of the history now
+  front_at : {p : Prefix} (at : ListedAt seen number p) → (more : History) × (now ≡ history_told jobs past at.before ++ more)
+  front_at at = let grown = history_told_grows jobs past at.before (at.listing ∷ at.later) in (grown.0, ap (history_told jobs past) at.place ∙ grown.1)
+
+  -- the deeds at a listing are a history
+  history_at : {p : Prefix} (at : ListedAt seen number p) → IsHistory now → IsHistory (history_told jobs past at.before)
+  history_at at is = let front = front_at at in IsHistory-front (history_told jobs past at.before) front.0 (subst IsHistory front.1 is)
+
+  -- the frame at a listing is the frame now
+  frame_at : {p : Prefix} (at : ListedAt seen number p) (frame : Frame) → frame_in (history_told jobs past at.before) ≡ Some frame → frame_in now ≡ Some frame
+  frame_at at frame framed = let front = front_at at in ap frame_in front.1 ∙ frame_in-append (history_told jobs past at.before) front.0 frame framed
+
+  -- a schema that was there at a listing is there now
+  schema_at_listing : {p : Prefix} (at : ListedAt seen number p) (k : Key) (s : Schema) → schema_with (history_told jobs past at.before) k ≡ Some s → schema_with now k ≡ Some s
+  schema_at_listing at k s with = let front = front_at at in ap (λ g. schema_with g k) front.1 ∙ schema_with-append (history_told jobs past at.before) front.0 k s with
+
+  -- the history in which a job found its schema has a frame
+  framed_there : (there : Schema) (work : Works past jobs seen number job there) → IsHistory now → (frame : Frame) × (frame_in (history_told jobs past (work.schemas).before) ≡ Some frame)
+  framed_there there work is =
+      let then = history_at work.schemas is in
+      framed_by_schema (history_told jobs past (work.schemas).before) there.key there then (there_is_with (history_told jobs past (work.schemas).before) (looked_at job) there then work.holds)
+
+  -- a read gets the next delete, or begins to fetch
+  pub erasing_claims : FormsLaws forms spelled tracks → Clean m now job → IsHistory now → (r : Reading) (opened : List Opened) (schemas : List Schema)
+      → Erasing forms spelled past jobs seen m number job r opened schemas → Claimed (erasing forms r opened schemas)
+  erasing_claims laws clean is r opened schemas erases =
+      elim (nat_lt (length r.erased) (length r.deletes)) as (λ b. nat_lt (length r.erased) (length r.deletes) ≡ b
+      → Claimed (cond b (GetsDeletes r opened schemas) (fetching forms r opened schemas 0 opened []))) [
+        | true ↦ λ _. (clean, erases)
+        | false ↦ λ end. fetching_claims forms spelled tracks past jobs seen m number job r opened schemas 0 [] laws clean
+            (record {
+              erasing = erases;
+              all_deletes = as_many (λ x. frag_of x.key) r.erased r.deletes erases.erases.names_are (ltb-false (length r.erased) (length r.deletes) end);
+              found = got_none (history_told jobs past ((((((erases.gathers).opens).reads).at).listed).commits).before) r.from r.to (r.ready).sub;
+            })
+            (history_at ((((erases.gathers).opens.reads).at).listed).commits is) is
+      ] refl
+
+  -- a read gets the next further schema, or goes on to the deletes, of which it has none
+  gathering_claims : FormsLaws forms spelled tracks → Clean m now job → IsHistory now → (r : Reading) (opened : List Opened) (schemas : List Schema) → r.erased ≡ []
+      → Gathering forms spelled past jobs seen m number job r opened schemas → Claimed (gathering forms r opened (keys_named r opened) schemas)
+  gathering_claims laws clean is r opened schemas none gathers =
+      elim (nat_lt (length schemas) (length (keys_named r opened))) as (λ b. nat_lt (length schemas) (length (keys_named r opened)) ≡ b
+      → Claimed (cond b (GetsSchemas r opened (keys_named r opened) schemas) (erasing forms r opened schemas))) [
+        | true ↦ λ _. (clean, refl, gathers, none)
+        | false ↦ λ end. erasing_claims laws clean is r opened schemas (record {
+          gathers = gathers;
+          all_schemas = as_many (λ s. s.key) schemas (keys_named r opened) gathers.gathered.keys_are (ltb-false (length schemas) (length (keys_named r opened)) end);
+          erases = subst (AreErasures now r.deletes) (sym none) (record { names_are = refl; each = λ x at. absurd (Contains-nil x at) });
+        })
+      ] refl
+
+  -- a read opens the next fragment, or goes on once all are open
+  opening_claims : FormsLaws forms spelled tracks → Clean m now job → IsHistory now → (r : Reading) (opened : List Opened) → r.erased ≡ []
+      → Opening forms spelled past jobs seen m number job r opened → Claimed (opening forms r opened)
+  opening_claims laws clean is r opened none opens =
+      elim (nat_lt (length opened) (length r.near)) as (λ b. nat_lt (length opened) (length r.near) ≡ b → Claimed (cond b (GetsHeads r opened) (gathering forms r opened (keys_named r opened) []))) [
+        | true ↦ λ _. (clean, opens, none)
+        | false ↦ λ end. gathering_claims laws clean is r opened [] none (record {
+          opens = opens;
+          all = as_many (λ o. o.frag) opened r.near opens.are_open.frags (ltb-false (length opened) (length r.near) end);
+          gathered = record { keys_are = refl; each = λ s at. absurd (Contains-nil s at) };
+        })
+      ] refl
+
+-- ---- the gets
+
+module _ {F : Type 0} (forms : Forms F) (spelled : Spelled) (tracks : Tracking F) (past : History) (jobs : List Job) (seen : List Told) (e : Told) (m : Held) (number : ℕ) (job : Job) where
+  -- the history before the call
+  abbrev h : History
+  h = history_told jobs past seen
+
+  -- the history after the call
+  abbrev h' : History
+  h' = history_told jobs past (seen ++ e ∷ [])
+
+  -- what is held after the call
+  abbrev m' : Held
+  m' = after_told m e
+
+  -- what a state claims after the call
+  abbrev ClaimedAfter : State F → Type 0
+  ClaimedAfter s = Claims forms spelled tracks past jobs (seen ++ e ∷ []) m' number job s
+
+  -- a call of the job comes in a state
+  abbrev ComesHere : State F → Type 0
+  ComesHere s = Comes forms spelled tracks past jobs seen e m number job s
+
+  -- a call leads the job on from a state
+  abbrev AdvancesHere : State F → Type 0
+  AdvancesHere s = Advances forms spelled tracks past jobs seen e m number job s
+
+  -- how a reply to a get leads on
+  bytes_lead : (n : Name) (on : List ℕ → State F) (r : Reply) → ((bytes : List ℕ) → r ≡ reply.Bytes bytes → ClaimedAfter (on bytes)) → (r ≡ reply.Absent → ⊥)
+      → IsTrueRefusal h' job (refusal.StoreFault (place.Name n)) → ClaimedAfter (on_bytes (get_all n) on r)
+  bytes_lead n on (reply.Bytes bytes) found held fault = found bytes refl
+  bytes_lead n on reply.Absent found held fault = absurd (held refl)
+  bytes_lead n on reply.Failed found held fault = fault
+  bytes_lead n on _ found held fault = tt
+
+  -- a get of all of a short object that is held leads on with its bytes
+  pub whole_lead : (n : Name) (object : List ℕ) (on : List ℕ → State F) → e.call ≡ get_all n → IsReplied m e → map.get m n ≡ Some object → IsShort object
+      → IsTrueRefusal h' job (refusal.StoreFault (place.Name n)) → ClaimedAfter (on object) → ClaimedAfter (on_bytes (get_all n) on e.reply)
+  whole_lead n object on is replied held short fault goes_on =
+      let tells = got m e n 0 (2 ^ 64 - 1) is replied in
+      bytes_lead n on e.reply
+      (λ bytes said.
+      let all = tells.bytes bytes said in
+      let same : all.0 ≡ object = same_Some all.0 object (sym all.1 ∙ held) in
+      subst (λ b. ClaimedAfter (on b)) (sym (all.2 ∙ ap (take (2 ^ 64 - 1)) same ∙ take_all (2 ^ 64 - 1) object (omega arith))) goes_on)
+      (λ absent. none-some object (sym (tells.absent absent) ∙ held))
+      fault
+
+  -- what an object spells leads on
+  pub read_lead : {A : Type 0} (n : Name) (on : A → State F) (x : A) (o : Result A ℕ) → o ≡ Ok x → ClaimedAfter (on x) → ClaimedAfter (on_read n on o)
+  read_lead n on x o is goes_on = subst (λ o. ClaimedAfter (on_read n on o)) (sym is) goes_on
+
+  -- what a job listed before tells that its schema is a deed
+  works_of : (c : Command) (listing : Listed) (s : Schema) → HasListed spelled past jobs seen m number job c listing s → Works past jobs seen number job s
+  works_of (Create f) listing s is = absurd is
+  works_of (Evolve change) listing s is = is
+  works_of (Write w) listing s is = is
+  works_of (Read from to query) listing s is = is.works
+  works_of (Delete text) listing s is = is
+
+  -- a get is no listing
+  pub no_listing : (n : Name) → e.call ≡ get_all n → e.job ≡ Some number → e.call ≡ list_schemas → ⊥
+  no_listing n is own lists = get_lists (sym is ∙ lists)
+    where
+      get_lists : get_all n ≡ list_schemas → ⊥
+      get_lists same = cc
+
+  -- ---- schemas
+
+  -- the object of a schema that is a deed leads on with its attributes
+  schema_lead : Stands spelled m h → (k : Key) (s : Schema) (on : List Attr → State F) → schema_with h k ≡ Some s → e.call ≡ get_schema k → IsReplied m e
+      → IsUndone h' job → ClaimedAfter (on s.attrs) → ClaimedAfter (on_bytes (get_schema k) (λ bytes. on_read (name.Schema k) on (schema_of bytes)) e.reply)
+  schema_lead stands k s on declared is replied undone goes_on =
+      let held : map.get m (name.Schema k) ≡ Some (schema_object s.attrs) = stands.schemas k ∙ ap (option_map (λ x. schema_object x.attrs)) declared in
+      let short = stands.short_schemas k (schema_object s.attrs) held in
+      whole_lead (name.Schema k) (schema_object s.attrs) (λ bytes. on_read (name.Schema k) on (schema_of bytes)) is replied held short (inr undone)
+      (read_lead (name.Schema k) on s.attrs (schema_of (schema_object s.attrs)) (attrs_again s.attrs (schema_facts h k s stands.history declared).0 short) goes_on)
+
+  -- the get of the schema there leads a job to the get of the frame
+  pub schema_steps : FormsLaws forms spelled tracks → (listing : Listed) (there : Key) → ComesHere (GetsSchema listing there) → AdvancesHere (GetsSchema listing there)
+  schema_steps laws listing there comes =
+      let is : e.call ≡ get_schema there = sym (same_Some (get_schema there) e.call comes.asked) in
+      let look = looked spelled past jobs seen e m job (get_schema there) is tt comes.stands comes.replied comes.claims.0 in
+      let s = comes.claims.1.0 in
+      let same : s.key ≡ there = comes.claims.1.1 in
+      let declared : schema_with h there ≡ Some s = subst (λ k. schema_with h k ≡ Some s) same (works_of job.command listing s comes.claims.1.2).declared in
+      record {
+        leads = look.leads;
+        own = schema_lead comes.stands there s (λ attrs. GetsFrame listing (record { key = there; attrs = attrs })) declared is comes.replied look.clean.undone
+            (subst (λ k. ClaimedAfter (GetsFrame listing (record { key = k; attrs = s.attrs }))) same
+            (look.clean, has_listed_stays spelled past jobs seen e m m' job.id look.leads.leaves number job job.command listing s (no_listing (name.Schema there) is) comes.claims.1.2));
+      }
+
+  -- ---- the frame
+
+  -- a read opens its fragments, or it is refused for its query
+  asks_lead : FormsLaws forms spelled tracks → Clean m' h' job → IsHistory h' → (from to : ℕ) (query : Query) (listing : Listed) (frame : Frame) (there : Schema)
+      → (at : ReadsAt spelled past jobs (seen ++ e ∷ []) m' number job from to listing.near listing.deletes there) → frame_in (history_told jobs past ((at.works).schemas).before) ≡ Some frame
+      → job.command ≡ Read from to query → (o : Result Ready Refusal) → ready_in frame there.attrs query ≡ o → FailsByQuery o → ClaimedAfter (asks_for forms from to listing frame there o)
+  asks_lead laws clean is from to query listing frame there at framed command (Err r) asked fails = query_true h' job r fails clean.undone
+  asks_lead laws clean is from to query listing frame there at framed command (Ok ready) asked fails =
+      opening_claims forms spelled tracks past jobs (seen ++ e ∷ []) m' number job laws clean is (reading_of from to listing frame there ready) [] refl (record {
+        reads = record { query = query; reads = command; at = at; framed = framed; is_ready = asked };
+        are_open = record { frags = refl; each = λ o at. absurd (Contains-nil o at) };
+      })
+
+  -- a job works in the schema there once it has the frame
+  works_lead : FormsLaws forms spelled tracks → IsFit job → AreApart jobs → Clean m' h' job → IsHistory h' → (c : Command) → job.command ≡ c
+      → (listing : Listed) (frame : Frame) (there : Schema)
+      → frame_in h' ≡ Some frame → HasListed spelled past jobs (seen ++ e ∷ []) m' number job c listing there → ClaimedAfter (works forms job job.command listing frame there)
+  works_lead laws fit apart clean is (Create f) command listing frame there framed listed = absurd listed
+  works_lead laws fit apart clean is (Evolve change) command listing frame there framed listed =
+      works_evolve forms spelled tracks past jobs (seen ++ e ∷ []) m' number job change listing frame there laws fit apart clean listed framed is command
+  works_lead laws fit apart clean is (Write w) command listing frame there framed listed =
+      works_write forms spelled tracks past jobs (seen ++ e ∷ []) m' number job w listing frame there laws fit apart clean listed framed is command
+  works_lead laws fit apart clean is (Read from to query) command listing frame there framed listed =
+      let then = framed_there forms spelled tracks past jobs (seen ++ e ∷ []) m' number job there listed.works is in
+      let same : then.0 ≡ frame = same_Some then.0 frame
+      (sym (frame_at forms spelled tracks past jobs (seen ++ e ∷ []) m' number job ((listed.works).schemas) then.0 then.1) ∙ framed) in
+      subst (λ c. ClaimedAfter (works forms job c listing frame there)) (sym command)
+      (asks_lead laws clean is from to query listing frame there listed (then.1 ∙ ap Some same) command (ready_in frame there.attrs query) refl (ready_fails frame there.attrs query))
+  works_lead laws fit apart clean is (Delete text) command listing frame there framed listed =
+      works_delete forms spelled tracks past jobs (seen ++ e ∷ []) m' number job text listing frame there laws fit apart clean listed framed is command
+
+  -- the get of the frame leads a job to its work in the schema there
+  pub framed_steps : FormsLaws forms spelled tracks → (listing : Listed) (there : Schema) → ComesHere (GetsFrame listing there) → AdvancesHere (GetsFrame listing there)
+  framed_steps laws listing there comes =
+      let is : e.call ≡ get_frame = sym (same_Some get_frame e.call comes.asked) in
+      let look = looked spelled past jobs seen e m job get_frame is tt comes.stands comes.replied comes.claims.0 in
+      let framed = framed_by_schema h there.key there comes.stands.history (works_of job.command listing there comes.claims.1).declared in
+      let held : map.get m name.Domain ≡ Some (frame_object framed.0) = comes.stands.frame ∙ ap (option_map frame_object) framed.1 in
+      let short = comes.stands.short_frame (frame_object framed.0) held in
+      let on : Frame → State F = λ frame. works forms job job.command listing frame there in
+      record {
+        leads = look.leads;
+        own = whole_lead name.Domain (frame_object framed.0) (λ bytes. on_read name.Domain on (frame_of bytes)) is comes.replied held short look.clean.undone
+            (read_lead name.Domain on framed.0 (frame_of (frame_object framed.0)) (frame_again framed.0 (frame_facts h framed.0 comes.stands.history framed.1) short)
+            (works_lead laws comes.fit comes.apart look.clean look.history job.command refl listing framed.0 there (ap frame_in look.same_history ∙ framed.1)
+            (has_listed_stays spelled past jobs seen e m m' job.id look.leads.leaves number job job.command listing there (no_listing name.Domain is) comes.claims.1)));
+      }
+
+  -- ---- the heads
+
+  module _ (laws : FormsLaws forms spelled tracks) (r : Reading) (opened : List Opened) (f : FragKey) (next : slice_get r.near (length opened) ≡ Some f)
+      (opens : Opening forms spelled past jobs (seen ++ e ∷ []) m' number job r opened) (none : r.erased ≡ []) where
+    -- the history at the listing of the commits
+    abbrev g : History
+    g = history_told jobs past (((opens.reads.at).listed).commits).before
+
+    -- the fragment holds one write of it
+    abbrev one : HoldsOne spelled g m' f
+    one = ((opens.reads.at).listed).whole f (Contains-slice_get r.near (length opened) f next)
+
+    -- the part that has the head is there, and is read as the head
+    abbrev found : (object : List ℕ) × ((one.spells).look (forms.head_part one.frame) ≡ Some object) × (forms.head one.frame ((one.piece).head).frag object ≡ Ok (one.piece).head)
+    found = laws.head one.frame one.schema one.piece (one.spells).look (one.spells).spells
+
+    -- the fragment, open
+    abbrev more : Opened
+    more = record { frag = f; head = (one.piece).head; object = found.0 }
+
+    -- an array has one frame
+    same_frame : one.frame ≡ r.frame
+    same_frame = same_Some one.frame r.frame
+        (sym (frame_at forms spelled tracks past jobs (seen ++ e ∷ []) m' number job (((opens.reads.at).listed).commits) one.frame one.framed)
+        ∙ frame_at forms spelled tracks past jobs (seen ++ e ∷ []) m' number job (((opens.reads.at).works).schemas) r.frame opens.reads.framed)
+
+    -- the part that has the head is there in the frame that the read knows
+    at_part : (one.spells).look (forms.head_part r.frame) ≡ Some found.0
+    at_part = subst (λ frame. (one.spells).look (forms.head_part frame) ≡ Some found.0) same_frame found.1
+
+    -- and its object is read as the head
+    read : forms.head r.frame f found.0 ≡ Ok (one.piece).head
+    read = subst (λ frame. forms.head frame f found.0 ≡ Ok (one.piece).head) same_frame
+        (subst (λ frag. forms.head one.frame frag found.0 ≡ Ok (one.piece).head) one.spells.named found.2)
+
+    -- one fragment more is open
+    opened_more : Opening forms spelled past jobs (seen ++ e ∷ []) m' number job r (opened ++ more ∷ [])
+    opened_more = record {
+      reads = opens.reads;
+      are_open = record {
+        frags = push_next (λ o. o.frag) opened more r.near opens.are_open.frags next;
+        each = λ o at. elim (Contains-push_cases opened more o at) [
+          | inl before ↦ opens.are_open.each o before
+          | inr last ↦ subst (IsOpen forms spelled g m' r.frame) last (record { one = one; same_frame = same_frame; head = refl; object = at_part })
+        ];
+      };
+    }
+
+    -- the part that has the head of the next fragment leads on with one fragment more
+    head_lead : e.call ≡ get_head forms r f → IsReplied m e → m' ≡ m → Clean m' h' job → IsHistory h' → ClaimedAfter (on_bytes (get_head forms r f) (after_head forms r opened f) e.reply)
+    head_lead is replied same_held clean history =
+        let on : Head → State F = λ head. opening forms r (opened ++ record { frag = f; head = head; object = found.0 } ∷ []) in
+        whole_lead (name.Part f (forms.head_part r.frame)) found.0 (after_head forms r opened f) is replied
+        (ap (λ n. map.get n (name.Part f (forms.head_part r.frame))) (sym same_held) ∙ one.spells.held (forms.head_part r.frame) found.0 at_part)
+        (one.spells.short (forms.head_part r.frame) found.0 at_part) clean.undone
+        (read_lead (name.Part f (forms.head_part r.frame)) on (one.piece).head (forms.head r.frame f found.0) read
+        (opening_claims forms spelled tracks past jobs (seen ++ e ∷ []) m' number job laws clean history r (opened ++ more ∷ []) none opened_more))
+
+  -- the get of a head leads a read to the next one, or on
+  pub heads_steps : FormsLaws forms spelled tracks → (r : Reading) (opened : List Opened) → ComesHere (GetsHeads r opened) → AdvancesHere (GetsHeads r opened)
+  heads_steps laws r opened comes =
+      let next = asked_of (get_head forms r) (slice_get r.near (length opened)) e.call comes.asked in
+      let look = looked spelled past jobs seen e m job (get_head forms r next.0) next.2 tt comes.stands comes.replied comes.claims.0 in
+      let unlisted = no_listing (name.Part next.0 (forms.head_part r.frame)) next.2 in
+      let opens = opening_stays spelled past jobs seen e m m' job.id look.leads.leaves number forms job r opened unlisted comes.claims.1 in
+      record {
+        leads = look.leads;
+        own = subst (λ o. ClaimedAfter (with_item (λ f. on_bytes (get_head forms r f) (after_head forms r opened f) e.reply) o)) (sym next.1)
+            (head_lead laws r opened next.0 next.1 opens comes.claims.2 next.2 comes.replied look.same_held look.clean look.history);
+      }
+
+  -- ---- the further schemas
+
+  -- the next further schema is a deed
+  further_declared : (r : Reading) (opened : List Opened) (schemas : List Schema) → Gathering forms spelled past jobs seen m number job r opened schemas → (k : Key) → Contains (keys_named r opened) k
+      → (s : Schema) × (schema_with h k ≡ Some s)
+  further_declared r opened schemas gathers k at =
+      let by = named_by r opened k at in
+      let is = gathers.opens.are_open.each by.0 by.1 in
+      let keyed : ((is.one).write).schema ≡ k = sym is.one.holds.schema ∙ ap (λ head. head.schema) (sym is.head) ∙ by.2 in (
+        (is.one).schema,
+        schema_at_listing forms spelled tracks past jobs seen m number job ((((gathers.opens.reads).at).listed).commits) k (is.one).schema
+            (subst (λ l. schema_with (history_told jobs past ((((gathers.opens.reads).at).listed).commits).before) l ≡ Some (is.one).schema) keyed is.one.declared),
+      )
+
+  -- the get of a further schema leads a read to the next one, or to the first fetch
+  pub further_steps : FormsLaws forms spelled tracks → (r : Reading) (opened : List Opened) (named : List Key) (schemas : List Schema)
+      → ComesHere (GetsSchemas r opened named schemas) → AdvancesHere (GetsSchemas r opened named schemas)
+  further_steps laws r opened named schemas comes =
+      let next = asked_of get_schema (slice_get named (length schemas)) e.call comes.asked in
+      let k = next.0 in
+      let look = looked spelled past jobs seen e m job (get_schema k) next.2 tt comes.stands comes.replied comes.claims.0 in
+      let at : slice_get (keys_named r opened) (length schemas) ≡ Some k = ap (λ ks. slice_get ks (length schemas)) (sym comes.claims.1) ∙ next.1 in
+      let declared = further_declared r opened schemas comes.claims.2 k (Contains-slice_get (keys_named r opened) (length schemas) k at) in
+      let s = declared.0 in
+      let keyed : s.key ≡ k = (schema_with-is h k s declared.1).1 in
+      let its_own : schema_with h' s.key ≡ Some s = ap (λ g. schema_with g s.key) look.same_history ∙ subst (λ l. schema_with h l ≡ Some s) (sym keyed) declared.1 in
+      let unlisted = no_listing (name.Schema k) next.2 in
+      let gathers = gathering_stays spelled past jobs seen e m m' job.id look.leads.leaves number forms job r opened schemas unlisted comes.claims.2 in
+      record {
+        leads = look.leads;
+        own = subst (λ o. ClaimedAfter (with_item (λ l. on_bytes (get_schema l) (after_schema forms r opened named schemas l) e.reply) o)) (sym next.1)
+            (schema_lead comes.stands k s (λ attrs. gathering forms r opened named (schemas ++ record { key = k; attrs = attrs } ∷ [])) declared.1 next.2 comes.replied look.clean.undone
+            (subst (λ l. ClaimedAfter (gathering forms r opened named (schemas ++ record { key = l; attrs = s.attrs } ∷ []))) keyed
+            (subst (λ ks. ClaimedAfter (gathering forms r opened ks (schemas ++ s ∷ []))) (sym comes.claims.1)
+            (gathering_claims forms spelled tracks past jobs (seen ++ e ∷ []) m' number job laws look.clean look.history r opened (schemas ++ s ∷ []) comes.claims.3 (record {
+              opens = gathers.opens;
+              all = gathers.all;
+              gathered = record {
+                keys_are = push_next (λ x. x.key) schemas s (keys_named r opened) gathers.gathered.keys_are (at ∙ ap Some (sym keyed));
+                each = λ x in_them. elim (Contains-push_cases schemas s x in_them) [
+                  | inl before ↦ gathers.gathered.each x before
+                  | inr last ↦ subst (λ y. schema_with h' y.key ≡ Some y) last its_own
+                ];
+              };
+            })))));
+      }

@@ -1,0 +1,274 @@
+-- The law of reading: what a read gets from the fragments of its listing shows what the history shows.
+use Rattle.std.proofs.Common.{◌≡◌, ℕ, ℤ, Bool, true, false, cond, not, ◌&&◌, List, [], ◌∷◌, length, Option, Some, None, Ok, int_cmp, refl, sym, ◌∙◌, ap, subst}
+use Rattle.std.specs.Prelude.{Contains, filter, option_map, option_and_then, map as list_map}
+use Rattle.std.specs.List.{list_any}
+use Rattle.std.specs.Option.{is_some, option_or}
+use Rattle.std.specs.Cmp.{both_ways}
+use Rattle.std.specs.Cmp.Lexicographic.{slice_cmp}
+use Rattle.std.specs.FinMap as map
+use Rattle.std.proofs.lemmas.Bool.{true≢false, and_parts, and_from}
+use Rattle.std.proofs.lemmas.List.{length-map}
+use Rattle.std.proofs.lemmas.List.Folds.{Any-from_list_any, list_any-from_Any}
+use Rattle.std.proofs.lemmas.Option.{same_Some, none-some}
+use Rattle.ts_base.specs.declared.keys.FragKey.{FragKey}
+use Rattle.ts_base.specs.declared.values.Val.{Val}
+use Rattle.ts_base.specs.declared.heads.Version.{Version}
+use Rattle.ts_base.specs.Keys.{key_eq, key_lt, frag_of, is_within}
+use Rattle.ts_base.specs.Coords.{coords_eq}
+use Rattle.ts_cond.specs.declared.query.Query.{Query}
+use Rattle.ts_domain.specs.declared.boxes.SubBox.{SubBox}
+use Rattle.ts_domain.specs.Boxes.{is_in_box}
+use Rattle.ts_schema.specs.declared.schemas.Schema.{Schema}
+use Rattle.ts_schema.specs.Attrs.{shown_row}
+use Rattle.ts_model.specs.declared.deeds.Erasure.{Erasure}
+use Rattle.ts_model.specs.declared.deeds.Written.{Written}
+use Rattle.ts_model.specs.declared.states.Reading.{Reading}
+use Rattle.ts_model.specs.Deeds.{History, IsHistory, writes, erases, row_at, has_cell, last_write, attrs_with, frame_in, schema_there}
+use Rattle.ts_model.specs.Answers.{Cells, erases_cell, is_erased, shown_in, shown_at, shown_inside, fills_of, unwritten, IsAnswer}
+use Rattle.ts_model.specs.Pieces.{version_at, version_of, newest_of}
+use Rattle.ts_model.specs.Queries.{low_of, high_of, ready_in, selected}
+use Rattle.ts_model.specs.States.{known_attrs, is_erased_by, cell_shown, cells_left, version_left, row_or_fill, cells_filled, cells_shown, answer_of}
+use Rattle.ts_law.specs.Kept.{AreGot}
+use Rattle.ts_model.proofs.ListLemmas.{Contains-nil, Contains-filter, filter-Contains, find-Some, find-filter}
+use Rattle.ts_model.proofs.KeyLemmas.{greatest-None, greatest-Some, same_from_both}
+use Rattle.ts_model.proofs.HistoryLaws.{one_write}
+use Rattle.ts_model.proofs.Referred.{ready_box}
+use Rattle.ts_model.proofs.Filled.{box_map, entries_box, get_box, or_fill, left_alone}
+use Rattle.ts_law.proofs.MapValues.{left_of, left_values, entries_left, get_left}
+use Rattle.ts_model.proofs.Newest.{version_key, versions_at, newest_at, get_newest_of, OwnCoords, own_newest, coords_exact}
+
+-- ---- writes and the versions that they make
+
+-- the writes in [from, to] that have a cell at the coordinate
+abbrev writes_at : History → ℕ → ℕ → List ℤ → List Written
+writes_at h from to c = filter (λ w. is_within from to w.key && has_cell c w) (writes h)
+
+-- the version that a row makes
+abbrev version_with : Written → List ℤ → List Val → Version
+version_with w c row = record { key = w.key; schema = w.schema; coords = c; row = row }
+
+-- a write has a cell where it makes a version
+has_cell-version : (w : Written) (c : List ℤ) (v : Version) → version_of w c ≡ Some v → has_cell c w ≡ true
+has_cell-version w c v = elim (row_at c w.cells) as (λ o. option_map (version_with w c) o ≡ Some v → is_some o ≡ true) [
+  | None ↦ λ e. absurd (none-some v e)
+  | Some row ↦ λ _. refl
+]
+
+-- a write makes a version where it has a cell
+version-has_cell : (w : Written) (c : List ℤ) → has_cell c w ≡ true → (v : Version) × (version_of w c ≡ Some v)
+version-has_cell w c = elim (row_at c w.cells) as (λ o. is_some o ≡ true → (v : Version) × (option_map (version_with w c) o ≡ Some v)) [
+  | None ↦ λ e. absurd (true≢false (sym e))
+  | Some row ↦ λ _. (version_with w c row, refl)
+]
+
+-- the version that a write makes has its key
+key_of_version : (w : Written) (c : List ℤ) (v : Version) → version_of w c ≡ Some v → v.key ≡ w.key
+key_of_version w c v = elim (row_at c w.cells) as (λ o. option_map (version_with w c) o ≡ Some v → v.key ≡ w.key) [
+  | None ↦ λ e. absurd (none-some v e)
+  | Some row ↦ λ e. ap (λ u. u.key) (sym (same_Some _ v e))
+]
+
+-- a test that a member passes is passed by one
+any_from_member : {X : Type 0} (p : X → Bool) (xs : List X) (x : X) → Contains xs x → p x ≡ true → list_any p xs ≡ true
+any_from_member p xs x at passes = list_any-from_Any p xs (at.0, x, at.1, at.2, passes)
+
+-- the newest version of a coordinate is the one of its key
+newest_is_at : (got : List Version) (c : List ℤ) (v : Version) → newest_at got c ≡ Some v → version_at got v.key c ≡ Some v
+newest_is_at got c v newest =
+    sym (find-filter (λ u. key_eq u.key v.key) (λ u. coords_eq u.coords c) got) ∙ (greatest-Some version_key (versions_at got c) v newest).first
+
+-- ---- the law
+
+module _ (h : History) (is : IsHistory h) (from to : ℕ) (sub : SubBox) (fetched : List FragKey) (got : List Version) (are : AreGot h from to sub fetched got)
+    (covered : (w : Written) → Contains (writes h) w → is_within from to w.key ≡ true → Contains fetched (frag_of w.key)) where
+  -- a version that was got is that of a write in the interval, and lies in the box
+  of_write : (c : List ℤ) (v : Version) → version_at got v.key c ≡ Some v → (is_in_box sub c ≡ true) × ((w : Written) × Contains (writes_at h from to c) w × (version_of w c ≡ Some v))
+  of_write c v found =
+      let others = are.of_others v.key c v found in
+      let of = others.1 in
+      let within : is_within from to (of.0).key ≡ true = rw of.2 of.4 in
+      let version : version_of of.0 c ≡ Some v = sym (are.of_each of.0 of.1 (rw of.2 of.3) within c others.0) ∙ ap (λ k. version_at got k c) of.2 ∙ found in
+      (others.0, (of.0, Contains-filter _ (writes h) of.0 of.1 (and_from (is_within from to (of.0).key) (has_cell c of.0) within (has_cell-version of.0 c v version)), version))
+
+  -- outside the box there is no version
+  none_outside : (c : List ℤ) (o : Option Version) → newest_at got c ≡ o → is_in_box sub c ≡ false → o ≡ None
+  none_outside c None newest outside = refl
+  none_outside c (Some v) newest outside = absurd (true≢false (sym (of_write c v (newest_is_at got c v newest)).0 ∙ outside))
+
+  module _ (c : List ℤ) (inside : is_in_box sub c ≡ true) where
+    -- each of these writes made a version that was got
+    was_got : (w : Written) → Contains (writes_at h from to c) w → (v : Version) × Contains (versions_at got c) v × (version_of w c ≡ Some v)
+    was_got w at =
+        let parts = filter-Contains _ (writes h) w at in
+        let tests = and_parts (is_within from to w.key) (has_cell c w) parts.1 in
+        let made = version-has_cell w c tests.1 in
+        let found = find-Some _ got made.0 (are.of_each w parts.0 (covered w parts.0 tests.0) tests.0 c inside ∙ made.1) in
+        (made.0, Contains-filter (λ v. coords_eq v.coords c) got made.0 found.0 (and_parts (key_eq (made.0).key w.key) (coords_eq (made.0).coords c) found.1).1, made.1)
+
+    -- the last write of a coordinate made the newest version there
+    last_is_newest : (w : Written) (v : Version) → last_write h from to c ≡ Some w → newest_at got c ≡ Some v → version_of w c ≡ Some v
+    last_is_newest w v last newest =
+        let top = greatest-Some (λ u. u.key) (writes_at h from to c) w last in
+        let highest = greatest-Some version_key (versions_at got c) v newest in
+        let own = was_got w top.member in
+        let of = (of_write c v (newest_is_at got c v newest)).1 in
+        let not_below : key_lt v.key w.key ≡ false = subst (λ k. key_lt v.key k ≡ false) (key_of_version w c own.0 own.2) (highest.top own.0 own.1) in
+        let not_above : key_lt w.key v.key ≡ false = subst (λ k. key_lt w.key k ≡ false) (sym (key_of_version of.0 c v of.2)) (top.top of.0 of.1) in
+        let one_key = same_from_both w.key v.key not_above not_below ∙ key_of_version of.0 c v of.2 in
+        let one = one_write h w of.0 is (filter-Contains _ (writes h) w top.member).0 (filter-Contains _ (writes h) of.0 of.1).0 one_key in
+        rw one of.2
+
+  module _ (r : Reading) (schemas : List Schema) (box : (r.ready).sub ≡ sub)
+      (known : (w : Written) → Contains (writes h) w → is_within from to w.key ≡ true → known_attrs r schemas w.schema ≡ attrs_with h w.schema)
+      (erased_in : (x : Erasure) → Contains r.erased x → Contains (erases h) x × (is_within from to x.key ≡ true))
+      (all_erased : (x : Erasure) → Contains (erases h) x → is_within from to x.key ≡ true → Contains r.erased x) where
+    -- the row of a version, as a read shows it
+    abbrev shown_version : Version → List Val
+    shown_version v = shown_row (known_attrs r schemas v.schema) v.row r.there.attrs
+
+    -- a version is left where no delete erases it
+    abbrev is_left : Version → Bool
+    is_left v = not (is_erased_by r schemas r.erased v)
+
+    -- the deletes that were got erase what those of the history in the interval do
+    same_erased : (p : Erasure → Bool) → list_any p r.erased ≡ list_any (λ x. is_within from to x.key && p x) (erases h)
+    same_erased p = both_ways (list_any p r.erased) (list_any (λ x. is_within from to x.key && p x) (erases h))
+        (λ some.
+        let found = Any-from_list_any p r.erased some in
+        let of = erased_in found.1 (found.0, found.2, found.3) in
+        any_from_member (λ x. is_within from to x.key && p x) (erases h) found.1 of.0 (and_from (is_within from to (found.1).key) (p found.1) of.1 found.4))
+        (λ some.
+        let found = Any-from_list_any (λ x. is_within from to x.key && p x) (erases h) some in
+        let tests = and_parts (is_within from to (found.1).key) (p found.1) found.4 in
+        any_from_member p r.erased found.1 (all_erased found.1 (found.0, found.2, found.3) tests.0) tests.1)
+
+    -- the version of a write is left where its cell is
+    left_cell : (c : List ℤ) (w : Written) (row : List Val) → known_attrs r schemas w.schema ≡ attrs_with h w.schema
+        → version_left r schemas (version_with w c row) ≡ option_map (λ row. shown_row (attrs_with h w.schema) row r.there.attrs) (cond (is_erased h from to c w row) None (Some row))
+    left_cell c w row same =
+        ap (λ b. cond (not b) (Some (shown_version (version_with w c row))) None) is_same
+        ∙ ap (λ attrs. cond (not (is_erased h from to c w row)) (Some (shown_row attrs row r.there.attrs)) None) same
+        ∙ by_test (is_erased h from to c w row)
+      where
+        is_same : is_erased_by r schemas r.erased (version_with w c row) ≡ is_erased h from to c w row
+        is_same = ap (λ attrs. list_any (erases_cell w attrs c row) r.erased) same ∙ same_erased (erases_cell w (attrs_with h w.schema) c row)
+
+        by_test : (b : Bool) → cond (not b) (Some (shown_row (attrs_with h w.schema) row r.there.attrs)) None
+            ≡ option_map (λ row. shown_row (attrs_with h w.schema) row r.there.attrs) (cond b None (Some row))
+        by_test true = refl
+        by_test false = refl
+
+    -- the version of a write shows what is left of its cell
+    shows_cell : (c : List ℤ) (w : Written) (v : Version) → known_attrs r schemas w.schema ≡ attrs_with h w.schema → version_of w c ≡ Some v → version_left r schemas v ≡ shown_in h r.there from to c w
+    shows_cell c w v same = elim (row_at c w.cells) as (λ o. option_map (version_with w c) o ≡ Some v
+        → version_left r schemas v ≡ option_map (λ row. shown_row (attrs_with h w.schema) row r.there.attrs) (option_and_then (λ row. cond (is_erased h from to c w row) None (Some row)) o)) [
+          | None ↦ λ e. absurd (none-some v e)
+          | Some row ↦ λ e. ap (version_left r schemas) (sym (same_Some (version_with w c row) v e)) ∙ left_cell c w row same
+        ]
+
+    -- what is newest at a coordinate of the box shows what the history shows there
+    shows : (c : List ℤ) → is_in_box sub c ≡ true → (w : Option Written) (v : Option Version) → last_write h from to c ≡ w → newest_at got c ≡ v
+        → option_and_then (version_left r schemas) v ≡ option_and_then (shown_in h r.there from to c) w
+    shows c inside None None last newest = refl
+    shows c inside None (Some v) last newest =
+        let of = (of_write c v (newest_is_at got c v newest)).1 in
+        absurd (Contains-nil of.0 (subst (λ ws. Contains ws of.0) (greatest-None (λ w. w.key) (writes_at h from to c) last) of.1))
+    shows c inside (Some w) None last newest =
+        let own = was_got c inside w (greatest-Some (λ u. u.key) (writes_at h from to c) w last).member in
+        absurd (Contains-nil own.0 (subst (λ vs. Contains vs own.0) (greatest-None version_key (versions_at got c) newest) own.1))
+    shows c inside (Some w) (Some v) last newest =
+        let parts = filter-Contains _ (writes h) w (greatest-Some (λ u. u.key) (writes_at h from to c) w last).member in
+        shows_cell c w v (known w parts.0 (and_parts (is_within from to w.key) (has_cell c w) parts.1).0) (last_is_newest c inside w v last newest)
+
+    -- so it is at each coordinate, if nothing is shown outside the box
+    shows_inside : (c : List ℤ) (b : Bool) → is_in_box sub c ≡ b → option_and_then (version_left r schemas) (newest_at got c) ≡ cond b (shown_at h r.there from to c) None
+    shows_inside c true inside = shows c inside (last_write h from to c) (newest_at got c) refl refl
+    shows_inside c false outside = ap (option_and_then (version_left r schemas)) (none_outside c (newest_at got c) refl outside)
+
+    -- so it is of what is newest in the map
+    left_there : (c : List ℤ) (b : Bool) → is_in_box sub c ≡ b → option_and_then (version_left r schemas) (map.get (newest_of got) c) ≡ cond b (shown_at h r.there from to c) None
+    left_there c b is = ap (option_and_then (version_left r schemas)) (get_newest_of got c) ∙ shows_inside c b is
+
+    -- the cells that are left, as a map
+    abbrev map_left : Cells
+    map_left = left_values (slice_cmp int_cmp) coords_exact is_left shown_version (newest_of got)
+
+    -- versions that are left, at their own coordinates
+    cells_are : (es : List (List ℤ × Version)) → OwnCoords es
+        → list_map (cell_shown r schemas) (filter is_left (list_map (λ e. e.1) es)) ≡ left_of (slice_cmp int_cmp) coords_exact is_left shown_version es
+    cells_are [] own = refl
+    cells_are (e ∷ es) own =
+        elim (is_left e.1) as (λ b. list_map (cell_shown r schemas) (cond b (e.1 ∷ filter is_left (list_map (λ x. x.1) es)) (filter is_left (list_map (λ x. x.1) es)))
+        ≡ cond b ((e.0, shown_version e.1) ∷ left_of (slice_cmp int_cmp) coords_exact is_left shown_version es) (left_of (slice_cmp int_cmp) coords_exact is_left shown_version es)) [
+          | true ↦ λ i. (own.0 i, shown_version e.1) ∷ cells_are es own.1 i
+          | false ↦ cells_are es own.1
+        ]
+
+    -- they are the entries of that map
+    entries_of_left : cells_left r schemas got ≡ map.entries map_left
+    entries_of_left = cells_are (map.entries (newest_of got)) (own_newest got) ∙ sym (entries_left (slice_cmp int_cmp) coords_exact is_left shown_version (newest_of got))
+
+    -- a map with the cells that a read shows has at each coordinate what the history shows
+    abbrev ShowsAll : Type 0
+    ShowsAll = (cells : Cells) × (cells_shown r schemas got ≡ map.entries cells) × ((c : List ℤ) → map.get cells c ≡ shown_inside h r.frame r.there r.ready from to c)
+
+    -- the cells that are shown of each kind of array
+    abbrev of_kind : Bool → List (List ℤ × List Val)
+    of_kind dense = cond dense (cells_filled r schemas got) (cells_left r schemas got)
+
+    -- what is shown where no write is left, in each kind of array
+    abbrev fill_of_kind : Bool → Option (List Val)
+    fill_of_kind dense = cond dense (Some (fills_of r.there.attrs)) None
+
+    -- a sparse array shows what is left
+    shows_sparse : r.frame.dense ≡ false → ShowsAll
+    shows_sparse sparse = (
+      map_left,
+      ap of_kind sparse ∙ entries_of_left,
+      λ c. get_left (slice_cmp int_cmp) coords_exact is_left shown_version (newest_of got) c ∙ left_there c (is_in_box sub c) refl
+          ∙ ap (λ s. cond (is_in_box s c) (shown_at h r.there from to c) None) (sym box)
+          ∙ left_alone (is_in_box r.ready.sub c) (shown_at h r.there from to c) (unwritten r.frame r.there.attrs) (ap fill_of_kind sparse),
+    )
+
+    -- a dense array shows that, or else the fill, at each coordinate of the box
+    shows_dense : r.frame.dense ≡ true → length r.ready.sub.high ≡ length r.ready.sub.low → ShowsAll
+    shows_dense dense long = (
+      box_map r.ready.sub.low r.ready.sub.high long row_there,
+      ap of_kind dense ∙ sym (entries_box r.ready.sub.low r.ready.sub.high long row_there),
+      λ c. get_box r.ready.sub.low r.ready.sub.high long row_there c ∙ each c (is_in_box r.ready.sub c) refl,
+    )
+      where
+        row_there : List ℤ → List Val
+        row_there = λ c. row_or_fill r schemas (map.get (newest_of got) c)
+
+        each : (c : List ℤ) (t : Bool) → is_in_box r.ready.sub c ≡ t → cond t (Some (row_there c)) None ≡ cond t (option_or (shown_at h r.there from to c) (unwritten r.frame r.there.attrs)) None
+        each c true inside =
+            or_fill (option_and_then (version_left r schemas) (map.get (newest_of got) c)) (fills_of r.there.attrs)
+            ∙ ap (λ o. option_or o (Some (fills_of r.there.attrs))) (left_there c true (subst (λ s. is_in_box s c ≡ true) box inside))
+            ∙ ap (option_or (shown_at h r.there from to c)) (sym (ap fill_of_kind dense))
+        each c false outside = refl
+
+    -- so each array shows what its history shows
+    shows_all : (dense : Bool) → r.frame.dense ≡ dense → length r.ready.sub.high ≡ length r.ready.sub.low → ShowsAll
+    shows_all true dense long = shows_dense dense long
+    shows_all false sparse long = shows_sparse sparse
+
+    -- the answer of a read that got these versions is that of the history
+    pub answer_is : (later : History) (query : Query) → frame_in later ≡ Some r.frame → schema_there later to ≡ Some r.there → ready_in r.frame (r.there).attrs query ≡ Ok r.ready
+        → IsAnswer h later from to query (answer_of r schemas got)
+    answer_is later query framed there is_ready =
+        let dims = r.frame.domain in
+        let long = subst (λ (s : SubBox). length s.high ≡ length s.low) (sym (ready_box r.frame r.there.attrs query r.ready is_ready)) (length-map dims (high_of query.sub) ∙ sym (length-map dims (low_of query.sub))) in
+        let found = shows_all r.frame.dense refl long in
+        record {
+          frame = r.frame;
+          framed = framed;
+          there = r.there;
+          holds = there;
+          ready = r.ready;
+          is_ready = is_ready;
+          cells = found.0;
+          each = found.2;
+          rows = ap (selected r.frame r.there.attrs r.ready) found.1;
+          types = refl;
+        }

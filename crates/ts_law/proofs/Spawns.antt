@@ -1,0 +1,568 @@
+-- Jobs that begin: what is kept at the start, and when a job with a new identifier comes.
+use Rattle.std.proofs.Common.{Bool, List, None, Option, Some, [], ap, arith, cond, false, inl, inr, length, refl, subst, suc, sym, take, true, zero, ℕ, ◌++◌, ◌<◌, ◌∙◌, ◌∷◌, ◌≡◌, ◌⊎◌}
+use Rattle.std.proofs.Common.{nat_eq}
+use Rattle.std.proofs.lemmas.Bool.{ne_eqb, true≢false}
+use Rattle.std.proofs.lemmas.List.{length_push}
+use Rattle.std.proofs.lemmas.List.Elements.{All-contains, All-contains_itself, All-head, All-nil, All-push, All-tail, All-weaker, Contains-append_cases, Contains-append_left}
+use Rattle.std.proofs.lemmas.Option.{none-some, same_Some}
+use Rattle.std.specs.Option.{option_or}
+use Rattle.std.specs.Prelude.{All, Contains, IsSome, option_and_then, option_map, option_to_list, slice_get}
+use Rattle.ts_base.specs.Held.{Held}
+use Rattle.ts_base.specs.declared.heads.Cell.{Cell}
+use Rattle.ts_base.specs.declared.heads.Version.{Version}
+use Rattle.ts_base.specs.declared.keys.FragKey.{FragKey}
+use Rattle.ts_base.specs.declared.keys.Key.{Key}
+use Rattle.ts_base.specs.declared.names.Name.{Name}
+use Rattle.ts_base.specs.declared.names.Prefix.{Prefix}
+use Rattle.ts_base.specs.declared.names.Prefix.TheVariants.{Commits, Schemas}
+use Rattle.ts_cond.specs.Tests.{Condition}
+use Rattle.ts_domain.specs.Dims.{domain_fault}
+use Rattle.ts_domain.specs.declared.dims.DomainFault.{DomainFault}
+use Rattle.ts_law.proofs.HeldLemmas.{Holds-from_get}
+use Rattle.ts_model.proofs.HistoryLaws.{keys-append, new_from_absent}
+use Rattle.ts_model.proofs.ListLemmas.{Contains-nil, Contains-only, filter_map-Contains, find-append, or_else, slice_get_push}
+use Rattle.ts_model.specs.Answers.{IsAnswer}
+use Rattle.ts_model.specs.Commands.{create_refusal, frame_made, laid}
+use Rattle.ts_model.specs.Deeds.{History, IsNewKey, erases, frame_in, key_in, keys, schema_there, schema_with, writes}
+use Rattle.ts_law.specs.Ends.{HasDeclared, IsCreated, IsTrueEnd, IsTrueRefusal, IsUndone, ListedAt}
+use Rattle.ts_model.specs.Forms.{Forms, Spelled, Tracking}
+use Rattle.ts_law.specs.Fresh.{IsCarried, IsNewId, id_in}
+use Rattle.ts_model.specs.Jobs.{AreApart, IsFit, erasure_as, job_with, key_of, looked_at, schema_of_job, written_as}
+use Rattle.ts_law.specs.Kept.{Aims, AreErasures, AreGot, AreOpen, AreSchemas, Claims, Clean, Erasing, Fetching, Gathering, HasListed, HasNear, IsOfJobs, Kept, Near, OnWay, Opening, Putting, ReadsAt, ReadsIn, Works}
+use Rattle.ts_law.specs.Stands.{HoldsOne, Stands}
+use Rattle.ts_model.specs.States.{begun, keys_named, made_by, state_of, unless_refused}
+use Rattle.ts_model.specs.Told.{Told, cells_of, condition_of, declared_by, deed_in, deed_of, deed_told, erased_by, erased_in, grown, history_from, history_told, is_by, schema_used, schemas_found, trace_of, written_by, written_in}
+use Rattle.ts_model.specs.declared.answers.Outcome.{Outcome}
+use Rattle.ts_model.specs.declared.answers.Refusal.{Refusal}
+use Rattle.ts_model.specs.declared.commands.Command.{Command}
+use Rattle.ts_model.specs.declared.commands.Command.TheVariants.{Create, Delete, Evolve, Read, Write}
+use Rattle.ts_model.specs.declared.commands.FrameIn.{FrameIn}
+use Rattle.ts_model.specs.declared.commands.Job.{Job}
+use Rattle.ts_model.specs.declared.commands.WriteIn.{WriteIn}
+use Rattle.ts_model.specs.declared.deeds.Deed.{Deed}
+use Rattle.ts_model.specs.declared.deeds.Deed.TheVariants.{Declared, Erased, Framed, Wrote}
+use Rattle.ts_model.specs.declared.deeds.Erasure.{Erasure}
+use Rattle.ts_model.specs.declared.deeds.Written.{Written}
+use Rattle.ts_model.specs.Queries.{erasing_in}
+use Rattle.ts_model.specs.declared.states.Listed.{Listed}
+use Rattle.ts_model.specs.declared.states.NewObject.{NewObject}
+use Rattle.ts_model.specs.declared.states.Opened.{Opened}
+use Rattle.ts_model.specs.declared.states.Reading.{Reading}
+use Rattle.ts_model.specs.declared.states.State.{State}
+use Rattle.ts_model.specs.declared.states.State.TheVariants.{ComparesFrame, Fetches, GetsDeletes, GetsFrame, GetsHeads, GetsSchema, GetsSchemas, ListsCommits, ListsDeclared, ListsSchemas, Over, Puts, PutsFrame}
+use Rattle.ts_schema.specs.Evolutions.{evolved_attrs}
+use Rattle.ts_schema.specs.Faults.{schema_fault}
+use Rattle.ts_schema.specs.declared.faults.SchemaFault.{SchemaFault}
+use Rattle.ts_schema.specs.declared.frames.Frame.{Frame}
+use Rattle.ts_schema.specs.declared.schemas.Schema.{Schema}
+use Rattle.ts_store.specs.declared.call.Call.{Call}
+use Rattle.ts_store.specs.declared.call.Call.TheVariants as call
+use Rattle.ts_base.specs.declared.names.CommitKind.TheVariants as kind
+use Rattle.std.specs.FinMap as map
+use Rattle.ts_base.specs.declared.names.Name.TheVariants as name
+use Rattle.ts_model.specs.declared.answers.Outcome.TheVariants as outcome
+use Rattle.ts_model.specs.declared.answers.Refusal.TheVariants as refusal
+
+-- ---- the keys of the deeds of jobs
+
+-- what a job declares has its key
+pub declared_key_is : (h : History) (job : Job) (found : Option (List Key)) (c : Command) (s : Schema) → declared_by h job found c ≡ Some s → s.key ≡ key_of job
+declared_key_is h job found (Create f) s is = ap (λ t. t.key) (sym (same_Some (schema_of_job job f.attrs) s is))
+declared_key_is h job found (Evolve change) s is = of_used (schema_used h job found) is
+  where
+    of_used : (o : Option Schema) → option_map (λ t. schema_of_job job (evolved_attrs t.attrs change)) o ≡ Some s → s.key ≡ key_of job
+    of_used None e = absurd (none-some s e)
+    of_used (Some t) e = ap (λ t. t.key) (sym (same_Some (schema_of_job job (evolved_attrs t.attrs change)) s e))
+declared_key_is h job found (Write w) s is = absurd (none-some s is)
+declared_key_is h job found (Read from to query) s is = absurd (none-some s is)
+declared_key_is h job found (Delete text) s is = absurd (none-some s is)
+
+-- what a write writes has the key of the job
+written_in_key_is : (job : Job) (v : WriteIn) (o : Option Schema) (q : Option Frame) (w : Written) → written_in job v o q ≡ Some w → w.key ≡ key_of job
+written_in_key_is job v None q w is = absurd (none-some w is)
+written_in_key_is job v (Some s) None w is = absurd (none-some w is)
+written_in_key_is job v (Some s) (Some frame) w is = of_cells (cells_of (laid frame s.attrs v)) is
+  where
+    of_cells : (o : Option (List Cell)) → option_map (written_as job s.key) o ≡ Some w → w.key ≡ key_of job
+    of_cells None e = absurd (none-some w e)
+    of_cells (Some cells) e = ap (λ v. v.key) (sym (same_Some (written_as job s.key cells) w e))
+
+-- what a job writes has its key
+pub written_key_is : (h : History) (job : Job) (found : Option (List Key)) (c : Command) (w : Written) → written_by h job found c ≡ Some w → w.key ≡ key_of job
+written_key_is h job found (Create f) w is = absurd (none-some w is)
+written_key_is h job found (Evolve change) w is = absurd (none-some w is)
+written_key_is h job found (Write v) w is = written_in_key_is job v (schema_used h job found) (frame_in h) w is
+written_key_is h job found (Read from to query) w is = absurd (none-some w is)
+written_key_is h job found (Delete text) w is = absurd (none-some w is)
+
+-- what a text erases has the key of the job
+erased_in_key_is : (job : Job) (text : List ℕ) (o : Option Schema) (q : Option Frame) (x : Erasure) → erased_in job text o q ≡ Some x → x.key ≡ key_of job
+erased_in_key_is job text None q x is = absurd (none-some x is)
+erased_in_key_is job text (Some s) None x is = absurd (none-some x is)
+erased_in_key_is job text (Some s) (Some frame) x is = of_condition (condition_of (erasing_in frame s.attrs text)) is
+  where
+    of_condition : (o : Option Condition) → option_map (erasure_as job) o ≡ Some x → x.key ≡ key_of job
+    of_condition None e = absurd (none-some x e)
+    of_condition (Some condition) e = ap (λ y. y.key) (sym (same_Some (erasure_as job condition) x e))
+
+-- what a job erases has its key
+erased_key_is : (h : History) (job : Job) (found : Option (List Key)) (c : Command) (x : Erasure) → erased_by h job found c ≡ Some x → x.key ≡ key_of job
+erased_key_is h job found (Create f) x is = absurd (none-some x is)
+erased_key_is h job found (Evolve change) x is = absurd (none-some x is)
+erased_key_is h job found (Write v) x is = absurd (none-some x is)
+erased_key_is h job found (Read from to query) x is = absurd (none-some x is)
+erased_key_is h job found (Delete text) x is = erased_in_key_is job text (schema_used h job found) (frame_in h) x is
+
+-- what is made of something that has a key
+made_key : {A : Type 0} (make : A → Deed) (key : A → Key) (o : Option A) (own : Key) → ((a : A) → key_in (make a) ≡ Some (key a)) → ((a : A) → o ≡ Some a → key a ≡ own)
+    → (d : Deed) (k : Key) → option_map make o ≡ Some d → key_in d ≡ Some k → k ≡ own
+made_key make key None own keyed owns d k is has = absurd (none-some d is)
+made_key make key (Some a) own keyed owns d k is has = sym (same_Some (key a) k (sym (keyed a) ∙ ap key_in (same_Some (make a) d is) ∙ has)) ∙ owns a refl
+
+-- a frame has no key
+frame_has_no_key : (o : Option FrameIn) (d : Deed) (k : Key) → option_map (λ f. Framed (frame_made f)) o ≡ Some d → key_in d ≡ Some k → ⊥
+frame_has_no_key None d k is has = none-some d is
+frame_has_no_key (Some f) d k is has = none-some k (ap key_in (same_Some (Framed (frame_made f)) d is) ∙ has)
+
+-- the key of the deed of an object that a job puts is the job's
+deed_of_key : (h : History) (job : Job) (found : Option (List Key)) (n : Name) (d : Deed) (k : Key) → deed_of h job found n ≡ Some d → key_in d ≡ Some k → k ≡ key_of job
+deed_of_key h job found name.Domain d k is has = absurd (frame_has_no_key (made_by job.command) d k is has)
+deed_of_key h job found (name.Schema l) d k is has =
+    made_key Declared (λ s. s.key) (declared_by h job found job.command) (key_of job) (λ s. refl) (λ s e. declared_key_is h job found job.command s e) d k is has
+deed_of_key h job found (name.Commit f kind.Wrt) d k is has =
+    made_key Wrote (λ w. w.key) (written_by h job found job.command) (key_of job) (λ w. refl) (λ w e. written_key_is h job found job.command w e) d k is has
+deed_of_key h job found (name.Commit f kind.Del) d k is has =
+    made_key Erased (λ x. x.key) (erased_by h job found job.command) (key_of job) (λ x. refl) (λ x e. erased_key_is h job found job.command x e) d k is has
+deed_of_key h job found _ d k is has = absurd (none-some d is)
+
+-- the key of a deed of a job's call is the job's
+pub deed_in_key : (h : History) (job : Job) (found : Option (List Key)) (c : Call) (d : Deed) (k : Key) → deed_in h job found c ≡ Some d → key_in d ≡ Some k → k ≡ key_of job
+deed_in_key h job found (call.Put n bytes) d k is has = deed_of_key h job found n d k is has
+deed_in_key h job found _ d k is has = absurd (none-some d is)
+
+-- the key is that of a job
+pub record IsKeyOfJob (jobs : List Job) (k : Key) : Type 0 where
+  pub number : ℕ
+  pub job : Job
+  pub is_job : slice_get jobs number ≡ Some job
+  pub key : k ≡ key_of job
+
+-- the key of a deed of a call is that of a job
+pub deed_told_key : (jobs : List Job) (h : History) (seen : List Told) (e : Told) (d : Deed) (k : Key) → deed_told jobs h seen e ≡ Some d → key_in d ≡ Some k → IsKeyOfJob jobs k
+deed_told_key jobs h seen e d k is has = of_maker e.job is
+  where
+    of_job : (number : ℕ) (o : Option Job) → slice_get jobs number ≡ o → option_and_then (λ job. deed_in h job (schemas_found (trace_of number seen)) e.call) o ≡ Some d → IsKeyOfJob jobs k
+    of_job number None at it = absurd (none-some d it)
+    of_job number (Some job) at it = record { number = number; job = job; is_job = at; key = deed_in_key h job (schemas_found (trace_of number seen)) e.call d k it has }
+
+    of_maker : (o : Option ℕ) → option_and_then (λ number. option_and_then (λ job. deed_in h job (schemas_found (trace_of number seen)) e.call) (slice_get jobs number)) o ≡ Some d → IsKeyOfJob jobs k
+    of_maker None it = absurd (none-some d it)
+    of_maker (Some number) it = of_job number (slice_get jobs number) refl it
+
+-- each key that a call appends is that of a job
+grown_key : (jobs : List Job) (h : History) (seen : List Told) (e : Told) (k : Key) → Contains (keys (grown jobs h seen e)) k → IsKeyOfJob jobs k
+grown_key jobs h seen e k at = from_changed e.changed (deed_told jobs h seen e) refl at
+  where
+    from_changed : (changed : Bool) (o : Option Deed) → deed_told jobs h seen e ≡ o → Contains (keys (cond changed (option_to_list o) [])) k → IsKeyOfJob jobs k
+    from_changed false o is there = absurd (Contains-nil k there)
+    from_changed true None is there = absurd (Contains-nil k there)
+    from_changed true (Some d) is there =
+        let found = filter_map-Contains key_in (d ∷ []) k there in
+        deed_told_key jobs h seen e d k is (ap key_in (Contains-only d found.0 found.1) ∙ found.2)
+
+-- each key of the history is one of those before, or that of a job
+pub key_told : (jobs : List Job) (h : History) (before seen : List Told) (k : Key) → Contains (keys (history_from jobs h before seen)) k → Contains (keys h) k ⊎ IsKeyOfJob jobs k
+key_told jobs h before [] k at = inl at
+key_told jobs h before (e ∷ seen) k at = elim (key_told jobs (h ++ grown jobs h before e) (before ++ e ∷ []) seen k at) [
+  | inl there ↦ elim (Contains-append_cases (keys h) (keys (grown jobs h before e)) k (subst (λ ks. Contains ks k) (keys-append h (grown jobs h before e)) there)) [
+    | inl first ↦ inl first
+    | inr own ↦ inr (grown_key jobs h before e k own)
+  ]
+  | inr known ↦ inr known
+]
+
+-- no deed has the key of a job whose identifier is new
+pub new_key : (m : Held) (past : History) (jobs : List Job) (seen : List Told) (job : Job) → IsNewId m past jobs job.id → IsNewKey (history_told jobs past seen) (key_of job)
+new_key m past jobs seen job is = new_from_absent (history_told jobs past seen) (key_of job) (λ at. elim (key_told jobs past [] seen (key_of job) at) [
+  | inl before ↦ is.free (inl (key_of job, before, refl))
+  | inr known ↦ is.other known.number known.job known.is_job (sym (ap (λ k. k.id) known.key))
+])
+
+-- ---- a job that made no call
+
+-- no held object carries a new identifier
+new_is_free : (m : Held) (past : History) (id : ℕ) → (IsCarried m past id → ⊥) → (n : Name) → id_in n ≡ Some id → map.get m n ≡ None
+new_is_free m past id free n carries = from_got (map.get m n) refl
+  where
+    from_got : (o : Option (List ℕ)) → map.get m n ≡ o → o ≡ None
+    from_got None is = refl
+    from_got (Some bytes) is = absurd (free (inr (n, Holds-from_get m n bytes is, carries)))
+
+module _ {F : Type 0} (forms : Forms F) (spelled : Spelled) (tracks : Tracking F) (m : Held) (past : History) (jobs : List Job) (seen : List Told) (number : ℕ) (job : Job)
+    (clean : Clean m (history_told jobs past seen) job) where
+  -- a create that is not refused puts its frame, and else no deed has its key
+  create_claims : (f : FrameIn) → job.command ≡ Create f → (o q : Option Refusal) → create_refusal f ≡ option_or o q
+      → ((r : Refusal) → o ≡ Some r → IsTrueRefusal (history_told jobs past seen) job r) → ((r : Refusal) → q ≡ Some r → IsTrueRefusal (history_told jobs past seen) job r)
+      → Claims forms spelled tracks past jobs seen m number job (unless_refused PutsFrame (option_or o q))
+  create_claims f is None None sound first second = (clean, (f, is, sound))
+  create_claims f is None (Some r) sound first second = second r refl
+  create_claims f is (Some r) q sound first second = first r refl
+
+  -- a refusal for the dimensions is true
+  domain_refusal : (f : FrameIn) (o : Option DomainFault) (r : Refusal) → option_map refusal.DomainBad o ≡ Some r → IsTrueRefusal (history_told jobs past seen) job r
+  domain_refusal f None r is = absurd (none-some r is)
+  domain_refusal f (Some fault) r is = subst (IsTrueRefusal (history_told jobs past seen) job) (same_Some (refusal.DomainBad fault) r is) clean.undone
+
+  -- a refusal for the attributes is true
+  schema_refusal : (f : FrameIn) (o : Option SchemaFault) (r : Refusal) → option_map refusal.SchemaBad o ≡ Some r → IsTrueRefusal (history_told jobs past seen) job r
+  schema_refusal f None r is = absurd (none-some r is)
+  schema_refusal f (Some fault) r is = subst (IsTrueRefusal (history_told jobs past seen) job) (same_Some (refusal.SchemaBad fault) r is) clean.undone
+
+  -- the claims of where a clean job begins
+  begun_claims : (c : Command) → job.command ≡ c → Claims forms spelled tracks past jobs seen m number job (begun c)
+  begun_claims (Create f) is =
+      create_claims f is (option_map refusal.DomainBad (domain_fault f.dims)) (option_map refusal.SchemaBad (schema_fault f.dims f.attrs)) refl
+      (λ r e. domain_refusal f (domain_fault f.dims) r e) (λ r e. schema_refusal f (schema_fault f.dims f.attrs) r e)
+  begun_claims (Evolve change) is = (clean, rw is tt)
+  begun_claims (Write w) is = (clean, rw is tt)
+  begun_claims (Read from to query) is = (clean, (from, to, query, is))
+  begun_claims (Delete text) is = (clean, rw is tt)
+
+-- ---- the start
+
+-- what is kept before the first job comes: the map stands for the past
+pub starts_kept : {F : Type 0} (forms : Forms F) (spelled : Spelled) (tracks : Tracking F) (past : History) (m : Held) → Stands spelled m past → Kept forms spelled tracks past [] [] [] m
+starts_kept forms spelled tracks past m stands = record {
+  stands = stands;
+  apart = λ i j a b at_i at_j same. absurd (none-some a at_i);
+  fit = All-nil IsFit;
+  known = All-nil (IsOfJobs []);
+  claims = λ number job at alive. absurd (none-some job at);
+}
+
+-- ---- a job more
+
+-- an item of the front of two lists
+slice_get_front : {X : Type 0} (xs ys : List X) (i : ℕ) → i < length xs → slice_get (xs ++ ys) i ≡ slice_get xs i
+slice_get_front [] ys i less = absurd (omega arith)
+slice_get_front (x ∷ xs) ys zero less = refl
+slice_get_front (x ∷ xs) ys (suc i) less = slice_get_front xs ys i (omega arith)
+
+module _ (jobs : List Job) (job : Job) where
+  -- the jobs with the one that comes
+  abbrev all : List Job
+  all = jobs ++ job ∷ []
+
+  -- a job that is found is found among all
+  job_with_more : (id : ℕ) → IsSome (job_with jobs id) → job_with all id ≡ job_with jobs id
+  job_with_more id some = find-append (λ j. nat_eq j.id id) jobs (job ∷ []) ∙ first (job_with jobs id) some
+    where
+      first : (o : Option Job) → IsSome o → or_else o (job_with (job ∷ []) id) ≡ o
+      first None is = absurd (true≢false (sym is))
+      first (Some j) is = refl
+
+  -- a call of one of the jobs has the same deed
+  deed_told_more : (h : History) (seen : List Told) (e : Told) → IsOfJobs jobs e → deed_told all h seen e ≡ deed_told jobs h seen e
+  deed_told_more h seen e known = of_maker e.job refl
+    where
+      of_maker : (o : Option ℕ) → e.job ≡ o → deed_told all h seen e ≡ deed_told jobs h seen e
+      of_maker None is = rw is refl
+      of_maker (Some number) is =
+          rw is (ap (option_and_then (λ j. deed_in h j (schemas_found (trace_of number seen)) e.call)) (slice_get_front jobs (job ∷ []) number (known.numbered number is)))
+
+  -- calls of the jobs before append the same deeds to any history
+  history_from_more : (h : History) (before seen : List Told) → All (IsOfJobs jobs) seen → history_from all h before seen ≡ history_from jobs h before seen
+  history_from_more h before [] known = refl
+  history_from_more h before (e ∷ seen) known =
+      ap (λ o. history_from all (h ++ cond e.changed (option_to_list o) []) (before ++ e ∷ []) seen) (deed_told_more h before e (All-head (IsOfJobs jobs) e seen known))
+      ∙ history_from_more (h ++ grown jobs h before e) (before ++ e ∷ []) seen (All-tail (IsOfJobs jobs) e seen known)
+
+  -- calls of the jobs before append the same deeds
+  pub history_more : (past : History) (seen : List Told) → All (IsOfJobs jobs) seen → history_told all past seen ≡ history_told jobs past seen
+  history_more past seen known = history_from_more past [] seen known
+
+  -- no call was made by the job that comes
+  not_by : (o : Option ℕ) → ((number : ℕ) → o ≡ Some number → number < length jobs) → is_by (length jobs) o ≡ false
+  not_by None below = refl
+  not_by (Some number) below = ne_eqb number (length jobs) (λ same. let less = below number refl in omega arith)
+
+  -- the job that comes has made no call
+  no_calls : (seen : List Told) → All (IsOfJobs jobs) seen → trace_of (length jobs) seen ≡ []
+  no_calls [] known = refl
+  no_calls (e ∷ seen) known =
+      rw (not_by e.job (All-head (IsOfJobs jobs) e seen known).numbered) (no_calls seen (All-tail (IsOfJobs jobs) e seen known))
+
+  -- the jobs before are among all
+  of_all : (e : Told) → IsOfJobs jobs e → IsOfJobs all e
+  of_all e known = record {
+    numbered = λ number is. let less = known.numbered number is in rw (length_push jobs job) (omega arith);
+    puts = λ n bytes id is carried. let some = known.puts n bytes id is carried in rw (job_with_more id some) some;
+  }
+
+  -- ---- what was claimed of the jobs before is true among all
+
+  module _ {F : Type 0} (forms : Forms F) (spelled : Spelled) (tracks : Tracking F) (past : History) (seen : List Told) (known : All (IsOfJobs jobs) seen) (m : Held) (number : ℕ) (j : Job) where
+    -- the history now is one
+    now : history_told jobs past seen ≡ history_told all past seen
+    now = sym (history_more past seen known)
+
+    -- the history at a listing is one
+    listed_more : (prefix : Prefix) (at : ListedAt seen number prefix) → history_told jobs past at.before ≡ history_told all past at.before
+    listed_more prefix at = sym (history_more past at.before known_before)
+      where
+        known_before : All (IsOfJobs jobs) at.before
+        known_before = All-weaker (Contains at.before) (IsOfJobs jobs)
+            (λ e there. All-contains (IsOfJobs jobs) seen e known (rw (at.place) (Contains-append_left at.before (at.listing ∷ at.later) e there))) at.before (All-contains_itself at.before)
+
+    -- a clean job is clean among all
+    clean_more : Clean m (history_told jobs past seen) j → Clean m (history_told all past seen) j
+    clean_more clean = subst (λ g. Clean m g j) now clean
+
+    -- the frame is one among all
+    framed_more : (frame : Frame) → frame_in (history_told jobs past seen) ≡ Some frame → frame_in (history_told all past seen) ≡ Some frame
+    framed_more frame is = subst (λ g. frame_in g ≡ Some frame) now is
+
+    -- the schema that a job works in is one among all
+    abbrev works_more : (there : Schema) → Works past jobs seen number j there → Works past all seen number j there
+    works_more there is = record {
+      schemas = is.schemas;
+      holds = subst (λ g. schema_there g (looked_at j) ≡ Some there) (listed_more Schemas is.schemas) is.holds;
+      found = is.found;
+      is_found = is.is_found;
+      at = is.at;
+      declared = subst (λ g. schema_with g there.key ≡ Some there) now is.declared;
+    }
+
+    -- what a read listed is the same among all
+    abbrev near_more : (from to : ℕ) (near deletes : List FragKey) → Near spelled past jobs seen m number from to near deletes → Near spelled past all seen m number from to near deletes
+    near_more from to near deletes is = record {
+      commits = is.commits;
+      whole = λ f at. subst (λ g. HoldsOne spelled g m f) (listed_more Commits is.commits) (is.whole f at);
+      in_time = is.in_time;
+      covered = λ w at within. is.covered w (subst (λ g. Contains (writes g) w) (sym (listed_more Commits is.commits)) at) within;
+      erased = λ f at. let found = is.erased f at in (found.0, subst (λ g. Contains (erases g) found.0) (listed_more Commits is.commits) found.1, found.2, found.3);
+      erasing = λ x at within. is.erasing x (subst (λ g. Contains (erases g) x) (sym (listed_more Commits is.commits)) at) within;
+    }
+
+    -- what a job listed before the schemas is the same among all
+    has_near_more : (command : Command) (listed : Listed) → HasNear spelled past jobs seen m number command listed → HasNear spelled past all seen m number command listed
+    has_near_more (Create f) listed is = is
+    has_near_more (Evolve change) listed is = is
+    has_near_more (Write w) listed is = is
+    has_near_more (Read from to query) listed is = near_more from to listed.near listed.deletes is
+    has_near_more (Delete text) listed is = is
+
+    -- what a read listed, and then the schemas, is the same among all
+    abbrev reads_at_more : (from to : ℕ) (near deletes : List FragKey) (there : Schema)
+        → ReadsAt spelled past jobs seen m number j from to near deletes there → ReadsAt spelled past all seen m number j from to near deletes there
+    reads_at_more from to near deletes there is = record {
+      listed = near_more from to near deletes is.listed;
+      works = works_more there is.works;
+      between = is.between;
+      order = is.order;
+    }
+
+    -- what a job listed before it gets the schema there is the same among all
+    has_listed_more : (command : Command) (listed : Listed) (there : Schema)
+        → HasListed spelled past jobs seen m number j command listed there → HasListed spelled past all seen m number j command listed there
+    has_listed_more (Create f) listed there is = is
+    has_listed_more (Evolve change) listed there is = works_more there is
+    has_listed_more (Write w) listed there is = works_more there is
+    has_listed_more (Read from to query) listed there is = reads_at_more from to listed.near listed.deletes there is
+    has_listed_more (Delete text) listed there is = works_more there is
+
+    -- what a read knows is the same among all
+    abbrev reads_in_more : (r : Reading) → ReadsIn spelled past jobs seen m number j r → ReadsIn spelled past all seen m number j r
+    reads_in_more r is = record {
+      query = is.query;
+      reads = is.reads;
+      at = reads_at_more r.from r.to r.near r.deletes r.there is.at;
+      framed = subst (λ g. frame_in g ≡ Some r.frame) (listed_more Schemas ((is.at).works).schemas) is.framed;
+      is_ready = is.is_ready;
+    }
+
+    -- a read that opens is such among all
+    abbrev opening_more : (r : Reading) (opened : List Opened) → Opening forms spelled past jobs seen m number j r opened → Opening forms spelled past all seen m number j r opened
+    opening_more r opened is = record {
+      reads = reads_in_more r is.reads;
+      are_open = subst (λ g. AreOpen forms spelled g m r opened) (listed_more Commits (((is.reads).at).listed).commits) is.are_open;
+    }
+
+    -- a read that gathers schemas is such among all
+    abbrev gathering_more : (r : Reading) (opened : List Opened) (schemas : List Schema)
+        → Gathering forms spelled past jobs seen m number j r opened schemas → Gathering forms spelled past all seen m number j r opened schemas
+    gathering_more r opened schemas is = record {
+      opens = opening_more r opened is.opens;
+      all = is.all;
+      gathered = subst (λ g. AreSchemas g (keys_named r opened) schemas) now is.gathered;
+    }
+
+    -- a read that gets deletes is such among all
+    abbrev erasing_more : (r : Reading) (opened : List Opened) (schemas : List Schema)
+        → Erasing forms spelled past jobs seen m number j r opened schemas → Erasing forms spelled past all seen m number j r opened schemas
+    erasing_more r opened schemas is = record {
+      gathers = gathering_more r opened schemas is.gathers;
+      all_schemas = is.all_schemas;
+      erases = subst (λ g. AreErasures g r.deletes r.erased) now is.erases;
+    }
+
+    -- a read that fetches is such among all
+    abbrev fetching_more : (r : Reading) (opened : List Opened) (schemas : List Schema) (next : ℕ) (got : List Version)
+        → Fetching forms spelled past jobs seen m number j r opened schemas next got → Fetching forms spelled past all seen m number j r opened schemas next got
+    fetching_more r opened schemas next got is = record {
+      erasing = erasing_more r opened schemas is.erasing;
+      all_deletes = is.all_deletes;
+      found = subst (λ g. AreGot g r.from r.to (r.ready).sub (take next r.near) got) (listed_more Commits ((((((is.erasing).gathers).opens).reads).at).listed).commits) is.found;
+    }
+
+    -- what the last put of a job makes of it is the same among all
+    aims_more : (objects : List NewObject) (end : Outcome) → Aims forms past jobs seen number j objects end → Aims forms past all seen number j objects end
+    aims_more objects outcome.Created (f, creates, is, none, framed) = (f, creates, is, none, framed_more (frame_made f) framed)
+    aims_more objects (outcome.Evolved k) (change, frame, there, evolves, same, is, framed, sound, works) =
+        (change, frame, there, evolves, same, is, framed_more frame framed, sound, works_more there works)
+    aims_more objects (outcome.Written f) (w, frame, there, cells, writes_them, same, is, framed, lays, works) =
+        (w, frame, there, cells, writes_them, same, is, framed_more frame framed, lays, works_more there works)
+    aims_more objects (outcome.Deleted f) (text, frame, there, condition, deletes, same, is, framed, says, works) =
+        (text, frame, there, condition, deletes, same, is, framed_more frame framed, says, works_more there works)
+    aims_more objects (outcome.Read answer) is = is
+    aims_more objects (outcome.Refused r) is = is
+    aims_more objects outcome.OutOfMemory is = is
+
+    -- a job that puts is such among all
+    putting_more : (objects : List NewObject) (next : ℕ) (end : Outcome) → Putting forms past jobs seen m number j objects next end → Putting forms past all seen m number j objects next end
+    putting_more objects next end is = record {
+      held = is.held;
+      short = is.short;
+      free = is.free;
+      some = is.some;
+      undone = subst (λ g. IsUndone g j) now is.undone;
+      aims = aims_more objects end is.aims;
+    }
+
+    -- what the end of a job tells is true among all
+    end_more : (end : Outcome) → IsTrueEnd jobs past seen number j end → IsTrueEnd all past seen number j end
+    end_more outcome.Created is = subst (λ g. IsCreated g j) now is
+    end_more (outcome.Evolved k) (same, is) = (
+      same,
+      record {
+        change = is.change;
+        evolves = is.evolves;
+        schemas = is.schemas;
+        there = is.there;
+        holds = subst (λ g. schema_there g j.at ≡ Some is.there) (listed_more Schemas is.schemas) is.holds;
+        declared = subst (λ g. HasDeclared g j (evolved_attrs (is.there).attrs is.change)) now is.declared;
+      },
+    )
+    end_more (outcome.Written f) (same, is) = (
+      same,
+      record {
+        cells_in = is.cells_in;
+        writes_them = is.writes_them;
+        schemas = is.schemas;
+        there = is.there;
+        holds = subst (λ g. schema_there g j.at ≡ Some is.there) (listed_more Schemas is.schemas) is.holds;
+        frame = is.frame;
+        framed = framed_more is.frame is.framed;
+        cells = is.cells;
+        lays = is.lays;
+        written = subst (λ g. Contains (writes g) (written_as j (is.there).key is.cells)) now is.written;
+      },
+    )
+    end_more (outcome.Deleted f) (same, is) = (
+      same,
+      record {
+        text = is.text;
+        deletes = is.deletes;
+        schemas = is.schemas;
+        there = is.there;
+        holds = subst (λ g. schema_there g j.at ≡ Some is.there) (listed_more Schemas is.schemas) is.holds;
+        frame = is.frame;
+        framed = framed_more is.frame is.framed;
+        condition = is.condition;
+        says = is.says;
+        erased = subst (λ g. Contains (erases g) (erasure_as j is.condition)) now is.erased;
+      },
+    )
+    end_more (outcome.Read answer) (from, to, query, reads, is) = (
+      from,
+      to,
+      query,
+      reads,
+      record {
+        commits = is.commits;
+        schemas = is.schemas;
+        between = is.between;
+        order = is.order;
+        answers = subst (λ g. IsAnswer g (history_told all past (is.schemas).before) from to query answer) (listed_more Commits is.commits)
+            (subst (λ g. IsAnswer (history_told jobs past (is.commits).before) g from to query answer) (listed_more Schemas is.schemas) is.answers);
+      },
+    )
+    end_more (outcome.Refused r) is = subst (λ g. IsTrueRefusal g j r) now is
+    end_more outcome.OutOfMemory is = is
+
+    -- the claims of a job hold among all
+    claims_more : (s : State F) → Claims forms spelled tracks past jobs seen m number j s → Claims forms spelled tracks past all seen m number j s
+    claims_more PutsFrame is = (clean_more is.0, is.1)
+    claims_more ComparesFrame is = (clean_more is.0, is.1, (is.2.0, framed_more is.2.0 is.2.1))
+    claims_more ListsDeclared is = (clean_more is.0, (is.1.0, is.1.1, is.1.2, framed_more (frame_made is.1.0) is.1.3))
+    claims_more (Puts objects next end) is = putting_more objects next end is
+    claims_more ListsCommits is = (clean_more is.0, is.1)
+    claims_more (ListsSchemas listed) is = (clean_more is.0, has_near_more j.command listed is.1)
+    claims_more (GetsSchema listed there) is = (clean_more is.0, (is.1.0, is.1.1, has_listed_more j.command listed is.1.0 is.1.2))
+    claims_more (GetsFrame listed there) is = (clean_more is.0, has_listed_more j.command listed there is.1)
+    claims_more (GetsHeads r opened) is = (clean_more is.0, opening_more r opened is.1, is.2)
+    claims_more (GetsSchemas r opened named schemas) is = (clean_more is.0, is.1, gathering_more r opened schemas is.2, is.3)
+    claims_more (GetsDeletes r opened schemas) is = (clean_more is.0, erasing_more r opened schemas is.1)
+    claims_more (Fetches r opened schemas next frag got fetch c) is = (
+      clean_more is.0,
+      is.1,
+      (
+        fetching_more r opened schemas next got is.2.0,
+        subst (λ g. OnWay spelled tracks g m r frag fetch c) (listed_more Commits (((((((is.2.0).erasing).gathers).opens).reads).at).listed).commits) is.2.1,
+      ),
+    )
+    claims_more (Over end) is = end_more end is
+
+  module _ {F : Type 0} (forms : Forms F) (spelled : Spelled) (tracks : Tracking F) (past : History) (dead : List ℕ) (seen : List Told) (m : Held)
+      (kept : Kept forms spelled tracks past jobs dead seen m) (is : IsNewId m past jobs job.id) where
+    -- no two of all jobs have one identifier
+    apart_more : AreApart all
+    apart_more i k a b at_i at_k same = elim (slice_get_push jobs job i a at_i) [
+      | inl a_before ↦ elim (slice_get_push jobs job k b at_k) [
+        | inl b_before ↦ kept.apart i k a b a_before b_before same
+        | inr b_last ↦ absurd (is.other i a a_before (same ∙ ap (λ j. j.id) (sym b_last.1)))
+      ]
+      | inr a_last ↦ elim (slice_get_push jobs job k b at_k) [
+        | inl b_before ↦ absurd (is.other k b b_before (sym same ∙ ap (λ j. j.id) (sym a_last.1)))
+        | inr b_last ↦ a_last.0 ∙ sym b_last.0
+      ]
+    ]
+
+    -- the claims of the job that comes
+    new_claims : Claims forms spelled tracks past all seen m (length jobs) job (begun job.command)
+    new_claims = begun_claims forms spelled tracks m past all seen (length jobs) job (record {
+      free = new_is_free m past job.id is.free;
+      undone = subst (λ g. IsNewKey g (key_of job)) (sym (history_more past seen kept.known)) (new_key m past jobs seen job is);
+    }) job.command refl
+
+    -- what is kept is kept among all
+    more_kept : IsFit job → Kept forms spelled tracks past all dead seen m
+    more_kept fit = record {
+      stands = subst (Stands spelled m) (sym (history_more past seen kept.known)) kept.stands;
+      apart = apart_more;
+      fit = All-push IsFit jobs job kept.fit fit;
+      known = All-weaker (IsOfJobs jobs) (IsOfJobs all) of_all seen kept.known;
+      claims = λ number j at alive. elim (slice_get_push jobs job number j at) [
+        | inl before ↦
+            claims_more forms spelled tracks past seen kept.known m number j (state_of forms j (trace_of number seen)) (kept.claims number j before alive)
+        | inr last ↦
+            subst (λ n. Claims forms spelled tracks past all seen m n j (state_of forms j (trace_of n seen))) (sym last.0)
+            (subst (λ i. Claims forms spelled tracks past all seen m (length jobs) i (state_of forms i (trace_of (length jobs) seen))) last.1
+            (subst (λ t. Claims forms spelled tracks past all seen m (length jobs) job (state_of forms job t)) (sym (no_calls seen kept.known)) new_claims))
+      ];
+    }
+
+-- what is kept stays where a job with a new identifier comes
+pub spawn_kept : {F : Type 0} (forms : Forms F) (spelled : Spelled) (tracks : Tracking F) (past : History) (jobs : List Job) (dead : List ℕ) (seen : List Told) (m : Held) (job : Job)
+    → Kept forms spelled tracks past jobs dead seen m → IsFit job → IsNewId m past jobs job.id → Kept forms spelled tracks past (jobs ++ job ∷ []) dead seen m
+spawn_kept forms spelled tracks past jobs dead seen m job kept fit is = more_kept jobs job forms spelled tracks past dead seen m kept is fit

@@ -1,0 +1,355 @@
+-- What a job found stays true: what a call of one job leaves of the facts of others.
+use Rattle.std.proofs.Common.{List, None, Option, Some, [], ap, append_assoc, inl, inr, refl, subst, sym, ℕ, ◌++◌, ◌∙◌, ◌∷◌, ◌≡◌}
+use Rattle.std.proofs.lemmas.List.Elements.{Contains-append_cases, Contains-append_left}
+use Rattle.std.proofs.lemmas.Option.{none-some, same_Some}
+use Rattle.std.specs.Prelude.{Contains}
+use Rattle.ts_base.specs.Held.{Held}
+use Rattle.ts_base.specs.declared.heads.Version.{Version}
+use Rattle.ts_base.specs.declared.keys.FragKey.{FragKey}
+use Rattle.ts_base.specs.declared.keys.Key.{Key}
+use Rattle.ts_base.specs.declared.names.Name.{Name}
+use Rattle.ts_base.specs.declared.names.Prefix.{Prefix}
+use Rattle.ts_base.specs.declared.names.Prefix.TheVariants.{Commits, Schemas}
+use Rattle.ts_model.proofs.HistoryLaws.{absent_from_new, erases-append, frame_in-append, keys-append, new_from_absent, schema_with-append, writes-append}
+use Rattle.ts_model.proofs.Traces.{schemas_found-stays}
+use Rattle.ts_model.specs.Commands.{frame_made}
+use Rattle.ts_model.specs.Deeds.{History, IsNewKey, erases, frame_in, keys, schema_with, writes}
+use Rattle.ts_law.specs.Ends.{HasDeclared, IsTrueEnd, IsTrueRefusal, ListedAt}
+use Rattle.ts_model.specs.Forms.{Forms, Spelled, Tracking}
+use Rattle.ts_law.specs.Fresh.{id_in}
+use Rattle.ts_model.specs.Jobs.{erasure_as, key_of, schema_of_job, written_as}
+use Rattle.ts_law.specs.Kept.{AreErasures, AreOpen, AreSchemas, Clean, Erasing, Fetching, Gathering, HasListed, HasNear, IsOpen, Near, OnWay, Opening, ReadsAt, ReadsIn, Works}
+use Rattle.ts_law.specs.Stands.{HoldsOne}
+use Rattle.ts_model.specs.States.{keys_named, list_schemas}
+use Rattle.ts_law.specs.Steps.{Keeps}
+use Rattle.ts_model.specs.Told.{Told, history_told}
+use Rattle.ts_model.specs.declared.answers.Outcome.{Outcome}
+use Rattle.ts_model.specs.declared.answers.Refusal.{Refusal}
+use Rattle.ts_model.specs.declared.commands.Command.{Command}
+use Rattle.ts_model.specs.declared.commands.Command.TheVariants.{Create, Delete, Evolve, Read, Write}
+use Rattle.ts_model.specs.declared.commands.Job.{Job}
+use Rattle.ts_model.specs.declared.deeds.Erasure.{Erasure}
+use Rattle.ts_model.specs.declared.deeds.Written.{Written}
+use Rattle.ts_model.specs.declared.states.Listed.{Listed}
+use Rattle.ts_model.specs.declared.states.Opened.{Opened}
+use Rattle.ts_model.specs.declared.states.Reading.{Reading}
+use Rattle.ts_schema.specs.Evolutions.{evolved_attrs}
+use Rattle.ts_schema.specs.declared.attrs.Attr.{Attr}
+use Rattle.ts_schema.specs.declared.frames.Frame.{Frame}
+use Rattle.ts_schema.specs.declared.schemas.Schema.{Schema}
+use Rattle.ts_store.specs.declared.call.Call.{Call}
+use Rattle.ts_store.specs.declared.call.Call.TheVariants as call
+use Rattle.std.specs.FinMap as map
+use Rattle.ts_base.specs.declared.names.Name.TheVariants as name
+use Rattle.ts_model.specs.declared.answers.Outcome.TheVariants as outcome
+use Rattle.ts_base.specs.declared.names.Place.TheVariants as place
+use Rattle.ts_model.specs.declared.answers.Refusal.TheVariants as refusal
+
+-- ---- objects and histories
+
+module _ (m m' : Held) (h h' : History) (id : ℕ) (keeps : Keeps m m' h h' id) where
+  -- the frame stays
+  pub frame_stays : (frame : Frame) → frame_in h ≡ Some frame → frame_in h' ≡ Some frame
+  frame_stays frame is = rw keeps.grows (frame_in-append h keeps.more frame is)
+
+  -- the schema of a key stays
+  pub schema_stays : (k : Key) (s : Schema) → schema_with h k ≡ Some s → schema_with h' k ≡ Some s
+  schema_stays k s is = rw keeps.grows (schema_with-append h keeps.more k s is)
+
+  -- a write stays
+  pub write_stays : (w : Written) → Contains (writes h) w → Contains (writes h') w
+  write_stays w at = rw (keeps.grows, writes-append h keeps.more) (Contains-append_left (writes h) (writes keeps.more) w at)
+
+  -- a delete stays
+  pub erase_stays : (x : Erasure) → Contains (erases h) x → Contains (erases h') x
+  erase_stays x at = rw (keeps.grows, erases-append h keeps.more) (Contains-append_left (erases h) (erases keeps.more) x at)
+
+  -- a new key of another job stays new
+  pub new_stays : (k : Key) → (k.id ≡ id → ⊥) → IsNewKey h k → IsNewKey h' k
+  new_stays k other new = new_from_absent h' k (λ at. elim (Contains-append_cases (keys h) (keys keeps.more) k (subst (λ l. Contains l k) (keys-append h keeps.more) (subst (λ g. Contains (keys g) k) keeps.grows at))) [
+    | inl before ↦ absent_from_new h k new before
+    | inr own ↦ other (keeps.come k own)
+  ])
+
+  -- an object that carries the identifier of another job stays absent
+  pub absent_stays : (n : Name) (other : ℕ) → id_in n ≡ Some other → (other ≡ id → ⊥) → map.get m n ≡ None → map.get m' n ≡ None
+  absent_stays n other carries apart none = from_got (map.get m' n) refl
+    where
+      from_got : (o : Option (List ℕ)) → map.get m' n ≡ o → o ≡ None
+      from_got None is = refl
+      from_got (Some bytes) is = elim (keeps.adds n bytes is) [
+        | inl before ↦ absurd (none-some bytes (sym none ∙ before))
+        | inr come ↦ elim come [
+          | inl own ↦ absurd (apart (same_Some other id (sym carries ∙ own)))
+          | inr frame ↦ absurd (none-some other (sym (ap id_in frame) ∙ carries))
+        ]
+      ]
+
+  -- a clean job stays clean by the calls of others
+  pub clean_stays : (job : Job) → (job.id ≡ id → ⊥) → Clean m h job → Clean m' h' job
+  clean_stays job other clean = record {
+    free = λ n carries. absent_stays n job.id carries other (clean.free n carries);
+    undone = new_stays (key_of job) other clean.undone;
+  }
+
+  -- what holds one write holds it still
+  abbrev pub holds_one_stays : (spelled : Spelled) (g : History) (f : FragKey) → HoldsOne spelled g m f → HoldsOne spelled g m' f
+  holds_one_stays spelled g f one = record {
+    write = one.write;
+    written = one.written;
+    frame = one.frame;
+    framed = one.framed;
+    schema = one.schema;
+    declared = one.declared;
+    piece = one.piece;
+    spells = record {
+      look = (one.spells).look;
+      spells = (one.spells).spells;
+      held = λ part bytes is. keeps.keeps (name.Part f part) bytes ((one.spells).held part bytes is);
+      short = (one.spells).short;
+      named = (one.spells).named;
+    };
+    holds = one.holds;
+  }
+
+  -- what a refusal tells stays
+  pub refusal_stays : (job : Job) (r : Refusal) → (job.id ≡ id → ⊥) → IsTrueRefusal h job r → IsTrueRefusal h' job r
+  refusal_stays job (refusal.Missing n) other is = is
+  refusal_stays job (refusal.Damaged n at) other is = is
+  refusal_stays job (refusal.Taken n) other is = is
+  refusal_stays job (refusal.StoreFault (place.Name (name.Commit f kind))) other is = elim is [ inl own ↦ inl own | inr undone ↦ inr (new_stays (key_of job) other undone) ]
+  refusal_stays job (refusal.StoreFault (place.Name (name.Schema k))) other is = elim is [ inl own ↦ inl own | inr undone ↦ inr (new_stays (key_of job) other undone) ]
+  refusal_stays job _ other is = new_stays (key_of job) other is
+
+-- a job that is clean is so where nothing changed
+pub clean_look : (m m' : Held) (h h' : History) (job : Job) → m' ≡ m → h' ≡ h → Clean m h job → Clean m' h' job
+clean_look m m' h h' job same_held same_history clean = subst (λ g. Clean m' g job) (sym same_history) (subst (λ x. Clean x h job) (sym same_held) clean)
+
+-- what was listed was listed still
+abbrev pub listed_stays : (seen : List Told) (e : Told) (number : ℕ) (prefix : Prefix) → ListedAt seen number prefix → ListedAt (seen ++ e ∷ []) number prefix
+listed_stays seen e number prefix at = record {
+  before = at.before;
+  listing = at.listing;
+  later = at.later ++ e ∷ [];
+  place = ap (λ t. t ++ e ∷ []) at.place ∙ append_assoc at.before (at.listing ∷ at.later) (e ∷ []);
+  own = at.own;
+  lists = at.lists;
+}
+
+-- a listing that comes now is listed
+abbrev pub listed_now : (seen : List Told) (e : Told) (number : ℕ) (prefix : Prefix) → e.job ≡ Some number → e.call ≡ call.List prefix → ListedAt (seen ++ e ∷ []) number prefix
+listed_now seen e number prefix own lists = record { before = seen; listing = e; later = []; place = refl; own = own; lists = lists }
+
+-- ---- what a job found so far
+
+module _ (spelled : Spelled) (past : History) (jobs : List Job) (seen : List Told) (e : Told) (m m' : Held) (id : ℕ)
+    (keeps : Keeps m m' (history_told jobs past seen) (history_told jobs past (seen ++ e ∷ [])) id) (number : ℕ) where
+  -- the call is none by which the job lists the schemas
+  abbrev Unlisted : Type 0
+  Unlisted = e.job ≡ Some number → e.call ≡ list_schemas → ⊥
+
+  -- what a read listed stays
+  abbrev pub near_stays : (from to : ℕ) (near deletes : List FragKey) → Near spelled past jobs seen m number from to near deletes → Near spelled past jobs (seen ++ e ∷ []) m' number from to near deletes
+  near_stays from to near deletes is = record {
+    commits = listed_stays seen e number Commits is.commits;
+    whole = λ f at. holds_one_stays m m' (history_told jobs past seen) (history_told jobs past (seen ++ e ∷ [])) id keeps spelled (history_told jobs past (is.commits).before) f (is.whole f at);
+    in_time = is.in_time;
+    covered = is.covered;
+    erased = is.erased;
+    erasing = is.erasing;
+  }
+
+  -- what a job listed before the schemas stays
+  pub has_near_stays : (command : Command) (listed : Listed) → HasNear spelled past jobs seen m number command listed → HasNear spelled past jobs (seen ++ e ∷ []) m' number command listed
+  has_near_stays (Create f) listed is = is
+  has_near_stays (Evolve change) listed is = is
+  has_near_stays (Write w) listed is = is
+  has_near_stays (Read from to query) listed is = near_stays from to listed.near listed.deletes is
+  has_near_stays (Delete text) listed is = is
+
+  -- the schema that a job works in stays
+  abbrev pub works_stays : (job : Job) (there : Schema) → Unlisted → Works past jobs seen number job there → Works past jobs (seen ++ e ∷ []) number job there
+  works_stays job there unlisted is = record {
+    schemas = listed_stays seen e number Schemas is.schemas;
+    holds = is.holds;
+    found = is.found;
+    is_found = schemas_found-stays number seen e unlisted ∙ is.is_found;
+    at = is.at;
+    declared = schema_stays m m' (history_told jobs past seen) (history_told jobs past (seen ++ e ∷ [])) id keeps there.key there is.declared;
+  }
+
+  -- what a read listed, and then the schemas, stays
+  abbrev pub reads_at_stays : (job : Job) (from to : ℕ) (near deletes : List FragKey) (there : Schema) → Unlisted
+      → ReadsAt spelled past jobs seen m number job from to near deletes there → ReadsAt spelled past jobs (seen ++ e ∷ []) m' number job from to near deletes there
+  reads_at_stays job from to near deletes there unlisted is = record {
+    listed = near_stays from to near deletes is.listed;
+    works = works_stays job there unlisted is.works;
+    between = is.between;
+    order = is.order;
+  }
+
+  -- what a job listed before it gets the schema there stays
+  pub has_listed_stays : (job : Job) (command : Command) (listed : Listed) (there : Schema) → Unlisted
+      → HasListed spelled past jobs seen m number job command listed there → HasListed spelled past jobs (seen ++ e ∷ []) m' number job command listed there
+  has_listed_stays job (Create f) listed there unlisted is = is
+  has_listed_stays job (Evolve change) listed there unlisted is = works_stays job there unlisted is
+  has_listed_stays job (Write w) listed there unlisted is = works_stays job there unlisted is
+  has_listed_stays job (Read from to query) listed there unlisted is = reads_at_stays job from to listed.near listed.deletes there unlisted is
+  has_listed_stays job (Delete text) listed there unlisted is = works_stays job there unlisted is
+
+  -- what a read knows stays
+  abbrev pub reads_in_stays : (job : Job) (r : Reading) → Unlisted → ReadsIn spelled past jobs seen m number job r → ReadsIn spelled past jobs (seen ++ e ∷ []) m' number job r
+  reads_in_stays job r unlisted is = record {
+    query = is.query;
+    reads = is.reads;
+    at = reads_at_stays job r.from r.to r.near r.deletes r.there unlisted is.at;
+    framed = is.framed;
+    is_ready = is.is_ready;
+  }
+
+  module _ {F : Type 0} (forms : Forms F) where
+    -- an open fragment stays open
+    pub open_stays : (g : History) (frame : Frame) (o : Opened) → IsOpen forms spelled g m frame o → IsOpen forms spelled g m' frame o
+    open_stays g frame o is = record {
+      one = holds_one_stays m m' (history_told jobs past seen) (history_told jobs past (seen ++ e ∷ [])) id keeps spelled g o.frag is.one;
+      same_frame = is.same_frame;
+      head = is.head;
+      object = is.object;
+    }
+
+    -- open fragments stay open
+    pub are_open_stays : (g : History) (r : Reading) (opened : List Opened) → AreOpen forms spelled g m r opened → AreOpen forms spelled g m' r opened
+    are_open_stays g r opened is = record {
+      frags = is.frags;
+      each = λ o at. open_stays g r.frame o (is.each o at);
+    }
+
+    -- the further schemas of a read stay
+    pub are_schemas_stays : (named : List Key) (schemas : List Schema) → AreSchemas (history_told jobs past seen) named schemas → AreSchemas (history_told jobs past (seen ++ e ∷ [])) named schemas
+    are_schemas_stays named schemas is = record {
+      keys_are = is.keys_are;
+      each = λ s at. schema_stays m m' (history_told jobs past seen) (history_told jobs past (seen ++ e ∷ [])) id keeps s.key s (is.each s at);
+    }
+
+    -- the deletes of a read stay
+    pub are_erasures_stays : (deletes : List FragKey) (erased : List Erasure) → AreErasures (history_told jobs past seen) deletes erased → AreErasures (history_told jobs past (seen ++ e ∷ [])) deletes erased
+    are_erasures_stays deletes erased is = record {
+      names_are = is.names_are;
+      each = λ x at. erase_stays m m' (history_told jobs past seen) (history_told jobs past (seen ++ e ∷ [])) id keeps x (is.each x at);
+    }
+
+    -- a read that opens goes on as it was
+    abbrev pub opening_stays : (job : Job) (r : Reading) (opened : List Opened) → Unlisted
+        → Opening forms spelled past jobs seen m number job r opened → Opening forms spelled past jobs (seen ++ e ∷ []) m' number job r opened
+    opening_stays job r opened unlisted is = record {
+      reads = reads_in_stays job r unlisted is.reads;
+      are_open = are_open_stays (history_told jobs past ((((is.reads).at).listed).commits).before) r opened is.are_open;
+    }
+
+    -- a read that gathers schemas goes on as it was
+    abbrev pub gathering_stays : (job : Job) (r : Reading) (opened : List Opened) (schemas : List Schema) → Unlisted
+        → Gathering forms spelled past jobs seen m number job r opened schemas → Gathering forms spelled past jobs (seen ++ e ∷ []) m' number job r opened schemas
+    gathering_stays job r opened schemas unlisted is = record {
+      opens = opening_stays job r opened unlisted is.opens;
+      all = is.all;
+      gathered = are_schemas_stays (keys_named r opened) schemas is.gathered;
+    }
+
+    -- a read that gets deletes goes on as it was
+    abbrev pub erasing_stays : (job : Job) (r : Reading) (opened : List Opened) (schemas : List Schema) → Unlisted
+        → Erasing forms spelled past jobs seen m number job r opened schemas → Erasing forms spelled past jobs (seen ++ e ∷ []) m' number job r opened schemas
+    erasing_stays job r opened schemas unlisted is = record {
+      gathers = gathering_stays job r opened schemas unlisted is.gathers;
+      all_schemas = is.all_schemas;
+      erases = are_erasures_stays r.deletes r.erased is.erases;
+    }
+
+    -- a read that fetches goes on as it was
+    abbrev pub fetching_stays : (job : Job) (r : Reading) (opened : List Opened) (schemas : List Schema) (next : ℕ) (got : List Version) → Unlisted
+        → Fetching forms spelled past jobs seen m number job r opened schemas next got → Fetching forms spelled past jobs (seen ++ e ∷ []) m' number job r opened schemas next got
+    fetching_stays job r opened schemas next got unlisted is = record {
+      erasing = erasing_stays job r opened schemas unlisted is.erasing;
+      all_deletes = is.all_deletes;
+      found = is.found;
+    }
+
+  -- a fetch stays on its way
+  pub on_way_stays : {F : Type 0} (tracks : Tracking F) (g : History) (r : Reading) (frag : FragKey) (fetch : F) (c : Call) → OnWay spelled tracks g m r frag fetch c → OnWay spelled tracks g m' r frag fetch c
+  on_way_stays tracks g r frag fetch c is = record {
+    one = holds_one_stays m m' (history_told jobs past seen) (history_told jobs past (seen ++ e ∷ [])) id keeps spelled g frag is.one;
+    same_frame = is.same_frame;
+    way = is.way;
+  }
+
+-- ---- ends
+
+module _ (past : History) (jobs : List Job) (seen : List Told) (e : Told) (m m' : Held) (id : ℕ)
+    (keeps : Keeps m m' (history_told jobs past seen) (history_told jobs past (seen ++ e ∷ [])) id) (number : ℕ) (job : Job) where
+  -- a schema that was declared stays so
+  pub declared_stays : (attrs : List Attr) → HasDeclared (history_told jobs past seen) job attrs → HasDeclared (history_told jobs past (seen ++ e ∷ [])) job attrs
+  declared_stays attrs is = schema_stays m m' (history_told jobs past seen) (history_told jobs past (seen ++ e ∷ [])) id keeps (key_of job) (schema_of_job job attrs) is
+
+  -- what the end of a job tells stays true
+  pub end_stays : (end : Outcome) → (job.id ≡ id → ⊥) → IsTrueEnd jobs past seen number job end → IsTrueEnd jobs past (seen ++ e ∷ []) number job end
+  end_stays outcome.Created other is = record {
+    made = is.made;
+    creates = is.creates;
+    framed = frame_stays m m' (history_told jobs past seen) (history_told jobs past (seen ++ e ∷ [])) id keeps (frame_made is.made) is.framed;
+    declared = declared_stays (is.made).attrs is.declared;
+  }
+  end_stays (outcome.Evolved k) other (same, is) = (
+    same,
+    record {
+      change = is.change;
+      evolves = is.evolves;
+      schemas = listed_stays seen e number Schemas is.schemas;
+      there = is.there;
+      holds = is.holds;
+      declared = declared_stays (evolved_attrs (is.there).attrs is.change) is.declared;
+    },
+  )
+  end_stays (outcome.Written f) other (same, is) = (
+    same,
+    record {
+      cells_in = is.cells_in;
+      writes_them = is.writes_them;
+      schemas = listed_stays seen e number Schemas is.schemas;
+      there = is.there;
+      holds = is.holds;
+      frame = is.frame;
+      framed = frame_stays m m' (history_told jobs past seen) (history_told jobs past (seen ++ e ∷ [])) id keeps is.frame is.framed;
+      cells = is.cells;
+      lays = is.lays;
+      written = write_stays m m' (history_told jobs past seen) (history_told jobs past (seen ++ e ∷ [])) id keeps (written_as job (is.there).key is.cells) is.written;
+    },
+  )
+  end_stays (outcome.Deleted f) other (same, is) = (
+    same,
+    record {
+      text = is.text;
+      deletes = is.deletes;
+      schemas = listed_stays seen e number Schemas is.schemas;
+      there = is.there;
+      holds = is.holds;
+      frame = is.frame;
+      framed = frame_stays m m' (history_told jobs past seen) (history_told jobs past (seen ++ e ∷ [])) id keeps is.frame is.framed;
+      condition = is.condition;
+      says = is.says;
+      erased = erase_stays m m' (history_told jobs past seen) (history_told jobs past (seen ++ e ∷ [])) id keeps (erasure_as job is.condition) is.erased;
+    },
+  )
+  end_stays (outcome.Read answer) other (from, to, query, reads, is) = (
+    from,
+    to,
+    query,
+    reads,
+    record {
+      commits = listed_stays seen e number Commits is.commits;
+      schemas = listed_stays seen e number Schemas is.schemas;
+      between = is.between;
+      order = is.order;
+      answers = is.answers;
+    },
+  )
+  end_stays (outcome.Refused r) other is = refusal_stays m m' (history_told jobs past seen) (history_told jobs past (seen ++ e ∷ [])) id keeps job r other is
+  end_stays outcome.OutOfMemory other is = is

@@ -1,0 +1,243 @@
+-- What every call of a job keeps: the objects stand for the history, and what each job found so far is true of both.
+use Rattle.std.specs.Prelude.{◌≡◌, ℕ, ℤ, ◌<◌, ◌≤◌, true, List, [], ◌∷◌, ◌++◌, Some, None, length, slice_get, Ok, IsSome, All, Contains, ⊤, take, map as list_map}
+use Rattle.ts_base.specs.declared.keys.Key.{Key}
+use Rattle.ts_base.specs.declared.keys.FragKey.{FragKey}
+use Rattle.ts_base.specs.declared.names.Name.{Name}
+use Rattle.ts_base.specs.declared.heads.Version.{Version}
+use Rattle.ts_base.specs.declared.heads.Cell.{Cell}
+use Rattle.ts_store.specs.declared.call.Call.{Call}
+use Rattle.ts_model.specs.declared.commands.Command.{Command}
+use Rattle.ts_model.specs.declared.commands.Job.{Job}
+use Rattle.ts_model.specs.declared.commands.FrameIn.{FrameIn}
+use Rattle.ts_model.specs.declared.commands.WriteIn.{WriteIn}
+use Rattle.ts_model.specs.declared.answers.Outcome.{Outcome}
+use Rattle.ts_model.specs.declared.deeds.Written.{Written}
+use Rattle.ts_model.specs.declared.states.State.{State}
+use Rattle.ts_model.specs.declared.states.NewObject.{NewObject}
+use Rattle.ts_model.specs.declared.states.Opened.{Opened}
+use Rattle.ts_model.specs.declared.states.Reading.{Reading}
+use Rattle.ts_model.specs.declared.states.Listed.{Listed}
+use Rattle.ts_model.specs.declared.deeds.Erasure.{Erasure}
+use Rattle.ts_schema.specs.declared.frames.Frame.{Frame}
+use Rattle.ts_schema.specs.declared.schemas.Schema.{Schema}
+use Rattle.ts_schema.specs.declared.evolution.Evolution.{Evolution}
+use Rattle.ts_base.specs.Keys.{is_within, frag_of}
+use Rattle.ts_base.specs.Held.{Held}
+use Rattle.ts_schema.specs.Evolutions.{evolved_attrs, evolution_fault, schema_at}
+use Rattle.ts_schema.specs.Parts.{IsShort}
+use Rattle.ts_model.specs.declared.commands.Command.TheVariants.{Create, Evolve, Write, Read, Delete}
+use Rattle.ts_model.specs.declared.states.State.TheVariants.{PutsFrame, ComparesFrame, ListsDeclared, Puts, ListsCommits, ListsSchemas, GetsSchema, GetsFrame, GetsHeads, GetsSchemas, GetsDeletes, Fetches, Over}
+use Rattle.ts_base.specs.declared.names.Prefix.TheVariants.{Commits, Schemas}
+use Rattle.ts_model.specs.Pieces.{version_at, version_of}
+use Rattle.ts_model.specs.Told.{Told, trace_of, IsShortCall, schemas_found, history_told}
+use Rattle.ts_law.specs.Fresh.{id_in}
+use Rattle.ts_cond.specs.declared.query.Query.{Query}
+use Rattle.ts_cond.specs.Tests.{Condition}
+use Rattle.ts_domain.specs.declared.boxes.SubBox.{SubBox}
+use Rattle.ts_domain.specs.Boxes.{is_in_box}
+use Rattle.ts_model.specs.Queries.{ready_in, erasing_in}
+use Rattle.ts_model.specs.States.{meets, delete_object_of, schema_object_of, write_objects, keys_named, want_of, asks, state_of}
+use Rattle.ts_model.specs.Forms.{Forms, Spelled, Tracking}
+use Rattle.ts_model.specs.Jobs.{key_of, frag_of_job, AreFit, AreApart, looked_at, job_with}
+use Rattle.ts_law.specs.Stands.{HoldsOne, Stands}
+use Rattle.ts_law.specs.Ends.{ListedAt, IsUndone, IsTrueEnd}
+use Rattle.ts_model.specs.Deeds.{History, frame_in, writes, erases, schema_with, schema_there}
+use Rattle.ts_model.specs.Commands.{frame_made, create_refusal, laid}
+use Rattle.ts_store.specs.declared.call.Call.TheVariants as call
+use Rattle.ts_model.specs.declared.answers.Outcome.TheVariants as outcome
+use Rattle.std.specs.FinMap as map
+
+-- ---- what a job found so far
+
+-- no object that is held carries the identifier of a job, and no deed has its key
+pub record Clean (m : Held) (h : History) (job : Job) : Type 0 where
+  pub free : (n : Name) → id_in n ≡ Some job.id → map.get m n ≡ None
+  pub undone : IsUndone h job
+
+-- the schema that a job works in: at its listing of the schemas it was the one that held where the job looks, and it is a deed
+pub record Works (past : History) (jobs : List Job) (seen : List Told) (number : ℕ) (job : Job) (there : Schema) : Type 0 where
+  pub schemas : ListedAt seen number Schemas
+  pub holds : schema_there (history_told jobs past schemas.before) (looked_at job) ≡ Some there
+  pub found : List Key
+  pub is_found : schemas_found (trace_of number seen) ≡ Some found
+  pub at : schema_at found (looked_at job) ≡ Some there.key
+  pub declared : schema_with (history_told jobs past seen) there.key ≡ Some there
+
+-- what a read listed: each fragment holds one write of the history at the listing and meets the interval, each delete is one of that history and stamped in the interval, and each write and each delete in the interval has its fragment or its name among them
+pub record Near (spelled : Spelled) (past : History) (jobs : List Job) (seen : List Told) (m : Held) (number from to : ℕ) (near deletes : List FragKey) : Type 0 where
+  pub commits : ListedAt seen number Commits
+  pub whole : (f : FragKey) → Contains near f → HoldsOne spelled (history_told jobs past commits.before) m f
+  pub in_time : (f : FragKey) → Contains near f → meets from to f ≡ true
+  pub covered : (w : Written) → Contains (writes (history_told jobs past commits.before)) w → is_within from to w.key ≡ true → Contains near (frag_of w.key)
+  pub erased : (f : FragKey) → Contains deletes f → (e : Erasure) × Contains (erases (history_told jobs past commits.before)) e × (frag_of e.key ≡ f) × (is_within from to e.key ≡ true)
+  pub erasing : (e : Erasure) → Contains (erases (history_told jobs past commits.before)) e → is_within from to e.key ≡ true → Contains deletes (frag_of e.key)
+
+-- what a job listed before the schemas: a read the commits, another job nothing
+abbrev pub HasNear : Spelled → History → List Job → List Told → Held → ℕ → Command → Listed → Type 0
+HasNear spelled past jobs seen m number (Create f) listed = ⊥
+HasNear spelled past jobs seen m number (Read from to query) listed = Near spelled past jobs seen m number from to listed.near listed.deletes
+HasNear spelled past jobs seen m number _ listed = ⊤
+
+-- a read that listed the commits, and later the schemas
+pub record ReadsAt (spelled : Spelled) (past : History) (jobs : List Job) (seen : List Told) (m : Held) (number : ℕ) (job : Job) (from to : ℕ) (near deletes : List FragKey) (there : Schema) : Type 0 where
+  pub listed : Near spelled past jobs seen m number from to near deletes
+  pub works : Works past jobs seen number job there
+  pub between : List Told
+  pub order : (works.schemas).before ≡ (listed.commits).before ++ (listed.commits).listing ∷ between
+
+-- what a job listed before it gets the schema there
+abbrev pub HasListed : Spelled → History → List Job → List Told → Held → ℕ → Job → Command → Listed → Schema → Type 0
+HasListed spelled past jobs seen m number job (Create f) listed there = ⊥
+HasListed spelled past jobs seen m number job (Read from to query) listed there = ReadsAt spelled past jobs seen m number job from to listed.near listed.deletes there
+HasListed spelled past jobs seen m number job _ listed there = Works past jobs seen number job there
+
+-- a read that has the schema there and the frame
+pub record ReadsIn (spelled : Spelled) (past : History) (jobs : List Job) (seen : List Told) (m : Held) (number : ℕ) (job : Job) (r : Reading) : Type 0 where
+  pub query : Query
+  pub reads : job.command ≡ Read r.from r.to query
+  pub at : ReadsAt spelled past jobs seen m number job r.from r.to r.near r.deletes r.there
+  pub framed : frame_in (history_told jobs past ((at.works).schemas).before) ≡ Some r.frame
+  pub is_ready : ready_in r.frame (r.there).attrs query ≡ Ok r.ready
+
+-- an open fragment: its head is that of the piece that its parts spell, and its object is that of the part with the head
+pub record IsOpen {F : Type 0} (forms : Forms F) (spelled : Spelled) (g : History) (m : Held) (frame : Frame) (o : Opened) : Type 0 where
+  pub one : HoldsOne spelled g m o.frag
+  pub same_frame : one.frame ≡ frame
+  pub head : o.head ≡ (one.piece).head
+  pub object : (one.spells).look (forms.head_part frame) ≡ Some o.object
+
+-- the first fragments of a read are open
+pub record AreOpen {F : Type 0} (forms : Forms F) (spelled : Spelled) (g : History) (m : Held) (r : Reading) (opened : List Opened) : Type 0 where
+  pub frags : list_map (λ o. o.frag) opened ≡ take (length opened) r.near
+  pub each : (o : Opened) → Contains opened o → IsOpen forms spelled g m r.frame o
+
+-- the further schemas of a read are those of these keys, as far as it got them, and each is a deed
+pub record AreSchemas (h : History) (keys : List Key) (schemas : List Schema) : Type 0 where
+  pub keys_are : list_map (λ s. s.key) schemas ≡ take (length schemas) keys
+  pub each : (s : Schema) → Contains schemas s → schema_with h s.key ≡ Some s
+
+-- of the writes whose fragments were fetched, and of no others, the versions in the interval and in the box were got
+pub record AreGot (g : History) (from to : ℕ) (sub : SubBox) (fetched : List FragKey) (got : List Version) : Type 0 where
+  pub of_each : (w : Written) → Contains (writes g) w → Contains fetched (frag_of w.key) → is_within from to w.key ≡ true → (c : List ℤ) → is_in_box sub c ≡ true → version_at got w.key c ≡ version_of w c
+  pub of_others : (k : Key) (c : List ℤ) (v : Version) → version_at got k c ≡ Some v → (is_in_box sub c ≡ true) × ((w : Written) × Contains (writes g) w × (w.key ≡ k) × Contains fetched (frag_of k) × (is_within from to k ≡ true))
+
+-- the deletes that a read got are those under the first of these names, and each is a deed
+pub record AreErasures (h : History) (deletes : List FragKey) (erased : List Erasure) : Type 0 where
+  pub names_are : list_map (λ e. frag_of e.key) erased ≡ take (length erased) deletes
+  pub each : (e : Erasure) → Contains erased e → Contains (erases h) e
+
+-- a read of which the first fragments are open
+pub record Opening {F : Type 0} (forms : Forms F) (spelled : Spelled) (past : History) (jobs : List Job) (seen : List Told) (m : Held) (number : ℕ) (job : Job) (r : Reading) (opened : List Opened) : Type 0 where
+  pub reads : ReadsIn spelled past jobs seen m number job r
+  pub are_open : AreOpen forms spelled (history_told jobs past (((reads.at).listed).commits).before) m r opened
+
+-- a read of which all fragments are open, and which has some of their schemas
+pub record Gathering {F : Type 0} (forms : Forms F) (spelled : Spelled) (past : History) (jobs : List Job) (seen : List Told) (m : Held) (number : ℕ) (job : Job) (r : Reading) (opened : List Opened) (schemas : List Schema) : Type 0 where
+  pub opens : Opening forms spelled past jobs seen m number job r opened
+  pub all : length opened ≡ length r.near
+  pub gathered : AreSchemas (history_told jobs past seen) (keys_named r opened) schemas
+
+-- a read that has all schemas of its fragments, and some of the deletes
+pub record Erasing {F : Type 0} (forms : Forms F) (spelled : Spelled) (past : History) (jobs : List Job) (seen : List Told) (m : Held) (number : ℕ) (job : Job) (r : Reading) (opened : List Opened) (schemas : List Schema) : Type 0 where
+  pub gathers : Gathering forms spelled past jobs seen m number job r opened schemas
+  pub all_schemas : length schemas ≡ length (keys_named r opened)
+  pub erases : AreErasures (history_told jobs past seen) r.deletes r.erased
+
+-- a read that fetches: it has all schemas of its fragments and all deletes, and it got the versions in the fragments before the next one
+pub record Fetching {F : Type 0} (forms : Forms F) (spelled : Spelled) (past : History) (jobs : List Job) (seen : List Told) (m : Held) (number : ℕ) (job : Job) (r : Reading) (opened : List Opened) (schemas : List Schema) (next : ℕ) (got : List Version) : Type 0 where
+  pub erasing : Erasing forms spelled past jobs seen m number job r opened schemas
+  pub all_deletes : length r.erased ≡ length r.deletes
+  pub found : AreGot (history_told jobs past ((((((erasing.gathers).opens).reads).at).listed).commits).before) r.from r.to (r.ready).sub (take next r.near) got
+
+-- the fetch of a fragment has come so far, on the parts that its write put
+pub record OnWay {F : Type 0} (spelled : Spelled) (tracks : Tracking F) (g : History) (m : Held) (r : Reading) (frag : FragKey) (fetch : F) (c : Call) : Type 0 where
+  pub one : HoldsOne spelled g m frag
+  pub same_frame : one.frame ≡ r.frame
+  pub way : tracks r.frame one.schema one.piece (one.spells).look (want_of r (one.schema).attrs) fetch c
+
+-- ---- what a job puts
+
+-- what the job's last put makes of it: by its end
+abbrev pub Aims : {F : Type 0} → Forms F → History → List Job → List Told → ℕ → Job → List NewObject → Outcome → Type 0
+Aims forms past jobs seen number job objects outcome.Created =
+    (f : FrameIn) × (job.command ≡ Create f) × (objects ≡ schema_object_of job f.attrs ∷ []) × (create_refusal f ≡ None) × (frame_in (history_told jobs past seen) ≡ Some (frame_made f))
+Aims forms past jobs seen number job objects (outcome.Evolved k) =
+    (change : Evolution) × (frame : Frame) × (there : Schema) × (job.command ≡ Evolve change) × (k ≡ key_of job) × (objects ≡ schema_object_of job (evolved_attrs there.attrs change) ∷ [])
+    × (frame_in (history_told jobs past seen) ≡ Some frame) × (evolution_fault frame.domain there.attrs change ≡ None) × Works past jobs seen number job there
+Aims forms past jobs seen number job objects (outcome.Written f) =
+    (w : WriteIn) × (frame : Frame) × (there : Schema) × (cells : List Cell) × (job.command ≡ Write w) × (f ≡ frag_of_job job) × (objects ≡ write_objects forms frame there job cells)
+    × (frame_in (history_told jobs past seen) ≡ Some frame) × (laid frame there.attrs w ≡ Ok cells) × Works past jobs seen number job there
+Aims forms past jobs seen number job objects (outcome.Deleted f) =
+    (text : List ℕ) × (frame : Frame) × (there : Schema) × (condition : Condition) × (job.command ≡ Delete text) × (f ≡ frag_of_job job) × (objects ≡ delete_object_of job condition ∷ [])
+    × (frame_in (history_told jobs past seen) ≡ Some frame) × (erasing_in frame there.attrs text ≡ Ok condition) × Works past jobs seen number job there
+Aims forms past jobs seen number job objects _ = ⊥
+
+-- a job that puts objects: it put those before a place, and none from there on is held; no deed has its key
+pub record Putting {F : Type 0} (forms : Forms F) (past : History) (jobs : List Job) (seen : List Told) (m : Held) (number : ℕ) (job : Job) (objects : List NewObject) (next : ℕ) (end : Outcome) : Type 0 where
+  pub held : (i : ℕ) (o : NewObject) → i < next → slice_get objects i ≡ Some o → map.get m o.name ≡ Some o.bytes
+  pub short : (i : ℕ) (o : NewObject) → i < next → slice_get objects i ≡ Some o → IsShort o.bytes
+  pub free : (i : ℕ) (o : NewObject) → next ≤ i → slice_get objects i ≡ Some o → map.get m o.name ≡ None
+  pub some : next < length objects
+  pub undone : IsUndone (history_told jobs past seen) job
+  pub aims : Aims forms past jobs seen number job objects end
+
+-- ---- claims
+
+-- what a job's state says is true
+abbrev pub Claims : {F : Type 0} → Forms F → Spelled → Tracking F → History → List Job → List Told → Held → ℕ → Job → State F → Type 0
+Claims forms spelled tracks past jobs seen m number job PutsFrame =
+    Clean m (history_told jobs past seen) job × ((f : FrameIn) × (job.command ≡ Create f) × (create_refusal f ≡ None))
+Claims forms spelled tracks past jobs seen m number job ComparesFrame =
+    Clean m (history_told jobs past seen) job × ((f : FrameIn) × (job.command ≡ Create f) × (create_refusal f ≡ None)) × ((frame : Frame) × (frame_in (history_told jobs past seen) ≡ Some frame))
+Claims forms spelled tracks past jobs seen m number job ListsDeclared =
+    Clean m (history_told jobs past seen) job × ((f : FrameIn) × (job.command ≡ Create f) × (create_refusal f ≡ None) × (frame_in (history_told jobs past seen) ≡ Some (frame_made f)))
+Claims forms spelled tracks past jobs seen m number job (Puts objects next end) = Putting forms past jobs seen m number job objects next end
+Claims forms spelled tracks past jobs seen m number job ListsCommits = Clean m (history_told jobs past seen) job × ((from : ℕ) × (to : ℕ) × (query : Query) × (job.command ≡ Read from to query))
+Claims forms spelled tracks past jobs seen m number job (ListsSchemas listed) = Clean m (history_told jobs past seen) job × HasNear spelled past jobs seen m number job.command listed
+Claims forms spelled tracks past jobs seen m number job (GetsSchema listed there) =
+    Clean m (history_told jobs past seen) job × ((s : Schema) × (s.key ≡ there) × HasListed spelled past jobs seen m number job job.command listed s)
+Claims forms spelled tracks past jobs seen m number job (GetsFrame listed there) =
+    Clean m (history_told jobs past seen) job × HasListed spelled past jobs seen m number job job.command listed there
+Claims forms spelled tracks past jobs seen m number job (GetsHeads r opened) =
+    Clean m (history_told jobs past seen) job × Opening forms spelled past jobs seen m number job r opened × (r.erased ≡ [])
+Claims forms spelled tracks past jobs seen m number job (GetsSchemas r opened keys schemas) =
+    Clean m (history_told jobs past seen) job × (keys ≡ keys_named r opened) × Gathering forms spelled past jobs seen m number job r opened schemas × (r.erased ≡ [])
+Claims forms spelled tracks past jobs seen m number job (GetsDeletes r opened schemas) =
+    Clean m (history_told jobs past seen) job × Erasing forms spelled past jobs seen m number job r opened schemas
+Claims forms spelled tracks past jobs seen m number job (Fetches r opened schemas next frag got fetch c) =
+    Clean m (history_told jobs past seen) job × (slice_get r.near next ≡ Some frag)
+    × ((fetches : Fetching forms spelled past jobs seen m number job r opened schemas next got)
+    × OnWay spelled tracks (history_told jobs past (((((((fetches.erasing).gathers).opens).reads).at).listed).commits).before) m r frag fetch c)
+Claims forms spelled tracks past jobs seen m number job (Over end) = IsTrueEnd jobs past seen number job end
+
+-- ---- what is kept
+
+-- the identifiers that a call's put carries are those of its own job
+pub record IsOfJobs (jobs : List Job) (e : Told) : Type 0 where
+  pub numbered : (number : ℕ) → e.job ≡ Some number → number < length jobs
+  pub puts : (n : Name) (bytes : List ℕ) (id : ℕ) → e.call ≡ call.Put n bytes → id_in n ≡ Some id → IsSome (job_with jobs id)
+
+-- what is kept after these calls, of which `dead` are the jobs that were dropped: from a past history to the objects that are held now
+pub record Kept {F : Type 0} (forms : Forms F) (spelled : Spelled) (tracks : Tracking F) (past : History) (jobs : List Job) (dead : List ℕ) (seen : List Told) (m : Held) : Type 0 where
+  pub stands : Stands spelled m (history_told jobs past seen)
+  pub apart : AreApart jobs
+  pub fit : AreFit jobs
+  pub known : All (IsOfJobs jobs) seen
+  pub claims : (number : ℕ) (job : Job) → slice_get jobs number ≡ Some job → (Contains dead number → ⊥) → Claims forms spelled tracks past jobs seen m number job (state_of forms job (trace_of number seen))
+
+-- ---- which calls may come
+
+-- the call is the next one of a job that was not dropped
+pub record IsAllowed {F : Type 0} (forms : Forms F) (jobs : List Job) (dead : List ℕ) (seen : List Told) (e : Told) : Type 0 where
+  pub number : ℕ
+  pub job : Job
+  pub own : e.job ≡ Some number
+  pub is_job : slice_get jobs number ≡ Some job
+  pub alive : Contains dead number → ⊥
+  pub asked : asks forms job (state_of forms job (trace_of number seen)) ≡ Some e.call
+  pub short : IsShortCall e.call
+
+-- each of these calls may come after those before it
+abbrev pub AreAllowed : {F : Type 0} → Forms F → List Job → List ℕ → List Told → List Told → Type 0
+AreAllowed forms jobs dead seen [] = ⊤
+AreAllowed forms jobs dead seen (e ∷ es) = IsAllowed forms jobs dead seen e × AreAllowed forms jobs dead (seen ++ e ∷ []) es
