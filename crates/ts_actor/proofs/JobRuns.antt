@@ -35,7 +35,7 @@ module _ {F A : Type 0} (forms : Forms F) (task : A → Job) (follows : A → Tr
       (subst P is (asks_next a past x.call follows_it), subst Q (state_from-append forms job (begun job.command) past (x ∷ [])) (asked_by job (past ++ x ∷ []) xs more))
 
   -- how the machine came out is how the job came out
-  comes_out : (job : Job) (last : A) (trace : List Exchange) (result : Driven Outcome) → task last ≡ job → EndsAs (job_ends forms job) (follows last) job.stop trace result → ComesOut forms job trace result
+  pub comes_out : (job : Job) (last : A) (trace : List Exchange) (result : Driven Outcome) → task last ≡ job → EndsAs (job_ends forms job) (follows last) job.stop trace result → ComesOut forms job trace result
   comes_out job last trace (driven.Done end) is ends = ends
   comes_out job last trace driven.Stopped is (c, follows_it, cut) =
       let P : Job → Type 0 = λ j. asks forms j (state_of forms j trace) ≡ Some c in

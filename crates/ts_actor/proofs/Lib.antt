@@ -1,3 +1,4 @@
 pub mod MachineLaws
-pub mod OnWay
+pub mod DrivenSoFar
 pub mod JobRuns
+pub mod Below

@@ -1,5 +1,5 @@
 -- Where a machine's calls have led its job, and what it ends with.
-use Rattle.std.proofs.Common.{◌≡◌, ◌≢◌, inl, inr, List, [], ◌∷◌, ◌++◌, Option, Some, None, Result, Ok, Err, refl, sym, ◌∙◌, ap, subst, IfOk}
+use Rattle.std.proofs.Common.{◌≡◌, ◌≢◌, List, [], ◌∷◌, ◌++◌, Option, Some, None, Result, Ok, Err, refl, sym, ◌∙◌, ap, subst, IfOk}
 use Rattle.std.specs.Prelude.{is_some}
 use Rattle.std.proofs.lemmas.Bool.{true≢false}
 use Rattle.ts_base.specs.declared.lists.OutOfMemory.{OutOfMemory}
@@ -7,12 +7,8 @@ use Rattle.ts_store.specs.declared.call.Call.{Call}
 use Rattle.ts_store.specs.declared.call.Reply.{Reply}
 use Rattle.ts_model.specs.Forms.{Forms}
 use Rattle.ts_model.specs.declared.commands.Job.{Job}
-use Rattle.ts_model.specs.declared.answers.Outcome.{Outcome}
-use Rattle.ts_model.specs.declared.answers.Outcome.TheVariants as outcome
 use Rattle.ts_model.specs.declared.states.State.{State}
-use Rattle.ts_model.specs.declared.states.State.TheVariants.{Over}
 use Rattle.ts_model.specs.States.{Exchange, asks, goes, begun, state_from}
-use Rattle.ts_model.specs.Driven.{EndsFrom}
 use Rattle.ts_actor.specs.declared.machine.Phase.{Phase}
 use Rattle.ts_actor.specs.declared.machine.Phase.TheVariants.{New, Going, Ended}
 use Rattle.ts_actor.specs.Traces.{Trace, asking, exchange, filled, CanCome}
@@ -48,8 +44,3 @@ pub asks_next : {F : Type 0} (forms : Forms F) (serves : Job → Type 0) (may : 
 asks_next forms serves may job New past c follows = absurd (true≢false (ap (λ (t : Trace). is_some t.asked) follows.1))
 asks_next forms serves may job (Going s) past c follows = ap (asks forms job) follows.2.came ∙ follows.2.asks_it
 asks_next forms serves may job Ended past c follows = absurd follows
-
--- an end that is not for want of memory is where the calls have led the job
-pub over_at : {F : Type 0} (forms : Forms F) (job : Job) (past : List Exchange) (end : Outcome) → EndsFrom forms job (begun job.command) past end → end ≢ outcome.OutOfMemory → state_from forms job (begun job.command) past ≡ Over end
-over_at forms job past end (inl over) other = over
-over_at forms job past end (inr none) other = absurd (other none)

@@ -1,11 +1,11 @@
 -- What driving a machine over a store comes to.
-use Rattle.std.specs.Prelude.{◌≡◌, ℕ, true, List, [], ◌∷◌, ◌++◌, Option, ⊤, length}
+use Rattle.std.specs.Prelude.{◌≡◌, ◌⊎◌, ℕ, true, List, [], ◌∷◌, ◌++◌, Option, ⊤, length}
 use Rattle.ts_base.specs.declared.heads.Stop.{Stop}
 use Rattle.ts_base.specs.Held.{Held}
 use Rattle.ts_store.specs.declared.fate.Fate.{Fate}
 use Rattle.ts_store.specs.declared.call.Call.{Call}
 use Rattle.ts_store.specs.declared.call.Reply.{Reply}
-use Rattle.ts_store.specs.Calls.{FitsCall, IsSpelledReply}
+use Rattle.ts_store.specs.Calls.{FitsCall, IsSpelledReply, is_no_memory}
 use Rattle.ts_store.specs.Stores.{Answers, HasCause}
 use Rattle.ts_model.specs.declared.answers.Driven.{Driven}
 use Rattle.ts_model.specs.declared.answers.Driven.TheVariants as driven
@@ -27,6 +27,14 @@ pub record Called {S : Type 0} (held : S → Option Held) (last : S → Fate) (f
 abbrev pub Leads : {S : Type 0} → (S → Exchange → S → Type 0) → S → List Exchange → S → Type 0
 Leads call before [] after = after ≡ before
 Leads {S} call before (x ∷ xs) after = (between : S) × call before x between × Leads call between xs after
+
+-- a call was made of a store, or there was no memory for it and the store is as it was
+abbrev pub MayBeMade : {S : Type 0} → (S → Exchange → S → Type 0) → S → Exchange → S → Type 0
+MayBeMade call before x after = call before x after ⊎ ((after ≡ before) × (is_no_memory x.reply ≡ true))
+
+-- these calls and no others were made of a store, but for such as found no memory
+abbrev pub MadeOf : {S : Type 0} → (S → Exchange → S → Type 0) → S → List Exchange → S → Type 0
+MadeOf call before xs after = Leads (MayBeMade call) before xs after
 
 -- each call was asked for by a machine of the task that followed the calls before it
 abbrev pub AreAsked : {A T : Type 0} → (A → T) → (A → Trace → Type 0) → T → List Exchange → List Exchange → Type 0

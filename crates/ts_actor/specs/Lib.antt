@@ -6,3 +6,4 @@ pub mod PieceLaws
 pub mod PlainForms
 pub mod PlainWrites
 pub mod PlainLaws
+pub mod PlainHeads

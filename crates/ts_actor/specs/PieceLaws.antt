@@ -1,18 +1,28 @@
 -- What the grammar of the parts says of one piece, and of the objects that are refused; and where the versions lie that a fetch takes.
-use Rattle.std.specs.Prelude.{◌≡◌, ℕ, true, List, [], ◌∷◌, Ok, Err, IsTrue, All}
+use Rattle.std.specs.Prelude.{◌≡◌, ℕ, ◌+◌, ◌≤◌, true, List, [], ◌∷◌, ◌++◌, length, take, nat_lt, Some, Ok, Err, IsTrue, All}
+use Rattle.std.proofs.Common.{arith}
+use Rattle.ts_base.specs.declared.names.Name.TheVariants as name
+use Rattle.ts_store.specs.declared.call.Call.TheVariants as call
+use Rattle.ts_store.specs.declared.call.Reply.TheVariants as reply
 use Rattle.ts_base.specs.declared.keys.FragKey.{FragKey}
 use Rattle.ts_base.specs.declared.names.Part.{Part}
+use Rattle.ts_base.specs.declared.names.PartBytes.{PartBytes}
+use Rattle.ts_base.specs.declared.heads.Head.{Head}
 use Rattle.ts_base.specs.declared.heads.Piece.{Piece}
 use Rattle.ts_base.specs.declared.heads.Version.{Version}
 use Rattle.ts_domain.specs.declared.boxes.SubBox.{SubBox}
 use Rattle.ts_domain.specs.Boxes.{is_in_box}
 use Rattle.ts_store.specs.declared.call.Call.{Call}
 use Rattle.ts_store.specs.declared.call.Reply.{Reply}
+use Rattle.ts_wire.specs.Exact.{IsBytes}
+use Rattle.ts_schema.specs.declared.attrs.Attr.{Attr}
 use Rattle.ts_schema.specs.declared.frames.Frame.{Frame}
 use Rattle.ts_schema.specs.declared.schemas.Schema.{Schema}
 use Rattle.ts_schema.specs.declared.wants.Want.{Want}
-use Rattle.ts_schema.specs.Parts.{Look, Got, Sized}
-use Rattle.ts_model.specs.Forms.{Forms, Spelled, Asks, Takes}
+use Rattle.ts_schema.specs.Parts.{Look, Got, Sized, look_in, IsShort}
+use Rattle.ts_plain.specs.Merges.{IsOrdered}
+use Rattle.ts_model.specs.Forms.{Forms, Spelled, Stepped, Asks, Takes, Breaks, SpeaksOf}
+use Rattle.ts_model.specs.Pieces.{IsOrdinary}
 
 -- what was got of the parts, and the sizes that were told, break the grammar first in a part at an offset
 abbrev pub Off : Type 1
@@ -52,3 +62,110 @@ AreInBox sub versions = All (λ v. IsTrue (is_in_box sub v.coords)) versions
 -- whatever the replies are, the versions that a fetch takes lie in the box that was wanted
 abbrev pub TakesInside : {F : Type 0} → Forms F → Type 0
 TakesInside {F} forms = (sub : SubBox) (f : F) (r : Reply) (versions : List Version) → IsFetchIn forms sub f → forms.steps f r ≡ Takes versions → AreInBox sub versions
+
+-- ---- fetches that make calls
+
+-- what was got of a fragment, once this reply came to this call
+abbrev pub got_with : Call → Reply → List Got → List Got
+got_with (call.Get (name.Part frag part) from len) (reply.Bytes bytes) gots = record { part = part; at = from; bytes = bytes; ends = nat_lt (length bytes) len } ∷ gots
+got_with _ _ gots = gots
+
+-- which sizes were told, once this reply came to this call
+abbrev pub sized_with : Call → Reply → List Sized → List Sized
+sized_with (call.Size (name.Part frag part)) (reply.Length count) sizes = record { part = part; size = count } ∷ sizes
+sized_with _ _ sizes = sizes
+
+-- a fetch waits for the reply to a call, after so much was got and told, whatever that was
+pub data IsFetchOf {F : Type 0} (forms : Forms F) (frame : Frame) (s : Schema) (frag : FragKey) (object : List ℕ) (want : Want) : List Got → List Sized → F → Call → Type 0 where
+  First : (f g : F) (c : Call) → forms.opens frame s frag object want ≡ Ok f → forms.steps f reply.Start ≡ Asks g c
+      → IsFetchOf forms frame s frag object want (whole_got (forms.head_part frame) object) [] g c
+  Then : (gots : List Got) (sizes : List Sized) (f g : F) (c d : Call) (r : Reply) → IsFetchOf forms frame s frag object want gots sizes f c → forms.steps f r ≡ Asks g d
+      → IsFetchOf forms frame s frag object want (got_with c r gots) (sized_with c r sizes) g d
+
+-- where a fetch ends with an answer: at once, or with the reply to a call that it waited for
+pub data EndsWith {F : Type 0} (forms : Forms F) (frame : Frame) (s : Schema) (frag : FragKey) (object : List ℕ) (want : Want) (end : Stepped F) : List Got → List Sized → Type 0 where
+  AtOnce : (f : F) → forms.opens frame s frag object want ≡ Ok f → forms.steps f reply.Start ≡ end → EndsWith forms frame s frag object want end (whole_got (forms.head_part frame) object) []
+  AfterReply : (gots : List Got) (sizes : List Sized) (f : F) (c : Call) (r : Reply) → IsFetchOf forms frame s frag object want gots sizes f c → forms.steps f r ≡ end
+      → EndsWith forms frame s frag object want end (got_with c r gots) (sized_with c r sizes)
+
+-- what a fetch refuses is broken by what it got, and what it takes is not
+pub record JudgesRight {F : Type 0} (forms : Forms F) (off : Off) : Type 0 where
+  pub breaks : (frame : Frame) (s : Schema) (frag : FragKey) (object : List ℕ) (want : Want) (gots : List Got) (sizes : List Sized) (part : Part) (at : ℕ)
+      → EndsWith forms frame s frag object want (Breaks part at) gots sizes → off frame s frag gots sizes part at
+  pub whole : (frame : Frame) (s : Schema) (frag : FragKey) (object : List ℕ) (want : Want) (gots : List Got) (sizes : List Sized) (versions : List Version) (part : Part) (at : ℕ)
+      → EndsWith forms frame s frag object want (Takes versions) gots sizes → off frame s frag gots sizes part at → ⊥
+
+-- a fetch asks for parts of its own fragment alone, whatever the replies are
+abbrev pub AsksOwn : {F : Type 0} → Forms F → Type 0
+AsksOwn {F} forms = (frame : Frame) (s : Schema) (frag : FragKey) (object : List ℕ) (want : Want) (gots : List Got) (sizes : List Sized) (f : F) (c : Call)
+    → IsFetchOf forms frame s frag object want gots sizes f c → (part : Part) × SpeaksOf c (name.Part frag part)
+
+-- whatever the replies are, the versions that a fetch takes lie in the domain and ascend in global order, those of one place by ascending key
+abbrev pub TakesOrdered : {F : Type 0} → Forms F → Type 0
+TakesOrdered {F} forms = (frame : Frame) (s : Schema) (frag : FragKey) (object : List ℕ) (want : Want) (gots : List Got) (sizes : List Sized) (versions : List Version)
+    → IsBytes object → IsShort object → EndsWith forms frame s frag object want (Takes versions) gots sizes → IsOrdered frame versions
+
+-- ---- heads
+
+-- a head bears the name of its fragment
+abbrev pub NamesHead : {F : Type 0} → Forms F → Type 0
+NamesHead {F} forms = (frame : Frame) (frag : FragKey) (object : List ℕ) (head : Head) → forms.head frame frag object ≡ Ok head → head.frag ≡ frag
+
+-- a front of the object settles its head: nothing breaks the grammar within it, whatever the schema is, and no object with the same front has another head
+pub record IsSettled {F : Type 0} (forms : Forms F) (off : Off) (frame : Frame) (frag : FragKey) (object : List ℕ) (head : Head) : Type 0 where
+  pub end : ℕ
+  pub whole : (s : Schema) (at : ℕ) → off frame s frag (whole_got (forms.head_part frame) object) [] (forms.head_part frame) at → end ≤ at
+  pub alone : (other : List ℕ) (found : Head) → IsBytes other → take end other ≡ take end object → forms.head frame frag other ≡ Ok found → found ≡ head
+
+-- a head that is read is settled, so none is read of an object that is broken within it
+abbrev pub SettlesHeads : {F : Type 0} → Forms F → Off → Type 0
+SettlesHeads {F} forms off = (frame : Frame) (frag : FragKey) (object : List ℕ) (head : Head) → IsBytes object → forms.head frame frag object ≡ Ok head → IsSettled forms off frame frag object head
+
+-- ---- writing
+
+-- which pieces can be written in an array of a frame, in a schema with these attributes
+abbrev pub Writable : Type 1
+Writable = Frame → List Attr → Piece → Type 0
+
+-- a piece that one write makes can be written
+abbrev pub WritesOrdinary : Writable → Type 0
+WritesOrdinary writable = (frame : Frame) (attrs : List Attr) (p : Piece) → IsOrdinary frame attrs p → writable frame attrs p
+
+-- of a piece that can be written
+pub record WritesWell {F : Type 0} (forms : Forms F) (spelled : Spelled) (writable : Writable) : Type 0 where
+  -- the parts spell it, where each is short enough to be got at once
+  pub parts : (frame : Frame) (s : Schema) (p : Piece) → writable frame s.attrs p → All (λ x. IsShort x.bytes) (forms.parts frame s p) → spelled frame s p (look_in (forms.parts frame s p))
+  -- the part that has the head is the last
+  pub last : (frame : Frame) (s : Schema) (p : Piece) → writable frame s.attrs p
+      → (front : List PartBytes) × (bytes : List ℕ) × (forms.parts frame s p ≡ front ++ record { part = forms.head_part frame; bytes = bytes } ∷ [])
+
+-- ---- how many gets a fetch makes
+
+-- one for a get, none for another call
+abbrev pub gets_of : Call → ℕ
+gets_of (call.Get n from len) = 1
+gets_of _ = 0
+
+-- each get takes one of those that the fetch may make, and a fetch of a piece may make so many
+pub record AsksBounded {F : Type 0} (forms : Forms F) (spelled : Spelled) (gets : F → ℕ) (most : Frame → Schema → Piece → Want → ℕ) : Type 0 where
+  pub pays : (f g : F) (r : Reply) (c : Call) → forms.steps f r ≡ Asks g c → gets g + gets_of c ≤ gets f
+  pub fair : (frame : Frame) (s : Schema) (p : Piece) (look : Look) (want : Want) (object : List ℕ) (f : F) → spelled frame s p look → look (forms.head_part frame) ≡ Some object
+      → forms.opens frame s p.head.frag object want ≡ Ok f → gets f ≤ most frame s p want
+
+-- the calls that a fetch asks for, one after the other, over whatever replies
+pub data AsksInTurn {F : Type 0} (forms : Forms F) : F → Reply → List Call → Type 0 where
+  NoMore : (f : F) (r : Reply) → AsksInTurn forms f r []
+  OneMore : (f g : F) (r q : Reply) (c : Call) (calls : List Call) → forms.steps f r ≡ Asks g c → AsksInTurn forms g q calls → AsksInTurn forms f r (c ∷ calls)
+
+-- all their gets
+abbrev pub gets_in : List Call → ℕ
+gets_in [] = 0
+gets_in (c ∷ calls) = gets_of c + gets_in calls
+
+-- a fetch makes no more gets than it may
+pub gets_bound : {F : Type 0} (forms : Forms F) (spelled : Spelled) (gets : F → ℕ) (most : Frame → Schema → Piece → Want → ℕ) → AsksBounded forms spelled gets most
+    → (f : F) (r : Reply) (calls : List Call) → AsksInTurn forms f r calls → gets_in calls ≤ gets f
+gets_bound forms spelled gets most few f r calls (NoMore f' r') = omega arith
+gets_bound forms spelled gets most few f r calls (OneMore f' g r' q c others asked rest) =
+    let more = gets_bound forms spelled gets most few g q others rest in
+    omega (arith, few.pays f' g r' c asked)

@@ -1,20 +1,19 @@
 -- Plain fragments are read as they were written.
-use Rattle.std.proofs.Common.{◌≡◌, ℕ, zero, suc, true, List, [], ◌∷◌, slice_get, Some, Result, Ok, Err, refl, sym, ap, ◌∙◌, subst, arith}
-use Rattle.std.specs.List.{All}
+use Rattle.std.proofs.Common.{◌≡◌, ℕ, zero, suc, Bool, true, false, cond, map, List, [], ◌∷◌, slice_get, Some, Result, Ok, Err, refl, sym, ap, ◌∙◌, subst, arith}
+use Rattle.std.specs.List.{All, AllByRecursion}
+use Rattle.std.specs.declared.cmp.Ordering.TheVariants.{Less}
 use Rattle.std.proofs.lemmas.Option.{same_Some}
 use Rattle.std.specs.Prelude.{IsTrue, filter}
 use Rattle.std.proofs.lemmas.Bool.{and_parts}
-use Rattle.std.proofs.lemmas.List.Elements.{All-nil, All-cons, All-head, All-contains, All-map, All-weaker, filter_passes}
+use Rattle.std.proofs.lemmas.List.Elements.{All-nil, All-cons, All-head, All-contains, All-map, All-filter, All-weaker, filter_passes}
 use Rattle.ts_base.specs.declared.names.Part.TheVariants as part
 use Rattle.ts_base.specs.declared.names.PartBytes.{PartBytes}
 use Rattle.ts_base.specs.declared.keys.FragKey.{FragKey}
 use Rattle.ts_base.specs.declared.heads.Piece.{Piece}
 use Rattle.ts_base.specs.declared.heads.Version.{Version}
-use Rattle.ts_domain.specs.declared.boxes.SubBox.{SubBox}
 use Rattle.ts_domain.specs.Boxes.{is_in_box}
 use Rattle.ts_base.specs.Keys.{is_within}
 use Rattle.ts_store.specs.declared.call.Call.{Call}
-use Rattle.ts_store.specs.declared.call.Reply.{Reply}
 use Rattle.ts_wire.specs.declared.kinds.Kind.TheVariants as kind
 use Rattle.ts_wire.specs.declared.faults.ReadFault.TheVariants as fault
 use Rattle.ts_wire.specs.Place.{◌>>=◌}
@@ -24,30 +23,32 @@ use Rattle.ts_schema.specs.declared.attrs.Attr.{Attr}
 use Rattle.ts_schema.specs.declared.frames.Frame.{Frame}
 use Rattle.ts_schema.specs.declared.schemas.Schema.{Schema}
 use Rattle.ts_schema.specs.declared.wants.Want.{Want}
-use Rattle.ts_schema.specs.Parts.{Look, Got, look_in, IsShort}
+use Rattle.ts_schema.specs.Parts.{Look, Got, Sized, look_in, IsShort}
+use Rattle.ts_base.specs.declared.names.Part.{Part}
 use Rattle.ts_schema.specs.Wants.{taken, cut, is_wanted}
 use Rattle.ts_plain.specs.Plain.{plain_bytes}
 use Rattle.ts_plain.specs.Pieces.{plain_piece, IsPlainObject, IsPlain}
 use Rattle.ts_plain.specs.Writes.{stored_for}
-use Rattle.ts_plain.proofs.PlainPieces.{piece_again, head_again, one_plain, broken_head}
-use Rattle.ts_model.specs.Forms.{FormsLaws, OpensWell, Asks, Takes}
-use Rattle.ts_model.specs.Pieces.{IsOrdinary}
+use Rattle.ts_plain.specs.Merges.{Order, global_order, version_cmp, VersionsAscend, LiesInside, IsOrdered}
+use Rattle.ts_plain.proofs.PlainPieces.{piece_again, piece_found, head_again, one_plain, broken_head}
+use Rattle.ts_plain.proofs.OrderedPieces as ordered
+use Rattle.ts_model.specs.Forms.{FormsLaws, OpensWell, Stepped, Asks, Takes, Breaks}
 use Rattle.ts_actor.specs.PlainForms.{plain_object, plain_parts, plain_forms, NeverWaits, IsPlainBroken}
-use Rattle.ts_actor.specs.PieceLaws.{whole_got, SpellsOne, RefusesBroken, OpensUnbroken, IsFetchIn, Begun, Went, AreInBox, TakesInside}
-use Rattle.ts_actor.specs.PlainWrites.{ordinary_fits, ordinary_back}
+use Rattle.ts_actor.specs.PieceLaws.{whole_got, SpellsOne, RefusesBroken, OpensUnbroken, Begun, Went, AreInBox, TakesInside, IsFetchOf, First, Then, EndsWith, AtOnce, AfterReply, JudgesRight, AsksBounded, AsksOwn, TakesOrdered, WritesWell}
+use Rattle.ts_actor.specs.PlainWrites.{IsStorable, ordinary_storable}
 
--- the object of a piece that one write makes holds it, where it is short enough to be got at once
-object_holds : (frame : Frame) (attrs : List Attr) (p : Piece) → IsOrdinary frame attrs p → IsShort (plain_object p) → IsPlainObject frame attrs p (plain_object p)
+-- the object of a piece that can be stored holds it, where it is short enough to be got at once
+object_holds : (frame : Frame) (attrs : List Attr) (p : Piece) → IsStorable frame attrs p → IsShort (plain_object p) → IsPlainObject frame attrs p (plain_object p)
 object_holds frame attrs p is short = record {
   stored = stored_for p;
-  fits = ordinary_fits frame attrs p is;
+  fits = is.fits;
   few = omega (arith, short, length-wrapped kind.Plain (plain_bytes (stored_for p)));
   spelled = refl;
-  same = ordinary_back frame attrs p is;
+  same = is.same;
 }
 
 -- the one part of such a piece spells it
-parts_spell : (frame : Frame) (s : Schema) (p : Piece) → IsOrdinary frame s.attrs p → All (λ x. IsShort x.bytes) (plain_parts frame s p) → IsPlain frame s p (look_in (plain_parts frame s p))
+parts_spell : (frame : Frame) (s : Schema) (p : Piece) → IsStorable frame s.attrs p → All (λ x. IsShort x.bytes) (plain_parts frame s p) → IsPlain frame s p (look_in (plain_parts frame s p))
 parts_spell frame s p is short = (plain_object p, refl, object_holds frame s.attrs p is (All-head (λ (x : PartBytes). IsShort x.bytes) _ [] short))
 
 -- a list of one item has no second one
@@ -73,7 +74,7 @@ takes_all f g c e = cc
 -- the laws of plain fragments
 pub plain_laws : FormsLaws plain_forms IsPlain NeverWaits
 plain_laws = record {
-  parts = parts_spell;
+  parts = λ frame s p is short. parts_spell frame s p (ordinary_storable frame s.attrs p is) short;
   last = λ frame s p is. ([], plain_object p, refl);
   once = λ frame s p i k x y at_i at_k _. only_place _ x i at_i ∙ sym (only_place _ y k at_k);
   head = λ frame s p look is. (is.0, is.1, head_again frame s.attrs p is.0 is.2);
@@ -81,6 +82,13 @@ plain_laws = record {
   opens = opens_well;
   asks = λ frame s p look want f c never. absurd never;
   goes = λ frame s p look want f c part bytes r never _ _ _. absurd never;
+}
+
+-- the laws of what can be stored
+pub plain_writes : WritesWell plain_forms IsPlain IsStorable
+plain_writes = record {
+  parts = parts_spell;
+  last = λ frame s p is. ([], plain_object p, refl);
 }
 
 -- ---- one piece, and what is refused
@@ -114,14 +122,18 @@ plain_broken = record {
   opens = λ frame s frag object want at h. broken_there frame s frag object at (fetch_broken want (plain_piece frame s.attrs frag object) at h);
 }
 
+-- an object that is broken so is broken as a whole plain fragment
+pub broken_object : (frame : Frame) (s : Schema) (frag : FragKey) (object : List ℕ) (named : Part) (at : ℕ) → IsPlainBroken frame s frag (whole_got part.Plain object) [] named at → plain_piece frame s.attrs frag object ≡ Err at
+broken_object frame s frag object named at is =
+    let P : Got → Type 0 = λ g. g.bytes ≡ object in
+    let same : (is.got).bytes ≡ object = All-contains P (whole_got part.Plain object) is.got (All-cons P _ [] refl (All-nil P)) is.was_got in
+    subst (λ bytes. plain_piece frame s.attrs frag bytes ≡ Err at) same is.broken
+
 -- no piece is found in a broken object
 pub plain_whole : OpensUnbroken plain_forms IsPlainBroken
 plain_whole frame s frag object want named at fetch is h =
     let b = bound (plain_piece frame s.attrs frag object) (λ p. Ok (taken want p.versions)) fetch h in
-    not_both (plain_piece frame s.attrs frag object) b.first at b.was (subst (λ bytes. plain_piece frame s.attrs frag bytes ≡ Err at) same is.broken)
-  where
-    same : (is.got).bytes ≡ object
-    same = let P : Got → Type 0 = λ g. g.bytes ≡ object in All-contains P (whole_got part.Plain object) is.got (All-cons P _ [] refl (All-nil P)) is.was_got
+    not_both (plain_piece frame s.attrs frag object) b.first at b.was (broken_object frame s frag object named at is)
 
 -- ---- where the versions lie
 
@@ -141,3 +153,76 @@ plain_inside sub f r versions (Begun frame s frag object want g same opens) take
     let took : g ≡ versions = cc in
     subst (λ box. AreInBox box versions) same (subst (AreInBox want.sub) (found ∙ took) (taken_inside want b.first.versions))
 plain_inside sub f r versions (Went g r' h c is asked) takes = absurd (takes_all g h c asked)
+
+-- a fetch makes no call, so it waits for none
+waits_never : (frame : Frame) (s : Schema) (frag : FragKey) (object : List ℕ) (want : Want) (gots : List Got) (sizes : List Sized) (f : List Version) (c : Call) → IsFetchOf plain_forms frame s frag object want gots sizes f c → ⊥
+waits_never frame s frag object want gots sizes f c (First g h d is asked) = takes_all g h d asked
+waits_never frame s frag object want gots sizes f c (Then gs ss g h d e r before asked) = takes_all g h e asked
+
+-- it refuses nothing that it began on, and takes nothing of a broken object
+pub plain_judges : JudgesRight plain_forms IsPlainBroken
+plain_judges = record {
+  breaks = breaks;
+  whole = whole;
+}
+  where
+    never : (f : List Version) (part : Part) (at : ℕ) (a b : Stepped (List Version)) → a ≡ Takes f → b ≡ Breaks part at → a ≡ b → ⊥
+    never f part at a b g h e = cc
+
+    breaks : (frame : Frame) (s : Schema) (frag : FragKey) (object : List ℕ) (want : Want) (gots : List Got) (sizes : List Sized) (part : Part) (at : ℕ)
+        → EndsWith plain_forms frame s frag object want (Breaks part at) gots sizes → IsPlainBroken frame s frag gots sizes part at
+    breaks frame s frag object want gots sizes part at (AtOnce f is e) = absurd (never f part at _ _ refl refl e)
+    breaks frame s frag object want gots sizes part at (AfterReply gs ss f c r waits e) = absurd (waits_never frame s frag object want gs ss f c waits)
+
+    whole : (frame : Frame) (s : Schema) (frag : FragKey) (object : List ℕ) (want : Want) (gots : List Got) (sizes : List Sized) (versions : List Version) (part : Part) (at : ℕ)
+        → EndsWith plain_forms frame s frag object want (Takes versions) gots sizes → IsPlainBroken frame s frag gots sizes part at → ⊥
+    whole frame s frag object want gots sizes versions part at (AtOnce f is e) broken = plain_whole frame s frag object want part at f broken is
+    whole frame s frag object want gots sizes versions part at (AfterReply gs ss f c r waits e) broken = waits_never frame s frag object want gs ss f c waits
+
+-- it asks for nothing
+pub plain_own : AsksOwn plain_forms
+plain_own frame s frag object want gots sizes f c waits = absurd (waits_never frame s frag object want gots sizes f c waits)
+
+-- ---- the order of what is taken
+
+module _ (cmp : Order) (want : Want) where
+  -- what holds of versions holds of those that are wanted, where it does not look at their rows
+  kept : (P : Version → Type 0) → ((v : Version) → P v → P (cut want v)) → (vs : List Version) → AllByRecursion P vs → AllByRecursion P (taken want vs)
+  kept P cuts [] all = tt
+  kept P cuts (v ∷ vs) all = by (is_wanted want v) (kept P cuts vs all.1)
+    where
+      by : (b : Bool) → AllByRecursion P (taken want vs) → AllByRecursion P (map (cut want) (cond b (v ∷ filter (is_wanted want) vs) (filter (is_wanted want) vs)))
+      by true rest = (cuts v all.0, rest)
+      by false rest = rest
+
+  -- the wanted ones of versions that ascend do so too
+  taken_ascends : (vs : List Version) → VersionsAscend cmp vs → VersionsAscend cmp (taken want vs)
+  taken_ascends [] up = tt
+  taken_ascends (v ∷ vs) up = by (is_wanted want v) (taken_ascends vs up.1)
+    where
+      by : (b : Bool) → VersionsAscend cmp (taken want vs) → VersionsAscend cmp (map (cut want) (cond b (v ∷ filter (is_wanted want) vs) (filter (is_wanted want) vs)))
+      by true rest = (kept (λ (w : Version). version_cmp cmp v w ≡ Less) (λ w less. less) vs up.0, rest)
+      by false rest = rest
+
+taken_ordered : (frame : Frame) (want : Want) (vs : List Version) → IsOrdered frame vs → IsOrdered frame (taken want vs)
+taken_ordered frame want vs is = record {
+  inside = All-map (LiesInside frame) (cut want) (filter (is_wanted want) vs) (All-filter (is_wanted want) (LiesInside frame) vs is.inside);
+  ascend = taken_ascends (global_order frame) want vs is.ascend;
+}
+
+-- a fetch takes wanted versions of the piece that the object holds
+pub plain_ordered : TakesOrdered plain_forms
+plain_ordered frame s frag object want gots sizes versions all short (AtOnce f is e) =
+    let b = bound (plain_piece frame s.attrs frag object) (λ p. Ok (taken want p.versions)) f is in
+    let found = (piece_found frame s.attrs frag object b.first all short b.was).0 in
+    let same : taken want b.first.versions ≡ f = cc (b.next) in
+    let took : f ≡ versions = cc in
+    subst (IsOrdered frame) (same ∙ took) (taken_ordered frame want b.first.versions (ordered.plain_ordered frame s.attrs b.first object found))
+plain_ordered frame s frag object want gots sizes versions all short (AfterReply gs ss f c r waits e) = absurd (waits_never frame s frag object want gs ss f c waits)
+
+-- it makes no get
+pub plain_bounded : AsksBounded plain_forms IsPlain (λ _. 0) (λ _ _ _ _. 0)
+plain_bounded = record {
+  pays = λ f g r c asked. absurd (takes_all f g c asked);
+  fair = λ frame s p look want object f is there opens. omega arith;
+}

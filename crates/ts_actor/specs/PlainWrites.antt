@@ -2,27 +2,25 @@
 use Rattle.std.proofs.Common.{◌≡◌, ℕ, ◌*◌, ℤ, pos, negsuc, Bool, true, false, ◌&&◌, nat_lt, List, [], ◌∷◌, ◌++◌, length, map, Option, Some, None, refl, sym, ap, ◌∙◌, subst, arith}
 use Rattle.std.specs.Prelude.{IsTrue, int_le, ⊤}
 use Rattle.std.specs.List.{All}
-use Rattle.std.specs.List.Sorted.{IsStrictlySortedBy}
 use Rattle.std.specs.Bool.{beq}
 use Rattle.std.specs.Cmp.{tied_itself}
 use Rattle.std.specs.declared.cmp.Ordering.TheVariants.{Less}
 use Rattle.std.proofs.lemmas.Int.{ints}
 use Rattle.std.proofs.lemmas.Bool.{and_parts, and_from, le-leb, eq-eqb}
 use Rattle.std.proofs.lemmas.List.{length-map}
-use Rattle.std.proofs.lemmas.List.Elements.{All-nil, All-cons, All-head, All-tail}
+use Rattle.std.proofs.lemmas.List.Elements.{All-head, All-tail}
 use Rattle.ts_base.specs.declared.keys.Key.{Key}
 use Rattle.ts_base.specs.declared.keys.FragKey.{FragKey}
 use Rattle.ts_base.specs.declared.values.Val.{Val}
 use Rattle.ts_base.specs.declared.heads.Head.{Head}
 use Rattle.ts_base.specs.declared.heads.Piece.{Piece}
 use Rattle.ts_base.specs.declared.heads.Version.{Version}
-use Rattle.ts_base.specs.Keys.{key_cmp, frag_of}
+use Rattle.ts_base.specs.Keys.{frag_of}
 use Rattle.ts_base.specs.Coords.{coords_eq}
 use Rattle.ts_domain.specs.declared.dims.Dim.{Dim}
 use Rattle.ts_domain.specs.Dims.{IsDim}
 use Rattle.ts_domain.specs.Bounds.{count_between, is_between, are_bounds, cells_between}
 use Rattle.ts_domain.specs.Domains.{is_in_domain}
-use Rattle.ts_domain.proofs.Between.{length-are_bounds}
 use Rattle.ts_order.proofs.OrderLemmas.{global_total}
 use Rattle.ts_wire.specs.Exact.{InTurn, EachFits}
 use Rattle.ts_wire.specs.Fields.{FitsKey}
@@ -34,14 +32,15 @@ use Rattle.ts_plain.specs.declared.stored.StoredCell.{StoredCell}
 use Rattle.ts_plain.specs.Rules.{volume, last_of, may_span, is_full, may_hold, may_count, coords_rise, origin_rises}
 use Rattle.ts_plain.specs.Plain.{FitsCoord, FitsSide, FitsOrigin, FitsValue, FitsCell, FitsPlain}
 use Rattle.ts_plain.specs.Pieces.{no_key, version_in, head_of, piece_of}
-use Rattle.ts_plain.specs.Writes.{place_of, HasPlace, sides_of, stored_head, stored_cell, stored_for, NamesWrites}
+use Rattle.ts_plain.specs.Writes.{place_of, HasPlace, sides_of, stored_head, stored_cell, stored_for, HasPlain, NamesWrites}
 use Rattle.ts_plain.proofs.KeyLemmas.{key_itself}
 use Rattle.ts_plain.proofs.Places.{at-place_of}
-use Rattle.ts_plain.proofs.WrittenPieces.{last_pushed}
+use Rattle.ts_plain.proofs.WrittenPieces.{last_pushed, stored_back, names_of}
 use Rattle.ts_model.specs.Commands.{global_order}
 use Rattle.ts_model.specs.Deeds.{RowFits}
 use Rattle.ts_model.specs.Pieces.{Climb, IsVersion, IsOrdinary}
-use Rattle.ts_model.proofs.Laying.{coords_decide}
+use Rattle.ts_base.proofs.Equal.{coords_decide}
+use Rattle.ts_actor.specs.PieceLaws.{WritesOrdinary}
 
 -- ---- the hull
 
@@ -143,9 +142,9 @@ Behind frame None coords = ⊤
 Behind frame (Some before) coords = global_order frame before.coords coords ≡ Less
 
 -- the first version comes behind the cell before
-abbrev Begins : Frame → Option StoredCell → List Version → Type 0
-Begins frame before [] = ⊤
-Begins frame before (v ∷ vs) = Behind frame before v.coords
+abbrev StartsBehind : Frame → Option StoredCell → List Version → Type 0
+StartsBehind frame before [] = ⊤
+StartsBehind frame before (v ∷ vs) = Behind frame before v.coords
 
 module _ (frame : Frame) where
   -- what comes behind other coordinates is not at them
@@ -183,15 +182,15 @@ module _ (frame : Frame) where
         }
 
     -- so do the cells of all versions, each behind those before it
-    cells_fit : (front : List StoredCell) (vs : List Version) → All (IsVersion frame attrs head own) vs → Begins frame (last_of front) vs → Climb frame vs
+    cells_fit : (front : List StoredCell) (vs : List Version) → All (IsVersion frame attrs head own) vs → StartsBehind frame (last_of front) vs → Climb frame vs
         → InTurn (FitsCell frame attrs (stored_head head)) front (map (stored_cell head.origins) vs)
     cells_fit front [] all first climb = tt
     cells_fit front (v ∷ vs) all first climb =
         let cell = stored_cell head.origins v in
-        let next : Begins frame (last_of (front ++ cell ∷ [])) vs = subst (λ o. Begins frame o vs) (sym (last_pushed front cell)) (above vs climb.0) in
+        let next : StartsBehind frame (last_of (front ++ cell ∷ [])) vs = subst (λ o. StartsBehind frame o vs) (sym (last_pushed front cell)) (above vs climb.0) in
         (cell_fits front v (All-head (IsVersion frame attrs head own) v vs all) first, cells_fit (front ++ cell ∷ []) vs (All-tail (IsVersion frame attrs head own) v vs all) next climb.1)
       where
-        above : (ws : List Version) → All (λ w. global_order frame v.coords w.coords ≡ Less) ws → Begins frame (Some (stored_cell head.origins v)) ws
+        above : (ws : List Version) → All (λ w. global_order frame v.coords w.coords ≡ Less) ws → StartsBehind frame (Some (stored_cell head.origins v)) ws
         above [] all = tt
         above (w ∷ ws) all = All-head (λ (w : Version). global_order frame v.coords w.coords ≡ Less) w ws all
 
@@ -204,13 +203,6 @@ module _ (frame : Frame) where
         let schema = is.in_schema in
         let rest = versions_back vs (All-tail (IsVersion frame attrs head own) v vs all) in
         λ i. record { key = (sym key) i; schema = schema i; coords = v.coords; row = v.row } ∷ rest i
-
-    -- each version's write has a place among the origins
-    versions_named : (vs : List Version) → All (IsVersion frame attrs head own) vs → All (λ (v : Version). HasPlace head.origins v.key) vs
-    versions_named [] all = All-nil (λ (v : Version). HasPlace head.origins v.key)
-    versions_named (v ∷ vs) all =
-        All-cons (λ (v : Version). HasPlace head.origins v.key) v vs (has_own head.origins own v.key only (All-head (IsVersion frame attrs head own) v vs all).by_own)
-        (versions_named vs (All-tail (IsVersion frame attrs head own) v vs all))
 
 -- ---- the piece
 
@@ -242,7 +234,7 @@ ordinary_fits frame attrs p is =
     as_many true whole = eq-eqb p.head.cells (volume (sides_of p.head.low p.head.high)) (whole refl ∙ sym (volume_between p.head.low p.head.high is.corners))
     as_many false whole = le-leb 1 p.head.cells (omega (arith, is.cells, is.some))
 
-    first : (vs : List Version) → Begins frame None vs
+    first : (vs : List Version) → StartsBehind frame None vs
     first [] = tt
     first (v ∷ vs) = tt
 
@@ -259,16 +251,27 @@ ordinary_back frame attrs p is =
       versions = versions i;
     }
 
--- one key ascends
-alone_ascends : (key : Key) → IsStrictlySortedBy key_cmp (key ∷ [])
-unfolding IsStrictlySortedBy
-alone_ascends key = (tt, tt)
+-- ---- which pieces can be stored
 
--- a piece that one write makes can be written
-pub ordinary_names : (frame : Frame) (attrs : List Attr) (p : Piece) → IsOrdinary frame attrs p → NamesWrites p
-ordinary_names frame attrs p is = record {
-  corners = length-are_bounds p.head.low p.head.high is.corners;
-  few = omega (arith, ap length is.origins);
-  ascend = subst (IsStrictlySortedBy key_cmp) (sym is.origins) (alone_ascends is.key);
-  known = versions_named frame attrs p.head is.key (is.is_frame).domain.valid is.origins p.versions is.versions;
-}
+-- what is stored of the piece keeps all rules, and holds the piece
+pub record IsStorable (frame : Frame) (attrs : List Attr) (p : Piece) : Type 0 where
+  pub fits : FitsPlain frame attrs p.head.frag (stored_for p)
+  pub same : p ≡ piece_of p.head.frag (stored_for p)
+
+-- a piece that one write makes can be stored
+pub ordinary_storable : WritesOrdinary IsStorable
+ordinary_storable frame attrs p is = record { fits = ordinary_fits frame attrs p is; same = ordinary_back frame attrs p is }
+
+-- so can each piece that some plain object holds, one of many writes too
+pub plain_storable : (frame : Frame) (attrs : List Attr) (p : Piece) → HasPlain frame attrs p → IsStorable frame attrs p
+plain_storable frame attrs p has =
+    let is = has.spelled in
+    let stored : stored_for p ≡ is.stored = ap stored_for is.same ∙ stored_back frame attrs p.head.frag is.stored is.fits in
+    record {
+      fits = subst (FitsPlain frame attrs p.head.frag) (sym stored) is.fits;
+      same = is.same ∙ ap (piece_of p.head.frag) (sym stored);
+    }
+
+-- each version of such a piece can name its write
+pub storable_names : (frame : Frame) (attrs : List Attr) (p : Piece) → IsStorable frame attrs p → NamesWrites p
+storable_names frame attrs p is = subst NamesWrites (sym is.same) (names_of frame attrs p.head.frag (stored_for p) is.fits)

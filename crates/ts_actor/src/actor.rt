@@ -1,6 +1,7 @@
 //! Machines that ask for their calls one by one.
 ghost use Rattle.std.specs.Prelude.{◌≡◌, ℕ, List};
 ghost use Rattle.ts_store.specs.declared.call.Reply.{Reply};
+ghost use Rattle.std.specs.Thread.{IsSync};
 ghost use Rattle.ts_store.specs.Calls.{IsSpelledReply};
 ghost use Rattle.ts_model.specs.States.{Exchange};
 ghost use Rattle.ts_actor.specs.Traces.{Trace, CanCome, Expects, Falls, GoesOn, IsSpelledStep, filled};
@@ -46,6 +47,7 @@ pub trait Actor {
     fn next<R: Threads + Sync>(&mut self, rt: &R, alloc: Global, reply: Reply) -> Step<Self::Out>
         requires due { Expects (follows self.old) reply }
         requires reply_spelled { IsSpelledReply reply }
+        requires sync { IsSync R.row }
         ensures task { task self.new ≡ task self.old }
         ensures goes_on { (t : Trace) → follows self.old t → CanCome t.asked reply → GoesOn (follows self.new) (ends (task self.old)) (filled t reply) result }
         ensures falls { Falls (measure self.old) (measure self.new) result }

@@ -1,5 +1,6 @@
 //! A machine that does the jobs of one kind.
 ghost use Rattle.std.specs.Prelude.{◌≡◌, ◌≢◌, ◌<◌, ◌⊎◌, ℕ, IfOk, IfSome, None};
+ghost use Rattle.std.specs.Thread.{IsSync};
 ghost use Rattle.ts_store.specs.Calls.{IsSpelledCall, IsSpelledReply};
 ghost use Rattle.ts_model.specs.declared.commands.Job.{Job as AnyJob};
 ghost use Rattle.ts_model.specs.declared.states.State.{State};
@@ -57,7 +58,8 @@ pub trait Automaton {
         ensures spelled { IfOk result (λ call. IfSome call IsSpelledCall) };
 
     /// Where a reply leads a job. A job that makes a call has fewer of them left afterwards.
-    fn go(
+    fn go<R: Threads + Sync>(
+        rt: &R,
         alloc: Global,
         job: &Job,
         state: State<Self::Fetch>,
@@ -66,6 +68,7 @@ pub trait Automaton {
         requires job { serves job.now }
         requires state { may job.now state }
         requires reply { IsSpelledReply reply }
+        requires sync { IsSync R.row }
         ensures is { IfOk result (λ next. next ≡ goes forms job.now state reply) }
         ensures may { IfOk result (may job.now) }
         ensures fewer { IfOk result (λ next. asks forms job.now state ≢ None → left next < left state) };
@@ -118,9 +121,9 @@ impl<K: Automaton> Actor for Machine<K> {
 
     ghost measure = { λ m. calls_left K.left m.job m.phase };
 
-    fn next<R: Threads + Sync>(&mut self, _rt: &R, alloc: Global, reply: Reply) -> Step<Outcome> {
+    fn next<R: Threads + Sync>(&mut self, rt: &R, alloc: Global, reply: Reply) -> Step<Outcome> {
         let phase = mem::replace(&mut self.phase, Phase::Ended);
-        match advance::<K>(alloc, &self.job, phase, reply) {
+        match advance::<K, R>(rt, alloc, &self.job, phase, reply) {
             Ok((state, call)) => {
                 self.phase = Phase::Going(state);
                 Step::Ask(call)
@@ -132,7 +135,8 @@ impl<K: Automaton> Actor for Machine<K> {
 
 // Where a reply leads a job that has come so far: to a state and the call that it asks for there, or
 // to its end.
-fn advance<K: Automaton>(
+fn advance<K: Automaton, R: Threads + Sync>(
+    rt: &R,
     alloc: Global,
     job: &Job,
     phase: Phase<K::Fetch>,
@@ -144,7 +148,7 @@ fn advance<K: Automaton>(
     ensures fewer { IfOk result (λ next. K.left next.0 < calls_left K.left job.now phase) }
     ensures spelled { IfOk result (λ next. IsSpelledCall next.1) }
 {
-    let Ok(state) = led::<K>(alloc, job, phase, reply) else {
+    let Ok(state) = state_after::<K, R>(rt, alloc, job, phase, reply) else {
         return Err(Outcome::OutOfMemory);
     };
     match K::ask(alloc, job, &state) {
@@ -155,7 +159,8 @@ fn advance<K: Automaton>(
 }
 
 // Where a reply leads a job that has come so far.
-fn led<K: Automaton>(
+fn state_after<K: Automaton, R: Threads + Sync>(
+    rt: &R,
     alloc: Global,
     job: &Job,
     phase: Phase<K::Fetch>,
@@ -170,7 +175,7 @@ fn led<K: Automaton>(
 {
     match phase {
         Phase::New => Ok(K::begin(alloc, job)),
-        Phase::Going(state) => K::go(alloc, job, state, reply),
+        Phase::Going(state) => K::go(rt, alloc, job, state, reply),
         Phase::Ended => Err(OutOfMemory),
     }
 }

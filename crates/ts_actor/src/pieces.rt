@@ -1,20 +1,22 @@
 //! How the pieces of an array are written in parts and read from them, whichever way that is.
-ghost use Rattle.std.specs.Prelude.{◌≡◌, ◌<◌, ◌^◌, ℕ, All, IfOk};
+ghost use Rattle.std.specs.Prelude.{◌≡◌, ◌<◌, ◌^◌, ℕ, List, All, IfOk};
+ghost use Rattle.std.specs.Thread.{IsSync};
 ghost use Rattle.ts_base.specs.declared.heads.Piece.{Piece as AnyPiece};
 ghost use Rattle.ts_base.specs.Names.{IsSpelledPart, IsSpelledFrag};
 ghost use Rattle.ts_wire.specs.Reading.{DecodesOr};
+ghost use Rattle.ts_schema.specs.declared.attrs.Attr.{Attr as AnyAttr};
 ghost use Rattle.ts_schema.specs.declared.frames.Frame.{Frame as AnyFrame};
 ghost use Rattle.ts_schema.specs.declared.schemas.Schema.{Schema as AnySchema};
 ghost use Rattle.ts_schema.specs.declared.wants.Want.{Want as AnyWant};
 ghost use Rattle.ts_schema.specs.Parts.{Look};
-ghost use Rattle.ts_plain.specs.Merges.{global_order, LiesInside, Ascends, IsMergedAll};
+ghost use Rattle.ts_plain.specs.Merges.{global_order, LiesInside, VersionsAscend, IsMergedAll};
 ghost use Rattle.ts_store.specs.declared.call.Call.{Call as AnyCall};
 ghost use Rattle.ts_model.specs.Forms.{Forms, FormsLaws};
-ghost use Rattle.ts_model.specs.Pieces.{IsOrdinary};
 ghost use Rattle.ts_actor.specs.Fetches.{IsStep, FallsAtAsk, AsksSpelled};
-ghost use Rattle.ts_actor.specs.PieceLaws.{SpellsOne, RefusesBroken, OpensUnbroken, TakesInside};
+ghost use Rattle.ts_actor.specs.PieceLaws.{SpellsOne, RefusesBroken, OpensUnbroken, TakesInside, TakesOrdered, JudgesRight, AsksBounded, AsksOwn, NamesHead, SettlesHeads, WritesOrdinary, WritesWell};
 
 use std::alloc::Global;
+use std::thread::Threads;
 use ts_base::{
     ByteList, FragKey, Head, OutOfMemory, Part, PartList, Piece, VersionList, VersionLists,
 };
@@ -53,6 +55,15 @@ pub trait Pieces: Spelling {
     /// More than the calls that a fetch still asks for.
     ghost left: { Self.Fetch → ℕ };
 
+    /// The pieces that can be written so, whose cells are in a schema with these attributes.
+    ghost writable: { AnyFrame → List AnyAttr → AnyPiece → Type 0 };
+
+    /// How many gets a fetch may still make.
+    ghost gets: { Self.Fetch → ℕ };
+
+    /// How many gets a fetch of what is wanted of a piece may make.
+    ghost most_gets: { AnyFrame → AnySchema → AnyPiece → AnyWant → ℕ };
+
     /// The parts of a piece, in the order in which they are put: that of the head is the last.
     fn parts(
         alloc: Global,
@@ -60,7 +71,7 @@ pub trait Pieces: Spelling {
         schema: &Schema,
         piece: &Piece,
     ) -> Result<PartList, OutOfMemory>
-        requires { IsOrdinary frame.now schema.now.attrs piece.now }
+        requires { writable frame.now schema.now.attrs piece.now }
         ensures is { IfOk result (λ parts. parts ≡ forms.parts frame.now schema.now piece.now) }
         ensures spelled { IfOk result (All (λ x. IsSpelledPart x.part)) };
 
@@ -75,20 +86,28 @@ pub trait Pieces: Spelling {
         ensures { DecodesOr (λ head. head) (forms.head frame.now frag object.now) result };
 
     /// Begins to fetch what is wanted of a fragment, from the object of the part with the head on.
-    fn fetch(
+    fn fetch<R: Threads + Sync>(
+        rt: &R,
         alloc: Global,
         frame: &Frame,
         schema: &Schema,
         frag: FragKey,
-        object: ByteList,
+        object: &ByteList,
         want: &Want,
     ) -> Result<Self::Fetch, ReadFault>
-        requires { IsSpelledFrag frag }
-        ensures is { DecodesOr (λ fetch. fetch) (forms.opens frame.now schema.now frag object want.now) result }
-        ensures few { IfOk result (λ fetch. left fetch < 2 ^ 128) };
+        requires frag { IsSpelledFrag frag }
+        requires sync { IsSync R.row }
+        ensures is { DecodesOr (λ fetch. fetch) (forms.opens frame.now schema.now frag object.now want.now) result }
+        ensures few_calls { IfOk result (λ fetch. left fetch < 2 ^ 128) };
 
     /// Goes on with a fetch. The first reply is `Start`, each later one is bytes or a length.
-    fn next(alloc: Global, fetch: &mut Self::Fetch, reply: Reply) -> Fetched
+    fn next<R: Threads + Sync>(
+        rt: &R,
+        alloc: Global,
+        fetch: &mut Self::Fetch,
+        reply: Reply,
+    ) -> Fetched
+        requires { IsSync R.row }
         ensures is { IsStep (forms.steps fetch.old reply) fetch.new result }
         ensures falls { FallsAtAsk (left fetch.old) (left fetch.new) result }
         ensures spelled { AsksSpelled result };
@@ -99,21 +118,46 @@ pub trait Pieces: Spelling {
     /// Each list stands in global order, its versions of one place by ascending key.
     fn merge(alloc: Global, frame: &Frame, lists: VersionLists) -> Result<VersionList, OutOfMemory>
         requires inside { All (All (LiesInside frame.now)) lists }
-        requires ascend { All (Ascends (global_order frame.now)) lists }
+        requires ascend { All (VersionsAscend (global_order frame.now)) lists }
         ensures { IfOk result (IsMergedAll (global_order frame.now) lists) };
 
     /// What is written is read again, and fetches find what was written.
     ghost laws: { FormsLaws forms Self.spelled tracks };
 
+    /// A piece that one write makes can be written.
+    ghost ordinary: { WritesOrdinary writable };
+
+    /// The parts of a piece that can be written spell it.
+    ghost writes: { WritesWell forms Self.spelled writable };
+
     /// The parts of a fragment hold one piece.
     ghost one_piece: { SpellsOne Self.spelled };
+
+    /// A head bears the name of its fragment.
+    ghost names: { NamesHead forms };
 
     /// What is refused as damaged breaks the grammar first at the offset that is told.
     ghost broken: { RefusesBroken forms Self.off };
 
+    /// No head is read of an object that is broken within it.
+    ghost settled: { SettlesHeads forms Self.off };
+
     /// An object that breaks the grammar is not read as if it were whole.
     ghost whole: { OpensUnbroken forms Self.off };
 
+    /// What a fetch refuses as damaged is broken by what it got, and what it takes is not.
+    ghost judges: { JudgesRight forms Self.off };
+
+    /// A fetch asks for parts of its own fragment alone, whatever the replies are.
+    ghost own: { AsksOwn forms };
+
+    /// A fetch makes no more gets than it may of the piece that it reads.
+    ghost bounded: { AsksBounded forms Self.spelled gets most_gets };
+
     /// Whatever the replies are, the versions that a fetch takes lie in the box that was wanted.
     ghost inside: { TakesInside forms };
+
+    /// Whatever the replies are, they lie in the domain and stand in global order, those of one place
+    /// by ascending key, so that they can be merged.
+    ghost ordered: { TakesOrdered forms };
 }

@@ -1,11 +1,14 @@
 //! Pieces that are written whole, in one object.
 ghost use Rattle.ts_plain.specs.Pieces.{IsPlain};
 ghost use Rattle.ts_actor.specs.PlainForms.{plain_forms, IsPlainBroken, NeverWaits};
-ghost use Rattle.ts_actor.specs.PlainLaws.{plain_laws, plain_one, plain_broken, plain_whole, plain_inside};
+ghost use Rattle.ts_actor.specs.PlainWrites.{IsStorable, ordinary_storable};
+ghost use Rattle.ts_actor.specs.PlainLaws.{plain_laws, plain_writes, plain_one, plain_broken, plain_whole, plain_judges, plain_own, plain_bounded, plain_inside, plain_ordered};
+ghost use Rattle.ts_actor.specs.PlainHeads.{plain_names, plain_settles};
 
 use crate::pieces::{Fetched, Pieces};
 use std::alloc::Global;
 use std::mem;
+use std::thread::Threads;
 use ts_base::{
     ByteList, FragKey, Head, OutOfMemory, Part, PartBytes, PartList, Piece, VersionList,
     VersionLists,
@@ -36,15 +39,37 @@ impl Pieces for PlainPieces {
 
     ghost left = { λ _. 0 };
 
+    ghost writable = { IsStorable };
+
+    ghost gets = { λ _. 0 };
+
+    ghost most_gets = { λ _ _ _ _. 0 };
+
     ghost laws = { plain_laws };
+
+    ghost ordinary = { ordinary_storable };
+
+    ghost writes = { plain_writes };
 
     ghost one_piece = { plain_one };
 
+    ghost names = { plain_names };
+
     ghost broken = { plain_broken };
+
+    ghost settled = { plain_settles };
 
     ghost whole = { plain_whole };
 
+    ghost judges = { plain_judges };
+
+    ghost own = { plain_own };
+
+    ghost bounded = { plain_bounded };
+
     ghost inside = { plain_inside };
+
+    ghost ordered = { plain_ordered };
 
     fn parts(
         alloc: Global,
@@ -69,19 +94,25 @@ impl Pieces for PlainPieces {
         read_head(alloc, frame, frag, object)
     }
 
-    fn fetch(
+    fn fetch<R: Threads + Sync>(
+        _rt: &R,
         alloc: Global,
         frame: &Frame,
         schema: &Schema,
         frag: FragKey,
-        object: ByteList,
+        object: &ByteList,
         want: &Want,
     ) -> Result<VersionList, ReadFault> {
         let piece = read_plain(alloc, frame, schema, frag, object.as_slice())?;
         Ok(taken(alloc, want, piece.versions.as_slice())?)
     }
 
-    fn next(alloc: Global, fetch: &mut VersionList, _reply: Reply) -> Fetched {
+    fn next<R: Threads + Sync>(
+        _rt: &R,
+        alloc: Global,
+        fetch: &mut VersionList,
+        _reply: Reply,
+    ) -> Fetched {
         Fetched::Got(mem::replace(fetch, VersionList::new(alloc)))
     }
 

@@ -1,24 +1,22 @@
 -- Lists with a slot for each place of a box: what one more version changes.
-use Rattle.std.proofs.Common.{◌≡◌, ℕ, ℤ, ◌<◌, ◌+◌, suc, zero, Bool, true, false, cond, List, [], ◌∷◌, ◌++◌, length, take, Option, Some, None, map, refl, sym, ap, ◌∙◌, arith, subst}
-use Rattle.std.specs.Prelude.{IsTrue, slice_get, slice_set}
+use Rattle.std.proofs.Common.{◌≡◌, ℕ, ℤ, ◌<◌, ◌+◌, suc, zero, Bool, true, false, cond, List, [], ◌∷◌, ◌++◌, length, take, Option, Some, None, map, refl, sym, ap, ◌∙◌, arith}
+use Rattle.std.specs.Prelude.{slice_get, slice_set}
 use Rattle.std.specs.Option.{option_map_or}
 use Rattle.std.specs.Ordering.{int_cmp}
 use Rattle.std.specs.Cmp.Lexicographic.{slice_cmp}
 use Rattle.std.specs.FinMap as finite
 use Rattle.std.proofs.lemmas.List.{length-map, map-append, map-id, take_more}
-use Rattle.std.proofs.lemmas.List.Elements.{All-from_recursion, recursion_from_All}
 use Rattle.std.proofs.lemmas.Option.{none-some, same_Some}
 use Rattle.ts_base.specs.declared.heads.Version.{Version}
 use Rattle.ts_base.specs.Keys.{key_lt}
 use Rattle.ts_base.specs.Coords.{coords_eq}
 use Rattle.ts_domain.specs.declared.boxes.SubBox.{SubBox}
 use Rattle.ts_domain.specs.declared.orders.Order.TheVariants.{Row}
-use Rattle.ts_domain.specs.Boxes.{cells_of, coords_of_box, is_in_box}
+use Rattle.ts_domain.specs.Boxes.{cells_of, coords_of_box}
 use Rattle.ts_domain.proofs.Between.{length-coords_between}
 use Rattle.ts_order.specs.Orders.{coords_in_order}
 use Rattle.ts_base.specs.declared.values.Val.{Val}
 use Rattle.ts_schema.specs.declared.schemas.Schema.{Schema}
-use Rattle.ts_actor.specs.PieceLaws.{AreInBox}
 use Rattle.ts_model.specs.declared.states.Reading.{Reading}
 use Rattle.ts_model.specs.Pieces.{Newest, newest_of, with_version}
 use Rattle.ts_model.specs.States.{cells_filled, row_or_fill}
@@ -74,13 +72,6 @@ module _ (sub : SubBox) (m : Newest) (v : Version) where
 pub tells_new : (sub : SubBox) (m : Newest) (v : Version) (place : ℕ) (slot : Option Version) → slice_get (coords_of_box sub) place ≡ Some v.coords → slice_get (slots_in sub m) place ≡ Some slot
     → option_map_or (λ w. key_lt w.key v.key) (finite.get m v.coords) true ≡ option_map_or (λ w. key_lt w.key v.key) slot true
 tells_new sub m v place slot at stands = sym (ap (λ o. option_map_or (λ w. key_lt w.key v.key) o true) (mapped_at (finite.get m) (coords_of_box sub) place v.coords slot at stands))
-
--- of versions that lie in a box the first does, and so do those behind it
-pub first_lies : (sub : SubBox) (v : Version) (vs ws : List Version) → vs ≡ v ∷ ws → AreInBox sub vs → IsTrue (is_in_box sub v.coords) × AreInBox sub ws
-first_lies sub v vs ws are inside =
-    let P : Version → Type 0 = λ w. IsTrue (is_in_box sub w.coords) in
-    let parts = recursion_from_All P (v ∷ ws) (subst (AreInBox sub) are inside) in
-    (parts.0, All-from_recursion P ws parts.1)
 
 -- there is a slot for each cell
 pub slots_length : (sub : SubBox) (m : Newest) → length (slots_in sub m) ≡ cells_of sub

@@ -3,7 +3,7 @@ use Rattle.std.proofs.Common.{◌≡◌, ℕ, ◌+◌, ◌<◌, Bool, take, List
 use Rattle.std.specs.Prelude.{filter, filter_map, option_to_list, option_map, slice_get}
 use Rattle.std.specs.List.{cons_option}
 use Rattle.std.proofs.lemmas.List.{take_more}
-use Rattle.ts_model.specs.Queries.{numbers_from}
+use Rattle.ts_model.specs.Queries.{places_from}
 use Rattle.std.proofs.lemmas.List.Elements.{filter-append, filter_map-append}
 
 module _ {X Y : Type 0} (f : X → Option Y) where
@@ -22,15 +22,15 @@ module _ {X Y : Type 0} (f : X → Option Y) where
   pub filter-filter_map-more : (p : Y → Bool) (xs : List X) (i : ℕ) (d : X) → i < length xs → filter p (filter_map f (take (i + 1) xs)) ≡ filter p (filter_map f (take i xs)) ++ filter p (option_to_list (f (get_or xs i d)))
   filter-filter_map-more p xs i d within = ap (filter p) (filter_map-more xs i d within) ∙ filter-append p (filter_map f (take i xs)) (option_to_list (f (get_or xs i d)))
 
-numbers_suc : (count first : ℕ) → numbers_from first (suc count) ≡ numbers_from first count ++ (first + count) ∷ []
+numbers_suc : (count first : ℕ) → places_from first (suc count) ≡ places_from first count ++ (first + count) ∷ []
 numbers_suc zero first = let same : first ≡ first + 0 = omega arith in ap (λ n. n ∷ []) same
 numbers_suc (suc count) first =
     let same : suc first + count ≡ first + suc count = omega arith in
-    ap (λ ns. first ∷ ns) (numbers_suc count (suc first) ∙ ap (λ n. numbers_from (suc first) count ++ n ∷ []) same)
+    ap (λ ns. first ∷ ns) (numbers_suc count (suc first) ∙ ap (λ n. places_from (suc first) count ++ n ∷ []) same)
 
 -- one number more
-pub numbers_more : (first count : ℕ) → numbers_from first (count + 1) ≡ numbers_from first count ++ (first + count) ∷ []
-numbers_more first count = let same : count + 1 ≡ suc count = omega arith in ap (numbers_from first) same ∙ numbers_suc count first
+pub numbers_more : (first count : ℕ) → places_from first (count + 1) ≡ places_from first count ++ (first + count) ∷ []
+numbers_more first count = let same : count + 1 ≡ suc count = omega arith in ap (places_from first) same ∙ numbers_suc count first
 
 -- a list that has an item at a place goes on behind it
 pub within_asked : {X Y : Type 0} (f : X → Y) (xs : List X) (i : ℕ) → (option_map f (slice_get xs i) ≡ None → ⊥) → i < length xs

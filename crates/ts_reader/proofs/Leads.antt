@@ -19,8 +19,8 @@ use Rattle.ts_model.specs.declared.states.State.{State}
 use Rattle.ts_model.specs.declared.states.State.TheVariants.{GetsDeletes, GetsHeads}
 use Rattle.ts_model.specs.Forms.{Stepped, Forms, Asks, Takes, Breaks}
 use Rattle.ts_model.specs.States.{fetch_leads, fetch_begins, fetches_one, fetching, known_schema, keys_named, gathering, opening, on_read, after_head, erasing, asks_for, reading_of}
-use Rattle.ts_reader.specs.declared.fetching.Led.{Led}
-use Rattle.ts_reader.specs.Fetching.{led_by, led_first, led_in, state_led}
+use Rattle.ts_reader.specs.declared.fetching.FetchStep.{FetchStep}
+use Rattle.ts_reader.specs.Fetching.{step_by, first_step, step_in, state_after_step}
 
 -- the rest of a list from an item on
 rest_from : {X : Type 0} (xs : List X) (i : ℕ) (x : X) → slice_get xs i ≡ Some x → drop i xs ≡ x ∷ drop (suc i) xs
@@ -30,39 +30,39 @@ rest_from (y ∷ xs) (suc i) x at = rest_from xs i x at
 
 module _ {F : Type 0} (forms : Forms F) (r : Reading) (opened : List Opened) (schemas : List Schema) (next : ℕ) (got : List Version) (on : List Version → State F) where
   -- a step of a fetch
-  pub step_leads : (frag : FragKey) (step : Stepped F) → fetch_leads r opened schemas next frag got on step ≡ state_led r opened schemas next frag got on (led_by frag step)
+  pub step_leads : (frag : FragKey) (step : Stepped F) → fetch_leads r opened schemas next frag got on step ≡ state_after_step r opened schemas next frag got on (step_by frag step)
   step_leads frag (Asks f c) = refl
   step_leads frag (Takes vs) = refl
   step_leads frag (Breaks part at) = refl
 
-  first_leads : (frag : FragKey) (begun : Result F ℕ) → fetch_begins forms r opened schemas next frag got on begun ≡ state_led r opened schemas next frag got on (led_first forms r frag begun)
+  first_leads : (frag : FragKey) (begun : Result F ℕ) → fetch_begins forms r opened schemas next frag got on begun ≡ state_after_step r opened schemas next frag got on (first_step forms r frag begun)
   first_leads frag (Ok f) = step_leads frag _
   first_leads frag (Err at) = refl
 
-  one_leads : (o : Opened) (known : Option Schema) → fetches_one forms r opened schemas next o got on known ≡ state_led r opened schemas next o.frag got on (led_in forms r o known)
+  one_leads : (o : Opened) (known : Option Schema) → fetches_one forms r opened schemas next o got on known ≡ state_after_step r opened schemas next o.frag got on (step_in forms r o known)
   one_leads o None = refl
   one_leads o (Some s) = first_leads o.frag _
 
 -- a read at a fragment goes where the beginning of its fetch leads
 pub fetching_at : {F : Type 0} (forms : Forms F) (r : Reading) (opened : List Opened) (schemas : List Schema) (next : ℕ) (got : List Version) (o : Opened) → slice_get opened next ≡ Some o
     → fetching forms r opened schemas next (drop next opened) got
-    ≡ state_led r opened schemas next o.frag got (λ vs. fetching forms r opened schemas (suc next) (drop (suc next) opened) (got ++ vs)) (led_in forms r o (known_schema r schemas o.head.schema))
+    ≡ state_after_step r opened schemas next o.frag got (λ vs. fetching forms r opened schemas (suc next) (drop (suc next) opened) (got ++ vs)) (step_in forms r o (known_schema r schemas o.head.schema))
 fetching_at forms r opened schemas next got o at =
     ap (λ rest. fetching forms r opened schemas next rest got) (rest_from opened next o at)
     ∙ one_leads forms r opened schemas next got (λ vs. fetching forms r opened schemas (suc next) (drop (suc next) opened) (got ++ vs)) o (known_schema r schemas o.head.schema)
 
 -- a read that is at a fragment goes on as the beginning of its fetch did
-pub leads_on : {F : Type 0} (forms : Forms F) (r : Reading) (opened : List Opened) (schemas : List Schema) (next : ℕ) (got : List Version) (o : Opened) (s : State F) (l : Led F) → slice_get opened next ≡ Some o
-    → s ≡ fetching forms r opened schemas next (drop next opened) got → l ≡ led_in forms r o (known_schema r schemas o.head.schema)
-    → s ≡ state_led r opened schemas next o.frag got (λ vs. fetching forms r opened schemas (suc next) (drop (suc next) opened) (got ++ vs)) l
+pub leads_on : {F : Type 0} (forms : Forms F) (r : Reading) (opened : List Opened) (schemas : List Schema) (next : ℕ) (got : List Version) (o : Opened) (s : State F) (l : FetchStep F) → slice_get opened next ≡ Some o
+    → s ≡ fetching forms r opened schemas next (drop next opened) got → l ≡ step_in forms r o (known_schema r schemas o.head.schema)
+    → s ≡ state_after_step r opened schemas next o.frag got (λ vs. fetching forms r opened schemas (suc next) (drop (suc next) opened) (got ++ vs)) l
 leads_on forms r opened schemas next got o s l at came led =
     came ∙ fetching_at forms r opened schemas next got o at
-    ∙ ap (state_led r opened schemas next o.frag got (λ vs. fetching forms r opened schemas (suc next) (drop (suc next) opened) (got ++ vs))) (sym led)
+    ∙ ap (state_after_step r opened schemas next o.frag got (λ vs. fetching forms r opened schemas (suc next) (drop (suc next) opened) (got ++ vs))) (sym led)
 
 -- a fetch that is told something goes on as its step did
-pub told_leads : {F : Type 0} (r : Reading) (opened : List Opened) (schemas : List Schema) (next : ℕ) (got : List Version) (on : List Version → State F) (forms : Forms F) (frag : FragKey) (step : Stepped F) (l : Led F)
-    → l ≡ led_by frag step → fetch_leads r opened schemas next frag got on step ≡ state_led r opened schemas next frag got on l
-told_leads r opened schemas next got on forms frag step l led = step_leads forms r opened schemas next got on frag step ∙ ap (state_led r opened schemas next frag got on) (sym led)
+pub told_leads : {F : Type 0} (r : Reading) (opened : List Opened) (schemas : List Schema) (next : ℕ) (got : List Version) (on : List Version → State F) (forms : Forms F) (frag : FragKey) (step : Stepped F) (l : FetchStep F)
+    → l ≡ step_by frag step → fetch_leads r opened schemas next frag got on step ≡ state_after_step r opened schemas next frag got on l
+told_leads r opened schemas next got on forms frag step l led = step_leads forms r opened schemas next got on frag step ∙ ap (state_after_step r opened schemas next frag got on) (sym led)
 
 -- where all heads are read the further schemas come next
 pub all_open : {F : Type 0} (forms : Forms F) (r : Reading) (opened : List Opened) (keys : List Key) (schemas : List Schema) → nat_lt (length opened) (length r.near) ≡ false → keys ≡ keys_named r opened → schemas ≡ []

@@ -16,43 +16,43 @@ use Rattle.ts_model.specs.Forms.{Stepped, Forms, Asks, Takes, Breaks}
 use Rattle.ts_model.specs.States.{want_of}
 use Rattle.ts_domain.specs.declared.boxes.SubBox.{SubBox}
 use Rattle.ts_actor.specs.PieceLaws.{AreInBox, IsFetchIn}
-use Rattle.ts_reader.specs.declared.fetching.Led.{Led}
-use Rattle.ts_reader.specs.declared.fetching.Led.TheVariants as led
+use Rattle.ts_reader.specs.declared.fetching.FetchStep.{FetchStep}
+use Rattle.ts_reader.specs.declared.fetching.FetchStep.TheVariants as fetch_step
 
 -- where a step of a fetch of a fragment leads
-abbrev pub led_by : {F : Type 0} → FragKey → Stepped F → Led F
-led_by frag (Asks f c) = led.Asks f c
-led_by frag (Takes vs) = led.Takes vs
-led_by frag (Breaks part at) = led.Ends (outcome.Refused (refusal.Damaged (name.Part frag part) at))
+abbrev pub step_by : {F : Type 0} → FragKey → Stepped F → FetchStep F
+step_by frag (Asks f c) = fetch_step.Asks f c
+step_by frag (Takes vs) = fetch_step.Takes vs
+step_by frag (Breaks part at) = fetch_step.Ends (outcome.Refused (refusal.Damaged (name.Part frag part) at))
 
 -- where the beginning of a fetch leads
-abbrev pub led_first : {F : Type 0} → Forms F → Reading → FragKey → Result F ℕ → Led F
-led_first forms r frag (Ok f) = led_by frag (forms.steps f reply.Start)
-led_first forms r frag (Err at) = led.Ends (outcome.Refused (refusal.Damaged (name.Part frag (forms.head_part r.frame)) at))
+abbrev pub first_step : {F : Type 0} → Forms F → Reading → FragKey → Result F ℕ → FetchStep F
+first_step forms r frag (Ok f) = step_by frag (forms.steps f reply.Start)
+first_step forms r frag (Err at) = fetch_step.Ends (outcome.Refused (refusal.Damaged (name.Part frag (forms.head_part r.frame)) at))
 
 -- where the beginning of a fetch leads that is in a schema, if that is known
-abbrev pub led_in : {F : Type 0} → Forms F → Reading → Opened → Option Schema → Led F
-led_in forms r o None = led.Ends outcome.OutOfMemory
-led_in forms r o (Some s) = led_first forms r o.frag (forms.opens r.frame s o.frag o.object (want_of r s.attrs))
+abbrev pub step_in : {F : Type 0} → Forms F → Reading → Opened → Option Schema → FetchStep F
+step_in forms r o None = fetch_step.Ends outcome.OutOfMemory
+step_in forms r o (Some s) = first_step forms r o.frag (forms.opens r.frame s o.frag o.object (want_of r s.attrs))
 
--- the state of a read that was led so: it waits for a call, goes on with the versions, or is over
-abbrev pub state_led : {F : Type 0} → Reading → List Opened → List Schema → ℕ → FragKey → List Version → (List Version → State F) → Led F → State F
-state_led r opened schemas next frag got on (led.Asks f c) = Fetches r opened schemas next frag got f c
-state_led r opened schemas next frag got on (led.Takes vs) = on vs
-state_led r opened schemas next frag got on (led.Ends end) = Over end
+-- the state of a read after such a step: it waits for a call, goes on with the versions, or is over
+abbrev pub state_after_step : {F : Type 0} → Reading → List Opened → List Schema → ℕ → FragKey → List Version → (List Version → State F) → FetchStep F → State F
+state_after_step r opened schemas next frag got on (fetch_step.Asks f c) = Fetches r opened schemas next frag got f c
+state_after_step r opened schemas next frag got on (fetch_step.Takes vs) = on vs
+state_after_step r opened schemas next frag got on (fetch_step.Ends end) = Over end
 
 -- a call that is asked for has a spelling
-abbrev pub AsksSpelled : {F : Type 0} → Led F → Type 0
-AsksSpelled (led.Asks f c) = IsSpelledCall c
+abbrev pub AsksSpelled : {F : Type 0} → FetchStep F → Type 0
+AsksSpelled (fetch_step.Asks f c) = IsSpelledCall c
 AsksSpelled _ = ⊤
 
 -- a fetch that asks for a call has fewer left than this
-abbrev pub HasFewer : {F : Type 0} → (F → ℕ) → ℕ → Led F → Type 0
-HasFewer left most (led.Asks f c) = left f < most
+abbrev pub HasFewer : {F : Type 0} → (F → ℕ) → ℕ → FetchStep F → Type 0
+HasFewer left most (fetch_step.Asks f c) = left f < most
 HasFewer left most _ = ⊤
 
 -- what the fetch asks for or takes lies in the box
-abbrev pub LeadsInside : {F : Type 0} → Forms F → SubBox → Led F → Type 0
-LeadsInside forms sub (led.Asks f c) = IsFetchIn forms sub f
-LeadsInside forms sub (led.Takes vs) = AreInBox sub vs
-LeadsInside forms sub (led.Ends end) = ⊤
+abbrev pub LeadsInside : {F : Type 0} → Forms F → SubBox → FetchStep F → Type 0
+LeadsInside forms sub (fetch_step.Asks f c) = IsFetchIn forms sub f
+LeadsInside forms sub (fetch_step.Takes vs) = AreInBox sub vs
+LeadsInside forms sub (fetch_step.Ends end) = ⊤

@@ -59,7 +59,7 @@ pub record IsReading (r : Reading) : Type 0 where
   pub inside : Covers (whole_domain (r.frame).domain) (r.ready).sub
   pub valid : IsBox (r.ready).sub
   -- a read of a dense array has not too many cells
-  pub few : (r.frame).dense ≡ true → cells_of (r.ready).sub ≤ most_cells
+  pub few_cells : (r.frame).dense ≡ true → cells_of (r.ready).sub ≤ most_cells
   pub near : All IsSpelledFrag r.near
   pub deletes : All IsSpelledDelete r.deletes
 

@@ -7,6 +7,7 @@ use crate::ends::{damaged, ended};
 use crate::fetching::{Gathered, fetch_from};
 use crate::opening::get_all;
 use std::alloc::Global;
+use std::thread::Threads;
 use ts_actor::Pieces;
 use ts_base::{ByteList, CommitKind, FragKey, Key, Name, OutOfMemory, VersionList};
 use ts_cond::Cond;
@@ -15,7 +16,8 @@ use ts_store::Reply;
 use ts_wire::ReadFault;
 
 /// A read gets the next delete, or begins to fetch.
-pub(crate) fn erase_next<P: Pieces>(
+pub(crate) fn erase_next<P: Pieces, R: Threads + Sync>(
+    rt: &R,
     alloc: Global,
     gathered: Gathered,
 ) -> Result<State<P::Fetch>, OutOfMemory>
@@ -38,11 +40,12 @@ pub(crate) fn erase_next<P: Pieces>(
             schemas,
         });
     }
-    fetch_from::<P>(alloc, gathered, 0, VersionList::new(alloc))
+    fetch_from::<P, R>(rt, alloc, gathered, 0, VersionList::new(alloc))
 }
 
 /// Where the reply to the get of a delete leads.
-pub(crate) fn after_delete_reply<P: Pieces>(
+pub(crate) fn after_delete_reply<P: Pieces, R: Threads + Sync>(
+    rt: &R,
     alloc: Global,
     gathered: Gathered,
     reply: Reply,
@@ -58,7 +61,7 @@ pub(crate) fn after_delete_reply<P: Pieces>(
     }
     let frag = *gathered.reading.deletes.at(place);
     match reply {
-        Reply::Bytes(bytes) => after_delete::<P>(alloc, gathered, frag, bytes),
+        Reply::Bytes(bytes) => after_delete::<P, R>(rt, alloc, gathered, frag, bytes),
         other => {
             let name = Name::Commit(frag, CommitKind::Del);
             Ok(ended::<P>(&get_all(name), &other))
@@ -67,7 +70,8 @@ pub(crate) fn after_delete_reply<P: Pieces>(
 }
 
 // Where the object of a delete leads.
-fn after_delete<P: Pieces>(
+fn after_delete<P: Pieces, R: Threads + Sync>(
+    rt: &R,
     alloc: Global,
     gathered: Gathered,
     frag: FragKey,
@@ -80,7 +84,7 @@ fn after_delete<P: Pieces>(
     ensures fewer { IfOk result (λ next. reads_left P.left next < 2 ^ 192 + (length gathered.reading.deletes - length gathered.reading.erased)) }
 {
     match Cond::decode(alloc, bytes.as_slice()) {
-        Ok(cond) => erase_next::<P>(alloc, with_erased(gathered, frag, cond)?),
+        Ok(cond) => erase_next::<P, R>(rt, alloc, with_erased(gathered, frag, cond)?),
         Err(ReadFault::Damaged(fault)) => {
             Ok(damaged::<P>(Name::Commit(frag, CommitKind::Del), fault.at))
         }

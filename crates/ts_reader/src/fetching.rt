@@ -6,14 +6,15 @@ ghost use Rattle.ts_model.specs.States.{after_fetched, fetch_leads, fetching, kn
 ghost use Rattle.ts_domain.specs.declared.boxes.SubBox.{SubBox as AnyBox};
 ghost use Rattle.ts_actor.specs.PieceLaws.{AreInBox, IsFetchIn};
 ghost use Rattle.ts_reader.specs.Reading.{AreRising, IsFetching, IsKnown, IsReadState, fetches_left, reads_left};
-ghost use Rattle.ts_reader.specs.Fetching.{AsksSpelled, HasFewer, LeadsInside, led_by, led_in};
+ghost use Rattle.ts_reader.specs.Fetching.{AsksSpelled, HasFewer, LeadsInside, step_by, step_in};
 
 use crate::answers::answer_of;
 use crate::ends::ended;
 use crate::known::{known_schema, want_of};
 use std::alloc::Global;
+use std::thread::Threads;
 use ts_actor::{Fetched, Pieces};
-use ts_base::{Duplicate, FragKey, Name, OutOfMemory, VersionList};
+use ts_base::{FragKey, Name, OutOfMemory, VersionList};
 use ts_model::{Opened, OpenedList, Outcome, Reading, Refusal, State};
 use ts_schema::SchemaList;
 use ts_store::{Call, Reply};
@@ -32,7 +33,7 @@ pub(crate) struct Gathered {
 
 /// How far a fetch has come, as its state has it.
 #[derive(Drop)]
-pub(crate) struct Way<F> {
+pub(crate) struct OngoingFetch<F> {
     /// The place of the fragment.
     pub next: u64,
     /// The fragment.
@@ -45,7 +46,7 @@ pub(crate) struct Way<F> {
 
 /// Where a step of a fetch leads.
 #[derive(Drop)]
-pub(crate) enum Led<F> {
+pub(crate) enum FetchStep<F> {
     /// It asks for this call, and waits for its reply.
     Asks(F, Call),
     /// These are all versions that are wanted of the fragment.
@@ -56,7 +57,8 @@ pub(crate) enum Led<F> {
 
 /// A read fetches the fragments from a place on, after the versions before; after the last it
 /// answers.
-pub(crate) fn fetch_from<P: Pieces>(
+pub(crate) fn fetch_from<P: Pieces, R: Threads + Sync>(
+    rt: &R,
     alloc: Global,
     gathered: Gathered,
     next: u64,
@@ -75,18 +77,18 @@ pub(crate) fn fetch_from<P: Pieces>(
     for place in next..count {
         let opened = gathered.opened.at(place);
         let frag = opened.frag;
-        match start::<P>(alloc, &gathered.reading, &gathered.schemas, opened)? {
-            Led::Asks(fetch, asked) => {
-                let way = Way {
+        match start::<P, R>(rt, alloc, &gathered.reading, &gathered.schemas, opened)? {
+            FetchStep::Asks(fetch, asked) => {
+                let ongoing = OngoingFetch {
                     next: place,
                     frag,
                     got,
                     fetch,
                 };
-                return Ok(fetches(gathered, way, asked));
+                return Ok(fetches(gathered, ongoing, asked));
             }
-            Led::Takes(versions) => got = joined(got, versions)?,
-            Led::Ends(end) => return Ok(State::Over(end)),
+            FetchStep::Takes(versions) => got = joined(got, versions)?,
+            FetchStep::Ends(end) => return Ok(State::Over(end)),
         }
     }
     let answer = answer_of(alloc, &gathered.reading, &gathered.schemas, got)?;
@@ -94,20 +96,20 @@ pub(crate) fn fetch_from<P: Pieces>(
 }
 
 // A read waits for the reply to a call of a fetch.
-fn fetches<F>(gathered: Gathered, way: Way<F>, asked: Call) -> State<F>
-    ensures { result ≡ State.Fetches gathered.reading gathered.opened gathered.schemas way.next way.frag way.got way.fetch asked }
+fn fetches<F>(gathered: Gathered, ongoing: OngoingFetch<F>, asked: Call) -> State<F>
+    ensures { result ≡ State.Fetches gathered.reading gathered.opened gathered.schemas ongoing.next ongoing.frag ongoing.got ongoing.fetch asked }
 {
     let Gathered {
         reading,
         opened,
         schemas,
     } = gathered;
-    let Way {
+    let OngoingFetch {
         next,
         frag,
         got,
         fetch,
-    } = way;
+    } = ongoing;
     State::Fetches {
         reading,
         opened,
@@ -121,54 +123,63 @@ fn fetches<F>(gathered: Gathered, way: Way<F>, asked: Call) -> State<F>
 }
 
 // Begins to fetch a fragment.
-fn start<P: Pieces>(
+fn start<P: Pieces, R: Threads + Sync>(
+    rt: &R,
     alloc: Global,
     reading: &Reading,
     schemas: &SchemaList,
     opened: &Opened,
-) -> Result<Led<P::Fetch>, OutOfMemory>
+) -> Result<FetchStep<P::Fetch>, OutOfMemory>
     requires frag { IsSpelledFrag opened.now.frag }
     requires rise { AreRising schemas.now }
-    ensures is { IfOk result (λ led. led ≡ led_in P.forms reading.now opened.now (known_schema reading.now schemas.now opened.now.head.schema)) }
+    ensures is { IfOk result (λ step. step ≡ step_in P.forms reading.now opened.now (known_schema reading.now schemas.now opened.now.head.schema)) }
     ensures inside { IfOk result (LeadsInside P.forms reading.now.ready.sub) }
-    ensures few { IfOk result (HasFewer P.left (2 ^ 128)) }
+    ensures few_calls { IfOk result (HasFewer P.left (2 ^ 128)) }
     ensures spelled { IfOk result AsksSpelled }
 {
     let Some(schema) = known_schema(reading, schemas, opened.head.schema) else {
-        return Ok(Led::Ends(Outcome::OutOfMemory));
+        return Ok(FetchStep::Ends(Outcome::OutOfMemory));
     };
     let want = want_of(alloc, reading, &schema.attrs)?;
-    let object = opened.object.copy(alloc)?;
-    match P::fetch(alloc, &reading.frame, schema, opened.frag, object, &want) {
-        Ok(fetch) => go_on::<P>(alloc, opened.frag, fetch, Reply::Start),
+    match P::fetch(
+        rt,
+        alloc,
+        &reading.frame,
+        schema,
+        opened.frag,
+        &opened.object,
+        &want,
+    ) {
+        Ok(fetch) => go_on::<P, R>(rt, alloc, opened.frag, fetch, Reply::Start),
         Err(ReadFault::Damaged(fault)) => {
             let part = P::head_part(&reading.frame);
             let name = Name::Part(opened.frag, part);
-            Ok(Led::Ends(Outcome::Refused(Refusal::Damaged { name, at: fault.at })))
+            Ok(FetchStep::Ends(Outcome::Refused(Refusal::Damaged { name, at: fault.at })))
         }
         Err(ReadFault::OutOfMemory) => Err(OutOfMemory),
     }
 }
 
 // Goes on with the fetch of a fragment.
-fn go_on<P: Pieces>(
+fn go_on<P: Pieces, R: Threads + Sync>(
+    rt: &R,
     alloc: Global,
     frag: FragKey,
     fetch: P::Fetch,
     reply: Reply,
-) -> Result<Led<P::Fetch>, OutOfMemory>
-    ensures is { IfOk result (λ led. led ≡ led_by frag (P.forms.steps fetch reply)) }
+) -> Result<FetchStep<P::Fetch>, OutOfMemory>
+    ensures is { IfOk result (λ step. step ≡ step_by frag (P.forms.steps fetch reply)) }
     ensures inside { (sub : AnyBox) → IsFetchIn P.forms sub fetch → IfOk result (LeadsInside P.forms sub) }
     ensures fewer { IfOk result (HasFewer P.left (P.left fetch)) }
     ensures spelled { IfOk result AsksSpelled }
 {
     let mut fetch = fetch;
-    match P::next(alloc, &mut fetch, reply) {
-        Fetched::Ask(call) => Ok(Led::Asks(fetch, call)),
-        Fetched::Got(versions) => Ok(Led::Takes(versions)),
+    match P::next(rt, alloc, &mut fetch, reply) {
+        Fetched::Ask(call) => Ok(FetchStep::Asks(fetch, call)),
+        Fetched::Got(versions) => Ok(FetchStep::Takes(versions)),
         Fetched::Damaged { part, at } => {
             let name = Name::Part(frag, part);
-            Ok(Led::Ends(Outcome::Refused(Refusal::Damaged { name, at })))
+            Ok(FetchStep::Ends(Outcome::Refused(Refusal::Damaged { name, at })))
         }
         Fetched::OutOfMemory => Err(OutOfMemory),
     }
@@ -184,55 +195,75 @@ fn joined(got: VersionList, more: VersionList) -> Result<VersionList, OutOfMemor
 }
 
 /// Where the reply to a fetch's call leads.
-pub(crate) fn after_fetched<P: Pieces>(
+pub(crate) fn after_fetched<P: Pieces, R: Threads + Sync>(
+    rt: &R,
     alloc: Global,
     gathered: Gathered,
-    way: Way<P::Fetch>,
+    ongoing: OngoingFetch<P::Fetch>,
     asked: Call,
     reply: Reply,
 ) -> Result<State<P::Fetch>, OutOfMemory>
-    requires { IsFetching P.forms gathered.reading gathered.opened gathered.schemas way.next way.got way.fetch }
-    ensures is { IfOk result (λ next. next ≡ after_fetched P.forms gathered.reading gathered.opened gathered.schemas way.next way.frag way.got way.fetch asked reply) }
+    requires { IsFetching P.forms gathered.reading gathered.opened gathered.schemas ongoing.next ongoing.got ongoing.fetch }
+    ensures is { IfOk result (λ next. next ≡ after_fetched P.forms gathered.reading gathered.opened gathered.schemas ongoing.next ongoing.frag ongoing.got ongoing.fetch asked reply) }
     ensures may { IfOk result (IsReadState P.forms) }
-    ensures fewer { IfOk result (λ next. reads_left P.left next < fetches_left (length gathered.opened - suc way.next) + suc (P.left way.fetch)) }
+    ensures fewer { IfOk result (λ next. reads_left P.left next < fetches_left (length gathered.opened - suc ongoing.next) + suc (P.left ongoing.fetch)) }
 {
     match reply {
-        Reply::Bytes(bytes) => after_told::<P>(alloc, gathered, way, Reply::Bytes(bytes)),
-        Reply::Length(count) => after_told::<P>(alloc, gathered, way, Reply::Length(count)),
+        Reply::Bytes(bytes) => after_told::<P, R>(
+            rt,
+            alloc,
+            gathered,
+            ongoing,
+            Reply::Bytes(bytes),
+        ),
+        Reply::Length(count) => after_told::<P, R>(
+            rt,
+            alloc,
+            gathered,
+            ongoing,
+            Reply::Length(count),
+        ),
         other => Ok(ended::<P>(&asked, &other)),
     }
 }
 
 // Where bytes or a length lead a fetch.
-fn after_told<P: Pieces>(
+fn after_told<P: Pieces, R: Threads + Sync>(
+    rt: &R,
     alloc: Global,
     gathered: Gathered,
-    way: Way<P::Fetch>,
+    ongoing: OngoingFetch<P::Fetch>,
     reply: Reply,
 ) -> Result<State<P::Fetch>, OutOfMemory>
-    requires { IsFetching P.forms gathered.reading gathered.opened gathered.schemas way.next way.got way.fetch }
-    ensures is { IfOk result (λ next. next ≡ fetch_leads gathered.reading gathered.opened gathered.schemas way.next way.frag way.got (λ vs. fetching P.forms gathered.reading gathered.opened gathered.schemas (suc way.next) (drop (suc way.next) gathered.opened) (way.got ++ vs)) (P.forms.steps way.fetch reply)) }
+    requires { IsFetching P.forms gathered.reading gathered.opened gathered.schemas ongoing.next ongoing.got ongoing.fetch }
+    ensures is { IfOk result (λ next. next ≡ fetch_leads gathered.reading gathered.opened gathered.schemas ongoing.next ongoing.frag ongoing.got (λ vs. fetching P.forms gathered.reading gathered.opened gathered.schemas (suc ongoing.next) (drop (suc ongoing.next) gathered.opened) (ongoing.got ++ vs)) (P.forms.steps ongoing.fetch reply)) }
     ensures may { IfOk result (IsReadState P.forms) }
-    ensures fewer { IfOk result (λ next. reads_left P.left next < fetches_left (length gathered.opened - suc way.next) + suc (P.left way.fetch)) }
+    ensures fewer { IfOk result (λ next. reads_left P.left next < fetches_left (length gathered.opened - suc ongoing.next) + suc (P.left ongoing.fetch)) }
 {
-    let Way {
+    let OngoingFetch {
         next,
         frag,
         got,
         fetch,
-    } = way;
+    } = ongoing;
     let _count = gathered.opened.len();
-    match go_on::<P>(alloc, frag, fetch, reply)? {
-        Led::Asks(fetch, asked) => {
-            let way = Way {
+    match go_on::<P, R>(rt, alloc, frag, fetch, reply)? {
+        FetchStep::Asks(fetch, asked) => {
+            let ongoing = OngoingFetch {
                 next,
                 frag,
                 got,
                 fetch,
             };
-            Ok(fetches(gathered, way, asked))
+            Ok(fetches(gathered, ongoing, asked))
         }
-        Led::Takes(versions) => fetch_from::<P>(alloc, gathered, next + 1, joined(got, versions)?),
-        Led::Ends(end) => Ok(State::Over(end)),
+        FetchStep::Takes(versions) => fetch_from::<P, R>(
+            rt,
+            alloc,
+            gathered,
+            next + 1,
+            joined(got, versions)?,
+        ),
+        FetchStep::Ends(end) => Ok(State::Over(end)),
     }
 }

@@ -3,7 +3,7 @@ ghost use Rattle.std.specs.Prelude.{◌≡◌, ◌<◌, Some, None, length, find
 ghost use Rattle.std.specs.Option.{option_copied};
 ghost use Rattle.ts_base.specs.Keys.{key_eq};
 ghost use Rattle.ts_schema.specs.declared.schemas.Schema.{Schema as AnySchema};
-ghost use Rattle.ts_model.specs.Queries.{numbers_from};
+ghost use Rattle.ts_model.specs.Queries.{places_from};
 ghost use Rattle.ts_model.specs.States.{known_schema, want_of};
 ghost use Rattle.ts_reader.specs.Reading.{AreRising};
 
@@ -68,7 +68,7 @@ pub(crate) fn want_of(
 // The first places of a list, from 0 on. More than 2^32 of them have no memory.
 #[tactic(auto, using(crate::proofs::Collected::numbers_more))]
 fn first_places(alloc: Global, count: u64) -> Result<IndexList, OutOfMemory>
-    ensures { IfOk result (λ places. places ≡ numbers_from 0 count) }
+    ensures { IfOk result (λ places. places ≡ places_from 0 count) }
 {
     let Ok(count) = u32::try_from(count) else {
         return Err(OutOfMemory);

@@ -15,6 +15,7 @@ use crate::erasing::erase_next;
 use crate::fetching::Gathered;
 use crate::newest::keys_named;
 use std::alloc::Global;
+use std::thread::Threads;
 use ts_actor::Pieces;
 use ts_base::{ByteList, FragKey, Key, KeyList, Name, OutOfMemory};
 use ts_cond::Query;
@@ -56,7 +57,8 @@ pub(crate) fn after_there<P: Pieces>(
 }
 
 /// Where the reply to the get of the frame leads: a read opens its first fragment, or is refused.
-pub(crate) fn after_frame<P: Pieces>(
+pub(crate) fn after_frame<P: Pieces, R: Threads + Sync>(
+    rt: &R,
     alloc: Global,
     job: &Job,
     listed: Listed,
@@ -72,7 +74,7 @@ pub(crate) fn after_frame<P: Pieces>(
 {
     match reply {
         Reply::Bytes(bytes) => match Frame::decode(bytes.as_slice()) {
-            Ok(frame) => begin_reading::<P>(alloc, job, listed, frame, there),
+            Ok(frame) => begin_reading::<P, R>(rt, alloc, job, listed, frame, there),
             Err(fault) => Ok(damaged::<P>(Name::Domain, fault.at)),
         },
         other => Ok(ended::<P>(&get_all(Name::Domain), &other)),
@@ -80,7 +82,8 @@ pub(crate) fn after_frame<P: Pieces>(
 }
 
 // A read that has the schema that holds and the frame opens its first fragment, or is refused.
-fn begin_reading<P: Pieces>(
+fn begin_reading<P: Pieces, R: Threads + Sync>(
+    rt: &R,
     alloc: Global,
     job: &Job,
     listed: Listed,
@@ -97,14 +100,15 @@ fn begin_reading<P: Pieces>(
 {
     match &job.command {
         Command::Read { from, to, query } => {
-            ask_for::<P>(alloc, *from, *to, query, listed, frame, there)
+            ask_for::<P, R>(rt, alloc, *from, *to, query, listed, frame, there)
         }
         _ => unreachable!(),
     }
 }
 
 // A read opens its first fragment, or is refused for its query.
-fn ask_for<P: Pieces>(
+fn ask_for<P: Pieces, R: Threads + Sync>(
+    rt: &R,
     alloc: Global,
     from: u64,
     to: u64,
@@ -133,7 +137,7 @@ fn ask_for<P: Pieces>(
                 deletes: listed.deletes,
                 erased: ErasureList::new(alloc),
             };
-            open_next::<P>(alloc, reading, OpenedList::new(alloc))
+            open_next::<P, R>(rt, alloc, reading, OpenedList::new(alloc))
         }
         Err(QueryFault::Refused(refusal)) => Ok(State::Over(Outcome::Refused(refusal))),
         Err(QueryFault::OutOfMemory) => Err(OutOfMemory),
@@ -141,7 +145,8 @@ fn ask_for<P: Pieces>(
 }
 
 // A read opens the next fragment, or goes on once all are open.
-fn open_next<P: Pieces>(
+fn open_next<P: Pieces, R: Threads + Sync>(
+    rt: &R,
     alloc: Global,
     reading: Reading,
     opened: OpenedList,
@@ -159,7 +164,8 @@ fn open_next<P: Pieces>(
     }
     let keys = keys_named(alloc, reading.there.key, opened.as_slice())?;
     let schemas = SchemaList::new(alloc);
-    gather_next::<P>(
+    gather_next::<P, R>(
+        rt,
         alloc,
         Gathered {
             reading,
@@ -171,7 +177,8 @@ fn open_next<P: Pieces>(
 }
 
 /// Where the reply to the get of the part with the head leads.
-pub(crate) fn after_head_reply<P: Pieces>(
+pub(crate) fn after_head_reply<P: Pieces, R: Threads + Sync>(
+    rt: &R,
     alloc: Global,
     reading: Reading,
     opened: OpenedList,
@@ -189,7 +196,7 @@ pub(crate) fn after_head_reply<P: Pieces>(
     }
     let frag = *reading.near.at(place);
     match reply {
-        Reply::Bytes(bytes) => after_head::<P>(alloc, reading, opened, frag, bytes),
+        Reply::Bytes(bytes) => after_head::<P, R>(rt, alloc, reading, opened, frag, bytes),
         other => {
             let part = P::head_part(&reading.frame);
             Ok(ended::<P>(&get_all(Name::Part(frag, part)), &other))
@@ -198,7 +205,8 @@ pub(crate) fn after_head_reply<P: Pieces>(
 }
 
 // Where the object of the part with the head leads.
-fn after_head<P: Pieces>(
+fn after_head<P: Pieces, R: Threads + Sync>(
+    rt: &R,
     alloc: Global,
     reading: Reading,
     opened: OpenedList,
@@ -221,7 +229,7 @@ fn after_head<P: Pieces>(
                 head,
                 object: bytes,
             })?;
-            open_next::<P>(alloc, reading, opened)
+            open_next::<P, R>(rt, alloc, reading, opened)
         }
         Err(ReadFault::Damaged(fault)) => {
             let part = P::head_part(&reading.frame);
@@ -232,7 +240,8 @@ fn after_head<P: Pieces>(
 }
 
 // A read gets the next further schema, or goes on to the deletes.
-fn gather_next<P: Pieces>(
+fn gather_next<P: Pieces, R: Threads + Sync>(
+    rt: &R,
     alloc: Global,
     gathered: Gathered,
     keys: KeyList,
@@ -259,11 +268,12 @@ fn gather_next<P: Pieces>(
             schemas,
         });
     }
-    erase_next::<P>(alloc, gathered)
+    erase_next::<P, R>(rt, alloc, gathered)
 }
 
 /// Where the reply to the get of a further schema leads.
-pub(crate) fn after_further<P: Pieces>(
+pub(crate) fn after_further<P: Pieces, R: Threads + Sync>(
+    rt: &R,
     alloc: Global,
     gathered: Gathered,
     keys: KeyList,
@@ -283,7 +293,7 @@ pub(crate) fn after_further<P: Pieces>(
     let key = *keys.at(place);
     match reply {
         Reply::Bytes(bytes) => match Schema::decode(alloc, key, bytes.as_slice()) {
-            Ok(schema) => gather_next::<P>(alloc, with_schema(gathered, schema)?, keys),
+            Ok(schema) => gather_next::<P, R>(rt, alloc, with_schema(gathered, schema)?, keys),
             Err(ReadFault::Damaged(fault)) => Ok(damaged::<P>(Name::Schema(key), fault.at)),
             Err(ReadFault::OutOfMemory) => Err(OutOfMemory),
         },

@@ -85,7 +85,7 @@ fn sight_of(alloc: Global, erased: &ErasureList, attrs: &AttrList) -> Result<Sig
 // The fields of rows of these attributes. More than 2^32 of them have no memory.
 fn bound_fields(alloc: Global, attrs: &AttrList) -> Result<CondFieldList, OutOfMemory>
     ensures is { IfOk result (λ fields. fields ≡ attr_fields attrs.now) }
-    ensures few { IfOk result (λ fields. length fields < 2 ^ 32) }
+    ensures few_fields { IfOk result (λ fields. length fields < 2 ^ 32) }
 {
     let fields = attr_fields(alloc, attrs)?;
     let Ok(_) = u32::try_from(fields.len()) else {

@@ -23,7 +23,7 @@ pub(crate) fn slots_of(
     got: VersionList,
 ) -> Result<SlotList, OutOfMemory>
     requires valid { IsBox sub.now }
-    requires few { cells_of sub.now ≤ most_cells }
+    requires few_cells { cells_of sub.now ≤ most_cells }
     requires inside { AreInBox sub.now got }
     ensures { IfOk result (λ slots. slots ≡ slots_in sub.now (newest_of got)) }
 {
@@ -37,7 +37,7 @@ pub(crate) fn slots_of(
 // No version at each place.
 fn empty_slots(alloc: Global, sub: &SubBox) -> Result<SlotList, OutOfMemory>
     requires valid { IsBox sub.now }
-    requires few { cells_of sub.now ≤ most_cells }
+    requires few_cells { cells_of sub.now ≤ most_cells }
     ensures { IfOk result (λ slots. slots ≡ map (λ c. None) (coords_of_box sub.now)) }
 {
     let mut slots = SlotList::new(alloc);
@@ -49,7 +49,7 @@ fn empty_slots(alloc: Global, sub: &SubBox) -> Result<SlotList, OutOfMemory>
 
 // One version more: it takes the place of an older one.
 fn put(slots: &mut SlotList, sub: &SubBox, version: Version)
-    requires few { cells_of sub.now ≤ most_cells }
+    requires few_cells { cells_of sub.now ≤ most_cells }
     requires inside { IsTrue (is_in_box sub.now version.coords) }
     requires all { length slots.old ≡ cells_of sub.now }
     ensures { (newest : Newest) → slots.old ≡ slots_in sub.now newest → slots.new ≡ slots_in sub.now (with_version newest version) }

@@ -1,17 +1,19 @@
 //! How a read goes: the call that it makes next, and where the reply leads it.
 ghost use Rattle.std.specs.Prelude.{◌≡◌, ◌≢◌, ◌<◌, None, option_map, slice_get, length, All, IfOk, IfSome};
 ghost use Rattle.ts_base.specs.Names.{IsSpelledFrag};
+ghost use Rattle.std.specs.Thread.{IsSync};
 ghost use Rattle.ts_store.specs.Calls.{IsSpelledCall, IsSpelledReply};
 ghost use Rattle.ts_model.specs.Jobs.{looked_at};
 ghost use Rattle.ts_model.specs.States.{asks, get_delete, get_head, get_schema, goes};
 ghost use Rattle.ts_reader.specs.Reading.{IsRead, IsReadJob, IsReadState, IsSpelledDelete, MayRead, reads_left};
 
 use crate::erasing::after_delete_reply;
-use crate::fetching::{Gathered, Way, after_fetched};
+use crate::fetching::{Gathered, OngoingFetch, after_fetched};
 use crate::listing::{after_commits, after_schemas};
 use crate::opening::{after_frame, after_further, after_head_reply, after_there, get_all};
 use std::alloc::Global;
 use std::marker::PhantomData;
+use std::thread::Threads;
 use ts_actor::{Automaton, Pieces};
 use ts_base::{CommitKind, Duplicate, KeyList, Name, OutOfMemory, Prefix};
 use ts_model::{Command, Job, OpenedList, Reading, State};
@@ -86,7 +88,8 @@ impl<P: Pieces> Automaton for Reads<P> {
         }
     }
 
-    fn go(
+    fn go<R: Threads + Sync>(
+        rt: &R,
         alloc: Global,
         job: &Job,
         state: State<P::Fetch>,
@@ -95,6 +98,7 @@ impl<P: Pieces> Automaton for Reads<P> {
         requires job { IsReadJob job.now }
         requires state { IsReadState P.forms state }
         requires reply { IsSpelledReply reply }
+        requires sync { IsSync R.row }
         ensures is { IfOk result (λ next. next ≡ goes P.forms job.now state reply) }
         ensures may { IfOk result (IsReadState P.forms) }
         ensures fewer { IfOk result (λ next. asks P.forms job.now state ≢ None → reads_left P.left next < reads_left P.left state) }
@@ -106,10 +110,10 @@ impl<P: Pieces> Automaton for Reads<P> {
             }
             State::GetsSchema { listed, there } => after_there::<P>(alloc, listed, there, reply),
             State::GetsFrame { listed, there } => {
-                after_frame::<P>(alloc, job, listed, there, reply)
+                after_frame::<P, R>(rt, alloc, job, listed, there, reply)
             }
             State::GetsHeads { reading, opened } => {
-                after_head_reply::<P>(alloc, reading, opened, reply)
+                after_head_reply::<P, R>(rt, alloc, reading, opened, reply)
             }
             State::GetsSchemas {
                 reading,
@@ -122,7 +126,7 @@ impl<P: Pieces> Automaton for Reads<P> {
                     opened,
                     schemas,
                 };
-                after_further::<P>(alloc, gathered, keys, reply)
+                after_further::<P, R>(rt, alloc, gathered, keys, reply)
             }
             State::GetsDeletes {
                 reading,
@@ -134,7 +138,7 @@ impl<P: Pieces> Automaton for Reads<P> {
                     opened,
                     schemas,
                 };
-                after_delete_reply::<P>(alloc, gathered, reply)
+                after_delete_reply::<P, R>(rt, alloc, gathered, reply)
             }
             State::Fetches {
                 reading,
@@ -151,13 +155,13 @@ impl<P: Pieces> Automaton for Reads<P> {
                     opened,
                     schemas,
                 };
-                let way = Way {
+                let ongoing = OngoingFetch {
                     next,
                     frag,
                     got,
                     fetch,
                 };
-                after_fetched::<P>(alloc, gathered, way, asked, reply)
+                after_fetched::<P, R>(rt, alloc, gathered, ongoing, asked, reply)
             }
             State::Over(end) => Ok(State::Over(end)),
             _ => unreachable!(),

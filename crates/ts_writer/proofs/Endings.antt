@@ -1,5 +1,5 @@
 -- Where replies lead that do not let a job go on.
-use Rattle.std.proofs.Common.{◌≡◌, ◌≢◌, ◌<◌, inl, inr, None, option_map, length, Result, Ok, Err, IfOk, ℕ, suc, ◌-◌, ◌^◌, List, Some, slice_get, refl, sym, ap, ◌∙◌}
+use Rattle.std.proofs.Common.{◌≡◌, ◌≢◌, ◌<◌, inl, inr, None, option_map, length, ℕ, suc, ◌-◌, ◌^◌, List, Some, slice_get, refl, sym, ap, ◌∙◌}
 use Rattle.std.proofs.lemmas.Option.{slice_get_cases}
 use Rattle.ts_base.specs.declared.keys.Key.{Key}
 use Rattle.ts_model.specs.declared.states.Listed.{Listed}
@@ -11,7 +11,7 @@ use Rattle.ts_store.specs.declared.call.Reply.TheVariants as reply
 use Rattle.ts_model.specs.declared.commands.Job.{Job}
 use Rattle.ts_model.specs.declared.states.State.{State}
 use Rattle.ts_model.specs.declared.states.State.TheVariants.{PutsFrame, ComparesFrame, ListsDeclared, Puts, ListsCommits, ListsSchemas, GetsSchema, GetsFrame, GetsHeads, GetsSchemas, GetsDeletes, Fetches, Over}
-use Rattle.ts_model.specs.States.{asks, on_made, on_bytes, on_names, ended, with_item, after_frame, frame_put, made_by, goes, get_frame, get_schema, put_of, putting}
+use Rattle.ts_model.specs.States.{asks, on_made, on_bytes, ended, with_item, after_frame, frame_put, made_by, goes, get_frame, get_schema, put_of, putting}
 use Rattle.ts_model.specs.declared.states.NewObject.{NewObject}
 use Rattle.ts_model.specs.declared.answers.Outcome.{Outcome}
 use Rattle.ts_model.specs.Forms.{Forms}
@@ -48,19 +48,6 @@ bytes_other c on reply.Absent other = refl
 bytes_other c on (reply.Length n) other = refl
 bytes_other c on reply.Failed other = refl
 bytes_other c on reply.NoMemory other = refl
-
--- a listing that has no names ends the job
-pub names_other : {F : Type 0} (c : Call) (on : List Name → State F) (r : Reply) → ((names : List Name) → r ≡ reply.Names names → ⊥) → on_names c on r ≡ ended c r
-names_other c on reply.Start other = refl
-names_other c on reply.Made other = refl
-names_other c on reply.Taken other = refl
-names_other c on reply.Removed other = refl
-names_other c on (reply.Names names) other = absurd (other names refl)
-names_other c on (reply.Bytes bytes) other = refl
-names_other c on reply.Absent other = refl
-names_other c on (reply.Length n) other = refl
-names_other c on reply.Failed other = refl
-names_other c on reply.NoMemory other = refl
 
 -- a job that is over makes no call
 pub none_left : {F : Type 0} (s : State F) → IsOver s → calls_left s ≡ 0
@@ -168,11 +155,6 @@ schema_other there on s r other e = e 0 (2 ^ 64 - 1) ∙ sym (bytes_other (get_s
 -- the get of the frame that has no bytes ends an evolve and a write
 pub frame_absent : {F : Type 0} (forms : Forms F) (job : Job) (listed : Listed) (there : Schema) (s : State F) (r : Reply) → ((bytes : List ℕ) → r ≡ reply.Bytes bytes → ⊥) → ((from len : ℕ) → s ≡ ended (call.Get name.Domain from len) r) → s ≡ goes forms job (GetsFrame listed there) r
 frame_absent forms job listed there s r other e = e 0 (2 ^ 64 - 1) ∙ sym (bytes_other get_frame _ r other)
-
--- what holds for each of an answer holds for one
-pub ok_at : {A B E : Type 0} (P : A → B → Type 0) (a : A) (result : Result B E) → IfOk result (λ y. (x : A) → P x y) → IfOk result (P a)
-ok_at P a (Ok y) each = each a
-ok_at P a (Err e) each = each
 
 -- the item at a place is there where the place is within the list
 within : (objects : List NewObject) (next : ℕ) → option_map put_of (slice_get objects next) ≢ None → next < length objects

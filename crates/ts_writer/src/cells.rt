@@ -45,7 +45,7 @@ pub(crate) fn cells_over(
     rows: &[Row],
 ) -> Result<CellList, OutOfMemory>
     requires valid { IsBox sub.now }
-    requires few { cells_of sub.now < 2 ^ 64 - 1 }
+    requires few_cells { cells_of sub.now < 2 ^ 64 - 1 }
     ensures { IfOk result (λ cells. cells ≡ cells_at (coords_in_order layout sub.now) rows.now 0) }
 {
     let mut cells = CellList::new(alloc);

@@ -11,6 +11,7 @@ use crate::ends::{get_ended, list_ended, put_ended, refuse};
 use crate::puts::{after_put, key_of, next_put, put_schema};
 use std::alloc::Global;
 use std::marker::PhantomData;
+use std::thread::Threads;
 use ts_actor::{Automaton, Pieces};
 use ts_base::{ByteList, Duplicate, Name, OutOfMemory, Prefix};
 use ts_domain::Domain;
@@ -35,9 +36,9 @@ impl<P: Pieces> Automaton for Creates<P> {
 
     ghost left = { calls_left };
 
-    fn begin(_alloc: Global, job: &Job) -> State<P::Fetch> {
+    fn begin(alloc: Global, job: &Job) -> State<P::Fetch> {
         match &job.command {
-            Command::Create(frame) => match refusal_of(frame) {
+            Command::Create(frame) => match refusal_of(alloc, frame) {
                 None => State::PutsFrame,
                 Some(refusal) => refuse(refusal),
             },
@@ -60,7 +61,8 @@ impl<P: Pieces> Automaton for Creates<P> {
         }
     }
 
-    fn go(
+    fn go<R: Threads + Sync>(
+        _rt: &R,
         alloc: Global,
         job: &Job,
         state: State<P::Fetch>,
@@ -95,14 +97,14 @@ fn frame_in(job: &Job) -> &FrameIn
     }
 }
 
-// Why a create is refused before its first call, if it is. It takes no memory.
-fn refusal_of(frame: &FrameIn) -> Option<Refusal>
+// Why a create is refused before its first call, if it is.
+fn refusal_of(alloc: Global, frame: &FrameIn) -> Option<Refusal>
     requires { IsTrue (fits (Create frame.now)) }
     ensures { result ≡ create_refusal frame.now }
 {
     match Domain::new(frame.dims.as_slice()) {
         Err(fault) => Some(Refusal::DomainBad(fault)),
-        Ok(domain) => match schema_fault(&domain, frame.attrs.as_slice()) {
+        Ok(domain) => match schema_fault(alloc, &domain, frame.attrs.as_slice()) {
             Some(fault) => Some(Refusal::SchemaBad(fault)),
             None => None,
         },
@@ -141,7 +143,7 @@ fn put_first<P: Pieces>(alloc: Global, job: &Job) -> Result<State<P::Fetch>, Out
     requires { IsCreateJob job.now }
     ensures is { IfOk result (λ state. state ≡ puts_first job.now (made_by job.now.command)) }
     ensures may { IfOk result (IsCreateState job.now) }
-    ensures few { IfOk result (λ state. calls_left state < 2 ^ 64) }
+    ensures few_calls { IfOk result (λ state. calls_left state < 2 ^ 64) }
 {
     let schema = Schema {
         key: key_of(job),

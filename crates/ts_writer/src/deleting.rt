@@ -10,9 +10,10 @@ ghost use Rattle.ts_writer.specs.Writing.{IsDelete, IsDeleteJob, IsLaterState, c
 
 use crate::ends::{get_ended, refuse};
 use crate::puts::{after_put, frag_of, put};
-use crate::there::{after_schema, after_schemas, ask_later, nothing_listed, stamp_of};
+use crate::schema_search::{after_schema, after_schemas, ask_later, nothing_listed, stamp_of};
 use std::alloc::Global;
 use std::marker::PhantomData;
+use std::thread::Threads;
 use ts_actor::{Automaton, Pieces};
 use ts_base::{ByteList, CommitKind, Name, OutOfMemory};
 use ts_cond::Cond;
@@ -56,7 +57,8 @@ impl<P: Pieces> Automaton for Deletes<P> {
         ask_later(alloc, state)
     }
 
-    fn go(
+    fn go<R: Threads + Sync>(
+        _rt: &R,
         alloc: Global,
         job: &Job,
         state: State<P::Fetch>,

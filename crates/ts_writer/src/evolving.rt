@@ -9,9 +9,10 @@ ghost use Rattle.ts_writer.specs.Writing.{IsEvolve, IsEvolveJob, IsLaterState, c
 
 use crate::ends::{get_ended, refuse};
 use crate::puts::{after_put, key_of, put_schema};
-use crate::there::{after_schema, after_schemas, ask_later, nothing_listed, stamp_of};
+use crate::schema_search::{after_schema, after_schemas, ask_later, nothing_listed, stamp_of};
 use std::alloc::Global;
 use std::marker::PhantomData;
+use std::thread::Threads;
 use ts_actor::{Automaton, Pieces};
 use ts_base::{Name, OutOfMemory};
 use ts_model::{Command, Job, Outcome, Refusal, State};
@@ -52,7 +53,8 @@ impl<P: Pieces> Automaton for Evolves<P> {
         ask_later(alloc, state)
     }
 
-    fn go(
+    fn go<R: Threads + Sync>(
+        _rt: &R,
         alloc: Global,
         job: &Job,
         state: State<P::Fetch>,

@@ -13,7 +13,7 @@ mod evolving;
 mod laying;
 mod pieces;
 mod puts;
-mod there;
+mod schema_search;
 mod values;
 mod writer;
 mod writing;

@@ -48,7 +48,7 @@ pub(crate) fn put<F>(objects: NewObjectList, next: u64, end: Outcome) -> State<F
     requires { AreSpelled objects }
     ensures is { result ≡ putting objects next end }
     ensures may { IsPutState result }
-    ensures few { calls_left result < 2 ^ 64 }
+    ensures few_calls { calls_left result < 2 ^ 64 }
 {
     if next < objects.len() {
         State::Puts { objects, next, end }
@@ -107,7 +107,7 @@ pub(crate) fn put_schema<F>(
 ) -> Result<State<F>, OutOfMemory>
     ensures is { IfOk result (λ state. state ≡ puts_schema job.now schema.now.attrs end) }
     ensures may { IfOk result IsPutState }
-    ensures few { IfOk result (λ state. calls_left state < 2 ^ 64) }
+    ensures few_calls { IfOk result (λ state. calls_left state < 2 ^ 64) }
 {
     let mut objects = NewObjectList::new(alloc);
     objects.push(NewObject {

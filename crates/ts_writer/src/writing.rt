@@ -15,9 +15,10 @@ use crate::ends::{get_ended, refuse};
 use crate::laying::{LayFault, lay};
 use crate::pieces::piece_of;
 use crate::puts::{after_put, frag_of, key_of, key_with, put};
-use crate::there::{after_schema, after_schemas, ask_later, nothing_listed, stamp_of};
+use crate::schema_search::{after_schema, after_schemas, ask_later, nothing_listed, stamp_of};
 use std::alloc::Global;
 use std::marker::PhantomData;
+use std::thread::Threads;
 use ts_actor::{Automaton, Pieces};
 use ts_base::{
     ByteList, CellList, CommitKind, FragKey, Key, Name, OutOfMemory, PartBytes, PartList,
@@ -60,7 +61,8 @@ impl<P: Pieces> Automaton for Writes<P> {
         ask_later(alloc, state)
     }
 
-    fn go(
+    fn go<R: Threads + Sync>(
+        _rt: &R,
         alloc: Global,
         job: &Job,
         state: State<P::Fetch>,

@@ -1,5 +1,5 @@
 -- The machine makes one more call, is done, or is cut off.
-use Rattle.ts_actor.proofs.OnWay.{at_start, expects, done, stopped, one_more}
+use Rattle.ts_actor.proofs.DrivenSoFar.{at_start, expects, done, stopped, one_more}
 use Rattle.ts_actor.proofs.driving.drive.Goals as goal
 
 pub asks-init : goal.asks-init

@@ -7,7 +7,7 @@ use Rattle.ts_reader.proofs.Rising.{next_first}
 use Rattle.ts_reader.proofs.opening.after_further.Goals as goal
 
 pub gather_next-requires-clause-first : goal.gather_next-requires-clause-first
-gather_next-requires-clause-first g c =
+gather_next-requires-clause-first g c κs within =
     subst (λ (gathered : Gathered). AreFirst c.args.keys gathered.schemas) (sym c.in_ok-with_schema-in-Ok.ensures)
     (next_first c.args.keys c.args.gathered.schemas c.in-Ok.schema c.requires.first
     (sym (ap (slice_get c.args.keys) c.len-place.ensures) ∙ c.at-key.ensures ∙ ap Some (sym c.in-Ok.ensures.key)))

@@ -8,7 +8,7 @@ use Rattle.ts_reader.proofs.Leads.{head_read}
 use Rattle.ts_reader.proofs.opening.after_head.Goals as goal
 
 pub open_next-requires-clause-spelled : goal.open_next-requires-clause-spelled
-open_next-requires-clause-spelled g c = subst AreSpelled (sym c.in_ok-push-in-Ok.ensures.ok) (All-push (λ o. IsSpelledFrag o.frag) c.args.opened _ c.requires.spelled c.requires.frag)
+open_next-requires-clause-spelled g c κs within = subst AreSpelled (sym c.in_ok-push-in-Ok.ensures.ok) (All-push (λ o. IsSpelledFrag o.frag) c.args.opened _ c.requires.spelled c.requires.frag)
 
 pub returns-in-Ok-clause-is : goal.returns-in-Ok-clause-is
 returns-in-Ok-clause-is g c =

@@ -8,12 +8,12 @@ use Rattle.ts_reader.proofs.QueryLaws.{ready_covered}
 use Rattle.ts_reader.proofs.opening.ask_for.Goals as goal
 
 pub open_next-requires-clause-reading : goal.open_next-requires-clause-reading
-open_next-requires-clause-reading g c = record {
+open_next-requires-clause-reading g c κs within = record {
   is_frame = c.requires.frame;
   are_attrs = c.requires.attrs;
   inside = ready_covered c.args.frame c.args.there.attrs c.args.query.now c.in-Ok.ready c.in-Ok.ensures;
   valid = ready_is_box c.args.frame c.args.there.attrs c.args.query.now c.in-Ok.ready c.requires.frame c.requires.bounds c.in-Ok.ensures;
-  few = ready_few c.args.frame c.args.there.attrs c.args.query.now c.in-Ok.ready c.in-Ok.ensures;
+  few_cells = ready_few c.args.frame c.args.there.attrs c.args.query.now c.in-Ok.ready c.in-Ok.ensures;
   near = c.requires.listed.near;
   deletes = c.requires.listed.deletes;
 }

@@ -13,4 +13,4 @@ returns-clause-is g c =
     IfOk-weaker c.gather_next.result _ _ (λ s is. is ∙ all_open g.P.Pieces.forms c.args.reading c.args.opened c.in_ok-keys.keys c.new-schemas.result last named c.new-schemas.ensures) c.gather_next.ensures.is
 
 pub gather_next-requires-clause-first : goal.gather_next-requires-clause-first
-gather_next-requires-clause-first g c = rw c.new-schemas.ensures (record { rise = c.in_ok-keys.ensures.rise; first = refl })
+gather_next-requires-clause-first g c κs within = rw c.new-schemas.ensures (record { rise = c.in_ok-keys.ensures.rise; first = refl })

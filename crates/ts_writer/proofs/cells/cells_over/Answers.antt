@@ -16,5 +16,5 @@ pub returns : goal.returns
 returns c =
     let coords = coords_in_order c.args.layout c.args.sub.now in
     let long : length coords ≡ cells_of c.args.sub.now = length-coords_in_order c.args.layout c.args.sub.now c.requires.valid in
-    let all : length coords ≤ c.loop-place.place = omega (arith, long, c.requires.few, c.cells-place-end.ensures.capped, c.loop-place-test.false) in
+    let all : length coords ≤ c.loop-place.place = omega (arith, long, c.requires.few_cells, c.cells-place-end.ensures.capped, c.loop-place-test.false) in
     box_done coords c.args.rows.now c.loop-place.place c.loop-place.cells (cells_at coords c.args.rows.now 0) all c.loop-place.invariant

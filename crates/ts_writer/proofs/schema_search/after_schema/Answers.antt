@@ -1,6 +1,6 @@
 use Rattle.std.proofs.Common.{arith}
 use Rattle.ts_writer.proofs.Endings.{schema_other, none_left, over_puts, later_puts}
-use Rattle.ts_writer.proofs.there.after_schema.Goals as goal
+use Rattle.ts_writer.proofs.schema_search.after_schema.Goals as goal
 
 pub returns-in_default : goal.returns-in_default
 returns-in_default g c = record {

@@ -1,6 +1,6 @@
 use Rattle.std.proofs.Common.{◌≡◌, take}
 use Rattle.ts_model.specs.States.{schemas_in}
-use Rattle.ts_writer.proofs.there.schemas_in.Given as goal
+use Rattle.ts_writer.proofs.schema_search.schemas_in.Given as goal
 
 -- the keys of the names so far
 abbrev pub invariant-loop-name : goal.invariant-loop-name

@@ -36,7 +36,7 @@ abbrev pub TellsCut : Stop → ℕ → Call → Bool → Type 0
 TellsCut stop made c cut = (n : ℕ) → made ≡ min n (2 ^ 64 - 1) → cut ≡ cuts stop n c
 
 -- the machine has made the calls of a trace, which led to the store as it is, and the reply to the last one is due
-pub record OnWay {A T S : Type 0} (task : A → T) (follows : A → Trace → Type 0) (call : S → Exchange → S → Type 0) (stop : Stop) (first : A) (before : S) (now : A) (between : S) (made : ℕ) (said : Reply) : Type 0 where
+pub record DrivenSoFar {A T S : Type 0} (task : A → T) (follows : A → Trace → Type 0) (call : S → Exchange → S → Type 0) (stop : Stop) (first : A) (before : S) (now : A) (between : S) (made : ℕ) (said : Reply) : Type 0 where
   pub trace : Trace
   pub due : follows now trace
   pub can_come : CanCome trace.asked said
@@ -49,46 +49,46 @@ pub record OnWay {A T S : Type 0} (task : A → T) (follows : A → Trace → Ty
 
 module _ {A T O S : Type 0} (task : A → T) (follows : A → Trace → Type 0) (ends : T → List Exchange → O → Type 0) (call : S → Exchange → S → Type 0) (stop : Stop) (first : A) (before : S) where
   -- no call was made yet
-  pub at_start : follows first start → OnWay task follows call stop first before first before 0 reply.Start
+  pub at_start : follows first start → DrivenSoFar task follows call stop first before first before 0 reply.Start
   at_start due = record { trace = start; due = due; can_come = refl; spelled = tt; same = refl; calls = refl; asked = tt; uncut = tt; counted = refl }
 
-  module _ (now : A) (between : S) (made : ℕ) (said : Reply) (way : OnWay task follows call stop first before now between made said) where
+  module _ (now : A) (between : S) (made : ℕ) (said : Reply) (so_far : DrivenSoFar task follows call stop first before now between made said) where
     -- the reply can come
     pub expects : Expects (follows now) said
-    expects = record { trace = way.trace; follows_it = way.due; can_come = way.can_come }
+    expects = record { trace = so_far.trace; follows_it = so_far.due; can_come = so_far.can_come }
 
     -- the machine is done
-    pub done : (last : A) (out : O) → ends (task now) (filled way.trace said) out → Drove task follows ends call first last before between stop (driven.Done out)
+    pub done : (last : A) (out : O) → ends (task now) (filled so_far.trace said) out → Drove task follows ends call first last before between stop (driven.Done out)
     done last out is =
-        let P : T → Type 0 = λ k. ends k (filled way.trace said) out in
-        record { trace = filled way.trace said; calls = way.calls; asked = way.asked; uncut = way.uncut; end = subst P way.same is }
+        let P : T → Type 0 = λ k. ends k (filled so_far.trace said) out in
+        record { trace = filled so_far.trace said; calls = so_far.calls; asked = so_far.asked; uncut = so_far.uncut; end = subst P so_far.same is }
 
     -- the stop cuts it off
-    pub stopped : (last : A) (c : Call) (cut : Bool) → follows last (asking (filled way.trace said) c) → TellsCut stop made c cut → cut ≡ true → Drove task follows ends call first last before between stop driven.Stopped
+    pub stopped : (last : A) (c : Call) (cut : Bool) → follows last (asking (filled so_far.trace said) c) → TellsCut stop made c cut → cut ≡ true → Drove task follows ends call first last before between stop driven.Stopped
     stopped last c cut due tells is = record {
-      trace = filled way.trace said;
-      calls = way.calls;
-      asked = way.asked;
-      uncut = way.uncut;
-      end = (c, due, sym (tells (length (filled way.trace said)) way.counted) ∙ is);
+      trace = filled so_far.trace said;
+      calls = so_far.calls;
+      asked = so_far.asked;
+      uncut = so_far.uncut;
+      end = (c, due, sym (tells (length (filled so_far.trace said)) so_far.counted) ∙ is);
     }
 
     -- it makes one more call
-    pub one_more : (next : A) (after : S) (c : Call) (r : Reply) (more : ℕ) (cut : Bool) → follows next (asking (filled way.trace said) c) → task next ≡ task now
+    pub one_more : (next : A) (after : S) (c : Call) (r : Reply) (more : ℕ) (cut : Bool) → follows next (asking (filled so_far.trace said) c) → task next ≡ task now
         → TellsCut stop made c cut → cut ≡ false → FitsCall c r → IsSpelledReply r → call between (record { call = c; reply = r }) after → more ≡ min (made + 1) (2 ^ 64 - 1)
-        → OnWay task follows call stop first before next after more r
+        → DrivenSoFar task follows call stop first before next after more r
     one_more next after c r more cut due same tells is fits spelled called counts =
-        let past = filled way.trace said in
-        let counted = way.counted in
+        let past = filled so_far.trace said in
+        let counted = so_far.counted in
         let none : 0 + length past ≡ length past = omega arith in
         record {
           trace = asking past c;
           due = due;
           can_come = fits;
           spelled = spelled;
-          same = same ∙ way.same;
-          calls = leads_push call before between after past (record { call = c; reply = r }) way.calls called;
-          asked = asked_push task follows (task first) [] past (record { call = c; reply = r }) next way.asked (same ∙ way.same) due;
-          uncut = uncut_push stop 0 past (record { call = c; reply = r }) way.uncut (ap (λ n. cuts stop n c) none ∙ sym (tells (length past) way.counted) ∙ is);
+          same = same ∙ so_far.same;
+          calls = leads_push call before between after past (record { call = c; reply = r }) so_far.calls called;
+          asked = asked_push task follows (task first) [] past (record { call = c; reply = r }) next so_far.asked (same ∙ so_far.same) due;
+          uncut = uncut_push stop 0 past (record { call = c; reply = r }) so_far.uncut (ap (λ n. cuts stop n c) none ∙ sym (tells (length past) so_far.counted) ∙ is);
           counted = omega (arith, length-append past (record { call = c; reply = r } ∷ []));
         }

@@ -4,7 +4,7 @@ use Rattle.std.specs.Prelude.{option_to_list}
 use Rattle.ts_base.specs.declared.names.Name.TheVariants.{Domain}
 use Rattle.ts_model.specs.States.{schema_key_in}
 use Rattle.ts_writer.proofs.Collected.{filter_map-more}
-use Rattle.ts_writer.proofs.there.schemas_in.Goals as goal
+use Rattle.ts_writer.proofs.schema_search.schemas_in.Goals as goal
 
 pub loop-name-preserved : goal.loop-name-preserved
 loop-name-preserved c =
