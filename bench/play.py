@@ -1,9 +1,14 @@
 #!/usr/bin/env python3
 """Times scripts through `./tilestore - play`: many writes of one cell, one write of many cells, reads with a condition,
-many deletes, long conditions, and dense arrays that are written and read whole.
+many deletes, long conditions, dense arrays that are written and read whole, one large text, and very many attributes.
+
+    bench/play.py                   times all
+    bench/play.py WORD..            times what has one of these names: writes cells conditions deletes parses squares text attributes
+    bench/play.py --program FILE    times another build of the program
 
 Each script runs five times; it prints the medians in milliseconds, and how they grow with the size.
 """
+import argparse
 import json
 import os
 import statistics
@@ -25,6 +30,8 @@ DELETED_CELLS = 10000
 NODES = 1000
 PARSES = 500
 SIDES = (500, 1000)
+TEXT_BYTES = 30_000_000
+ATTRIBUTES = (40_000, 400_000)
 
 
 def create(dims, attrs, kind="sparse"):
@@ -157,17 +164,54 @@ def squares(sides):
     print("wanted: below 3000 ms for %d by %d, at most 5 times the %d by %d" % (sides[-1], sides[-1], sides[0], sides[0]), flush=True)
 
 
-def main():
-    subprocess.run([PROGRAM, "-", "play"], input=b"", check=True)
-    table("writes", WRITES, many_writes)
-    print()
+def large_text(size):
+    """How long a read of one cell takes whose value is a text of so many bytes, and its write."""
+    made = [create([dim("x", 9, 10)], [attr("v", "text")])]
+    write = {"cmd": "write", "at": 1, "cols": {"x": [5], "v": ["delgoust" * (size // 8)]}}
+    read = {"cmd": "read", "at": 9}
+    alone, written, shown = median(text_of(made), None), median(text_of(made + [write]), None), median(text_of(made + [write, read]), 1)
+    print("a text of %d bytes: its write\t%.1f\tits read\t%.1f" % (size, written - alone, shown - written), flush=True)
+
+
+def many_attributes(count):
+    """How long a create with so many attributes takes, which is refused."""
+    attributes = [attr("a%d" % i, "int8") for i in range(count)]
+    data = text_of([create([dim("x", 9, 10)], attributes)])
+    print("a create of %d attributes, refused\t%.1f" % (count, median(data, None)))
+    print("wanted: below 100 ms for %d" % ATTRIBUTES[0], flush=True)
+
+
+def tables_of_cells():
     table("cells", CELLS, one_write)
-    print("wanted: growth of at most 13 from one size to the next, below 2000 ms for 100000 cells")
-    print()
-    conditions_of_reads(CELLS[-1])
-    deletes(DELETES, DELETED_CELLS)
-    parses(NODES)
-    squares(SIDES)
+    print("wanted: growth of at most 13 from one size to the next, below 2000 ms for 100000 cells", flush=True)
+
+
+MEASURES = {
+    "writes": lambda: table("writes", WRITES, many_writes),
+    "cells": tables_of_cells,
+    "conditions": lambda: conditions_of_reads(CELLS[-1]),
+    "deletes": lambda: deletes(DELETES, DELETED_CELLS),
+    "parses": lambda: parses(NODES),
+    "squares": lambda: squares(SIDES),
+    "text": lambda: large_text(TEXT_BYTES),
+    "attributes": lambda: [many_attributes(count) for count in ATTRIBUTES],
+}
+
+
+def main():
+    global PROGRAM
+    parser = argparse.ArgumentParser(description=__doc__, formatter_class=argparse.RawDescriptionHelpFormatter)
+    parser.add_argument("--program", default=PROGRAM)
+    parser.add_argument("names", nargs="*", metavar="WORD")
+    chosen = parser.parse_args()
+    unknown = set(chosen.names) - set(MEASURES)
+    if unknown:
+        parser.error("there is no measure named %s" % ", ".join(sorted(unknown)))
+    PROGRAM = chosen.program
+    subprocess.run([PROGRAM, "-", "play"], input=b"", check=True)
+    for name, measure in MEASURES.items():
+        if not chosen.names or name in chosen.names:
+            measure()
 
 
 if __name__ == "__main__":

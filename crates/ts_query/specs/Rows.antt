@@ -1,19 +1,12 @@
 -- The printed text of rows.
-use Rattle.std.specs.Prelude.{ℕ, ◌+◌, ◌/◌, ◌%◌, ◌==◌, List, [], ◌∷◌, ◌++◌, codes, Bool, true, false, if◌then◌else◌, nat_lt}
+use Rattle.std.specs.Prelude.{ℕ, ◌==◌, List, [], ◌∷◌, ◌++◌, codes, Bool, true, false, if◌then◌else◌, nat_lt}
 use Rattle.std.specs.List.{flat_map}
 use Rattle.std.specs.Fmt.{signed_decimal}
+use Rattle.hex.specs.Hex.{encode_lower}
 use Rattle.ts_base.specs.declared.values.Val.{Val}
 use Rattle.ts_base.specs.declared.values.Val.TheVariants.{Null, Int, Bytes}
 use Rattle.ts_base.specs.declared.values.ValType.{ValType}
 use Rattle.ts_base.specs.declared.values.ValType.TheVariants.{Text}
-
--- the lower-case hexadecimal digit of a number below 16
-abbrev pub hex_code : ℕ → ℕ
-hex_code n = if nat_lt n 10 then 48 + n else 87 + n
-
--- two lower-case hexadecimal digits
-abbrev pub hex_text : ℕ → List ℕ
-hex_text b = hex_code (b / 16) ∷ hex_code (b % 16) ∷ []
 
 -- a byte of a text: quotes, backslashes and control characters are escaped
 abbrev pub escaped : ℕ → List ℕ
@@ -25,14 +18,14 @@ escaped b =
     else (if b == 10 then codes "\\n"
     else (if b == 13 then codes "\\r"
     else (if b == 9 then codes "\\t"
-    else (if nat_lt b 32 then codes "\\u00" ++ hex_text b else b ∷ [])))))))
+    else (if nat_lt b 32 then codes "\\u00" ++ encode_lower (b ∷ []) else b ∷ [])))))))
 
 -- a value of a field of this type
 abbrev pub val_text : ValType → Val → List ℕ
 val_text ty Null = codes "null"
 val_text ty (Int z) = signed_decimal z
 val_text Text (Bytes bytes) = 34 ∷ flat_map escaped bytes ++ 34 ∷ []
-val_text ty (Bytes bytes) = 35 ∷ flat_map hex_text bytes
+val_text ty (Bytes bytes) = 35 ∷ encode_lower bytes
 
 -- the values of a row with these types, from one on, each behind a tab but the first
 abbrev pub vals_text : Bool → List ValType → List Val → List ℕ

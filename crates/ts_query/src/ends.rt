@@ -1,6 +1,6 @@
 //! The printed text of ends: a line for each, and behind that of a read a line for each row.
-ghost use Rattle.std.specs.Prelude.{◌≡◌, ◌++◌, codes, string_bytes, IfOk, OnOk, option_map};
-ghost use Rattle.ts_query.specs.Ends.{command_name, end_text, outcome_text, result_text, shown_text, text_of};
+ghost use Rattle.std.specs.Prelude.{◌≡◌, ◌++◌, string_bytes, IfOk, OnOk, option_map};
+ghost use Rattle.ts_query.specs.Ends.{command_name, end_text, outcome_text, result_text, text_of};
 
 use crate::refusals::print_refusal;
 use crate::rows::print_rows;

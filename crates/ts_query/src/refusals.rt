@@ -1,5 +1,5 @@
 //! The printed text of refusals.
-ghost use Rattle.std.specs.Prelude.{◌≡◌, ◌++◌, codes, decimal, string_bytes, OnOk};
+ghost use Rattle.std.specs.Prelude.{◌≡◌, ◌++◌, decimal, string_bytes, OnOk};
 ghost use Rattle.ts_base.specs.Spelling.{name_text};
 ghost use Rattle.ts_query.specs.Refusals.{condition_text, domain_text, schema_text, refusal_text, place_text};
 

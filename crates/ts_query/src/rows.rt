@@ -1,8 +1,9 @@
 //! The printed text of rows: their values with tabs between them.
-ghost use Rattle.std.specs.Prelude.{◌≡◌, ◌<◌, ◌++◌, codes, OnOk};
+ghost use Rattle.std.specs.Prelude.{◌≡◌, ◌++◌, true, OnOk};
+ghost use Rattle.hex.specs.Hex.{encode_lower};
 ghost use Rattle.std.specs.List.{flat_map};
 ghost use Rattle.ts_base.specs.declared.values.Val.TheVariants.{Bytes};
-ghost use Rattle.ts_query.specs.Rows.{row_text, rows_text, vals_text, val_text, escaped, hex_text, hex_code};
+ghost use Rattle.ts_query.specs.Rows.{row_text, rows_text, vals_text, val_text, escaped};
 
 use ts_base::{OutOfMemory, Row, Val, ValType};
 
@@ -25,33 +26,31 @@ pub(crate) fn print_rows(
 fn print_row(bytes: &mut Vec<u8>, types: &[ValType], row: &[Val]) -> Result<(), OutOfMemory>
     ensures { OnOk result (bytes.new.items ≡ bytes.old.items ++ row_text types.now row.now) }
 {
-    print_vals(bytes, true, types, row)?;
+    print_vals(bytes, types, row)?;
     bytes.push(b'\n')?;
     Ok(())
 }
 
-/// Adds values of these types, each behind a tab but the first one of a row.
-fn print_vals(
-    bytes: &mut Vec<u8>,
-    first: bool,
-    types: &[ValType],
-    row: &[Val],
-) -> Result<(), OutOfMemory>
-    ensures { OnOk result (bytes.new.items ≡ bytes.old.items ++ vals_text first types.now row.now) }
+/// Adds values of these types, each behind a tab but the first.
+fn print_vals(bytes: &mut Vec<u8>, types: &[ValType], row: &[Val]) -> Result<(), OutOfMemory>
+    ensures { OnOk result (bytes.new.items ≡ bytes.old.items ++ vals_text true types.now row.now) }
 {
-    match types {
-        [] => Ok(()),
-        [ty, types @ ..] => match row {
-            [] => Ok(()),
-            [val, row @ ..] => {
-                if !first {
-                    bytes.push(b'\t')?;
-                }
-                print_val(bytes, *ty, val)?;
-                print_vals(bytes, false, types, row)
-            }
-        },
+    let mut first = true;
+    let mut types = types;
+    let mut row = row;
+    while let [ty, more @ ..] = types {
+        let [val, others @ ..] = row else {
+            return Ok(());
+        };
+        if !first {
+            bytes.push(b'\t')?;
+        }
+        print_val(bytes, *ty, val)?;
+        first = false;
+        types = more;
+        row = others;
     }
+    Ok(())
 }
 
 /// Adds a value of this type: null, a decimal number, a text between quotes, or the digits of a
@@ -116,7 +115,7 @@ fn print_escaped(bytes: &mut Vec<u8>, byte: u8) -> Result<(), OutOfMemory>
         b'\t' => add(bytes, b"\\t"),
         0..=31 => {
             add(bytes, b"\\u00")?;
-            print_digit_pair(bytes, byte)
+            print_digits(bytes, &[byte])
         }
         _ => {
             bytes.push(byte)?;
@@ -127,31 +126,8 @@ fn print_escaped(bytes: &mut Vec<u8>, byte: u8) -> Result<(), OutOfMemory>
 
 /// Adds two lower-case hexadecimal digits for each byte.
 fn print_digits(bytes: &mut Vec<u8>, own: &[u8]) -> Result<(), OutOfMemory>
-    ensures { OnOk result (bytes.new.items ≡ bytes.old.items ++ flat_map hex_text own.now) }
+    ensures { OnOk result (bytes.new.items ≡ bytes.old.items ++ encode_lower own.now) }
 {
-    for byte in own {
-        print_digit_pair(bytes, *byte)?;
-    }
-    Ok(())
-}
-
-/// Adds the two digits of a byte.
-fn print_digit_pair(bytes: &mut Vec<u8>, byte: u8) -> Result<(), OutOfMemory>
-    ensures { OnOk result (bytes.new.items ≡ bytes.old.items ++ hex_text byte) }
-{
-    bytes.push(hex_code(byte / 16))?;
-    bytes.push(hex_code(byte % 16))?;
-    Ok(())
-}
-
-/// The lower-case hexadecimal digit of a number below 16.
-fn hex_code(number: u8) -> u8
-    requires { number < 16 }
-    ensures { result ≡ hex_code number }
-{
-    if number < 10 {
-        b'0' + number
-    } else {
-        b'a' + (number - 10)
-    }
+    let digits = hex::encode(*bytes.allocator(), own)?;
+    add(bytes, digits.as_bytes())
 }

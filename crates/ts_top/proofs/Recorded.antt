@@ -1,31 +1,30 @@
 -- A job that was driven over a store which enters its calls.
-use Rattle.std.proofs.Common.{◌≡◌, ℕ, List, [], ◌∷◌, Option, Some, refl, sym, ◌∙◌, ap, subst}
+use Rattle.std.proofs.Common.{◌≡◌, ℕ, List, [], ◌∷◌, Option, refl, sym, ◌∙◌, ap, subst}
 use Rattle.ts_base.specs.Held.{Held}
 use Rattle.ts_store.specs.declared.call.Call.{Call}
 use Rattle.ts_store.specs.declared.call.Reply.{Reply}
 use Rattle.ts_store.specs.declared.recorder.Recorder.{Recorder}
 use Rattle.ts_store.specs.Journals.{Enters}
-use Rattle.ts_store.specs.Recorders.{Recorded}
+use Rattle.ts_store.specs.declared.fate.Fate.{Fate}
 use Rattle.ts_model.specs.declared.commands.Job.{Job}
 use Rattle.ts_model.specs.Forms.{Forms}
 use Rattle.ts_model.specs.declared.answers.Driven.{Driven}
-use Rattle.ts_model.specs.declared.answers.Driven.TheVariants as driven
 use Rattle.ts_model.specs.declared.answers.Outcome.{Outcome}
-use Rattle.ts_model.specs.States.{Exchange, asks, begun, state_from}
-use Rattle.ts_model.specs.Driven.{ComesOut}
+use Rattle.ts_model.specs.States.{Exchange}
 use Rattle.ts_model.specs.Driving.{Ran}
 use Rattle.ts_model.proofs.Driving.{Makes, ran-driven}
-use Rattle.ts_actor.specs.Drives.{Called, Leads, AreAsked, EndsAs, Drove}
-use Rattle.ts_actor.proofs.JobRuns.{job_ends, asked_by}
+use Rattle.ts_actor.specs.Drives.{Leads, AreAsked, EndsAs, Drove}
+use Rattle.ts_actor.proofs.Below.{CalledAbove}
+use Rattle.ts_actor.proofs.JobRuns.{job_ends, asked_by, comes_out}
 use Rattle.ts_world.specs.declared.actors.AnyActor.{AnyActor}
 use Rattle.ts_world.specs.Actors.{job_of, Follows}
 use Rattle.ts_world.proofs.Laws.{asks_it}
 use Rattle.ts_top.specs.Runners.{KeepsCount}
 
-module _ {S : Type 0} (held : S → Option Held) (faults : S → ℕ) (notes : S → Call → Reply → S → Type 0) where
+module _ {S : Type 0} (held : S → Option Held) (told : S → Fate) (faults asked : S → ℕ) (notes : S → Call → Reply → S → Type 0) where
   -- a call of a store that enters it
   abbrev pub RecorderCalled : Recorder S → Exchange → Recorder S → Type 0
-  RecorderCalled = Called (λ r. held r.store) (λ r. r.book.last) (λ r. faults r.store) (λ before call said now. Recorded faults notes before now call said)
+  RecorderCalled = CalledAbove held told faults asked notes
 
   pub lane_stays : (a b : Recorder S) (xs : List Exchange) → Leads RecorderCalled a xs b → b.book.lane ≡ a.book.lane
   lane_stays a b [] is = ap (λ (r : Recorder S). r.book.lane) is
@@ -45,13 +44,6 @@ module _ {S : Type 0} (held : S → Option Held) (faults : S → ℕ) (notes : S
       record { fate = b.book.last; fits = called.fits; short = called.short; answers = called.answers; enters = subst P is called.noted.enters }
 
   module _ {W F : Type 0} (forms : Forms F) where
-    -- how an actor came out is how its job came out
-    comes_out : (job : Job) (last : AnyActor W F) (trace : List Exchange) (result : Driven Outcome) → job_of last ≡ job → EndsAs (job_ends forms job) (Follows forms last) job.stop trace result → ComesOut forms job trace result
-    comes_out job last trace (driven.Done end) is ends = ends
-    comes_out job last trace driven.Stopped is (c, follows_it, cut) =
-        let P : Job → Type 0 = λ j. asks forms j (state_from forms j (begun j.command) trace) ≡ Some c in
-        (c, subst P is (asks_it forms last trace c follows_it), cut)
-
     -- an actor that was driven is its job that ran
     pub recorder_ran : (number : ℕ) (job : Job) (first last : AnyActor W F) (before after_ : Recorder S) (result : Driven Outcome) → job_of first ≡ job → job_of last ≡ job
         → Drove job_of (Follows forms) (job_ends forms) RecorderCalled first last before after_ job.stop result
@@ -63,4 +55,4 @@ module _ {S : Type 0} (held : S → Option Held) (faults : S → ℕ) (notes : S
         (λ a b way. way.1)
         (λ a b x xs way. (way.1.0, makes before.book.lane a way.1.0 x way.0 way.1.1, (way.1.1.noted.lane ∙ way.0, way.1.2)))
         drove.trace before after_ result (refl, drove.calls) (asked_by {A = AnyActor W F} forms job_of (Follows forms) (asks_it forms) job [] drove.trace (subst Q first_is drove.asked)) drove.uncut
-        (comes_out job last drove.trace result last_is (subst P first_is drove.end))
+        (comes_out {A = AnyActor W F} forms job_of (Follows forms) (asks_it forms) job last drove.trace result last_is (subst P first_is drove.end))

@@ -1,5 +1,5 @@
 -- Reading a script piece by piece.
-use Rattle.std.proofs.Common.{◌≡◌, ℕ, ◌+◌, ◌<◌, ◌≤◌, List, [], ◌∷◌, ◌++◌, length, take, Bool, true, false, nat_lt, if◌then◌else◌, length-append, Result, Ok, Err, refl, sym, ap, ◌∙◌, subst, arith}
+use Rattle.std.proofs.Common.{◌≡◌, ℕ, ◌+◌, ◌<◌, ◌≤◌, List, [], ◌∷◌, ◌++◌, length, take, Bool, true, false, nat_lt, length-append, Result, Ok, Err, refl, sym, ap, ◌∙◌, subst, arith}
 use Rattle.std.proofs.lemmas.List.{append-nil, length-take, take-append-le}
 use Rattle.std.proofs.lemmas.Bool.{ltb-true, ltb-false, lt-ltb}
 use Rattle.std.proofs.lemmas.List.Splits.{length-slice_split}
@@ -59,12 +59,6 @@ pub IsScript-stopped : (limit : ℕ) (input : List ℕ) (n : ℕ) (lines : List 
 IsScript-stopped limit input n lines rest piece others e way cut stopped =
     subst (IsScript {A = List Line} (Err e)) (after_piece limit input n lines rest piece others way cut)
     (stops e (with_line n lines piece) (λ more. script_from (nat_lt limit (length input)) (n + 1) more (pieces_of others)) stopped)
-
--- the last piece
-pub script_within-last : (limit : ℕ) (input : List ℕ) (n : ℕ) (lines : List Line) (rest : List ℕ)
-    → IsUnderWay limit input n lines rest → pieces_of rest ≡ rest ∷ []
-    → script_within limit input ≡ (if nat_lt limit (length input) then Err (Bad n) else with_line n lines rest)
-script_within-last limit input n lines rest way cut = sym way.left ∙ ap (script_from (nat_lt limit (length input)) n lines) cut
 
 -- ---- the limit on bytes
 

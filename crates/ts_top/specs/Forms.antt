@@ -43,13 +43,13 @@ abbrev pub list_of : {A : Type 0} → (Data → Option A) → Data → Option (L
 list_of form d = as_array d >>= items_onto form []
 
 -- a whole number of 32 bits without a sign
-abbrev pub small : Data → Option ℕ
-small d = unsigned d >>= λ n. when (nat_lt n (2 ^ 32)) n
+abbrev pub unsigned_32 : Data → Option ℕ
+unsigned_32 d = unsigned d >>= λ n. when (nat_lt n (2 ^ 32)) n
 
 -- the two items of a list of two
-abbrev pub two : {A : Type 0} → List A → Option (A × A)
-two (x ∷ y ∷ []) = Some (x, y)
-two _ = None
+abbrev pub both_items : {A : Type 0} → List A → Option (A × A)
+both_items (x ∷ y ∷ []) = Some (x, y)
+both_items _ = None
 
 -- a key is one of these
 abbrev pub is_one_of : List ℕ → List (List ℕ) → Bool

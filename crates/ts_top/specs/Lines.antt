@@ -10,7 +10,7 @@ use Rattle.ts_model.specs.declared.commands.Command.{Command}
 use Rattle.ts_model.specs.declared.commands.Command.TheVariants as command
 use Rattle.ts_model.specs.declared.commands.Line.{Line}
 use Rattle.ts_model.specs.Commands.{fits}
-use Rattle.ts_top.specs.Forms.{◌>>=◌, when, unsigned, small, required, optional, list_of, has_only}
+use Rattle.ts_top.specs.Forms.{◌>>=◌, when, unsigned, unsigned_32, required, optional, list_of, has_only}
 use Rattle.ts_top.specs.Values.{label, dim, attr, order, layout, columns, box, filter}
 
 -- the keys that every command may have
@@ -37,7 +37,7 @@ create_of d = do
   attrs ← required (list_of attr) (codes "attrs") d
   cell ← optional order Row (codes "cell_order") d
   tile ← optional order Row (codes "tile_order") d
-  capacity ← optional small 10000 (codes "capacity") d
+  capacity ← optional unsigned_32 10000 (codes "capacity") d
   dense ← kind_named kind
   when (has_only common_keys create_keys d) (command.Create (record { dense = dense; dims = dims; cell = cell; tile = tile; capacity = capacity; attrs = attrs }))
 

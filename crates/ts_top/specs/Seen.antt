@@ -8,8 +8,8 @@ use Rattle.ts_store.specs.declared.journal.Entry.{Entry}
 use Rattle.ts_model.specs.declared.commands.Line.{Line}
 use Rattle.ts_model.specs.declared.answers.Driven.{Driven}
 use Rattle.ts_model.specs.declared.answers.Outcome.{Outcome}
-use Rattle.ts_model.specs.Fresh.{jobs_of}
-use Rattle.ts_model.specs.Runs.{IsRun}
+use Rattle.ts_law.specs.Fresh.{jobs_of}
+use Rattle.ts_law.specs.Runs.{IsRun}
 use Rattle.ts_actor.specs.PlainForms.{plain_forms}
 use Rattle.ts_plain.specs.Pieces.{IsPlain}
 use Rattle.ts_top.specs.declared.top.Stop.{Stop}

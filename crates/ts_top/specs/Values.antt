@@ -19,7 +19,7 @@ use Rattle.ts_schema.specs.declared.attrs.Attr.{Attr}
 use Rattle.ts_cond.specs.declared.query.NamedBox.{NamedBox}
 use Rattle.ts_model.specs.declared.commands.ColIn.{ColIn}
 use Rattle.ts_model.specs.Commands.{blob_bytes}
-use Rattle.ts_top.specs.Forms.{◌>>=◌, when, integer, required, optional, list_of, two, has_only}
+use Rattle.ts_top.specs.Forms.{◌>>=◌, when, integer, required, optional, list_of, both_items, has_only}
 
 -- a label
 abbrev pub label : Data → Option (List ℕ)
@@ -79,7 +79,7 @@ dim d = do
   ty ← required val_type (codes "type") d
   bounds ← required (list_of integer) (codes "domain") d
   extent ← required integer (codes "extent") d
-  ends ← two bounds
+  ends ← both_items bounds
   when (has_only [] dim_keys d) (record { name = name; ty = ty; low = ends.0; high = ends.1; extent = extent })
 
 -- the keys of an attribute
@@ -107,7 +107,7 @@ columns d = as_object d >>= columns_onto []
 -- the bounds of an object's members, after those that are done
 abbrev pub bounds_onto : List NamedBox → Members → Option (List NamedBox)
 bounds_onto done no_members = Some done
-bounds_onto done (member key d ms) = label_of key >>= λ name. list_of integer d >>= λ numbers. two numbers >>= λ ends. bounds_onto (done ++ record { name = name; low = ends.0; high = ends.1 } ∷ []) ms
+bounds_onto done (member key d ms) = label_of key >>= λ name. list_of integer d >>= λ numbers. both_items numbers >>= λ ends. bounds_onto (done ++ record { name = name; low = ends.0; high = ends.1 } ∷ []) ms
 
 -- a box: an object from labels to lists of a low and a high bound; without one no dimension has bounds
 abbrev pub box : Option Data → Option (List NamedBox)

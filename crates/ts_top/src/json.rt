@@ -3,7 +3,7 @@ ghost use Rattle.std.specs.Prelude.{◌≡◌, [], Option, map, option_map};
 ghost use Rattle.serde_json.specs.Find.{as_bool, as_str};
 ghost use Rattle.serde_json.specs.Data.{Data};
 ghost use Rattle.serde_json.specs.View.{view, items_view, members_view};
-ghost use Rattle.ts_top.specs.Forms.{integer, unsigned, small, required, optional, list_of, items_onto, two, is_one_of, keys_within, has_only, Gives};
+ghost use Rattle.ts_top.specs.Forms.{integer, unsigned, unsigned_32, required, optional, list_of, items_onto, both_items, is_one_of, keys_within, has_only, Gives};
 
 use serde_json::{Map, Number, Value};
 use std::alloc::Global;
@@ -66,7 +66,7 @@ impl FromJson for u64 {
 
 /// A whole number from 0 to 2^32 - 1.
 impl FromJson for u32 {
-    ghost form = { small };
+    ghost form = { unsigned_32 };
 
     fn from_json(_alloc: Global, value: &Value) -> Result<u32, JsonFault> {
         match value.as_u64() {
@@ -144,8 +144,8 @@ pub(crate) fn text_under<'a>(value: &'a Value, key: &str) -> Option<&'a str>
 }
 
 /// The two items of a list of two.
-pub(crate) fn two<T: Copy>(list: &Sequence<T>) -> Option<(T, T)>
-    ensures { result ≡ two list.now }
+pub(crate) fn both_items<T: Copy>(list: &Sequence<T>) -> Option<(T, T)>
+    ensures { result ≡ both_items list.now }
 {
     match list.as_slice() {
         [first, second] => Some((*first, *second)),

@@ -17,7 +17,7 @@ use std::alloc::Global;
 use ts_base::{ByteList, Label, LabelList, Val};
 use ts_cond::{NamedBox, Query};
 use ts_domain::{Dim, DimList, Layout, Order};
-use ts_model::{ColIn, ColInList, Command, FrameIn, Line, WriteIn};
+use ts_model::{ColIn, Command, FrameIn, Line, WriteIn};
 use ts_schema::{Attr, AttrList, Evolution};
 
 /// The keys that every command may have.
@@ -268,11 +268,11 @@ fn is_filter(filter: Option<&ByteList>) -> bool
     }
 }
 
-/// Whether a timestamp has 64 bits, as each has.
+/// A timestamp has 64 bits: the type says so, and nothing is tested.
 fn is_stamp(at: u64) -> bool
     ensures { result ≡ nat_lt at (2 ^ 64) }
 {
-    at <= u64::MAX
+    true
 }
 
 /// Whether a label is one, as each is.
@@ -356,11 +356,11 @@ fn is_spelled_val(val: &Val) -> bool
     }
 }
 
-/// Whether an integer has 128 bits, as each has.
+/// An integer has 128 bits: the type says so, and nothing is tested.
 fn is_wide(number: i128) -> bool
     ensures { result ≡ (int_le (neg_ℤ (pos (2 ^ 127))) number && int_lt number (pos (2 ^ 127))) }
 {
-    i128::MIN <= number && number <= i128::MAX
+    true
 }
 
 /// Whether there are so few bytes that their number has 64 bits, and each is below 256, as it is of
@@ -378,16 +378,16 @@ fn are_bytes(bytes: &[u8]) -> bool
     bytes.iter().all(|byte| is_byte(*byte))
 }
 
-/// Whether a size has 64 bits, as each has.
+/// A size has 64 bits: the type says so, and nothing is tested.
 fn is_size(size: usize) -> bool
     ensures { result ≡ nat_lt size (2 ^ 64) }
 {
-    size <= usize::MAX
+    true
 }
 
-/// Whether a byte is below 256, as each is.
+/// A byte is below 256: the type says so, and nothing is tested.
 fn is_byte(byte: u8) -> bool
     ensures { result ≡ is_byte byte }
 {
-    byte <= u8::MAX
+    true
 }

@@ -43,23 +43,3 @@ fn numbered(start: &str, number: u64) -> Notice
     notice.push_str("\n");
     notice
 }
-
-#[cfg(test)]
-mod tests {
-    use super::{bad_script_notice, not_built_notice, usage_notice};
-
-    #[test]
-    fn prints_one_line(rt: HostRuntime) {
-        assert_eq!(rt;
-            usage_notice().as_str(),
-            "usage: tilestore STORE COMMAND [OPTIONS]\n"
-        );
-        assert_eq!(rt; bad_script_notice(2).as_str(), "bad script\t2\n");
-        assert_eq!(rt;
-            bad_script_notice(u64::MAX).as_str(),
-            "bad script\t18446744073709551615\n"
-        );
-        assert_eq!(rt; not_built_notice(2).as_str(), "not built\t2\n");
-        assert_eq!(rt; not_built_notice(4096).as_str(), "not built\t4096\n");
-    }
-}

@@ -1,7 +1,7 @@
 //! Doing jobs one after the other over a store that enters their calls in a journal.
 ghost use Rattle.std.specs.Prelude.{◌≡◌, ◌≤◌, ℕ, All, length, IfOk, OnErr};
 ghost use Rattle.ts_model.specs.Driving.{Ran, AllRan};
-ghost use Rattle.ts_model.specs.Fresh.{id_of, job_from, jobs_of};
+ghost use Rattle.ts_law.specs.Fresh.{id_of, job_from, jobs_of};
 ghost use Rattle.ts_model.specs.Jobs.{IsFit, IsFitLine};
 ghost use Rattle.ts_actor.specs.PlainForms.{plain_forms};
 ghost use Rattle.ts_top.specs.Runners.{KeepsCount};

@@ -11,9 +11,6 @@ use std::alloc::Global;
 use ts_base::OutOfMemory;
 use ts_model::{Line, LineList};
 
-#[cfg(test)]
-mod tests;
-
 /// How many bytes a script may have: 64 MiB.
 const BYTE_LIMIT: usize = 1 << 26;
 

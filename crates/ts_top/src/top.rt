@@ -1,5 +1,5 @@
 //! The top call: from words and a script to printed text and a status.
-ghost use Rattle.std.specs.Prelude.{◌≡◌, ◌⊎◌, ◌↔◌, ◌+◌, ◌^◌, ◌≤◌, ℕ, List, [], false, true, map, length, Err, IfOk, IfErr, IsSomeAnd};
+ghost use Rattle.std.specs.Prelude.{◌≡◌, ◌⊎◌, ◌↔◌, ◌+◌, ◌≤◌, ℕ, List, [], false, true, map, length, Err, IfOk, IfErr, IsSomeAnd};
 ghost use Rattle.ts_store.specs.Counts.{capped, Rose};
 ghost use Rattle.ts_store.specs.Journals.{failures};
 ghost use Rattle.ts_top.specs.Words.{job};

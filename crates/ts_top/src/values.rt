@@ -1,10 +1,10 @@
 //! Names, types, values, dimensions and attributes as JSON values.
-ghost use Rattle.std.specs.Prelude.{◌≡◌, [], ◌∷◌, ◌++◌, IfOk, map, option_map};
+ghost use Rattle.std.specs.Prelude.{◌≡◌, [], IfOk, option_map};
 ghost use Rattle.serde_json.specs.View.{view, members_view};
-ghost use Rattle.ts_top.specs.Forms.{Gives, list_of};
+ghost use Rattle.ts_top.specs.Forms.{Gives};
 ghost use Rattle.ts_top.specs.Values.{label, type_named, val_type, order, layout, value, fill_said, fill, dim, attr, columns_onto, columns, bounds_onto, box, filter};
 
-use crate::json::{FromJson, JsonFault, has_only, optional, required, two};
+use crate::json::{FromJson, JsonFault, both_items, has_only, optional, required};
 use serde_json::{Map, Value};
 use std::alloc::Global;
 use ts_base::{ByteList, Label, OutOfMemory, Row, Sequence, Val, ValType};
@@ -141,7 +141,7 @@ impl FromJson for Dim {
         let ty = required(alloc, value, "type")?;
         let bounds: Sequence<i128> = required(alloc, value, "domain")?;
         let extent = required(alloc, value, "extent")?;
-        let Some((low, high)) = two(&bounds) else {
+        let Some((low, high)) = both_items(&bounds) else {
             return Err(JsonFault::Form);
         };
         if !has_only(value, &[], &["name", "type", "domain", "extent"]) {
@@ -227,7 +227,7 @@ fn read_bounds(alloc: Global, members: &Map<String, Value>) -> Result<NamedBoxLi
             return Err(JsonFault::Form);
         };
         let bounds: Sequence<i128> = Sequence::from_json(alloc, value)?;
-        let Some((low, high)) = two(&bounds) else {
+        let Some((low, high)) = both_items(&bounds) else {
             return Err(JsonFault::Form);
         };
         done.push(NamedBox { name, low, high })?;

@@ -1,19 +1,12 @@
-//! Scripts with what they print, worked by hand, and many more against a plain list of writes.
+//! Runs over stores and streams that fail, and over objects that no run left so. What a script shows
+//! stands in tests/cases.
 mod deletes;
-mod dense;
-mod kinds;
-mod plain;
-mod queries;
-mod refusals;
-mod schemas;
-mod shapes;
-mod values;
 
 ghost use Rattle.std.specs.Prelude.{◌≡◌};
 ghost use Rattle.ts_base.specs.Names.{IsSpelled};
 
 use super::{Ran, run};
-use std::alloc::{AllocError, Global};
+use std::alloc::Global;
 use std::test::Fail;
 use std::thread::Threads;
 use ts_base::{ByteList, CommitKind, FragKey, Key, Name, OutOfMemory, Part};
@@ -24,8 +17,10 @@ const C1: &str = "{'cmd':'create','at':0,'kind':'sparse',\
     'dims':[{'name':'x','type':'int64','domain':[0,9],'extent':10}],\
     'attrs':[{'name':'v','type':'int64'}]}\n";
 
-/// Its dimension.
-const X: &str = "{'name':'x','type':'int64','domain':[0,9],'extent':10}";
+/// The create of another one.
+const OTHER: &str = "{'cmd':'create','at':0,'kind':'sparse',\
+    'dims':[{'name':'y','type':'int8','domain':[0,9],'extent':1}],\
+    'attrs':[{'name':'v','type':'int64'}]}\n";
 
 /// A write: at 1, the value 10 at the coordinate 5.
 const WRITE: &str = "{'cmd':'write','at':1,'cols':{'x':[5],'v':[10]}}\n";
@@ -41,18 +36,14 @@ struct Shown {
     store: MemStore,
 }
 
-// The bytes that a text of the tests means: an apostrophe stands for a quote, and a backtick for an
-// apostrophe; a bar for a tab, a tilde for a less-than sign, and a caret for a greater-than sign; and
+// The bytes that a text of the tests means: an apostrophe stands for a quote, a bar for a tab, and
 // `<n>` for the 32 digits of an identifier n below 16.
 fn said(alloc: Global, text: &str) -> Result<ByteList, OutOfMemory> {
     let mut bytes = ByteList::new(alloc);
     for byte in text.as_bytes() {
         match *byte {
             b'\'' => bytes.push(b'"')?,
-            b'`' => bytes.push(b'\'')?,
             b'|' => bytes.push(b'\t')?,
-            b'~' => bytes.push(b'<')?,
-            b'^' => bytes.push(b'>')?,
             b'<' => bytes.append(b"0000000000000000000000000000000")?,
             b'>' => {}
             byte => bytes.push(byte)?,
@@ -104,29 +95,6 @@ fn play_well<R: Threads + Sync + AllocGlobal>(rt: &R, script: &str) -> Result<Sh
     play_over(rt, 0, script, MemStore::new(alloc, FaultList::new(alloc)))
 }
 
-// What a script prints that begins with the create of an array, over an empty store.
-fn printed<R: Threads + Sync + AllocGlobal>(
-    rt: &R,
-    array: &str,
-    script: &str,
-) -> Result<ByteList, Fail> {
-    let script = format!(in rt.alloc(); "{array}{script}")?;
-    let Shown {
-        status: _,
-        printed,
-        journal: _,
-        store: _,
-    } = play_well(rt, script.as_str())?;
-    Ok(printed)
-}
-
-// The create of an array with these dimensions and attributes, and further keys.
-fn created(alloc: Global, dims: &str, attrs: &str, more: &str) -> Result<String, AllocError> {
-    format!(in alloc;
-        "{{'cmd':'create','at':0,'kind':'sparse','dims':[{dims}],'attrs':[{attrs}]{more}}}\n"
-    )
-}
-
 // A plan by which one call fails.
 fn fails_at(alloc: Global, call: u64, whole: bool) -> Result<FaultList, Fail> {
     let mut plan = FaultList::new(alloc);
@@ -159,7 +127,7 @@ fn wrt(id: u128) -> Name
 }
 
 #[test]
-fn a_write_is_read(rt: HostRuntime) -> Result<(), Fail> {
+fn the_journal_has_each_call(rt: HostRuntime) -> Result<(), Fail> {
     let script = format!(in rt.alloc(); "{C1}{WRITE}{READ}")?;
     let shown = play_well(&rt, script.as_str())?;
     let text = "0.1|create|ok\n0.2|write|ok|__1_1_<2>_1\n0.3|read|ok|1|0\n5|10\n";
@@ -174,52 +142,6 @@ fn a_write_is_read(rt: HostRuntime) -> Result<(), Fail> {
         }
         _ => assert!(rt; false, "the first put of the write puts the part"),
     }
-    Ok(())
-}
-
-#[test]
-fn scripts_print_what_their_lines_say(rt: HostRuntime) -> Result<(), Fail> {
-    for (array, script, text) in [
-        ("", "", ""),
-        ("", "\n \t\n", ""),
-        (C1, "", "0.1|create|ok\n"),
-        (C1, READ, "0.1|create|ok\n0.2|read|ok|0|0\n"),
-        ("\n", READ, "0.1|read|refused|NoSchema|9\n"),
-    ] {
-        assert_eq!(rt;
-            printed(&rt, array, script)?,
-            said(rt.alloc(), text)?,
-            "{script}"
-        );
-    }
-    Ok(())
-}
-
-/// Lines that name what is not built yet, each behind a create.
-const NOT_BUILT: [&str; 4] = [
-    "{'cmd':'vacuum'}",
-    "{'cmd':'create','at':0,'kind':'Dense',\
-    'dims':[{'name':'x','type':'int64','domain':[0,9],'extent':10}],\
-    'attrs':[{'name':'v','type':'int64'}]}",
-    "{'cmd':'read','at':9,'stop':2}",
-    "{'cmd':'write','at':1,'box':[[0,1]],'cols':{'v':[1,2]}}",
-];
-
-#[test]
-fn what_is_no_script_changes_nothing(rt: HostRuntime) -> Result<(), Fail> {
-    let alloc = rt.alloc();
-    for line in NOT_BUILT {
-        let script = format!(in alloc; "{C1}{line}\n")?;
-        let not_built = play_well(&rt, script.as_str())?;
-        assert_eq!(rt; not_built.status, 8, "{line}");
-        assert_eq!(rt; not_built.printed, said(alloc, "not built|2\n")?);
-        assert_eq!(rt; not_built.journal.len(), 0);
-    }
-    let script = format!(in alloc; "{C1}{WRITE}[1]\n")?;
-    let bad = play_well(&rt, script.as_str())?;
-    assert_eq!(rt; bad.status, 3);
-    assert_eq!(rt; bad.printed, said(alloc, "bad script|3\n")?);
-    assert_eq!(rt; bad.journal.len(), 0);
     Ok(())
 }
 
@@ -355,9 +277,7 @@ const HALF_CREATED: [(u64, bool, &str); 4] = [
 #[test]
 fn a_create_that_failed_can_be_tried_again(rt: HostRuntime) -> Result<(), Fail> {
     let alloc = rt.alloc();
-    let dims = "{'name':'y','type':'int8','domain':[0,9],'extent':1}";
-    let other = created(alloc, dims, "{'name':'v','type':'int64'}", "")?;
-    let script = format!(in alloc; "{C1}{READ}{other}{C1}{READ}")?;
+    let script = format!(in alloc; "{C1}{READ}{OTHER}{C1}{READ}")?;
     for (call, whole, text) in HALF_CREATED {
         let store = MemStore::new(alloc, fails_at(alloc, call, whole)?);
         let shown = play_over(&rt, 0, script.as_str(), store)?;
@@ -461,80 +381,5 @@ fn damaged_frames_and_schemas_are_told(rt: HostRuntime) -> Result<(), Fail> {
         text: "0.1|read|ok|0|0\n0.2|read|refused|Damaged|__schema/__3_3_<7>|0\n",
     };
     assert!(rt; is_second(&rt, declared, late)?, "an empty schema");
-    Ok(())
-}
-
-#[test]
-fn words_that_are_no_job_print_the_usage(rt: HostRuntime) {
-    let alloc = rt.alloc();
-    let store = MemStore::new(alloc, FaultList::new(alloc));
-    let mut input = MemSource::new(ByteList::new(alloc), FaultList::new(alloc));
-    let mut out = MemSink::new(alloc, FaultList::new(alloc));
-    let Ran {
-        status,
-        store: _,
-        journal,
-    } = run(&rt, alloc, &[], 0, store, &mut input, &mut out);
-    assert_eq!(rt; status, 2);
-    assert_eq!(rt;
-        out.bytes(),
-        b"usage: tilestore STORE COMMAND [OPTIONS]\n".as_slice()
-    );
-    assert_eq!(rt; journal.len(), 0);
-}
-
-/// Many attributes: as a create names them, as a write fills them, and as a row shows them.
-#[derive(Drop)]
-struct Attributes {
-    declared: String,
-    columns: String,
-    shown: String,
-}
-
-// The attributes a1, a2 and so on, so many; the value of each is its number.
-fn many_attributes(alloc: Global, count: u64) -> Result<Attributes, AllocError> {
-    let mut declared = String::new(alloc);
-    let mut columns = String::new(alloc);
-    let mut shown = String::new(alloc);
-    for number in 1..count.saturating_add(1) {
-        let comma = if number == 1 { "" } else { "," };
-        write!(declared, "{comma}{{'name':'a{number}','type':'uint8'}}")?;
-        write!(columns, ",'a{number}':[{number}]")?;
-        write!(shown, "|{number}")?;
-    }
-    Ok(Attributes {
-        declared,
-        columns,
-        shown,
-    })
-}
-
-#[test]
-fn an_array_has_64_attributes(rt: HostRuntime) -> Result<(), Fail> {
-    let alloc = rt.alloc();
-    let Attributes {
-        declared,
-        columns,
-        shown,
-    } = many_attributes(alloc, 64)?;
-    let array = created(alloc, X, declared.as_str(), "")?;
-    let script = format!(in alloc;
-        "{{'cmd':'write','at':1,'cols':{{'x':[5]{columns}}}}}\n{READ}\
-        {{'cmd':'evolve','at':2,'add':[{{'name':'w','type':'int8'}}]}}\n\
-        {{'cmd':'evolve','at':2,'drop':['a64'],'add':[{{'name':'a65','type':'int8'}}]}}\n"
-    )?;
-    let text = format!(in alloc;
-        "0.1|create|ok\n0.2|write|ok|__1_1_<2>_1\n0.3|read|ok|1|0\n5{shown}\n\
-        0.4|evolve|refused|TooManyAttrs|65\n0.5|evolve|ok|__2_2_<5>\n"
-    )?;
-    assert_eq!(rt;
-        printed(&rt, array.as_str(), script.as_str())?,
-        said(alloc, text.as_str())?
-    );
-
-    let more = many_attributes(alloc, 65)?;
-    let array = created(alloc, X, more.declared.as_str(), "")?;
-    let text = "0.1|create|refused|TooManyAttrs|65\n";
-    assert_eq!(rt; printed(&rt, array.as_str(), "")?, said(alloc, text)?);
     Ok(())
 }

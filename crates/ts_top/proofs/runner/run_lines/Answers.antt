@@ -5,9 +5,9 @@ use Rattle.ts_model.specs.declared.answers.Driven.{Driven}
 use Rattle.ts_model.specs.declared.answers.Outcome.{Outcome}
 use Rattle.ts_model.specs.Driving.{Ran, AllRan}
 use Rattle.ts_model.specs.declared.commands.Line.{Line}
-use Rattle.ts_model.specs.Fresh.{id_of, job_from, jobs_of}
+use Rattle.ts_law.specs.Fresh.{id_of, job_from, jobs_of}
 use Rattle.ts_actor.specs.PlainForms.{plain_forms}
-use Rattle.ts_model.proofs.Driving.{ran-one_more, jobs_of-more}
+use Rattle.ts_law.proofs.OneMoreJob.{ran-one_more, jobs_of-more}
 use Rattle.ts_top.proofs.runner.run_lines.Goals as goal
 
 pub loop-index-preserved : goal.loop-index-preserved

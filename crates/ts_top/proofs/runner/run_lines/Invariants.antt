@@ -1,7 +1,7 @@
 use Rattle.std.proofs.Common.{◌≡◌, ◌≤◌, take, length}
 use Rattle.std.specs.Prelude.{vec_len, vec_capacity}
 use Rattle.ts_model.specs.Driving.{AllRan}
-use Rattle.ts_model.specs.Fresh.{jobs_of}
+use Rattle.ts_law.specs.Fresh.{jobs_of}
 use Rattle.ts_actor.specs.PlainForms.{plain_forms}
 use Rattle.ts_top.specs.Runners.{KeepsCount}
 use Rattle.ts_top.proofs.runner.run_lines.Given as goal

@@ -5,8 +5,8 @@ use Rattle.ts_store.specs.declared.recorder.Recorder.{Recorder}
 use Rattle.ts_model.specs.declared.answers.Driven.{Driven}
 use Rattle.ts_model.specs.declared.answers.Outcome.{Outcome}
 use Rattle.ts_model.specs.Driving.{AllRan}
-use Rattle.ts_model.specs.Fresh.{jobs_of}
-use Rattle.ts_model.proofs.Performed.{ran_run}
+use Rattle.ts_law.specs.Fresh.{jobs_of}
+use Rattle.ts_law.proofs.RunLaw.{ran_run}
 use Rattle.ts_actor.specs.PlainForms.{plain_forms, NeverWaits}
 use Rattle.ts_actor.specs.PlainLaws.{plain_laws}
 use Rattle.ts_plain.specs.Pieces.{IsPlain}

@@ -1,0 +1,243 @@
+"""Random scripts over sparse and dense arrays, against plain lists of the writes, deletes and schemas in them.
+
+The lists are searched from end to end for each cell, as docs/FORMATS.md says which write, delete and schema counts. Nothing here
+is taken from the program. Each script is made from a seed, which is its name.
+"""
+import itertools
+import json
+import random
+
+SCRIPTS = 300
+COMMANDS = 30
+STAMPS = 6
+DEFAULT_FILLS = {"int8": -128, "uint8": 255, "int64": -(2**63), "text": ""}
+
+
+class Attribute:
+    def __init__(self, name, kind, nullable, fill):
+        self.name, self.kind, self.nullable, self.fill = name, kind, nullable, fill
+
+    def declared(self, chance):
+        said = {"name": self.name, "type": self.kind}
+        if self.nullable:
+            said["nullable"] = True
+        default = None if self.nullable else DEFAULT_FILLS[self.kind]
+        if self.fill != default or chance.random() < 0.3:
+            said["fill"] = self.fill
+        return said
+
+    def is_like(self, other):
+        return (self.name, self.kind, self.nullable) == (other.name, other.kind, other.nullable)
+
+
+def some_value(chance, kind):
+    return chance.choice(["", "a", "b", "it's", "é"]) if kind == "text" else chance.randrange(6)
+
+
+def some_attribute(chance, name):
+    kind, nullable = chance.choice(list(DEFAULT_FILLS)), chance.random() < 0.4
+    default = None if nullable else DEFAULT_FILLS[kind]
+    return Attribute(name, kind, nullable, some_value(chance, kind) if chance.random() < 0.5 else default)
+
+
+# ---- conditions: each gives its text, the fields that it names, and whether values of the fields match
+
+
+def literal(value):
+    return "'" + value.replace("'", "''") + "'" if isinstance(value, str) else str(value)
+
+
+def some_test(chance, fields):
+    """fields: the type of each field by its name."""
+    name = chance.choice(sorted(fields))
+    value = some_value(chance, fields[name])
+    way = chance.randrange(9)
+    if way < 6:
+        sign = ("<", "<=", ">", ">=", "=", "!=")[way]
+        holds = (
+            lambda a: a.encode() < value.encode() if isinstance(a, str) else a < value,
+            lambda a: a.encode() <= value.encode() if isinstance(a, str) else a <= value,
+            lambda a: a.encode() > value.encode() if isinstance(a, str) else a > value,
+            lambda a: a.encode() >= value.encode() if isinstance(a, str) else a >= value,
+            lambda a: a == value,
+            lambda a: a != value,
+        )[way]
+        return f"{name} {sign} {literal(value)}", {name}, lambda row: row[name] is not None and holds(row[name])
+    if way == 6:
+        return f"{name} is null", {name}, lambda row: row[name] is None
+    values = [some_value(chance, fields[name]) for _ in range(chance.randrange(1, 4))]
+    listed = "(" + ", ".join(map(literal, values)) + ")"
+    if way == 7:
+        return f"{name} in {listed}", {name}, lambda row: row[name] is not None and row[name] in values
+    return f"{name} not in {listed}", {name}, lambda row: row[name] is not None and row[name] not in values
+
+
+def some_condition(chance, fields, depth=2):
+    way = chance.randrange(5) if depth else 4
+    if way == 0:
+        text, named, matches = some_condition(chance, fields, depth - 1)
+        return f"not ({text})", named, lambda row: not matches(row)
+    if way in (1, 2):
+        left, right = some_condition(chance, fields, depth - 1), some_condition(chance, fields, depth - 1)
+        word, both = (("and", all), ("or", any))[way - 1]
+        return f"({left[0]}) {word} ({right[0]})", left[1] | right[1], lambda row: both([left[2](row), right[2](row)])
+    return some_test(chance, fields)
+
+
+# ---- arrays
+
+
+class Array:
+    def __init__(self, chance, dense):
+        self.chance, self.dense = chance, dense
+        self.dims = [("x", -2, 3, 2), ("y", 0, 4, 3)][: chance.randrange(1, 3)]
+        self.cell_order, self.tile_order = chance.choice(["row", "col"]), chance.choice(["row", "col"])
+        self.schemas = [((0, 1), [some_attribute(chance, "v"), some_attribute(chance, "w")])]
+        self.writes = []  # (key, attributes, coordinates, row by name)
+        self.deletes = []  # (key, attributes that are named, whether a row matches)
+
+    def create(self):
+        types = {"x": "int8", "y": "int16"}
+        dims = [{"name": n, "type": types[n], "domain": [low, high], "extent": extent} for n, low, high, extent in self.dims]
+        said = {"cmd": "create", "at": 0, "kind": "dense" if self.dense else "sparse", "dims": dims}
+        said["attrs"] = [it.declared(self.chance) for it in self.schemas[0][1]]
+        return {**said, "cell_order": self.cell_order, "tile_order": self.tile_order}
+
+    def schema_at(self, at):
+        """The attributes of the schema with the greatest key up to a timestamp."""
+        return max((it for it in self.schemas if it[0][0] <= at), key=lambda it: it[0])[1]
+
+    def fields_at(self, at):
+        kinds = {name: "int64" for name, *_ in self.dims}
+        return {**kinds, **{it.name: it.kind for it in self.schema_at(at)}}
+
+    def some_box(self):
+        box = {}
+        for name, low, high, _ in self.dims:
+            if self.chance.random() < 0.6:
+                box[name] = sorted([self.chance.randint(low, high), self.chance.randint(low, high)])
+        return box
+
+    def cells_of(self, box):
+        """The cells of a box, in row order."""
+        bounds = [box.get(name, [low, high]) for name, low, high, _ in self.dims]
+        return list(itertools.product(*(range(low, high + 1) for low, high in bounds)))
+
+    def sorted_by(self, layout, cells):
+        if layout == "global":
+            tiles = lambda c: tuple((at - low) // extent for at, (_, low, _, extent) in zip(c, self.dims))
+            turned = lambda order, places: places if order == "row" else places[::-1]
+            return sorted(cells, key=lambda c: (turned(self.tile_order, tiles(c)), turned(self.cell_order, c)))
+        return sorted(cells, key=lambda c: c if layout == "row" else c[::-1])
+
+    # ---- commands: each gives its object and what is printed behind its name
+
+    def evolve(self, number):
+        at = self.chance.randrange(STAMPS)
+        attributes = self.schema_at(at)
+        dropped = [it.name for it in attributes if self.chance.random() < 0.3]
+        left = [it for it in attributes if it.name not in dropped]
+        free = [name for name in ("v", "w", "u") if name not in [it.name for it in left]]
+        added = [some_attribute(self.chance, name) for name in free if self.chance.random() < 0.7]
+        said = {"cmd": "evolve", "at": at, "drop": dropped, "add": [it.declared(self.chance) for it in added]}
+        if not left + added:
+            return said, ["refused", "NoAttrLeft"]
+        self.schemas.append(((at, number), left + added))
+        return said, ["ok", f"__{at}_{at}_{number:032x}"]
+
+    def write(self, number):
+        at = self.chance.randrange(STAMPS)
+        attributes, said = self.schema_at(at), {"cmd": "write", "at": at}
+        if self.dense:
+            box, layout = self.some_box(), self.chance.choice(["row", "col"])
+            cells = self.sorted_by(layout, self.cells_of(box))
+            said.update(box=box, layout=layout, cols={})
+        else:
+            cells = self.chance.sample(self.cells_of({}), self.chance.randrange(1, 5))
+            said["cols"] = {name: [cell[at] for cell in cells] for at, (name, *_) in enumerate(self.dims)}
+        rows = [{} for _ in cells]
+        for it in attributes:
+            for row in rows:
+                none = it.nullable and self.chance.random() < 0.3
+                row[it.name] = None if none else some_value(self.chance, it.kind)
+            said["cols"][it.name] = [row[it.name] for row in rows]
+        for cell, row in zip(cells, rows):
+            self.writes.append(((at, number), attributes, cell, row))
+        return said, ["ok", f"__{at}_{at}_{number:032x}_1"]
+
+    def delete(self, number):
+        at = self.chance.randrange(STAMPS)
+        text, named, matches = some_condition(self.chance, self.fields_at(at))
+        said = {"cmd": "delete", "at": at, "where": text}
+        if self.dense:
+            return said, ["refused", "DenseArray"]
+        self.deletes.append(((at, number), [it for it in self.schema_at(at) if it.name in named], matches))
+        return said, ["ok", f"__{at}_{at}_{number:032x}_1"]
+
+    def coordinates(self, cell):
+        return {name: at for at, (name, *_) in zip(cell, self.dims)}
+
+    def through(self, wanted, write):
+        """The row of a write as these attributes have it."""
+        _, attributes, cell, row = write
+        said = self.coordinates(cell)
+        for it in wanted:
+            said[it.name] = row[it.name] if any(it.is_like(other) for other in attributes) else it.fill
+        return said
+
+    def row_at(self, cell, begin, end):
+        """The row that a read of an interval has at a cell, before its condition, or None."""
+        attributes = self.schema_at(end)
+        writes = [it for it in self.writes if it[2] == cell and begin <= it[0][0] <= end]
+        if not writes:
+            return {**self.coordinates(cell), **{it.name: it.fill for it in attributes}} if self.dense else None
+        last = max(writes, key=lambda it: it[0])
+        for key, named, matches in self.deletes:
+            if begin <= key[0] <= end and last[0] < key and matches(self.through(named, last)):
+                return None
+        return self.through(attributes, last)
+
+    def read(self, number):
+        at = self.chance.randrange(STAMPS)
+        said, begin, end = {"cmd": "read", "at": at}, 0, at
+        if self.chance.random() < 0.3:
+            said["from"] = begin = self.chance.randrange(STAMPS)
+        if self.chance.random() < 0.3:
+            said["to"] = end = self.chance.randrange(STAMPS)
+        box, layout, matches = {}, "row", lambda row: True
+        if self.chance.random() < 0.5:
+            said["box"] = box = self.some_box()
+        if self.chance.random() < 0.6:
+            said["layout"] = layout = self.chance.choice(["row", "col", "global"])
+        if self.chance.random() < 0.5:
+            said["where"], _, matches = some_condition(self.chance, self.fields_at(end))
+        fields = list(self.fields_at(end))
+        if self.chance.random() < 0.4:
+            said["fields"] = fields = [self.chance.choice(fields) for _ in range(self.chance.randrange(1, 4))]
+        rows = [self.row_at(cell, begin, end) for cell in self.sorted_by(layout, self.cells_of(box))]
+        rows = [row for row in rows if row is not None and matches(row)]
+        return said, ["ok", str(len(rows)), "0"], [[shown(row[name]) for name in fields] for row in rows]
+
+
+def shown(value):
+    return "null" if value is None else f'"{value}"' if isinstance(value, str) else str(value)
+
+
+def script_of(seed):
+    chance = random.Random(seed)
+    array = Array(chance, dense=seed % 3 == 0)
+    commands, lines = [array.create()], [["0.1", "create", "ok"]]
+    ways = [array.write] * 5 + [array.read] * 4 + [array.delete] * (1 if array.dense else 3) + [array.evolve]
+    for number in range(2, COMMANDS + 2):
+        said, end, *rows = chance.choice(ways)(number)
+        commands.append(said)
+        lines.append([f"0.{number}", said["cmd"], *end])
+        lines += [row for several in rows for row in several]
+    script = "".join(json.dumps(it, ensure_ascii=False, separators=(",", ":")) + "\n" for it in commands)
+    return script.encode(), "".join("\t".join(line) + "\n" for line in lines).encode()
+
+
+def cases():
+    for seed in range(SCRIPTS):
+        script, out = script_of(seed)
+        yield f"seed {seed}", script, out, 0
