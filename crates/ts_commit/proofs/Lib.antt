@@ -1,0 +1,7 @@
+mod FragTexts
+mod LineLaws
+mod Merged
+mod Selected
+mod Sets
+mod Steps
+mod WorkedRows

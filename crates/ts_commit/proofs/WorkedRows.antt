@@ -1,0 +1,114 @@
+-- Worked rows: which fragments are usable, loaded, clipped, planned, merged and removed.
+use Rattle.std.proofs.Common.{◌≡◌, ℕ, ◌+◌, ℤ, pos, Bool, true, false, List, [], ◌∷◌, map, refl}
+use Rattle.ts_base.specs.declared.keys.Key.{Key}
+use Rattle.ts_base.specs.declared.keys.FragKey.{FragKey}
+use Rattle.ts_base.specs.declared.heads.Head.{Head}
+use Rattle.ts_commit.specs.declared.vacs.VacOf.{VacOf}
+use Rattle.ts_commit.specs.declared.vacs.Limits.{Limits}
+use Rattle.ts_commit.specs.declared.vacs.Planned.TheVariants as planned
+use Rattle.ts_commit.specs.Selections.{is_usable, usable, loaded, clipped_names, removal_set, names_merged}
+use Rattle.ts_commit.specs.Plans.{eligible, plan_of}
+
+abbrev key : ℕ → ℕ → Key
+key t id = record { t = t; id = id }
+
+abbrev frag : ℕ → ℕ → ℕ → FragKey
+frag t1 t2 id = record { t1 = t1; t2 = t2; id = id; v = 1 }
+
+-- a fragment of so many cells at the coordinates from one number to another, written in the schema of an identifier
+abbrev head : Bool → FragKey → ℕ → ℕ → ℕ → List Key → Head
+head dense f schema low high origins = record { frag = f; schema = key 0 schema; dense = dense; consolidated = false; low = pos low ∷ []; high = pos high ∷ []; cells = 2; origins = origins }
+
+-- two writes, stamped 1 and 5, and what a consolidation merged them into
+abbrev first : Bool → Head
+first dense = head dense (frag 1 1 2) 1 0 1 (key 1 2 ∷ [])
+
+abbrev second : Bool → Head
+second dense = head dense (frag 5 5 3) 1 1 2 (key 5 3 ∷ [])
+
+abbrev both : Bool → Head
+both dense = head dense (frag 1 5 4) 1 0 2 (key 1 2 ∷ key 5 3 ∷ [])
+
+abbrev all : Bool → List Head
+all dense = first dense ∷ both dense ∷ second dense ∷ []
+
+abbrev merged : List VacOf
+merged = record { frag = frag 1 5 4; names = frag 1 1 2 ∷ frag 5 5 3 ∷ [] } ∷ []
+
+abbrev limits : ℕ → Limits
+limits max = record { min = 2; max = max }
+
+-- ---- reads
+
+-- a merged fragment of a dense array is not usable where the interval cuts its span, one of a sparse array is
+dense_is_cut : is_usable 0 3 (both true) ≡ false
+dense_is_cut = refl
+
+sparse_is_cut : is_usable 0 3 (both false) ≡ true
+sparse_is_cut = refl
+
+-- a span that does not meet the interval is not usable, and nothing meets an empty interval
+beside_the_interval : usable 2 4 (first false ∷ second false ∷ []) ≡ []
+beside_the_interval = refl
+
+empty_interval : usable 5 1 (all false) ≡ []
+empty_interval = refl
+
+-- a fragment that the `.vac` of a usable one names is not loaded
+loads_merged : loaded 0 9 (all true) merged ≡ both true ∷ []
+loads_merged = refl
+
+-- a dense read that ends within the span loads the first write, and nothing is clipped
+loads_first : loaded 0 3 (all true) merged ≡ first true ∷ []
+loads_first = refl
+
+clips_none : clipped_names 0 3 (all true) ≡ []
+clips_none = refl
+
+-- the same read of a sparse array loads the merged fragment
+loads_cut : loaded 0 3 (all false) merged ≡ both false ∷ []
+loads_cut = refl
+
+-- once both writes are removed the dense read loads nothing, and the merged fragment is clipped
+loads_nothing : loaded 0 3 (both true ∷ []) merged ≡ []
+loads_nothing = refl
+
+clips_merged : clipped_names 0 3 (both true ∷ []) ≡ frag 1 5 4 ∷ []
+clips_merged = refl
+
+-- ---- plans
+
+takes_both : plan_of (first true ∷ second true ∷ []) [] (λ k. 1) 0 9 (limits 64) ≡ planned.Take (frag 1 1 2 ∷ frag 5 5 3 ∷ [])
+takes_both = refl
+
+-- of one fragment there is nothing to merge; nor of those that are merged
+takes_nothing : plan_of (first true ∷ []) [] (λ k. 1) 0 9 (limits 64) ≡ planned.Nothing 1
+takes_nothing = refl
+
+leaves_merged : plan_of (all false) merged (λ k. 1) 0 9 (limits 64) ≡ planned.Nothing 1
+leaves_merged = refl
+
+-- where the interval is empty nothing is eligible
+nothing_between : plan_of (all false) [] (λ k. 1) 9 0 (limits 64) ≡ planned.Nothing 0
+nothing_between = refl
+
+-- the first schema that two of the fragments share is taken, with as many fragments as may be
+shares_schema : plan_of (head false (frag 1 1 1) 7 0 0 [] ∷ head false (frag 2 2 2) 8 0 0 [] ∷ head false (frag 3 3 3) 9 0 0 [] ∷ head false (frag 4 4 4) 9 0 0 [] ∷ head false (frag 5 5 5) 8 0 0 [] ∷ head false (frag 6 6 6) 8 0 0 [] ∷ []) [] (λ k. 1) 0 9 (limits 2)
+    ≡ planned.Take (frag 2 2 2 ∷ frag 5 5 5 ∷ [])
+shares_schema = refl
+
+-- the weight is that of the common hull: 2^23 cells of one attribute are just not too many, one cell more is
+just_light : plan_of (head true (frag 1 1 1) 7 1 1 [] ∷ head true (frag 2 2 2) 7 0x800000 0x800000 [] ∷ []) [] (λ k. 1) 0 9 (limits 64) ≡ planned.Take (frag 1 1 1 ∷ frag 2 2 2 ∷ [])
+just_light = refl
+
+too_heavy : plan_of (head true (frag 1 1 1) 7 0 0 [] ∷ head true (frag 2 2 2) 7 0x800000 0x800000 [] ∷ []) [] (λ k. 1) 0 9 (limits 64) ≡ planned.Nothing 2
+too_heavy = refl
+
+-- ---- names
+
+removes_each_once : removal_set (record { frag = frag 1 6 9; names = frag 5 5 3 ∷ frag 6 6 7 ∷ [] } ∷ merged) ≡ frag 1 1 2 ∷ frag 5 5 3 ∷ frag 6 6 7 ∷ []
+removes_each_once = refl
+
+-- the names of a consolidation are its sources and what these were merged of
+merges_names : names_merged merged (frag 1 5 4 ∷ frag 6 6 7 ∷ []) ≡ frag 1 1 2 ∷ frag 1 5 4 ∷ frag 5 5 3 ∷ frag 6 6 7 ∷ []
+merges_names = refl

@@ -1,0 +1,4 @@
+pub mod Selections
+pub mod Asked
+pub mod Plans
+pub mod Vacs
