@@ -1,0 +1,107 @@
+//! The names among the files of a folder.
+ghost use Rattle.std.specs.Prelude.{◌≡◌, ◌++◌, IfOk, IfSome, All};
+ghost use Rattle.std.specs.List.Sorted.{IsStrictlySortedBy};
+ghost use Rattle.ts_base.specs.Names.{IsSpelled, name_cmp};
+ghost use Rattle.ts_base.specs.Spelling.{name_text, prefix_text};
+ghost use Rattle.ts_folder.specs.Listings.{IsListing, IsNameUnder};
+
+use crate::paths::PathText;
+use crate::trouble::Trouble;
+use std::alloc::{AllocError, Global};
+use std::collections::BTreeSet;
+use std::io::{ErrorKind, Read};
+use std::rt::Files;
+use ts_base::{Name, NameList, Prefix};
+
+/// How many bytes of a folder's listing are read at once. A file's name has at most 255 bytes.
+const PIECE: usize = 4096;
+
+/// The names of the objects under a prefix, ascending. A folder that is not there holds none.
+///
+/// A file whose name is no name of an object is passed over: a temporary file, or one that is none
+/// of the store's.
+pub(crate) fn names_under<R: Files>(
+    alloc: Global,
+    rt: &R,
+    root: &PathText,
+    prefix: Prefix,
+) -> Result<NameList, Trouble>
+    ensures spelled { IfOk result (All IsSpelled) }
+    ensures listing { IfOk result (IsListing prefix) }
+{
+    let path = root.folder(alloc, prefix)?;
+    match rt.open_dir(path.as_str()) {
+        Ok(mut files) => Ok(NameList::from_vec(read_names(alloc, &mut files, prefix)?)),
+        Err(error) if error.kind() == ErrorKind::NotFound => Ok(NameList::new(alloc)),
+        Err(error) => Err(error.into()),
+    }
+}
+
+/// Reads the listing of a folder to its end: names of files, each ended by a zero byte.
+fn read_names<D: Read>(alloc: Global, files: &mut D, prefix: Prefix) -> Result<Vec<Name>, Trouble>
+    ensures { IfOk result (λ names. IsListing prefix names.items) }
+{
+    let mut names = BTreeSet::new(alloc);
+    let mut piece = [0; PIECE];
+    for _ in 0..u64::MAX {
+        let count = files.read(&mut piece)?;
+        if count == 0 {
+            break;
+        }
+        add_names(alloc, &mut names, prefix, &piece[..count])?;
+    }
+    Ok(in_order(alloc, &names)?)
+}
+
+/// The names of a set, ascending.
+fn in_order(alloc: Global, names: &BTreeSet<Name>) -> Result<Vec<Name>, AllocError>
+    ensures all { IfOk result (λ list. list.items ≡ names.now.keys) }
+    ensures ascending { IsStrictlySortedBy name_cmp names.now.keys }
+{
+    names.iter().copied().collect(alloc)
+}
+
+/// Adds the names under a prefix that stand in a piece of a listing.
+fn add_names(
+    alloc: Global,
+    names: &mut BTreeSet<Name>,
+    prefix: Prefix,
+    piece: &[u8],
+) -> Result<(), AllocError>
+    requires { All (IsNameUnder prefix) names.old.keys }
+    ensures { All (IsNameUnder prefix) names.new.keys }
+{
+    for file in piece.split(|byte| *byte == 0) {
+        if let Some(name) = name_of(alloc, prefix, file)? {
+            add_name(names, prefix, name)?;
+        }
+    }
+    Ok(())
+}
+
+/// Adds a name that stands under the prefix.
+fn add_name(names: &mut BTreeSet<Name>, prefix: Prefix, name: Name) -> Result<(), AllocError>
+    requires name { IsNameUnder prefix name }
+    requires names { All (IsNameUnder prefix) names.old.keys }
+    ensures { All (IsNameUnder prefix) names.new.keys }
+{
+    names.insert(name)?;
+    Ok(())
+}
+
+/// The name of the object that a file under a prefix is, or None for a file that is no object.
+fn name_of(alloc: Global, prefix: Prefix, file: &[u8]) -> Result<Option<Name>, AllocError>
+    ensures spells { IfOk result (λ found. IfSome found (λ name. name_text name ≡ prefix_text prefix ++ file.now)) }
+    ensures under { IfOk result (λ found. IfSome found (IsNameUnder prefix)) }
+{
+    let Ok(file) = str::from_utf8(file) else {
+        return Ok(None);
+    };
+    let spelled = prefix.spell();
+    let mut text = String::from_str(alloc, spelled.text())?;
+    text.push_str(file)?;
+    match Name::parse(text.as_str()) {
+        Some(name) if name.under(prefix) => Ok(Some(name)),
+        _ => Ok(None),
+    }
+}
