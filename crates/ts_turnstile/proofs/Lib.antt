@@ -1,0 +1,10 @@
+pub mod Items
+pub mod Truths
+pub mod Growth
+pub mod Line
+pub mod Sights
+pub mod Owning
+pub mod Claiming
+pub mod Steps
+pub mod Seats
+pub mod Told

@@ -1,0 +1,8 @@
+use Rattle.std.proofs.Common.{◌≡◌, ℕ, Option, Some, List, [], ◌∷◌, ◌∙◌, sym, ap, subst}
+use Rattle.atomic_table.specs.Table.{rest}
+use Rattle.ts_turnstile.proofs.turnstile.Turnstile.lift.Goals as goal
+
+pub exchange-slot-requires : goal.exchange-slot-requires
+exchange-slot-requires g c =
+    let out = c.requires.out in
+    (c.requires.own, (Some out.0, out.1 ∙ ap (λ l. (0, Some out.0) ∷ l) (sym (ap rest out.1))))

@@ -1,0 +1,19 @@
+//! One store for several lanes: each call is made in turn and entered in one journal.
+//!
+//! A lane makes its calls through a pass of its own. The proof of the turnstile is a rule over what
+//! all passes have seen, which every atomic step keeps.
+#![tactic(auto)]
+
+mod calls;
+mod closed;
+mod lanes;
+mod pass;
+mod plays;
+mod rule;
+mod turnstile;
+mod view;
+
+pub use closed::Closed;
+pub use pass::Pass;
+pub use turnstile::Turnstile;
+pub use view::{Opening, View};

@@ -1,0 +1,39 @@
+//! Passes: the right to make the calls of a lane.
+ghost use Rattle.std.specs.Prelude.{◌≡◌, false, [], ◌∷◌, None};
+ghost use Rattle.ts_turnstile.specs.Views.{view_in};
+ghost use Rattle.ts_turnstile.specs.Places.{place_in};
+
+use crate::view::View;
+use atomic_table::Badge;
+
+/// The right to make the calls of a lane, and what was seen of the journal.
+///
+/// A pass that is dropped keeps its lane out, so that the turnstile can't be closed any more.
+#[derive(Drop)]
+pub struct Pass {
+    pub(crate) lane: u32,
+    pub(crate) place: Option<u64>,
+    pub(crate) badge: Badge<View>,
+    ghost one: { badge.views ≡ view_in badge.views ∷ [] },
+    ghost idle: { ((view_in badge.views).ticket ≡ None) × ((view_in badge.views).turn ≡ false) × ((view_in badge.views).spent ≡ false) × ((view_in badge.views).lane ≡ lane) },
+    ghost at: { place ≡ place_in lane (view_in badge.views).seen },
+}
+
+impl Pass {
+    ghost use Rattle.ts_turnstile.specs.Passes.{pass_view};
+
+    /// The lane whose calls the pass makes.
+    pub fn lane(&self) -> u32
+        ensures { result ≡ (pass_view self.now).lane }
+    {
+        self.lane
+    }
+
+    /// The place of its last entry in the journal, counted from 0. None exactly where its lane has
+    /// no entry.
+    pub fn place(&self) -> Option<u64>
+        ensures { result ≡ place_in (pass_view self.now).lane (pass_view self.now).seen }
+    {
+        self.place
+    }
+}
