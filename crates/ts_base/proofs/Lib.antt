@@ -1,6 +1,5 @@
 pub mod Cuts
 pub mod Ids
-pub mod Injective
 pub mod Reading
 pub mod ReadingNames
 pub mod ReadingParts

@@ -1,26 +1,18 @@
 -- A spelled key, part or name, cut into the pieces that it is read from.
-use Rattle.std.proofs.Common.{◌≡◌, ℕ, ◌+◌, ◌<◌, ◌≤◌, ◌^◌, List, [], ◌∷◌, ◌++◌, ◌==◌, false, length, drop, codes, decimal, slice_index, refl, sym, ap, ◌∙◌, inl, inr, arith}
+use Rattle.std.proofs.Common.{◌≡◌, ℕ, ◌<◌, ◌^◌, List, [], ◌∷◌, ◌++◌, ◌==◌, false, codes, decimal, refl, sym, ap, ◌∙◌, inl, inr, arith}
 use Rattle.std.proofs.lemmas.List.{append_assoc, append-nil}
 use Rattle.std.proofs.lemmas.Bool.{ne_eqb}
 use Rattle.ts_base.specs.declared.keys.FragKey.{FragKey}
 use Rattle.ts_base.specs.declared.keys.Key.{Key}
-use Rattle.ts_base.specs.declared.names.Part.{Part}
-use Rattle.ts_base.specs.declared.names.Part.TheVariants as part
-use Rattle.ts_base.specs.declared.names.Name.{Name}
-use Rattle.ts_base.specs.declared.names.Name.TheVariants as name
-use Rattle.ts_base.specs.Spelling.{FitsKey, FitsFrag, FitsName, FitsPart, id_text, span_text, stamp_text, frag_text, part_text, kind_text, mode_text, name_text}
-use Rattle.ts_base.proofs.Cuts.{Lacks, before, after, before_at, after_at, before_none, after_none, lacks_append, lacks_decimal, lacks_id}
-use Rattle.ts_base.proofs.Splits.{IsStop}
+use Rattle.ts_base.specs.Spelling.{FitsKey, FitsFrag, id_text, span_text, stamp_text, frag_text}
+use Rattle.ts_base.proofs.Cuts.{Lacks, before, after, before_at, after_at, lacks_append, lacks_decimal, lacks_id}
+use Rattle.ts_base.proofs.Splits.{IsStop, span_parts}
 
 -- a span before a text, cut at each `_`
 pub record CutsSpan (t1 t2 id : ℕ) (rest text : List ℕ) : Type 0 where
   pub first : before 95 (after 95 (after 95 text)) ≡ decimal t1
   pub second : before 95 (after 95 (after 95 (after 95 text))) ≡ decimal t2
   pub last : after 95 (after 95 (after 95 (after 95 text))) ≡ id_text id ++ rest
-
-span_parts : (t1 t2 id : ℕ) (rest : List ℕ)
-    → span_text t1 t2 id ++ rest ≡ 95 ∷ 95 ∷ (decimal t1 ++ 95 ∷ (decimal t2 ++ 95 ∷ (id_text id ++ rest)))
-span_parts t1 t2 id rest = simp append_assoc
 
 cuts_span : (t1 t2 id : ℕ) (rest text : List ℕ) → t1 < 2 ^ 64 → t2 < 2 ^ 64 → text ≡ span_text t1 t2 id ++ rest → CutsSpan t1 t2 id rest text
 cuts_span t1 t2 id rest text fits_1 fits_2 same =

@@ -10,7 +10,7 @@ use Rattle.ts_base.specs.declared.names.Name.{Name}
 use Rattle.ts_base.specs.declared.names.Name.TheVariants as name
 use Rattle.ts_base.specs.Spelling.{FitsKey, FitsFrag, FitsName, FitsPart, stamp_text, frag_text, part_text, kind_text, mode_text, name_text}
 use Rattle.ts_base.proofs.Cuts.{before, after, before_at, after_at}
-use Rattle.ts_base.proofs.Injective.{byte_at}
+use Rattle.ts_base.proofs.Splits.{byte_at}
 use Rattle.ts_base.proofs.Reading.{lacks_stamp, lacks_frag}
 
 -- a name in the folder of commits

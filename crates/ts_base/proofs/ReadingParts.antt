@@ -1,11 +1,11 @@
 -- The file of a part, cut into the pieces that it is read from.
-use Rattle.std.proofs.Common.{◌≡◌, ℕ, ◌<◌, ◌^◌, ◌==◌, false, List, [], ◌∷◌, ◌++◌, codes, decimal, slice_index, refl, sym, ap, ◌∙◌, arith}
+use Rattle.std.proofs.Common.{◌≡◌, ℕ, ◌<◌, ◌^◌, ◌==◌, false, List, [], ◌∷◌, ◌++◌, codes, decimal, refl, sym, ap, ◌∙◌, arith}
 use Rattle.std.proofs.lemmas.List.{append_assoc}
 use Rattle.ts_base.specs.declared.names.Part.{Part}
 use Rattle.ts_base.specs.declared.names.Part.TheVariants as part
 use Rattle.ts_base.specs.Spelling.{FitsPart, part_text}
 use Rattle.ts_base.proofs.Cuts.{Lacks, before, after, before_at, after_at, before_none, after_none, lacks_append, lacks_decimal}
-use Rattle.ts_base.proofs.Injective.{byte_at}
+use Rattle.ts_base.proofs.Splits.{byte_at}
 
 -- what stands before the first `_` of a file
 abbrev pub column_of : Part → List ℕ

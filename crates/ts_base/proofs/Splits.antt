@@ -1,18 +1,20 @@
 -- A text of a number, an identifier and the like that another text follows: its parts are told apart.
-use Rattle.std.proofs.Common.{◌≡◌, ℕ, ◌<◌, ◌≤◌, ◌^◌, List, [], ◌∷◌, ◌++◌, length, drop, codes, decimal, refl, sym, ap, ◌∙◌, arith}
+use Rattle.std.proofs.Common.{◌≡◌, ℕ, ◌<◌, ◌≤◌, ◌^◌, List, [], ◌∷◌, ◌++◌, length, drop, codes, decimal, slice_index, refl, sym, ap, ◌∙◌, arith}
 use Rattle.std.specs.Char.{digit_value}
 use Rattle.std.specs.Str.Parse.{AllDigits}
 use Rattle.std.proofs.lemmas.List.{append_assoc}
 use Rattle.std.proofs.lemmas.Fmt.{decimal_is_IsNumeral, decimal_injective}
-use Rattle.ts_base.specs.declared.keys.Key.{Key}
 use Rattle.ts_base.specs.declared.keys.FragKey.{FragKey}
-use Rattle.ts_base.specs.Keys.{frag_of}
-use Rattle.ts_base.specs.Spelling.{id_text, span_text, stamp_text, frag_text, FitsKey, FitsFrag}
+use Rattle.ts_base.specs.Spelling.{id_text, span_text, frag_text, FitsFrag}
 use Rattle.ts_base.proofs.Ids.{length_of_id, id_injective}
 
 -- a byte that ends a number
 abbrev pub IsStop : ℕ → Type 0
 IsStop c = 10 ≤ digit_value c
+
+-- one text has one byte at a place
+pub byte_at : (place : ℕ) {xs ys : List ℕ} → xs ≡ ys → slice_index xs place ≡ slice_index ys place
+byte_at place same = ap (λ (text : List ℕ). slice_index text place) same
 
 -- two parts as long as each other, in front of the rest
 pub front_split : (xs ys r s : List ℕ) → length xs ≡ length ys → xs ++ r ≡ ys ++ s → (xs ≡ ys) × (r ≡ s)
@@ -55,7 +57,7 @@ id_split a b r s fits_a fits_b same =
     (id_injective a b fits_a fits_b parts.0, parts.1)
 
 -- a span in front of a text, part by part
-span_parts : (t1 t2 id : ℕ) (r : List ℕ) → span_text t1 t2 id ++ r ≡ 95 ∷ 95 ∷ (decimal t1 ++ 95 ∷ (decimal t2 ++ 95 ∷ (id_text id ++ r)))
+pub span_parts : (t1 t2 id : ℕ) (r : List ℕ) → span_text t1 t2 id ++ r ≡ 95 ∷ 95 ∷ (decimal t1 ++ 95 ∷ (decimal t2 ++ 95 ∷ (id_text id ++ r)))
 span_parts t1 t2 id r = simp append_assoc
 
 -- two fragments' spans, and what follows each
@@ -81,12 +83,3 @@ frag_split f g c d r s fits_f fits_g stop_c stop_d same =
     let spans = span_split f g (95 ∷ (decimal f.v ++ c ∷ r)) (95 ∷ (decimal g.v ++ d ∷ s)) fits_f fits_g whole in
     let version = decimal_split f.v g.v c d r s (omega (arith, fits_f.v)) (omega (arith, fits_g.v)) stop_c stop_d (ap (drop 1) spans.3) in
     (λ i. record { t1 = spans.0 i; t2 = spans.1 i; id = spans.2 i; v = version.0 i }, version.1)
-
--- two keys of schemas or leases, and what follows each
-pub stamp_split : (k l : Key) (r s : List ℕ) → FitsKey k → FitsKey l → stamp_text k ++ r ≡ stamp_text l ++ s → (k ≡ l) × (r ≡ s)
-stamp_split k l r s fits_k fits_l same =
-    let spans = span_split (frag_of k) (frag_of l) r s (fits_frag_of k fits_k) (fits_frag_of l fits_l) same in
-    (λ i. record { t = spans.0 i; id = spans.2 i }, spans.3)
-  where
-    fits_frag_of : (k : Key) → FitsKey k → FitsFrag (frag_of k)
-    fits_frag_of k fits = record { t1 = fits.t; t2 = fits.t; id = fits.id; v = omega arith }

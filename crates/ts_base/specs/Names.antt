@@ -1,7 +1,7 @@
 -- Names of objects: their order, which stand under a prefix, and which have a spelling.
 use Rattle.std.specs.Prelude.{◌≡◌, ℕ, ◌≤◌, Bool, true, false}
 use Rattle.std.specs.declared.cmp.Ordering.{Ordering}
-use Rattle.std.specs.Ordering.{is_lt, is_eq}
+use Rattle.std.specs.Ordering.{is_eq}
 use Rattle.ts_base.specs.declared.keys.Key.{Key}
 use Rattle.ts_base.specs.declared.keys.FragKey.{FragKey}
 use Rattle.ts_base.specs.declared.names.Part.{Part}
@@ -12,18 +12,12 @@ use Rattle.ts_base.specs.declared.names.Name.{Name}
 use Rattle.ts_base.specs.declared.names.Name.TheVariants as name
 use Rattle.ts_base.specs.declared.names.Prefix.{Prefix}
 use Rattle.ts_base.specs.declared.names.Prefix.TheVariants as prefix
-use Rattle.ts_base.specs.declared.names.Place.{Place}
-use Rattle.ts_base.specs.declared.names.Place.TheVariants as place
 use Rattle.ts_base.specs.contracts.names.NameOrd.TheImpl as derived
 use Rattle.ts_base.specs.Keys.{frag_eq, frag_of}
 
 -- names are compared by kind, and then by content
 abbrev pub name_cmp : Name → Name → Ordering
 name_cmp = (derived.ghosts).cmp
-
--- n is below m
-abbrev pub name_lt : Name → Name → Bool
-name_lt n m = is_lt (name_cmp n m)
 
 -- n and m are one name
 abbrev pub name_eq : Name → Name → Bool
@@ -32,10 +26,6 @@ name_eq n m = is_eq (name_cmp n m)
 -- the commit of a fragment
 abbrev pub wrt_of : FragKey → Name
 wrt_of f = name.Commit f kind.Wrt
-
--- the list of the fragments that went into a fragment
-abbrev pub vac_of : FragKey → Name
-vac_of f = name.Commit f kind.Vac
 
 -- the delete of a key
 abbrev pub del_of : Key → Name
@@ -76,13 +66,3 @@ abbrev pub IsSpelled : Name → Type 0
 IsSpelled (name.Commit f kind) = IsSpelledFrag f × IsSpelledKind f kind
 IsSpelled (name.Part f part) = IsSpelledFrag f × IsSpelledPart part
 IsSpelled _ = Unit {0}
-
--- the prefix has a spelling
-abbrev pub IsSpelledPrefix : Prefix → Type 0
-IsSpelledPrefix (prefix.Fragment f) = IsSpelledFrag f
-IsSpelledPrefix _ = Unit {0}
-
--- the place has a spelling
-abbrev pub IsSpelledPlace : Place → Type 0
-IsSpelledPlace (place.Name n) = IsSpelled n
-IsSpelledPlace (place.Prefix p) = IsSpelledPrefix p

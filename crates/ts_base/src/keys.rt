@@ -1,5 +1,6 @@
 //! Keys of schemas, writes and deletes, and of fragments.
 ghost use Rattle.std.specs.Prelude.{◌≡◌};
+ghost use Rattle.ts_base.specs.Keys.{is_within};
 
 use crate::lists::Sequence;
 
@@ -13,6 +14,15 @@ pub struct Key {
     pub t: u64,
     /// The identifier: 128 bits that no other key of the array has.
     pub id: u128,
+}
+
+impl Key {
+    /// Whether the key is stamped in the interval from `from` to `to`, which both count as inside.
+    pub fn is_within(&self, from: u64, to: u64) -> bool
+        ensures { result ≡ is_within from to self.now }
+    {
+        from <= self.t && self.t <= to
+    }
 }
 
 /// The key of a fragment: the span of its timestamps, its identifier and its format version.

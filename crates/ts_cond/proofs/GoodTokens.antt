@@ -152,7 +152,7 @@ small_case second false c cs e some other =
     let wide : 128 ≤ c = grind (arith, e) in
     wide_stays second c (encodes cs) wide ∙ ap (λ more. encode c ++ more) other ∙ sym (ap encodes (stays second c cs wide))
 
--- what is left of characters, where quotes are newly_named out, are characters
+-- what is left of characters, where quotes are taken out, are characters
 unquoted_encodes : (second : Bool) (cs : List ℕ) → unquoted second (encodes cs) ≡ encodes (unquoted second cs)
 unquoted_encodes second [] = refl
 unquoted_encodes second (c ∷ cs) = small_case second (nat_lt c 128) c cs refl (unquoted_encodes true cs) (unquoted_encodes false cs)

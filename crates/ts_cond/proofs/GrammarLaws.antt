@@ -9,7 +9,7 @@ use Rattle.ts_cond.specs.declared.nodes.CondOp.{CondOp}
 use Rattle.ts_cond.specs.Grammar.{Value, number, text, blob, kind_of, val_of, Cond, term, or, Term, fact, and, Fact, not_of, paren, compare, member, is_null, values_then, cond_then, term_then, fact_then, all_judged, terms_of, facts_of, test_in}
 use Rattle.ts_cond.specs.Limits.{depth_of, term_depth, fact_depth, nodes_of, terms_nodes, term_nodes, facts_nodes, fact_nodes}
 use Rattle.ts_cond.specs.Machine.{Group, Reading, stands, moved, valued, is_inside, judges, meets, with_fact, with_not, gathered, depth_in, under, may_end, list_begins, choice_begins, start}
-use Rattle.ts_cond.specs.Tests.{Test, Tests}
+use Rattle.ts_cond.specs.Tests.{Test}
 use Rattle.ts_cond.specs.Tests as tree
 use Rattle.ts_cond.specs.Tokens.{Kind, Open, Close, Comma, And, Or, Not, In, Is, Null, Compares, Label}
 

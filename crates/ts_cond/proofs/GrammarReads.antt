@@ -11,7 +11,7 @@ use Rattle.ts_cond.specs.Causes.{IsReadAs}
 use Rattle.ts_cond.specs.Grammar.{Value, kind_of, Cond, term, or, Term, fact, and, Fact, not_of, paren, compare, member, is_null, cond_then, all_judged, terms_of, facts_of, test_in, AreKinds, IsSpelled, concluded, meant}
 use Rattle.ts_cond.specs.Limits.{depth_of, nodes_of, IsWithin}
 use Rattle.ts_cond.specs.Machine.{Reading, stands, moved, is_inside, within, after, depth_in, may_end, reads, start, closed, gathered, first, named_from, newly_named, newly, meets_by, meets, suits, judged, judges, settled, settled_by, parsed}
-use Rattle.ts_cond.specs.Tests.{Test, Condition}
+use Rattle.ts_cond.specs.Tests.{Test}
 use Rattle.ts_cond.specs.Tests as tree
 use Rattle.ts_cond.specs.Tokens.{Kind, Scan, End, Bad, Then, tokens_of}
 use Rattle.ts_cond.proofs.GrammarLaws.{reading, goes, deepest, largest, tree_lands}

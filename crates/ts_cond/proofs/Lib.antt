@@ -8,7 +8,6 @@ pub mod NodeSteps
 pub mod Pairs
 pub mod ParsedLaws
 pub mod PickLemmas
-pub mod Texts
 pub mod TreeLaws
 pub mod Trees
 pub mod Words

@@ -1,4 +1,4 @@
--- The fields that were naming go on fitting as more are named, and a value that clashes with none is of its field's kind.
+-- The fields that were named go on fitting as more are named, and a value that clashes with none is of its field's kind.
 use Rattle.std.proofs.Common.{◌≡◌, ℕ, zero, suc, ◌+◌, ◌<◌, ◌≤◌, Bool, true, false, not, ◌&&◌, ◌||◌, nat_eq, if◌then◌else◌, List, [], ◌∷◌, ◌++◌, length, take, drop, slice_get, Option, Some, None, ◌⊎◌, inl, inr, refl, sym, ap, ◌∙◌, subst, arith, append_assoc, length-append}
 use Rattle.std.proofs.lemmas.List.{append-nil}
 use Rattle.std.specs.Cmp.Lexicographic.{pointwise}
@@ -123,7 +123,7 @@ in_turn_join front [] ys some more = subst (λ zs. InTurn FitsField zs ys) (appe
 in_turn_join front (x ∷ xs) ys some more =
     (some.0, in_turn_join (front ++ x ∷ []) xs ys some.1 (subst (λ zs. InTurn FitsField zs ys) (sym (append_assoc front (x ∷ []) xs)) more))
 
--- ---- fields that were naming
+-- ---- fields that were named
 
 -- the fields that were named and those that were not fit one behind the other, and they are few
 pub record NamingFits (naming : Naming) : Type 0 where
@@ -245,7 +245,7 @@ judged_case : (b : Bool) (field : CondField) (naming : Naming)
 judged_case true field naming clear = (refl, refl)
 judged_case false field naming clear = absurd (some_first naming.clash (fault.TypeClash field.name) clear)
 
--- the naming fields are as they were, and the value is of the field's kind, if there is the field
+-- the named fields are as they were, and the value is of the field's kind, if there is the field
 pub judges_clear : (got : Option CondField) (kind : Kind) (naming : Naming) → (judged got kind naming).clash ≡ None
     → (judged got kind naming ≡ naming) × ((f : CondField) → got ≡ Some f → suits f.ty kind ≡ true)
 judges_clear None kind naming clear = (refl, λ f none. absurd (let no_field : None ≡ Some f = none in cc))

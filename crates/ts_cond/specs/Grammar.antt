@@ -7,7 +7,7 @@ use Rattle.ts_cond.specs.declared.fields.CondField.{CondField}
 use Rattle.ts_cond.specs.declared.naming.Naming.{Naming}
 use Rattle.ts_cond.specs.declared.nodes.CondOp.{CondOp}
 use Rattle.ts_cond.specs.Machine.{meets, judges, gathered}
-use Rattle.ts_cond.specs.Tests.{Test, Tests, Condition}
+use Rattle.ts_cond.specs.Tests.{Test, Condition}
 use Rattle.ts_cond.specs.Tests as tree
 use Rattle.ts_cond.specs.Tokens.{Kind, Open, Close, Comma, And, Or, Not, In, Is, Null, Compares, Label, Number, Text, Blob, Scan, End, Then, tokens_of, unquoted, unhexed}
 
@@ -76,7 +76,7 @@ abbrev pub all_judged : ℕ → List Value → Naming → Naming
 all_judged field [] naming = naming
 all_judged field (v ∷ vs) naming = all_judged field vs (judges field (kind_of v) naming)
 
--- what a tree means, where these fields were naming before: a test, or a list of them, and the fields that were naming then
+-- what a tree means, where these fields were named before: a test, or a list of them, and the fields that are named by then
 abbrev mutual
   pub terms_of : Cond → Naming → List Test × Naming
   terms_of (term t) naming = (gathered tree.All (facts_of t naming).0 ∷ [], (facts_of t naming).1)

@@ -30,7 +30,7 @@ abbrev pub named_from : ℕ → List ℕ → List CondField → Option ℕ
 named_from place name [] = None
 named_from place name (field ∷ fields) = if pointwise nat_eq field.name name then Some place else named_from (place + 1) name fields
 
--- the field at this place, newly_named out of those that were not named
+-- the field at this place is taken out of those that were not named
 abbrev pub newly_named : ℕ → Option CondField → Naming → Naming
 newly_named place (Some field) naming = record { used = naming.used ++ field ∷ []; unused = take place naming.unused ++ drop (place + 1) naming.unused; clash = naming.clash }
 newly_named place None naming = naming
@@ -108,7 +108,7 @@ with_term l = record { terms = l.terms ++ gathered tree.All l.facts ∷ []; fact
 abbrev pub with_not : Group → Group
 with_not l = record { terms = l.terms; facts = l.facts; nots = suc l.nots; depth = l.depth }
 
--- what was read: what is expected next; the innermost group and those around it; the nodes; the fields that were naming; and of the test that is not whole its field, operator, negation and values
+-- what was read: what is expected next; the innermost group and those around it; the nodes; the fields that were named; and of the test that is not whole its field, operator, negation and values
 pub record Reading : Type 0 where
   pub expects : Expect
   pub group : Group

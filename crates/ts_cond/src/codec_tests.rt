@@ -82,7 +82,7 @@ fn a_condition_is_spelled_and_read_byte_for_byte(rt: HostRuntime) -> Result<(), 
 }
 
 #[test]
-fn each_broken_field_of_a_condition_gives_its_offset(rt: HostRuntime) -> Result<(), Fail> {
+fn a_broken_field_of_a_condition_gives_its_offset(rt: HostRuntime) -> Result<(), Fail> {
     let alloc = rt.alloc();
     for change in &CHANGES {
         let Change(at, byte, broken) = change;

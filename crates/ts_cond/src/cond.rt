@@ -1,5 +1,4 @@
 //! Conditions.
-ghost use Rattle.std.specs.Prelude.{◌≡◌};
 
 use crate::fields::CondFieldList;
 use crate::nodes::CondNode;

@@ -1,5 +1,5 @@
 //! Reading the object of a condition.
-ghost use Rattle.std.specs.Prelude.{◌≡◌, ◌≤◌, length, IfOk};
+ghost use Rattle.std.specs.Prelude.{◌≤◌, length};
 ghost use Rattle.ts_wire.specs.Reading.{ReadsOr, DecodesOr};
 ghost use Rattle.ts_cond.specs.CondTexts.{tree_at, cond_at, cond_of};
 ghost use Rattle.ts_cond.specs.Views.{test_of};
@@ -12,7 +12,7 @@ use crate::node_reading::read_node;
 use crate::nodes::CondNode;
 use crate::tree_reading::Walked;
 use std::alloc::Global;
-use ts_wire::{Cursor, Damaged, Kind, ReadFault, unwrap_body};
+use ts_wire::{Cursor, Kind, ReadFault, kept, unwrap_body};
 
 /// The condition that an object spells.
 #[tactic(auto, unfolding(crate::specs::CondTexts::cond_of, ts_wire::specs::Envelope::object_at))]
@@ -52,10 +52,6 @@ fn read_tree(
         last: 0,
     };
     let root = read_node(alloc, fields, 67, &mut walked, cursor)?;
-    if walked.named as u64 == fields.len() {
-        Ok(root)
-    } else {
-        let at = walked.last;
-        Err(ReadFault::Damaged(Damaged { at }))
-    }
+    let complete = walked.named as u64 == fields.len();
+    Ok(kept(walked.last, root, complete)?)
 }

@@ -74,6 +74,7 @@ fn dim_code(dim: Option<u8>) -> u8
     }
 }
 
+// Writes a node. The calls nest as high as the node is: see `CondNode`.
 #[cycle(spelled)]
 fn write_node(scribe: &mut Scribe, node: &CondNode) -> Result<(), OutOfMemory>
     ensures { OnOk result (scribe.new ≡ scribe.old ++ node_bytes (test_of node.now)) }

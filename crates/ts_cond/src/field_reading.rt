@@ -1,5 +1,5 @@
 //! Reading the fields of a condition's object.
-ghost use Rattle.std.specs.Prelude.{◌≡◌, [], length};
+ghost use Rattle.std.specs.Prelude.{◌≡◌, []};
 ghost use Rattle.ts_wire.specs.Place.{items_at};
 ghost use Rattle.ts_wire.specs.Reading.{Reads, ReadsOr};
 ghost use Rattle.std.specs.Ordering.{is_eq};
@@ -13,7 +13,7 @@ use std::cmp::Ordering;
 use ts_base::{Label, Val, ValType};
 use ts_schema::read_type;
 use ts_value::{compare, default_fill, fits};
-use ts_wire::{Cursor, Damaged, ReadFault};
+use ts_wire::{Cursor, Damaged, ReadFault, kept};
 
 /// Reads the number of fields, and then the fields.
 #[tactic(auto, unfolding(crate::specs::CondTexts::fields_at))]
@@ -30,11 +30,7 @@ fn read_field_count(cursor: &mut Cursor) -> Result<u8, Damaged>
 {
     let at = cursor.at();
     let count = cursor.u8()?;
-    if 1 <= count && count <= 72 {
-        Ok(count)
-    } else {
-        Err(Damaged { at })
-    }
+    kept(at, count, 1 <= count && count <= 72)
 }
 
 #[tactic(auto, using(ts_wire::proofs::Loop::items_loop))]
@@ -81,11 +77,7 @@ fn read_name(front: &CondFieldList, cursor: &mut Cursor) -> Result<Label, Damage
 {
     let at = cursor.at();
     let name = cursor.label()?;
-    if has_field(front.as_slice(), &name) {
-        Err(Damaged { at })
-    } else {
-        Ok(name)
-    }
+    kept(at, name, !has_field(front.as_slice(), &name))
 }
 
 // Whether one of the fields has the name.
@@ -116,11 +108,7 @@ fn read_field_type(dim: Option<u8>, cursor: &mut Cursor) -> Result<ValType, Dama
 {
     let at = cursor.at();
     let ty = read_type(cursor)?;
-    if may_be_of(dim, ty) {
-        Ok(ty)
-    } else {
-        Err(Damaged { at })
-    }
+    kept(at, ty, may_be_of(dim, ty))
 }
 
 fn may_be_of(dim: Option<u8>, ty: ValType) -> bool
@@ -138,11 +126,7 @@ fn read_nullable(dim: Option<u8>, cursor: &mut Cursor) -> Result<bool, Damaged>
 {
     let at = cursor.at();
     let nullable = cursor.bool()?;
-    if may_be_null(dim, nullable) {
-        Ok(nullable)
-    } else {
-        Err(Damaged { at })
-    }
+    kept(at, nullable, may_be_null(dim, nullable))
 }
 
 fn may_be_null(dim: Option<u8>, nullable: bool) -> bool
@@ -166,11 +150,8 @@ fn read_fill(
 {
     let at = cursor.at();
     let fill = cursor.val(alloc)?;
-    if may_fill(alloc, dim, ty, nullable, &fill) {
-        Ok(fill)
-    } else {
-        Err(ReadFault::Damaged(Damaged { at }))
-    }
+    let fitting = may_fill(alloc, dim, ty, nullable, &fill);
+    Ok(kept(at, fill, fitting)?)
 }
 
 fn may_fill(alloc: Global, dim: Option<u8>, ty: ValType, nullable: bool, fill: &Val) -> bool

@@ -1,5 +1,4 @@
 //! What a condition knows of the fields that it names.
-ghost use Rattle.std.specs.Prelude.{◌≡◌, IfOk};
 
 use std::alloc::Global;
 use ts_base::{Duplicate, Label, OutOfMemory, Sequence, Val, ValType};

@@ -1,6 +1,6 @@
 //! Reading a condition token by token: what may stand where, and the tree that it spells.
-ghost use Rattle.std.specs.Prelude.{◌≡◌, ◌+◌, ◌++◌, ◌≤◌, ◌<◌, ◌∷◌, List, [], length, map, IfOk, OnOk};
-ghost use Rattle.ts_cond.specs.Machine.{depth_in, start, group_at, gathered, under, closed, with_fact, with_term, with_not, stands, fact_ends, opened, left, shut, denied, named, valued, moved, step, within, is_inside, list_begins, choice_begins};
+ghost use Rattle.std.specs.Prelude.{◌≡◌, ◌+◌, ◌≤◌, ◌<◌, length, map, IfOk, OnOk};
+ghost use Rattle.ts_cond.specs.Machine.{depth_in, start, group_at, gathered, under, closed, stands, fact_ends, opened, left, shut, denied, named, valued, moved, step, within, is_inside};
 ghost use Rattle.ts_cond.specs.Tests as tree;
 ghost use Rattle.ts_cond.specs.Tokens as tokens;
 ghost use Rattle.ts_cond.specs.Tokens.{unquoted, unhexed};

@@ -56,6 +56,7 @@ enum Seen<'a> {
     Nothing,
 }
 
+// Whether a node holds of a cell. The calls nest as high as the node is: see `CondNode`.
 #[cycle(sizes)]
 fn node_holds(node: &CondNode, sight: &Sight) -> bool
     ensures { result ≡ holds (value_in sight.now) (test_of node.now) }

@@ -14,7 +14,7 @@ use crate::tags::{Tag, read_tag};
 use crate::tree_reading::{Walked, read_compare, read_membership, read_null};
 use std::alloc::Global;
 use ts_base::{Boxed, OutOfMemory};
-use ts_wire::{Cursor, Damaged, ReadFault};
+use ts_wire::{Cursor, Damaged, ReadFault, kept};
 
 /// Reads a node that is so high at most, and the nodes in it.
 #[cycle(walking)]
@@ -128,11 +128,7 @@ fn read_list_count(cursor: &mut Cursor) -> Result<u16, Damaged>
 {
     let at = cursor.at();
     let count = cursor.u16()?;
-    if 2 <= count {
-        Ok(count)
-    } else {
-        Err(Damaged { at })
-    }
+    kept(at, count, 2 <= count)
 }
 
 #[cycle(walking)]

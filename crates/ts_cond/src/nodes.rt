@@ -1,5 +1,4 @@
 //! The trees of conditions.
-ghost use Rattle.std.specs.Prelude.{◌≡◌, IfOk};
 
 use std::alloc::Global;
 use ts_base::{Boxed, Duplicate, OutOfMemory, Row, Sequence, Val};
@@ -22,6 +21,9 @@ pub enum CondOp {
 }
 
 /// A node of a condition's tree. A field is named by its place in the condition's list of fields.
+///
+/// A tree that was read from a text or an object is at most 67 nodes high. What goes over a tree by
+/// calling itself on the nodes in a node nests no deeper.
 #[derive(Debug, Drop, PartialEq, Eq)]
 pub enum CondNode {
     /// Each of these holds.

@@ -5,7 +5,7 @@ ghost use Rattle.ts_cond.specs.CondTexts.{tag_code, tag_of, tag_at, tag_bytes, o
 
 use crate::nodes::CondOp;
 use ts_base::OutOfMemory;
-use ts_wire::{Cursor, Damaged, Scribe};
+use ts_wire::{Cursor, Damaged, Scribe, kept};
 
 /// What a node of a condition's tree is.
 #[derive(Clone, Copy, Debug, PartialEq, Eq)]
@@ -53,11 +53,8 @@ pub fn read_tag(cursor: &mut Cursor, nodes: u16) -> Result<Tag, Damaged>
 {
     let at = cursor.at();
     let code = cursor.u8()?;
-    if 1 <= code && code <= 6 && nodes < 1024 {
-        Ok(tag_of(code))
-    } else {
-        Err(Damaged { at })
-    }
+    let code = kept(at, code, 1 <= code && code <= 6 && nodes < 1024)?;
+    Ok(tag_of(code))
 }
 
 fn tag_of(code: u8) -> Tag
@@ -97,11 +94,8 @@ pub fn read_op(cursor: &mut Cursor) -> Result<CondOp, Damaged>
 {
     let at = cursor.at();
     let code = cursor.u8()?;
-    if code <= 5 {
-        Ok(op_of(code))
-    } else {
-        Err(Damaged { at })
-    }
+    let code = kept(at, code, code <= 5)?;
+    Ok(op_of(code))
 }
 
 fn op_of(code: u8) -> CondOp

@@ -1,13 +1,13 @@
 //! The tokens of a condition's text.
-ghost use Rattle.std.specs.Prelude.{◌≡◌, ◌≤◌, ◌+◌, ◌*◌, ◌^◌, ℕ, true, false, length, take, IfSome, IfNone};
+ghost use Rattle.std.specs.Prelude.{◌≡◌, ◌≤◌, ◌+◌, ◌*◌, ◌^◌, true, false, length, take, IfSome, IfNone};
 ghost use Rattle.ts_cond.specs.Tokens.{front, starts, run_from, run_of, word_len, digits_of, begins_with, with_equals, unequal, decimal_from, number, negative, end_from, text, text_to, reserved_kind, kind_by, word, is_blob, blob_or_word};
 ghost use Rattle.ts_cond.specs.Spelled.{seen_front, kind_of, passes};
 ghost use Rattle.ts_base.specs.Labels.{label_of, is_word_byte};
-ghost use Rattle.std.specs.Str.{is_utf8};
 ghost use Rattle.std.specs.Char.{is_ascii_digit, is_ascii_hexdigit};
 
 use crate::nodes::CondOp;
 use ts_base::Label;
+use ts_value::is_text;
 
 /// A token: a mark, a word, a label, or a value.
 #[derive(Debug, Drop)]
@@ -250,16 +250,6 @@ fn text_to(end: usize, behind: &[u8]) -> Option<Front<'_>>
         })
     } else {
         None
-    }
-}
-
-#[tactic(auto, using(crate::proofs::Texts::is_utf8_true, crate::proofs::Texts::is_utf8_false))]
-fn is_text(bytes: &[u8]) -> bool
-    ensures { result ≡ is_utf8 bytes.now }
-{
-    match str::from_utf8(bytes) {
-        Ok(_) => true,
-        Err(_) => false,
     }
 }
 

@@ -11,7 +11,7 @@ use crate::tags::read_op;
 use std::alloc::Global;
 use ts_base::{Row, Val};
 use ts_value::fits;
-use ts_wire::{Cursor, Damaged, ReadFault};
+use ts_wire::{Cursor, Damaged, ReadFault, kept};
 
 /// What was read of a tree.
 #[derive(Clone, Copy, Debug)]
@@ -40,13 +40,11 @@ fn read_index(
 {
     let at = cursor.at();
     let field = cursor.u8()?;
-    if (field as u64) < fields.len() && field <= walked.named {
-        walked.named = more_named(walked.named, field);
-        walked.last = at;
-        Ok(field)
-    } else {
-        Err(Damaged { at })
-    }
+    let known = (field as u64) < fields.len() && field <= walked.named;
+    let field = kept(at, field, known)?;
+    walked.named = more_named(walked.named, field);
+    walked.last = at;
+    Ok(field)
 }
 
 // How many fields are named once this one is.
@@ -80,11 +78,8 @@ fn read_operand(
 {
     let at = cursor.at();
     let val = cursor.val(alloc)?;
-    if suits(fields.at(field as u64), &val) {
-        Ok(val)
-    } else {
-        Err(ReadFault::Damaged(Damaged { at }))
-    }
+    let suiting = suits(fields.at(field as u64), &val);
+    Ok(kept(at, val, suiting)?)
 }
 
 // Reads a value of a membership behind others, where so many nodes and values stand before them.
@@ -104,11 +99,8 @@ fn read_member(
 {
     let at = cursor.at();
     let val = cursor.val(alloc)?;
-    if suits(fields.at(field as u64), &val) && front.len() < 1024 - nodes as u64 {
-        Ok(val)
-    } else {
-        Err(ReadFault::Damaged(Damaged { at }))
-    }
+    let suiting = suits(fields.at(field as u64), &val) && front.len() < 1024 - nodes as u64;
+    Ok(kept(at, val, suiting)?)
 }
 
 #[tactic(auto, unfolding(crate::specs::CondTexts::member_count_at))]
@@ -117,11 +109,7 @@ fn read_member_count(cursor: &mut Cursor) -> Result<u16, Damaged>
 {
     let at = cursor.at();
     let count = cursor.u16()?;
-    if 1 <= count {
-        Ok(count)
-    } else {
-        Err(Damaged { at })
-    }
+    kept(at, count, 1 <= count)
 }
 
 #[tactic(auto, using(ts_wire::proofs::Loop::items_loop))]

@@ -1,5 +1,5 @@
 -- What it means that numbers and coordinates lie between bounds, and how many do.
-use Rattle.std.proofs.Common.{◌≡◌, ℕ, zero, suc, ◌+◌, ◌*◌, ◌<◌, ◌≤◌, min, true, ◌&&◌, List, [], ◌∷◌, map, length, length-append, refl, ap, ◌∙◌, ⊎_elim, arith, mul-le-mul, ℤ, pos, negsuc, ◌+ℤ◌, ◌-ℤ◌}
+use Rattle.std.proofs.Common.{◌≡◌, ℕ, zero, suc, ◌+◌, ◌*◌, ◌<◌, ◌≤◌, ◌≢◌, min, Bool, true, false, ◌&&◌, List, [], ◌∷◌, map, length, length-append, refl, ap, ◌∙◌, ⊎_elim, arith, mul-le-mul, ℤ, pos, negsuc, ◌+ℤ◌, ◌-ℤ◌}
 use Rattle.std.specs.Prelude.{IsTrue, int_le, unsigned_abs}
 use Rattle.std.specs.List.{flat_map}
 use Rattle.std.proofs.lemmas.List.{length-map}
@@ -58,6 +58,22 @@ length-is_between (l ∷ ls) (h ∷ hs) [] t = cc
 length-is_between (l ∷ ls) (h ∷ hs) (x ∷ xs) t =
     let rest = length-is_between ls hs xs (and_parts (int_le l x && int_le x h) (is_between ls hs xs) t).1 in
     (ap suc rest.0, ap suc rest.1)
+
+-- nothing lies between bounds of another number
+pub uneven_between : (ls hs xs : List ℤ) → (length hs ≡ length ls → length xs ≡ length ls → ⊥) → is_between ls hs xs ≡ false
+uneven_between ls hs xs uneven = by (is_between ls hs xs) refl
+  where
+    by : (b : Bool) → is_between ls hs xs ≡ b → b ≡ false
+    by true is = let same = length-is_between ls hs xs is in absurd (uneven (omega arith) (omega arith))
+    by false is = refl
+
+pub uneven_highs : (ls hs xs : List ℤ) → length hs ≢ length ls → is_between ls hs xs ≡ false
+uneven_highs ls hs xs h = uneven_between ls hs xs (λ same _. h same)
+
+pub uneven_coords : (ls hs xs : List ℤ) → length xs ≢ length ls → is_between ls hs xs ≡ false
+uneven_coords ls hs xs h = uneven_between ls hs xs (λ _ same. h same)
+
+pub ruleset uneven_bounds = (uneven_highs, uneven_coords)
 
 -- bounds that something lies between are bounds
 pub are_bounds-is_between : (ls hs xs : List ℤ) → IsTrue (is_between ls hs xs) → IsTrue (are_bounds ls hs)

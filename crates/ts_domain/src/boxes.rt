@@ -1,7 +1,7 @@
 //! Boxes of cells: the cells between two corners.
 ghost use Rattle.std.specs.Prelude.{◌≡◌, ◌≤◌, ◌-◌, ◌^◌, ◌↔◌, ◌≤ℤ◌, min, length, IsTrue};
-ghost use Rattle.ts_domain.specs.Bounds.{count_between, least_corner, greatest_corner, do_meet};
-ghost use Rattle.ts_domain.specs.Boxes.{IsBox, cells_of, coords_of_box, do_boxes_meet, ShareCell, hull_of, IsHullOf};
+ghost use Rattle.ts_domain.specs.Bounds.{is_between, count_between, least_corner, greatest_corner, do_meet};
+ghost use Rattle.ts_domain.specs.Boxes.{IsBox, is_in_box, cells_of, coords_of_box, do_boxes_meet, ShareCell, hull_of, IsHullOf};
 
 use ts_base::{Coords, Sequence};
 
@@ -31,6 +31,13 @@ impl SubBox {
             cells = cells.saturating_mul(side(low[dim], high[dim]));
         }
         cells
+    }
+
+    /// Whether coordinates lie in the box. A corner counts as inside.
+    pub fn contains(&self, at: &Coords) -> bool
+        ensures { result ≡ is_in_box self.now at.now }
+    {
+        is_between(self.low.as_slice(), self.high.as_slice(), at.as_slice())
     }
 
     /// Whether some cell lies in both boxes. An edge that both have counts.
@@ -77,6 +84,22 @@ fn side(low: i128, high: i128) -> u64
     } else {
         u64::MAX
     }
+}
+
+// Whether each coordinate lies between its bounds, and there are as many of all three.
+#[tactic(auto, using(crate::proofs::Between::uneven_bounds))]
+fn is_between(low: &[i128], high: &[i128], coords: &[i128]) -> bool
+    ensures { result ≡ is_between low.now high.now coords.now }
+{
+    if high.len() != low.len() || coords.len() != low.len() {
+        return false;
+    }
+    for dim in 0..low.len() {
+        if coords[dim] < low[dim] || high[dim] < coords[dim] {
+            return false;
+        }
+    }
+    true
 }
 
 fn do_meet(low: &[i128], high: &[i128], other_low: &[i128], other_high: &[i128]) -> bool

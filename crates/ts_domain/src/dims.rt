@@ -104,7 +104,8 @@ fn end_of_tiles(dim: &Dim) -> i128
     dim.high + (dim.extent - 1 - into_tile)
 }
 
-fn has_name(dims: &[Dim], name: &Label) -> bool
+/// Whether one of the dimensions has the name.
+pub fn has_name(dims: &[Dim], name: &Label) -> bool
     ensures { result ≡ has_name dims.now name.now }
 {
     dims.iter().any(|dim| dim.name == *name)

@@ -10,7 +10,7 @@ mod outside;
 mod tests;
 
 pub use boxes::{BoxList, SubBox};
-pub use dims::{Dim, DimList, DomainFault};
+pub use dims::{Dim, DimList, DomainFault, has_name};
 pub use domain::Domain;
 pub use orders::{Layout, Order};
 pub use outside::Outside;

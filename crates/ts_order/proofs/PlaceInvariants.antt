@@ -1,5 +1,5 @@
 -- What the loop that finds the coordinates at a place keeps.
-use Rattle.std.proofs.Common.{◌≡◌, ℕ, ◌-◌, ◌<◌, List, ◌++◌, length, take, drop, ℤ}
+use Rattle.std.proofs.Common.{◌≡◌, ℕ, ◌<◌, List, ◌++◌, length, take, drop, ℤ}
 use Rattle.ts_domain.specs.declared.orders.Order.{Order}
 use Rattle.ts_domain.specs.Bounds.{cells_between}
 use Rattle.ts_order.specs.Orders.{turned}

@@ -1,5 +1,5 @@
 -- The steps of the loops that find the coordinates at a place and the place of coordinates.
-use Rattle.std.proofs.Common.{◌≡◌, ℕ, zero, suc, ◌+◌, ◌-◌, ◌*◌, ◌/◌, ◌%◌, ◌^◌, ◌<◌, ◌≤◌, Bool, true, ◌&&◌, List, [], ◌∷◌, ◌++◌, length, get_or, set, take, drop, refl, sym, ap, ◌∙◌, arith, append_assoc, mul-le-mul, length-set, length-take-le, ℤ, pos, negsuc, ◌+ℤ◌, ◌-ℤ◌, ◌≤ℤ◌, FitsSigned}
+use Rattle.std.proofs.Common.{◌≡◌, ℕ, zero, suc, ◌+◌, ◌-◌, ◌*◌, ◌/◌, ◌%◌, ◌^◌, ◌<◌, ◌≤◌, ◌&&◌, List, [], ◌∷◌, ◌++◌, length, get_or, set, take, drop, refl, sym, ap, ◌∙◌, arith, append_assoc, mul-le-mul, length-set, length-take-le, ℤ, pos, negsuc, ◌+ℤ◌, ◌-ℤ◌, ◌≤ℤ◌, FitsSigned}
 use Rattle.std.specs.Prelude.{IsTrue, int_le, unsigned_abs}
 use Rattle.std.proofs.lemmas.Bool.{and_parts, and_from}
 use Rattle.std.proofs.lemmas.Nat.{div_below}
@@ -173,10 +173,6 @@ module _ (order : Order) (low high : List ℤ) (position : ℕ) (bounds : IsTrue
         below = rw here step.0;
         digits = rw here step.1;
       })
-
-  pub written_all : (left rest : ℕ) (numbers : List ℤ) → left ≡ 0 → AreWritten order low high position left numbers rest
-      → turned order (take (length low) numbers) ≡ coords_of_place (turned order low) (turned order high) position
-  written_all left rest numbers none all = rw none at all.digits
 
 -- ---- the numbers of one dimension, as the code computes them
 

@@ -1,5 +1,5 @@
 -- Boxes cut to space tiles.
-use Rattle.std.proofs.Common.{◌≡◌, ℕ, zero, suc, ◌+◌, ◌-◌, ◌*◌, ◌/◌, ◌%◌, ◌<◌, ◌≤◌, Bool, true, ◌&&◌, List, [], ◌∷◌, length, refl, sym, ap, ◌∙◌, arith, mul-le-mul, ℤ, pos, negsuc, ◌+ℤ◌, ◌-ℤ◌, ◌*ℤ◌, ◌≤ℤ◌}
+use Rattle.std.proofs.Common.{◌≡◌, ℕ, zero, suc, ◌+◌, ◌-◌, ◌*◌, ◌/◌, ◌<◌, ◌≤◌, true, ◌&&◌, List, [], ◌∷◌, length, refl, ap, ◌∙◌, arith, mul-le-mul, ℤ, pos, negsuc, ◌+ℤ◌, ◌-ℤ◌, ◌*ℤ◌, ◌≤ℤ◌}
 use Rattle.std.specs.Prelude.{IsTrue, int_le}
 use Rattle.std.specs.List.{All}
 use Rattle.std.specs.Int.{int_div_euclid, int_min, int_max}
@@ -10,7 +10,7 @@ use Rattle.std.proofs.lemmas.Bool.{and_parts, and_from}
 use Rattle.std.proofs.lemmas.List.Elements.{All-head, All-tail}
 use borrow.Author.Differences.{up, down}
 use Rattle.ts_domain.specs.declared.dims.Dim.{Dim}
-use Rattle.ts_domain.specs.Bounds.{are_bounds, is_between, natural_of, count_between, cells_between}
+use Rattle.ts_domain.specs.Bounds.{are_bounds, is_between, count_between, cells_between}
 use Rattle.ts_domain.specs.Dims.{IsSoundDim, tile_number, tile_start, tile_end}
 use Rattle.ts_domain.specs.Domains.{is_in_domain}
 use Rattle.ts_domain.proofs.Between.{within_parts, within_from, count_between-le}

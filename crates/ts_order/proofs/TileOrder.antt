@@ -4,7 +4,6 @@ use Rattle.std.specs.Int.{w128, int_div_euclid}
 use Rattle.std.specs.Bool.{MatchBool}
 use Rattle.std.proofs.lemmas.Int.{ints}
 use Rattle.std.proofs.lemmas.Nat.{div-add-mod', div-mul-add, le-div}
-use borrow.Author.Differences.{up, down}
 use Rattle.ts_domain.specs.declared.dims.Dim.{Dim}
 use Rattle.ts_domain.specs.Dims.{IsSoundDim}
 

@@ -1,21 +1,18 @@
 -- The numbers of one dimension of a tile, and the loops that write them.
-use Rattle.std.proofs.Common.{◌≡◌, ℕ, zero, suc, ◌+◌, ◌-◌, ◌*◌, ◌^◌, ◌<◌, ◌≤◌, min, Bool, true, ◌&&◌, List, [], ◌∷◌, ◌++◌, map, length, get_or, set, take, Some, refl, sym, ap, subst, ◌∙◌, arith, ℤ, pos, negsuc, ◌+ℤ◌, ◌-ℤ◌, ◌*ℤ◌, ◌≤ℤ◌, FitsSigned}
-use Rattle.std.specs.Prelude.{IsTrue, int_le, slice_get}
+use Rattle.std.proofs.Common.{◌≡◌, ℕ, zero, suc, ◌+◌, ◌<◌, List, [], ◌∷◌, ◌++◌, length, get_or, set, take, Some, refl, sym, ap, subst, ◌∙◌, arith, ℤ, pos, negsuc, ◌-ℤ◌, ◌*ℤ◌, ◌≤ℤ◌, FitsSigned}
+use Rattle.std.specs.Prelude.{slice_get}
 use Rattle.std.specs.List.{All}
 use Rattle.std.specs.Int.{w128, int_div_euclid, int_min, int_max}
-use Rattle.std.proofs.lemmas.Bool.{and_parts}
 use Rattle.std.proofs.lemmas.Int.{ints}
-use Rattle.std.proofs.lemmas.List.{take_more, take_more_set, take_all, length-map}
-use Rattle.std.proofs.lemmas.Option.{slice_get_within, get_or_from_slice_get, slice_get-map}
+use Rattle.std.proofs.lemmas.List.{take_more, take_more_set}
+use Rattle.std.proofs.lemmas.Option.{slice_get_within, get_or_from_slice_get}
 use Rattle.ts_domain.specs.declared.dims.Dim.{Dim}
 use Rattle.ts_domain.specs.declared.boxes.SubBox.{SubBox}
-use Rattle.ts_domain.specs.Bounds.{are_bounds, is_between}
 use Rattle.ts_domain.specs.Dims.{IsSoundDim, tile_number, tile_start, tile_end}
-use Rattle.ts_domain.specs.Domains.{is_in_domain}
 use Rattle.ts_domain.proofs.Between.{within_parts, length-is_between}
 use Rattle.ts_domain.proofs.Steps.{are_bounds_at}
 use Rattle.ts_order.specs.Orders.{tile_numbers}
-use Rattle.ts_order.specs.Tiles.{cut_low, cut_high, tile_box, MeetsTile}
+use Rattle.ts_order.specs.Tiles.{cut_low, cut_high, MeetsTile}
 use Rattle.ts_order.proofs.OrderLemmas.{is_in_domain_at, length-is_in_domain, length-tile_numbers, get_or-tile_numbers}
 use Rattle.ts_order.proofs.PlaceSteps.{is_between_at}
 use Rattle.ts_order.proofs.TileLaws.{tile_between}

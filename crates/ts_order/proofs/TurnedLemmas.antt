@@ -1,14 +1,12 @@
 -- Boxes whose dimensions are turned: the same cells, in the other order of dimensions.
-use Rattle.std.proofs.Common.{◌≡◌, ℕ, zero, suc, ◌+◌, ◌-◌, ◌*◌, ◌<◌, ◌≤◌, Bool, true, false, ◌&&◌, List, [], ◌∷◌, ◌++◌, reverse, length, get_or, set, take, drop, refl, sym, ap, ◌∙◌, ◌⊎◌, inl, inr, ⊎_elim, arith, length-set, get_or-set_same, get_or-set_other, ℤ, pos, ◌+ℤ◌, ◌-ℤ◌}
+use Rattle.std.proofs.Common.{◌≡◌, ℕ, ◌-◌, ◌*◌, ◌<◌, true, ◌&&◌, List, [], ◌∷◌, ◌++◌, reverse, length, get_or, set, refl, sym, ap, ◌∙◌, ◌⊎◌, inl, inr, arith, length-set, get_or-set_same, get_or-set_other, ℤ}
 use Rattle.std.specs.Prelude.{IsTrue, int_le}
 use Rattle.std.proofs.Math.Nat.{mul_comm}
 use Rattle.std.proofs.lemmas.Bool.{and_parts, and_from, cases_eq}
-use Rattle.std.proofs.lemmas.List.{reverse-append, reverse-reverse, length-reverse, get_or-reverse, same_lists}
-use Rattle.std.proofs.lemmas.Int.{ints}
+use Rattle.std.proofs.lemmas.List.{reverse-append, length-reverse, get_or-reverse, same_lists}
 use Rattle.ts_domain.specs.declared.orders.Order.{Order}
 use Rattle.ts_domain.specs.declared.orders.Order.TheVariants.{Row, Col}
 use Rattle.ts_domain.specs.Bounds.{are_bounds, is_between, count_between, cells_between}
-use Rattle.ts_domain.proofs.Between.{are_bounds-cons, length-are_bounds, length-is_between, are_bounds-is_between}
 use Rattle.ts_order.specs.Orders.{turned, dim_at}
 use Rattle.ts_order.proofs.PlaceLaws.{cells_between-push}
 use Rattle.ts_order.proofs.OrderLemmas.{turned-turned}

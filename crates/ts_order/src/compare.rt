@@ -1,12 +1,12 @@
 //! Comparisons of cells by their coordinates.
-ghost use Rattle.std.specs.Prelude.{◌≡◌, ◌<◌, ◌-◌, ◌↔◌, ◌≤ℤ◌, ℕ, ℤ, List, pos, length, slice_index_or, IsTrue, int_le, ◌&&◌};
+ghost use Rattle.std.specs.Prelude.{◌≡◌, ◌<◌, ◌-◌, ◌↔◌, pos, length, slice_index_or, IsTrue};
 ghost use Rattle.std.specs.Cmp.{IsTotalOrder};
 ghost use Rattle.std.specs.List.{All};
 ghost use Rattle.std.specs.Ordering.{int_cmp};
 ghost use Rattle.std.specs.declared.cmp.Ordering.TheVariants.{Equal};
-ghost use Rattle.ts_domain.specs.Dims.{IsSoundDim, tile_number};
+ghost use Rattle.ts_domain.specs.Dims.{IsSoundDim};
 ghost use Rattle.ts_domain.specs.Domains.{is_in_domain};
-ghost use Rattle.ts_order.specs.Orders.{turned, dim_at, order_cmp, tile_numbers, global_cmp};
+ghost use Rattle.ts_order.specs.Orders.{dim_at, order_cmp, tile_numbers, global_cmp};
 
 use crate::tile_order::cmp_tile;
 use std::cmp::Ordering;

@@ -10,5 +10,5 @@ mod tiles;
 
 pub use compare::{cmp_global, cmp_plain};
 pub use places::{coords_at, position_of};
-pub use tiles::tiles_of;
+pub use tiles::{tile_numbers, tiles_of};
 pub use ts_domain::{Layout, Order};

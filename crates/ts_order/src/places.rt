@@ -1,5 +1,5 @@
 //! The cell at a place of a box, and the place of a cell.
-ghost use Rattle.std.specs.Prelude.{◌≡◌, ◌+◌, ◌-◌, ◌*◌, ◌^◌, ◌<◌, ◌≤◌, ℕ, ℤ, List, pos, ◌+ℤ◌, ◌-ℤ◌, ◌≤ℤ◌, Some, length, slice_get, slice_index_or, IsTrue};
+ghost use Rattle.std.specs.Prelude.{◌≡◌, ◌+◌, ◌-◌, ◌*◌, ◌^◌, ◌<◌, ℕ, ℤ, pos, ◌+ℤ◌, ◌-ℤ◌, Some, length, slice_get, slice_index_or, IsTrue};
 ghost use Rattle.ts_domain.specs.Bounds.{are_bounds, is_between, natural_of, count_between, cells_between};
 ghost use Rattle.ts_domain.specs.Boxes.{IsBox, is_in_box, cells_of};
 ghost use Rattle.ts_order.specs.Orders.{turned, order_cmp, coords_in_order, Ascends};

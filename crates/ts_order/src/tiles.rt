@@ -56,7 +56,9 @@ fn cut_box(dims: &[Dim], sub: &SubBox, tile: &Coords) -> SubBox
     }
 }
 
-fn tile_numbers(dims: &[Dim], at: &Coords) -> Coords
+/// The numbers of the space tile that has a cell, one for each dimension. A dimension's first tile
+/// has the number 0.
+pub fn tile_numbers(dims: &[Dim], at: &Coords) -> Coords
     requires sound { All IsSoundDim dims.now }
     requires inside { IsTrue (is_in_domain dims.now at.now) }
     ensures { result ≡ tile_numbers dims.now at.now }

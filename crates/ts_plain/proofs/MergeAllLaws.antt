@@ -160,10 +160,6 @@ module _ (cmp : Order) (total : IsTotalOrder cmp) where
 
   -- ---- many lists
 
-  -- no list is merged into none
-  pub none_merged : IsMergedAll cmp [] []
-  none_merged = record { climbs = tt; at = λ c. refl }
-
   -- the last versions of one list are that list merged
   pub one_merged : (vs : List Version) → VersionsAscend cmp vs → IsMergedAll cmp (vs ∷ []) (last_alone cmp vs)
   one_merged vs asc = record { climbs = last_climbs vs asc; at = λ c. last_at c vs asc ∙ ap (greatest key_of) (sym (append-nil (filter (is_at cmp c) vs))) }

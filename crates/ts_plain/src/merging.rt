@@ -1,5 +1,5 @@
 //! Merging lists of versions.
-ghost use Rattle.std.specs.Prelude.{◌≡◌, ◌<◌, ◌++◌, [], ◌∷◌, length, slice_get, Some, drop, IfOk, OnOk};
+ghost use Rattle.std.specs.Prelude.{◌≡◌, ◌<◌, ◌++◌, [], ◌∷◌, IfOk, OnOk};
 ghost use Rattle.std.specs.List.{All};
 ghost use Rattle.ts_plain.specs.Merges.{newer, merged, Climbs, global_order, LiesInside, IsMerged, VersionsAscend, is_last, last_alone, IsMergedAll};
 
@@ -147,7 +147,7 @@ pub fn newest_alone(
 ///
 /// Each list stands in global order, its versions of one place by ascending key. Neighbours are
 /// merged two by two, so each version is copied about as often as the number of lists has binary
-/// digits.
+/// digits. Each call takes half of the lists, so the calls nest at most 65 deep.
 pub fn merge_all(
     alloc: Global,
     frame: &Frame,

@@ -1,14 +1,14 @@
 //! Reading plain objects.
-ghost use Rattle.std.specs.Prelude.{◌≡◌, ◌≤◌, ◌<◌, ℕ, List, [], ◌∷◌, length, IfOk, IsTrue};
+ghost use Rattle.std.specs.Prelude.{◌≡◌, ◌≤◌, ◌<◌, List, [], length, IfOk, IsTrue};
 ghost use Rattle.std.specs.List.{All};
 ghost use Rattle.ts_base.specs.declared.heads.Piece.{Piece as AnyPiece};
 ghost use Rattle.ts_schema.specs.declared.attrs.Attr.{Attr as AnyAttr};
 ghost use Rattle.ts_domain.specs.Dims.{IsSoundDim};
 ghost use Rattle.ts_domain.specs.Domains.{is_in_domain};
 ghost use Rattle.ts_wire.specs.Reading.{Reads, ReadsOr, DecodesOr, IsRead};
-ghost use Rattle.ts_wire.specs.Place.{items_at, each_at};
-ghost use Rattle.ts_plain.specs.Rules.{side_of, from_on, last_of};
-ghost use Rattle.ts_plain.specs.Plain.{dense_at, consolidated_at, coord_at, side_at, hull_at, cells_at, origin_count_at, origin_at, origins_at, head_at, coords_at, index_at, value_at, row_at, cell_at, plain_at, plain_stored, head_stored};
+ghost use Rattle.ts_wire.specs.Place.{items_at, each_at, whole};
+ghost use Rattle.ts_plain.specs.Rules.{last_of};
+ghost use Rattle.ts_plain.specs.Plain.{dense_at, consolidated_at, coord_at, side_at, hull_at, cells_at, origin_count_at, origin_at, origins_at, head_at, coords_at, index_at, row_at, cell_at, plain_at, plain_stored, head_stored};
 ghost use Rattle.ts_plain.specs.Pieces.{plain_piece, plain_head, IsPlainObject, BreaksSo};
 ghost use Rattle.ts_plain.specs.Writes.{NamesWrites};
 ghost use Rattle.ts_plain.specs.Merges.{IsOrdered};
@@ -21,11 +21,10 @@ use crate::rules::{
 use crate::stored::{Side, SideList, StoredCell, StoredCellList, StoredHead, StoredPiece};
 use arrayvec::ArrayVec;
 use std::alloc::Global;
-use ts_base::{Coords, FragKey, Head, Key, KeyList, Piece, Row, Val};
+use ts_base::{Coords, FragKey, Head, Key, KeyList, Piece, Row};
 use ts_domain::Dim;
-use ts_schema::{Attr, Frame, Schema};
-use ts_value::fits;
-use ts_wire::{Cursor, Damaged, Kind, ReadFault, unwrap_body};
+use ts_schema::{Attr, Frame, Schema, read_value};
+use ts_wire::{Cursor, Damaged, Kind, ReadFault, kept, unwrap_body};
 
 #[tactic(auto, unfolding(crate::specs::Plain::dense_at))]
 fn read_dense(dense: bool, cursor: &mut Cursor) -> Result<bool, Damaged>
@@ -33,11 +32,7 @@ fn read_dense(dense: bool, cursor: &mut Cursor) -> Result<bool, Damaged>
 {
     let at = cursor.at();
     let stored = cursor.bool()?;
-    if dense == stored {
-        Ok(stored)
-    } else {
-        Err(Damaged { at })
-    }
+    kept(at, stored, dense == stored)
 }
 
 #[tactic(auto, unfolding(crate::specs::Plain::consolidated_at))]
@@ -46,11 +41,7 @@ fn read_consolidated(frag: FragKey, cursor: &mut Cursor) -> Result<bool, Damaged
 {
     let at = cursor.at();
     let consolidated = cursor.bool()?;
-    if may_span(frag, consolidated) {
-        Ok(consolidated)
-    } else {
-        Err(Damaged { at })
-    }
+    kept(at, consolidated, may_span(frag, consolidated))
 }
 
 #[tactic(auto, unfolding(crate::specs::Plain::coord_at))]
@@ -59,11 +50,7 @@ fn read_coord(side: &Side, cursor: &mut Cursor) -> Result<i128, Damaged>
 {
     let at = cursor.at();
     let x = cursor.int(16, true)?;
-    if is_on_side(*side, x) {
-        Ok(x)
-    } else {
-        Err(Damaged { at })
-    }
+    kept(at, x, is_on_side(*side, x))
 }
 
 #[tactic(auto, unfolding(crate::specs::Plain::side_at))]
@@ -112,11 +99,7 @@ fn read_cell_count(full: bool, hull: &[Side], cursor: &mut Cursor) -> Result<u64
 {
     let at = cursor.at();
     let cells = cursor.u64()?;
-    if may_hold(full, hull, cells) {
-        Ok(cells)
-    } else {
-        Err(Damaged { at })
-    }
+    kept(at, cells, may_hold(full, hull, cells))
 }
 
 #[tactic(auto, unfolding(crate::specs::Plain::origin_count_at))]
@@ -125,11 +108,7 @@ fn read_origin_count(consolidated: bool, cursor: &mut Cursor) -> Result<u32, Dam
 {
     let at = cursor.at();
     let count = cursor.u32()?;
-    if may_count(consolidated, count) {
-        Ok(count)
-    } else {
-        Err(Damaged { at })
-    }
+    kept(at, count, may_count(consolidated, count))
 }
 
 #[tactic(auto, unfolding(crate::specs::Plain::origin_at))]
@@ -145,11 +124,11 @@ fn read_origin(
 {
     let at = cursor.at();
     let key = cursor.key()?;
-    if may_be_origin(frag, consolidated, count, front, key) {
-        Ok(key)
-    } else {
-        Err(Damaged { at })
-    }
+    kept(
+        at,
+        key,
+        may_be_origin(frag, consolidated, count, front, key),
+    )
 }
 
 #[tactic(auto, using(ts_wire::proofs::Loop::items_loop))]
@@ -240,11 +219,7 @@ fn read_coords(
     let at = cursor.at();
     let _count = frame.domain.count();
     let coords = read_each_coord(hull.as_slice(), cursor)?;
-    if coords_rise(frame, front, &coords) {
-        Ok(coords)
-    } else {
-        Err(Damaged { at })
-    }
+    kept(at, coords, coords_rise(frame, front, &coords))
 }
 
 #[tactic(auto, unfolding(crate::specs::Plain::index_at))]
@@ -259,33 +234,17 @@ fn read_origin_index(
 {
     let at = cursor.at();
     let origin = cursor.u32()?;
-    if (origin as u64) < count && origin_rises(dense, front, coords, origin) {
-        Ok(origin)
-    } else {
-        Err(Damaged { at })
-    }
+    let rises = (origin as u64) < count && origin_rises(dense, front, coords, origin);
+    kept(at, origin, rises)
 }
 
-#[tactic(auto, unfolding(crate::specs::Plain::value_at, ts_schema::specs::SchemaTexts::fill_at))]
-fn read_value(alloc: Global, attr: &Attr, cursor: &mut Cursor) -> Result<Val, ReadFault>
-    ensures { ReadsOr (λ val. val) (value_at attr.now) cursor.old cursor.new result }
-{
-    let at = cursor.at();
-    let val = cursor.val(alloc)?;
-    if fits(attr.ty, attr.nullable, &val) {
-        Ok(val)
-    } else {
-        Err(ReadFault::Damaged(Damaged { at }))
-    }
-}
-
-#[tactic(auto, using(ts_wire::proofs::Loop::each_loop), unfolding(crate::specs::Plain::row_at))]
+#[tactic(auto, using(ts_wire::proofs::Loop::each_loop), unfolding(crate::specs::Plain::row_at, crate::specs::Plain::value_at))]
 fn read_row(alloc: Global, attrs: &[Attr], cursor: &mut Cursor) -> Result<Row, ReadFault>
     ensures { ReadsOr (λ row. row) (row_at attrs.now) cursor.old cursor.new result }
 {
     let mut row = Row::new(alloc);
     for attr in attrs {
-        let val = read_value(alloc, attr, cursor)?;
+        let val = read_value(alloc, attr.ty, attr.nullable, cursor)?;
         row.push(val)?;
     }
     Ok(row)
@@ -351,6 +310,23 @@ fn read_body(
     Ok(StoredPiece { head, cells })
 }
 
+// The piece that the rest of an object spells, with nothing behind it.
+#[tactic(auto, unfolding(ts_wire::specs::Place::whole))]
+fn read_whole(
+    alloc: Global,
+    frame: &Frame,
+    attrs: &[Attr],
+    frag: FragKey,
+    cursor: &mut Cursor,
+) -> Result<StoredPiece, ReadFault>
+    ensures reads { DecodesOr (λ stored. stored) (whole (plain_at frame.now attrs.now frag) cursor.old) result }
+    ensures inside { IfOk result (λ stored. IsHull frame.now.domain stored.head.hull) }
+{
+    let stored = read_body(alloc, frame, attrs, frag, cursor)?;
+    cursor.end()?;
+    Ok(stored)
+}
+
 #[tactic(auto, unfolding(crate::specs::Plain::plain_stored, ts_wire::specs::Envelope::object_at))]
 fn read_stored(
     alloc: Global,
@@ -364,9 +340,7 @@ fn read_stored(
 {
     let body = unwrap_body(Kind::Plain, object)?;
     let mut cursor = Cursor::new(body, 14);
-    let stored = read_body(alloc, frame, attrs, frag, &mut cursor)?;
-    cursor.end()?;
-    Ok(stored)
+    read_whole(alloc, frame, attrs, frag, &mut cursor)
 }
 
 #[tactic(auto, unfolding(crate::specs::Plain::head_stored))]

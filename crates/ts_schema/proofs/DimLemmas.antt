@@ -7,7 +7,7 @@ use Rattle.std.proofs.Math.Seq.{take-append_seam}
 use Rattle.std.proofs.lemmas.List.{drop-replicate, append-nil}
 use Rattle.std.proofs.lemmas.List.Elements.{All-nil, All-cons, All-head, All-tail}
 use Rattle.ts_domain.specs.declared.dims.Dim.{Dim}
-use Rattle.ts_domain.specs.Dims.{IsDim, IsDomain, dim_fault, fault_behind, domain_fault}
+use Rattle.ts_domain.specs.Dims.{IsDim, dim_fault, fault_behind, domain_fault}
 
 -- of a choice of two there is none exactly where there is neither
 pub neither : {A : Type 0} (a b : Option A) → option_or a b ≡ None → (a ≡ None) × (b ≡ None)
@@ -39,10 +39,6 @@ next_fault front d few none =
 pub next_valid : (front : List Dim) (d : Dim) → All IsDim front → IsDim d → All IsDim (front ++ d ∷ [])
 next_valid [] d valid next = All-cons IsDim d [] next (All-nil IsDim)
 next_valid (e ∷ es) d valid next = All-cons IsDim e (es ++ d ∷ []) (All-head IsDim e es valid) (next_valid es d (All-tail IsDim e es valid) next)
-
--- the dimensions of a domain have no fault behind nothing
-pub sound_behind : (dims : List Dim) → IsDomain dims → fault_behind [] dims ≡ None
-sound_behind dims is = (no_fault (nat_lt 8 (length dims)) _ _ is.sound).1
 
 -- a list written over the front of a buffer of one dimension, and that dimension behind it
 pub written_next : (front written : List Dim) (d : Dim) → length front < 8 → written ≡ front

@@ -1,5 +1,5 @@
 -- Where the attributes of a schema are broken, there is the first broken field: in front of the 64th attribute a name is always left.
-use Rattle.std.proofs.Common.{◌≡◌, ℕ, zero, suc, ◌+◌, ◌<◌, ◌≤◌, Bool, true, false, not, ◌&&◌, ◌||◌, cond, nat_eq, nat_le, List, [], ◌∷◌, ◌++◌, length, map, drop, replicate, Result, Ok, Err, inl, inr, refl, sym, ap, ◌∙◌, subst, arith, lit<, length-append}
+use Rattle.std.proofs.Common.{◌≡◌, ℕ, zero, suc, ◌<◌, ◌≤◌, Bool, true, false, not, ◌&&◌, ◌||◌, cond, nat_eq, nat_le, List, [], ◌∷◌, ◌++◌, length, map, drop, replicate, Result, Ok, Err, inl, inr, refl, sym, ap, ◌∙◌, subst, arith, lit<}
 use Rattle.std.specs.Prelude.{filter}
 use Rattle.std.specs.List.{flat_map, list_all, list_any}
 use Rattle.std.proofs.lemmas.Bool.{and_from, and_parts, or_parts, eqb-true, eq-eqb, ne_eqb, leb-true, le-leb}
@@ -15,15 +15,15 @@ use Rattle.ts_value.proofs.FitLaws.{fits_of-Fits, fill_fits}
 use Rattle.ts_wire.specs.declared.faults.ReadFault.{ReadFault}
 use Rattle.ts_wire.specs.declared.faults.ReadFault.TheVariants as fault
 use Rattle.ts_wire.specs.declared.kinds.Kind.TheVariants as kind
-use Rattle.ts_wire.specs.Place.{place, both, items_at, whole}
+use Rattle.ts_wire.specs.Place.{place, both, whole}
 use Rattle.ts_wire.specs.Exact.{IsBytes, InTurn}
 use Rattle.ts_wire.specs.Envelope.{envelope_bytes, wrapped, unwrapped, object_at}
 use Rattle.ts_wire.specs.Reading.{DecodesOr}
 use Rattle.ts_wire.specs.Numbers.{number_bytes}
 use Rattle.ts_wire.specs.Fields.{bool_bytes, bool_at, label_bytes, val_bytes, FitsVal}
 use Rattle.ts_wire.specs.Broken.{joined, BreaksAtStart, BreaksFirst}
-use Rattle.ts_wire.proofs.Laws.{AreInTurn, not_both, failed, IsBytes-drop}
-use Rattle.ts_wire.proofs.First.{GoesOn, InTurn-more, filled_up, fields_of, one_broken, both_broken, mapped_broken, ruled_start, mapped_start, number_start, label_start, val_start, bool_broken, whole_broken}
+use Rattle.ts_wire.proofs.Laws.{failed, IsBytes-drop}
+use Rattle.ts_wire.proofs.First.{GoesOn, fields_of, broken_as, counted_broken, one_broken, both_broken, mapped_broken, ruled_start, mapped_start, number_start, label_start, val_start, bool_broken, whole_broken}
 use Rattle.ts_wire.proofs.Objects.{unwrapped_found, length-envelope_bytes}
 use Rattle.std.proofs.lemmas.Grind.{flat_map-append}
 use Rattle.ts_wire.proofs.FieldLaws.{bool_exact}
@@ -138,9 +138,9 @@ new_name front room =
     let f = free_of 64 (map (λ a. length a.name) front) (omega (arith, length-map front (λ a. length a.name))) in
     record { name = zs f.number; label = zs_label f.number f.some f.few; new_name = ap not (zs_new f.number front f.free) }
 
-goes_on : (n : ℕ) → n ≤ 64 → GoesOn FitsAttr n
-goes_on n most front few fits =
-    let fresh = new_name front (omega arith) in
+goes_on : GoesOn FitsAttr 64
+goes_on front few fits =
+    let fresh = new_name front few in
     (record { name = fresh.name; ty = I8; nullable = true; fill = Null }, record { label = fresh.label; new_name = fresh.new_name; value = tt; fill = refl })
 
 -- ---- the fields of an attribute
@@ -225,24 +225,6 @@ attr_spelled : (front : List Attr) (a : Attr) → FitsAttr front a → joined (a
 unfolding attr_bytes
 attr_spelled front a fits = ap (λ rest. label_bytes a.name ++ (type_bytes a.ty ++ (bool_bytes a.nullable ++ rest))) (append-nil (val_bytes a.fill))
 
-items_first : (n : ℕ) (front : List Attr) → InTurn FitsAttr [] front → n + length front ≤ 64 → BreaksFirst (AreInTurn FitsAttr n front) (flat_map attr_fields) (items_at attr_at n front)
-unfolding items_at
-items_first zero front fits room = λ p at all h. absurd (not_both (Ok ([], p)) ([], p) at refl h)
-items_first (suc n) front fits room =
-    mapped_broken {spellA = λ x. attr_bytes x.0 ++ flat_map attr_bytes x.1} {spellB = flat_map attr_bytes} (record {
-      there = λ x is. ((omega (arith, is.1.0), (is.0, is.1.1)), refl);
-      back = back;
-    }) (fields_of attr_fields (λ a xs. flat_map attr_fields xs)) (flat_map attr_fields) (λ x is. refl)
-    (both_broken (attr_exact front) attr_fields (λ a xs. flat_map attr_fields xs) (attr_spelled front)
-    (λ a is. filled_up FitsAttr 64 (goes_on 64 (omega arith)) n (front ++ a ∷ []) (InTurn-more FitsAttr [] front a fits is) (omega (arith, length-append front (a ∷ []))))
-    (attr_first front (omega arith))
-    (λ a is. items_first n (front ++ a ∷ []) (InTurn-more FitsAttr [] front a fits is) (omega (arith, length-append front (a ∷ [])))))
-  where
-    back : (xs : List Attr) → AreInTurn FitsAttr (suc n) front xs
-        → (a : Attr × List Attr) × (FitsAttr front a.0 × AreInTurn FitsAttr n (front ++ a.0 ∷ []) a.1) × (a.0 ∷ a.1 ≡ xs) × (attr_bytes a.0 ++ flat_map attr_bytes a.1 ≡ flat_map attr_bytes xs)
-    back [] is = absurd (omega (arith, is.0))
-    back (x ∷ xs) is = ((x, xs), (is.1.0, (omega (arith, is.0), is.1.1)), refl, refl)
-
 count_start : BreaksAtStart attr_count_at
 unfolding attr_count_at
 count_start = ruled_start is_attr_count (number_start 1)
@@ -254,15 +236,8 @@ count_most count is = leb-true count 64 (and_parts (nat_le 1 count) (nat_le coun
 attrs_first : BreaksFirst AreAttrs attrs_fields attrs_at
 unfolding attrs_at attrs_bytes
 attrs_first =
-    mapped_broken {spellA = λ x. number_bytes 1 x.0 ++ flat_map attr_bytes x.1} {spellB = attrs_bytes} (record {
-      there = λ x is.
-          let P : ℕ → Type 0 = λ n. is_attr_count n ≡ true in
-          (record { count = subst P (sym is.1.0) is.0.1; each = is.1.1 }, ap (λ n. number_bytes 1 n ++ flat_map attr_bytes x.1) (sym is.1.0));
-      back = λ xs are. ((length xs, xs), ((count_few (length xs) are.count, are.count), (refl, are.each)), refl, refl);
-    }) (fields_of (λ n. number_bytes 1 n ∷ []) (λ n xs. flat_map attr_fields xs)) attrs_fields (λ x is. ap (λ n. number_bytes 1 n ∷ flat_map attr_fields x.1) (sym is.1.0))
-    (both_broken attr_count_exact (λ n. number_bytes 1 n ∷ []) (λ n xs. flat_map attr_fields xs) (λ n is. append-nil (number_bytes 1 n))
-    (λ n is. filled_up FitsAttr n (goes_on n (count_most n is.1)) n [] tt (omega arith)) (one_broken attr_count_exact 1 (lit< tt, refl) count_start)
-    (λ n is. items_first n [] tt (let few = count_most n is.1 in omega (arith, few))))
+    broken_as attrs_fields (λ attrs fits. record { count = fits.0.1; each = fits.1 }) (λ attrs are. ((count_few (length attrs) are.count, are.count), are.each))
+    (counted_broken attr_count_exact attr_exact attr_fields attr_spelled (one_broken attr_count_exact 1 (lit< tt, refl) count_start) 64 (λ n is. count_most n is.1) attr_first goes_on)
 
 -- ---- the object
 

@@ -57,13 +57,6 @@ fault_next dims attrs place a whole lt is none was =
     ∙ ap (λ fault. option_or fault (fault_behind dims (take place attrs ++ a ∷ []) (drop (place + 1) attrs))) (sym none)
     ∙ ap (fault_behind dims (take place attrs)) (sym (rest_is attrs place a lt is)) ∙ was
 
--- the next attribute has a fault
-pub fault_here : (dims : List Dim) (attrs : List Attr) (place : ℕ) (a : Attr) (whole : Option SchemaFault) (fault : SchemaFault) → place < length attrs → a ≡ get_or attrs place a
-    → Some fault ≡ attr_fault dims (take place attrs) a → fault_behind dims (take place attrs) (drop place attrs) ≡ whole → Some fault ≡ whole
-fault_here dims attrs place a whole fault lt is found was =
-    ap (λ fault. option_or fault (fault_behind dims (take place attrs ++ a ∷ []) (drop (place + 1) attrs))) found
-    ∙ ap (fault_behind dims (take place attrs)) (sym (rest_is attrs place a lt is)) ∙ was
-
 -- ---- the names to be taken away
 
 -- the names that are left of those that pass a test, without one more
@@ -87,14 +80,6 @@ pub less_next : (attrs : List Attr) (names : List (List ℕ)) (place : ℕ) (nam
 less_next attrs names place name whole lt is may was =
     ap (λ before. less_fault attrs before (drop (place + 1) names)) (take_next names place name lt is)
     ∙ ap (λ b. if b then less_fault attrs (take place names ++ name ∷ []) (drop (place + 1) names) else Some (UnknownAttr name)) (sym may)
-    ∙ ap (less_fault attrs (take place names)) (sym (rest_is names place name lt is)) ∙ was
-
--- the next name cannot be taken away
-pub less_here : (attrs : List Attr) (names : List (List ℕ)) (place : ℕ) (name : List ℕ) (whole : Option SchemaFault) → place < length names → name ≡ get_or names place name
-    → (has_attr attrs name && not (has_label (take place names) name)) ≡ false
-    → less_fault attrs (take place names) (drop place names) ≡ whole → Some (UnknownAttr name) ≡ whole
-less_here attrs names place name whole lt is none was =
-    ap (λ b. if b then less_fault attrs (take place names ++ name ∷ []) (drop (place + 1) names) else Some (UnknownAttr name)) (sym none)
     ∙ ap (less_fault attrs (take place names)) (sym (rest_is names place name lt is)) ∙ was
 
 pub not_not : (b : Bool) → not (not b) ≡ b

@@ -1,5 +1,5 @@
 -- Parts of a fragment: what is held of them, and what was got of them.
-use Rattle.std.specs.Prelude.{◌≡◌, ℕ, ◌^◌, ◌<◌, Bool, true, cond, List, [], ◌∷◌, length, drop, Option, Some, None}
+use Rattle.std.specs.Prelude.{ℕ, ◌^◌, ◌<◌, Bool, cond, List, [], ◌∷◌, length, Option, Some, None}
 use Rattle.ts_base.specs.declared.names.Part.{Part}
 use Rattle.ts_base.specs.declared.names.PartBytes.{PartBytes}
 use Rattle.ts_base.specs.contracts.names.PartPartialEq.TheImpl as part

@@ -1,6 +1,5 @@
 //! What is wrong with the attributes of a schema.
-ghost use Rattle.std.specs.Prelude.{◌≡◌, [], length, IfOk};
-ghost use Rattle.ts_domain.specs.Dims.{has_name};
+ghost use Rattle.std.specs.Prelude.{◌≡◌, [], IfOk};
 ghost use Rattle.ts_schema.specs.Faults.{fault_of, fault_behind, count_fault, schema_fault};
 
 use crate::attrs::{Attr, has_attr};
@@ -8,20 +7,14 @@ use crate::faults::SchemaFault;
 use std::alloc::Global;
 use std::collections::BTreeSet;
 use ts_base::{Label, OutOfMemory};
-use ts_domain::{Dim, Domain};
+use ts_domain::{Dim, Domain, has_name};
 use ts_value::fits;
-
-fn has_dim(dims: &[Dim], name: &Label) -> bool
-    ensures { result ≡ has_name dims.now name.now }
-{
-    dims.iter().any(|dim| dim.name == *name)
-}
 
 // The fault of an attribute, whose name came before or not.
 fn fault_of(dims: &[Dim], again: bool, attr: &Attr) -> Option<SchemaFault>
     ensures { result ≡ fault_of dims.now again attr.now }
 {
-    if again || has_dim(dims, &attr.name) {
+    if again || has_name(dims, &attr.name) {
         Some(SchemaFault::DuplicateAttr(attr.name))
     } else if fits(attr.ty, attr.nullable, &attr.fill) {
         None
@@ -48,7 +41,7 @@ fn first_fault(
     Ok(None)
 }
 
-// The first fault of an attribute. It takes no memory, and the square of the number of attributes.
+// The first fault of an attribute. It takes no memory, and time by the square of their number.
 fn first_fault_in_place(dims: &[Dim], attrs: &[Attr]) -> Option<SchemaFault>
     ensures { result ≡ fault_behind dims.now [] attrs.now }
 {

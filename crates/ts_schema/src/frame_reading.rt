@@ -5,14 +5,14 @@ ghost use Rattle.ts_wire.specs.Reading.{Reads, Decodes};
 ghost use Rattle.ts_wire.specs.Place.{items_at};
 ghost use Rattle.std.specs.Result.{result_err};
 ghost use Rattle.ts_domain.specs.Dims.{IsBound, IsDim, dim_fault, fault_behind};
-ghost use Rattle.ts_schema.specs.FrameTexts.{order_at, capacity_at, is_bound, dim_count_at, integer_type_at, bound_at, dim_fields_at, place_of_fault, dim_broken, dim_at, next_dim_at, dims_at, frame_at, frame_of};
+ghost use Rattle.ts_schema.specs.FrameTexts.{order_at, capacity_at, dim_count_at, integer_type_at, bound_at, dim_fields_at, place_of_fault, dim_broken, dim_at, next_dim_at, dims_at, frame_at, frame_of};
 ghost use Rattle.ts_base.specs.Values.{is_integer};
 
 use crate::frames::Frame;
 use crate::types::read_type;
 use ts_base::ValType;
 use ts_domain::{Dim, Domain, DomainFault, Order};
-use ts_wire::{Cursor, Damaged, Kind, unwrap_body};
+use ts_wire::{Cursor, Damaged, Kind, kept, unwrap_body};
 
 // No bound and no extent is above 2^64, or below its negative.
 const LIMIT: i128 = 18_446_744_073_709_551_616;
@@ -35,11 +35,7 @@ fn read_capacity(cursor: &mut Cursor) -> Result<u32, Damaged>
 {
     let at = cursor.at();
     let capacity = cursor.u32()?;
-    if 1 <= capacity && capacity <= 1_000_000 {
-        Ok(capacity)
-    } else {
-        Err(Damaged { at })
-    }
+    kept(at, capacity, 1 <= capacity && capacity <= 1_000_000)
 }
 
 #[tactic(auto, unfolding(crate::specs::FrameTexts::dim_count_at))]
@@ -49,11 +45,7 @@ fn read_dim_count(cursor: &mut Cursor) -> Result<u8, Damaged>
 {
     let at = cursor.at();
     let count = cursor.u8()?;
-    if 1 <= count && count <= 8 {
-        Ok(count)
-    } else {
-        Err(Damaged { at })
-    }
+    kept(at, count, 1 <= count && count <= 8)
 }
 
 #[tactic(auto, unfolding(crate::specs::FrameTexts::integer_type_at))]
@@ -64,11 +56,7 @@ fn read_integer_type(cursor: &mut Cursor) -> Result<ValType, Damaged>
 {
     let at = cursor.at();
     let ty = read_type(cursor)?;
-    if ty.is_integer() {
-        Ok(ty)
-    } else {
-        Err(Damaged { at })
-    }
+    kept(at, ty, ty.is_integer())
 }
 
 #[tactic(auto, unfolding(crate::specs::FrameTexts::bound_at))]
@@ -79,11 +67,7 @@ fn read_bound(cursor: &mut Cursor) -> Result<i128, Damaged>
 {
     let at = cursor.at();
     let bound = cursor.int(16, true)?;
-    if -LIMIT <= bound && bound <= LIMIT {
-        Ok(bound)
-    } else {
-        Err(Damaged { at })
-    }
+    kept(at, bound, -LIMIT <= bound && bound <= LIMIT)
 }
 
 // The five fields of a dimension.

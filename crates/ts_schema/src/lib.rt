@@ -20,11 +20,12 @@ mod there;
 mod types;
 mod wants;
 
-pub use attrs::{Attr, AttrList};
+pub use attrs::{Attr, AttrList, has_attr};
 pub use checking::schema_fault;
 pub use evolution::Evolution;
 pub use faults::SchemaFault;
 pub use frames::Frame;
+pub use schema_reading::read_value;
 pub use schemas::{Schema, SchemaList};
 pub use showing::show_row;
 pub use spelling::Spelling;

@@ -1,5 +1,5 @@
 //! Reading the object of a schema.
-ghost use Rattle.std.specs.Prelude.{◌≡◌, [], length};
+ghost use Rattle.std.specs.Prelude.{[]};
 ghost use Rattle.ts_wire.specs.Place.{items_at};
 ghost use Rattle.ts_wire.specs.Reading.{Reads, ReadsOr, DecodesOr};
 ghost use Rattle.ts_schema.specs.Attrs.{has_attr};
@@ -10,7 +10,7 @@ use crate::types::read_type;
 use std::alloc::Global;
 use ts_base::{Label, Val, ValType};
 use ts_value::fits;
-use ts_wire::{Cursor, Damaged, Kind, ReadFault, unwrap_body};
+use ts_wire::{Cursor, Damaged, Kind, ReadFault, kept, unwrap_body};
 
 #[tactic(auto, unfolding(crate::specs::SchemaTexts::name_at))]
 fn read_name(front: &AttrList, cursor: &mut Cursor) -> Result<Label, Damaged>
@@ -18,29 +18,23 @@ fn read_name(front: &AttrList, cursor: &mut Cursor) -> Result<Label, Damaged>
 {
     let at = cursor.at();
     let name = cursor.label()?;
-    if has_attr(front.as_slice(), &name) {
-        Err(Damaged { at })
-    } else {
-        Ok(name)
-    }
+    kept(at, name, !has_attr(front.as_slice(), &name))
 }
 
+/// Reads a value, which has to fit a type and whether it may be null.
 #[tactic(auto, unfolding(crate::specs::SchemaTexts::fill_at))]
-fn read_fill(
+pub fn read_value(
     alloc: Global,
     ty: ValType,
     nullable: bool,
     cursor: &mut Cursor,
 ) -> Result<Val, ReadFault>
-    ensures { ReadsOr (λ fill. fill) (fill_at ty nullable) cursor.old cursor.new result }
+    ensures { ReadsOr (λ val. val) (fill_at ty nullable) cursor.old cursor.new result }
 {
     let at = cursor.at();
-    let fill = cursor.val(alloc)?;
-    if fits(ty, nullable, &fill) {
-        Ok(fill)
-    } else {
-        Err(ReadFault::Damaged(Damaged { at }))
-    }
+    let val = cursor.val(alloc)?;
+    let fitting = fits(ty, nullable, &val);
+    Ok(kept(at, val, fitting)?)
 }
 
 #[tactic(auto, unfolding(crate::specs::SchemaTexts::attr_at))]
@@ -50,7 +44,7 @@ fn read_attr(alloc: Global, front: &AttrList, cursor: &mut Cursor) -> Result<Att
     let name = read_name(front, cursor)?;
     let ty = read_type(cursor)?;
     let nullable = cursor.bool()?;
-    let fill = read_fill(alloc, ty, nullable, cursor)?;
+    let fill = read_value(alloc, ty, nullable, cursor)?;
     Ok(Attr {
         name,
         ty,
@@ -65,11 +59,7 @@ fn read_attr_count(cursor: &mut Cursor) -> Result<u8, Damaged>
 {
     let at = cursor.at();
     let count = cursor.u8()?;
-    if 1 <= count && count <= 64 {
-        Ok(count)
-    } else {
-        Err(Damaged { at })
-    }
+    kept(at, count, 1 <= count && count <= 64)
 }
 
 #[tactic(auto, using(ts_wire::proofs::Loop::items_loop))]

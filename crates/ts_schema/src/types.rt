@@ -4,7 +4,7 @@ ghost use Rattle.ts_wire.specs.Reading.{Reads};
 ghost use Rattle.ts_schema.specs.SchemaTexts.{type_code, type_of, type_at, type_bytes};
 
 use ts_base::{OutOfMemory, ValType};
-use ts_wire::{Cursor, Damaged, Scribe};
+use ts_wire::{Cursor, Damaged, Scribe, kept};
 
 // The types in the order of their numbers, which count from 1.
 const TYPES: [ValType; 10] = [
@@ -28,11 +28,8 @@ pub fn read_type(cursor: &mut Cursor) -> Result<ValType, Damaged>
 {
     let at = cursor.at();
     let code = cursor.u8()?;
-    if 1 <= code && code <= 10 {
-        Ok(type_of(code))
-    } else {
-        Err(Damaged { at })
-    }
+    let code = kept(at, code, 1 <= code && code <= 10)?;
+    Ok(type_of(code))
 }
 
 fn type_of(code: u8) -> ValType

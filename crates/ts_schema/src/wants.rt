@@ -1,11 +1,9 @@
 //! What a reader wants of a piece.
-ghost use Rattle.std.specs.Prelude.{◌≡◌, map, IfOk};
-ghost use Rattle.ts_base.specs.Keys.{is_within};
-ghost use Rattle.ts_domain.specs.Bounds.{is_between};
+ghost use Rattle.std.specs.Prelude.{◌≡◌, IfOk};
 ghost use Rattle.ts_schema.specs.Wants.{is_wanted, value_of, cut_row, cut, taken};
 
 use std::alloc::Global;
-use ts_base::{Duplicate, IndexList, Key, OutOfMemory, Row, Val, Version, VersionList};
+use ts_base::{Duplicate, IndexList, OutOfMemory, Row, Val, Version, VersionList};
 use ts_domain::SubBox;
 
 /// The versions that a reader wants of a piece, and what it wants of their rows.
@@ -21,33 +19,10 @@ pub struct Want {
     pub b: u64,
 }
 
-fn is_within(a: u64, b: u64, key: Key) -> bool
-    ensures { result ≡ is_within a b key }
-{
-    a <= key.t && key.t <= b
-}
-
-// Whether each coordinate lies between its bounds.
-fn is_between(low: &[i128], high: &[i128], coords: &[i128]) -> bool
-    ensures { result ≡ is_between low.now high.now coords.now }
-{
-    match low {
-        [] => high.is_empty() && coords.is_empty(),
-        [l, lows @ ..] => match high {
-            [] => false,
-            [h, highs @ ..] => match coords {
-                [] => false,
-                [x, others @ ..] => *l <= *x && *x <= *h && is_between(lows, highs, others),
-            },
-        },
-    }
-}
-
 fn is_wanted(want: &Want, version: &Version) -> bool
     ensures { result ≡ is_wanted want.now version.now }
 {
-    let (low, high) = (want.sub.low.as_slice(), want.sub.high.as_slice());
-    is_within(want.a, want.b, version.key) && is_between(low, high, version.coords.as_slice())
+    version.key.is_within(want.a, want.b) && want.sub.contains(&version.coords)
 }
 
 fn value_of(alloc: Global, row: &Row, place: u32) -> Result<Val, OutOfMemory>

@@ -1,5 +1,5 @@
 -- The test whether a value fits a type, and its meaning, and that each type's fill fits it.
-use Rattle.std.proofs.Common.{◌≡◌, ℕ, ℤ, ◌≤ℤ◌, Bool, true, false, ◌&&◌, int_le, List, [], IsUtf8, refl, arith}
+use Rattle.std.proofs.Common.{◌≡◌, ℤ, ◌≤ℤ◌, Bool, true, false, ◌&&◌, int_le, refl, arith}
 use Rattle.std.proofs.lemmas.Bool.Decides.{nat_tests}
 use Rattle.std.proofs.lemmas.Float.{T_from_true}
 use Rattle.std.proofs.lemmas.Int.{ints}
@@ -7,7 +7,7 @@ use Rattle.std.proofs.lemmas.Str.{IsUtf8-nil}
 use Rattle.ts_base.specs.declared.values.Val.{Val}
 use Rattle.ts_base.specs.declared.values.Val.TheVariants.{Null, Int, Bytes}
 use Rattle.ts_base.specs.declared.values.ValType.{ValType}
-use Rattle.ts_base.specs.declared.values.ValType.TheVariants.{I8, I16, I32, I64, U8, U16, U32, U64, Text, Blob}
+use Rattle.ts_base.specs.declared.values.ValType.TheVariants.{I8, Text, Blob}
 use Rattle.ts_base.specs.Values.{is_integer, least_of, greatest_of}
 use Rattle.ts_value.specs.Fill.{fill_of}
 use Rattle.ts_value.specs.Fits.{Fits, fits_of}

@@ -1,5 +1,5 @@
 -- Which values may stand under a type.
-use Rattle.std.specs.Prelude.{ℕ, ℤ, ◌≤ℤ◌, Bool, true, false, ◌&&◌, int_le, List, IsUtf8, IsTrue}
+use Rattle.std.specs.Prelude.{ℤ, ◌≤ℤ◌, Bool, true, false, ◌&&◌, int_le, IsUtf8, IsTrue}
 use Rattle.std.specs.Str.{is_utf8}
 use Rattle.ts_base.specs.declared.values.Val.{Val}
 use Rattle.ts_base.specs.declared.values.Val.TheVariants.{Null, Int, Bytes}

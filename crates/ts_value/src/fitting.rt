@@ -25,8 +25,9 @@ pub fn fits(ty: ValType, nullable: bool, val: &Val) -> bool
     }
 }
 
+/// Whether bytes are text in UTF-8.
 #[tactic(auto, using(crate::proofs::Texts::is_utf8_true, crate::proofs::Texts::is_utf8_false, crate::proofs::Texts::text_of_test))]
-fn is_text(bytes: &[u8]) -> bool
+pub fn is_text(bytes: &[u8]) -> bool
     ensures test { result ≡ is_utf8 bytes.now }
     ensures means { IsTrue result ↔ IsUtf8 bytes.now }
 {

@@ -8,6 +8,6 @@ mod order;
 mod tests;
 
 pub use fills::default_fill;
-pub use fitting::{fits, fits_are_tested};
+pub use fitting::{fits, fits_are_tested, is_text};
 pub use order::{compare, values_are_ordered};
 pub use ts_base::{Duplicate, Row, RowList, Val, ValType};

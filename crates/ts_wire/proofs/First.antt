@@ -1,20 +1,20 @@
 -- Where a reader is broken, there is the first broken field.
-use Rattle.std.proofs.Common.{◌≡◌, ℕ, zero, suc, ◌+◌, ◌-◌, ◌*◌, ◌^◌, ◌<◌, ◌≤◌, pos, Bool, true, false, nat_eq, nat_lt, nat_le, if◌then◌else◌, List, [], ◌∷◌, ◌++◌, length, Ok, Err, ◌⊎◌, inl, inr, refl, sym, ap, ◌∙◌, subst, arith, append_assoc, length-append, codes}
+use Rattle.std.proofs.Common.{◌≡◌, ℕ, zero, suc, ◌+◌, ◌^◌, ◌<◌, ◌≤◌, Bool, true, false, nat_eq, nat_lt, nat_le, if◌then◌else◌, List, [], ◌∷◌, ◌++◌, length, Ok, Err, ◌⊎◌, inl, inr, refl, sym, ap, ◌∙◌, subst, arith, append_assoc, length-append}
+use Rattle.std.specs.Prelude.{IsTrue}
 use Rattle.std.proofs.lemmas.List.{append-nil, append_cancel_left}
-use Rattle.std.proofs.Math.Nat.{one-le-pow}
 use Rattle.std.proofs.Math.Dec.{eqb-suc-zero}
 use Rattle.std.proofs.lemmas.Grind.{flat_map-append}
 use Rattle.std.specs.List.{flat_map}
 use Rattle.byteorder.specs.Endian.{little_number}
 use Rattle.ts_base.specs.Labels.{is_label}
-use Rattle.ts_base.specs.declared.values.Val.TheVariants.{Null}
-use Rattle.ts_wire.specs.Place.{Place, Read, place, ◌>>=◌, bytes_at, given, mapped, both, start_of, field, ruled, items_at, counted_at, numbered_at, each_at, whole}
-use Rattle.ts_wire.specs.Exact.{IsBytes, Exact, Restates, InTurn, EachFits, each_bytes}
-use Rattle.ts_wire.specs.Numbers.{number_bytes, number_at, int_of, int_bytes, int_at, FitsInt}
+use Rattle.ts_wire.specs.Place.{Place, Read, place, ◌>>=◌, bytes_at, given, mapped, both, start_of, field, ruled, items_at, counted_at, whole}
+use Rattle.ts_wire.specs.Exact.{IsBytes, Exact, Restates, InTurn}
+use Rattle.ts_wire.specs.Numbers.{number_bytes, number_at, is_width, int_of, int_bytes, int_at, FitsInt}
 use Rattle.ts_wire.specs.Fields.{bool_bytes, bool_at, sized_at, label_bytes, label_at, key_bytes, key_at, FitsKey, val_bytes, val_at, FitsVal}
-use Rattle.ts_wire.specs.Broken.{joined, Broken, Surplus, each_fields, BreaksAtStart, BreaksFirst}
+use Rattle.ts_wire.specs.Broken.{joined, Broken, Surplus, BreaksAtStart, BreaksFirst, IsField}
+use Rattle.ts_wire.specs.Laws.{AreFields}
 use Rattle.ts_wire.proofs.Laws.{failed, same_ok, same_err, not_both, cut_at, AreInTurn}
-use Rattle.ts_wire.proofs.Numbers.{number_exact, int_exact}
+use Rattle.ts_wire.proofs.Numbers.{number_exact, int_exact, width_bounds}
 use Rattle.ts_wire.proofs.FieldLaws.{bool_exact, label_exact, key_exact, val_exact}
 
 -- ---- lists of fields
@@ -51,6 +51,19 @@ reads_there : {A : Type 0} {Fits : A → Type 0} {spell : A → List ℕ} {read 
     → (p : Place) (x : A) (rest : List ℕ) → Fits x → p.rest ≡ spell x ++ rest → read p ≡ Ok (x, place rest (p.at + length (spell x)))
 reads_there {spell = spell} {read = read} exact p x rest fits parts =
     subst (λ bytes. read (place bytes p.at) ≡ Ok (x, place rest (p.at + length (spell x)))) (sym parts) (exact.again x rest p.at fits)
+
+-- other words for what fits
+pub broken_as : {A : Type 0} {Fits Other : A → Type 0} {read : Place → Read A} (fields : A → List (List ℕ)) → ((x : A) → Fits x → Other x) → ((x : A) → Other x → Fits x) → BreaksFirst Fits fields read → BreaksFirst Other fields read
+broken_as fields there back first p at all h =
+    let b = first p at all h in
+    record {
+      before = b.before;
+      rest = b.rest;
+      parts = b.parts;
+      here = b.here;
+      right = (b.right.0, there b.right.0 b.right.1, b.right.2, b.right.3);
+      wrong = λ x next after tail fits same begins. b.wrong x next after tail (back x fits) same begins;
+    }
 
 module _ {A : Type 0} {Fits : A → Type 0} {spell : A → List ℕ} {read : Place → Read A} where
   -- a reader that is one field
@@ -229,76 +242,41 @@ filled_up Fits limit goes (suc n) front fits room =
 module _ {A : Type 0} {Fits : List A → A → Type 0} {spell : A → List ℕ} {read : List A → Place → Read A} where
   -- n values, each read by those before it
   pub items_broken : ((front : List A) → Exact (Fits front) spell (read front)) → (fields : A → List (List ℕ)) → ((front : List A) (x : A) → Fits front x → joined (fields x) ≡ spell x)
-      → ((front : List A) → BreaksFirst (Fits front) fields (read front)) → (limit : ℕ) → GoesOn Fits limit
+      → (limit : ℕ) → ((front : List A) → length front < limit → BreaksFirst (Fits front) fields (read front)) → GoesOn Fits limit
       → (n : ℕ) (front : List A) → InTurn Fits [] front → n + length front ≤ limit → BreaksFirst (AreInTurn Fits n front) (flat_map fields) (items_at read n front)
   unfolding items_at
-  items_broken exact fields spelled first limit goes zero front fits room = λ p at all h. absurd (not_both (given [] p) ([], p) at refl h)
-  items_broken exact fields spelled first limit goes (suc n) front fits room =
+  items_broken exact fields spelled limit first goes zero front fits room = λ p at all h. absurd (not_both (given [] p) ([], p) at refl h)
+  items_broken exact fields spelled limit first goes (suc n) front fits room =
       mapped_broken (record {
         there = λ x is. ((omega (arith, is.1.0), (is.0, is.1.1)), refl);
         back = back;
       }) (fields_of fields (λ a xs. flat_map fields xs)) (flat_map fields) (λ x is. refl)
       (both_broken (exact front) fields (λ a xs. flat_map fields xs) (spelled front)
       (λ a is. filled_up Fits limit goes n (front ++ a ∷ []) (InTurn-more Fits [] front a fits is) (omega (arith, length-append front (a ∷ []))))
-      (first front)
-      (λ a is. items_broken exact fields spelled first limit goes n (front ++ a ∷ []) (InTurn-more Fits [] front a fits is) (omega (arith, length-append front (a ∷ [])))))
+      (first front (omega arith))
+      (λ a is. items_broken exact fields spelled limit first goes n (front ++ a ∷ []) (InTurn-more Fits [] front a fits is) (omega (arith, length-append front (a ∷ [])))))
     where
       back : (xs : List A) → AreInTurn Fits (suc n) front xs
           → (a : A × List A) × (Fits front a.0 × AreInTurn Fits n (front ++ a.0 ∷ []) a.1) × (a.0 ∷ a.1 ≡ xs) × (spell a.0 ++ flat_map spell a.1 ≡ flat_map spell xs)
       back [] is = absurd (omega arith)
       back (x ∷ xs) is = ((x, xs), (is.1.0, (omega arith, is.1.1)), refl, refl)
 
--- a count, and so many values, each read by the count and by those before it
-pub numbered_broken : {A : Type 0} {FitsCount : ℕ → Type 0} {spell_count : ℕ → List ℕ} {Fits : ℕ → List A → A → Type 0} {spell : A → List ℕ}
-    {count : Place → Read ℕ} {read : ℕ → List A → Place → Read A}
-    → Exact FitsCount spell_count count → ((n : ℕ) → FitsCount n → (front : List A) → Exact (Fits n front) spell (read n front))
-    → (fields : A → List (List ℕ)) → ((n : ℕ) (front : List A) (x : A) → Fits n front x → joined (fields x) ≡ spell x)
-    → BreaksFirst FitsCount (λ n. spell_count n ∷ []) count → ((n : ℕ) → FitsCount n → (front : List A) → BreaksFirst (Fits n front) fields (read n front))
-    → ((n : ℕ) → FitsCount n → GoesOn (Fits n) n)
-    → BreaksFirst (λ xs. FitsCount (length xs) × InTurn (Fits (length xs)) [] xs) (λ xs. spell_count (length xs) ∷ flat_map fields xs) (numbered_at count read)
-numbered_broken {A = A} {FitsCount = FitsCount} {spell_count = spell_count} {Fits = Fits} {spell = spell} counting item fields spelled first_count first goes =
-    mapped_broken {spellA = λ x. spell_count x.0 ++ flat_map spell x.1} {spellB = λ xs. spell_count (length xs) ++ flat_map spell xs} (record {
-      there = λ x is.
-          let P : ℕ → Type 0 = λ n. FitsCount n × InTurn (Fits n) [] x.1 in
-          (subst P (sym is.1.0) (is.0, is.1.1), ap (λ n. spell_count n ++ flat_map spell x.1) (sym is.1.0));
-      back = λ xs is. ((length xs, xs), (is.0, (refl, is.1)), refl, refl);
-    }) (fields_of (λ n. spell_count n ∷ []) (λ n xs. flat_map fields xs)) (λ xs. spell_count (length xs) ∷ flat_map fields xs)
-    (λ x is. ap (λ n. spell_count n ∷ flat_map fields x.1) (sym is.1.0))
-    (both_broken counting (λ n. spell_count n ∷ []) (λ n xs. flat_map fields xs) (λ n is. append-nil (spell_count n))
-    (λ n is. filled_up (Fits n) n (goes n is) n [] tt (omega arith)) first_count
-    (λ n is. items_broken (item n is) fields (spelled n) (first n is) n (goes n is) n [] tt (omega arith)))
-
--- a count, and so many values, each read by those before it
-pub counted_broken : {A : Type 0} {FitsCount : ℕ → Type 0} {spell_count : ℕ → List ℕ} {Fits : List A → A → Type 0} {spell : A → List ℕ}
-    {count : Place → Read ℕ} {read : List A → Place → Read A}
-    → Exact FitsCount spell_count count → ((front : List A) → Exact (Fits front) spell (read front))
-    → (fields : A → List (List ℕ)) → ((front : List A) (x : A) → Fits front x → joined (fields x) ≡ spell x)
-    → BreaksFirst FitsCount (λ n. spell_count n ∷ []) count → ((front : List A) → BreaksFirst (Fits front) fields (read front))
-    → ((n : ℕ) → FitsCount n → GoesOn Fits n)
-    → BreaksFirst (λ xs. FitsCount (length xs) × InTurn Fits [] xs) (λ xs. spell_count (length xs) ∷ flat_map fields xs) (counted_at count read)
-counted_broken counting item fields spelled first_count first goes =
-    numbered_broken counting (λ n is. item) fields (λ n. spelled) first_count (λ n is. first) goes
-
--- one value for each item of a known list
-pub each_broken : {D A : Type 0} {Fits : D → A → Type 0} {spell : D → A → List ℕ} {read : D → Place → Read A}
-    → ((d : D) → Exact (Fits d) (spell d) (read d)) → (fields : D → A → List (List ℕ)) → ((d : D) (x : A) → Fits d x → joined (fields d x) ≡ spell d x)
-    → ((d : D) → BreaksFirst (Fits d) (fields d) (read d)) → ((d : D) → (x : A) × Fits d x)
-    → (ds : List D) → BreaksFirst (EachFits Fits ds) (each_fields fields ds) (each_at read ds)
-unfolding each_at
-each_broken exact fields spelled first some [] = λ p at all h. absurd (not_both (given [] p) ([], p) at refl h)
-each_broken {D = D} {A = A} {Fits = Fits} {spell = spell} exact fields spelled first some (d ∷ ds) =
-    mapped_broken {spellA = λ x. spell d x.0 ++ each_bytes spell ds x.1} {spellB = each_bytes spell (d ∷ ds)} (record { there = λ x is. (is, refl); back = back })
-    (fields_of (fields d) (λ a xs. each_fields fields ds xs)) (each_fields fields (d ∷ ds)) (λ x is. refl)
-    (both_broken (exact d) (fields d) (λ a xs. each_fields fields ds xs) (spelled d) (λ a is. every ds) (first d) (λ a is. each_broken exact fields spelled first some ds))
-  where
-    every : (ds : List D) → (xs : List A) × EachFits Fits ds xs
-    every [] = ([], tt)
-    every (e ∷ es) = let rest = every es in ((some e).0 ∷ rest.0, ((some e).1, rest.1))
-
-    back : (xs : List A) → EachFits Fits (d ∷ ds) xs
-        → (a : A × List A) × (Fits d a.0 × EachFits Fits ds a.1) × (a.0 ∷ a.1 ≡ xs) × (spell d a.0 ++ each_bytes spell ds a.1 ≡ each_bytes spell (d ∷ ds) xs)
-    back [] is = absurd is
-    back (x ∷ xs) is = ((x, xs), is, refl, refl)
+  -- a count up to a limit, and so many values, each read by those before it
+  pub counted_broken : {FitsCount : ℕ → Type 0} {spell_count : ℕ → List ℕ} {count : Place → Read ℕ} → Exact FitsCount spell_count count → ((front : List A) → Exact (Fits front) spell (read front))
+      → (fields : A → List (List ℕ)) → ((front : List A) (x : A) → Fits front x → joined (fields x) ≡ spell x) → BreaksFirst FitsCount (λ n. spell_count n ∷ []) count
+      → (limit : ℕ) → ((n : ℕ) → FitsCount n → n ≤ limit) → ((front : List A) → length front < limit → BreaksFirst (Fits front) fields (read front)) → GoesOn Fits limit
+      → BreaksFirst (λ xs. FitsCount (length xs) × InTurn Fits [] xs) (λ xs. spell_count (length xs) ∷ flat_map fields xs) (counted_at count read)
+  counted_broken {FitsCount = FitsCount} {spell_count = spell_count} counting item fields spelled first_count limit few first goes =
+      mapped_broken {spellA = λ x. spell_count x.0 ++ flat_map spell x.1} {spellB = λ xs. spell_count (length xs) ++ flat_map spell xs} (record {
+        there = λ x is.
+            let P : ℕ → Type 0 = λ n. FitsCount n × InTurn Fits [] x.1 in
+            (subst P (sym is.1.0) (is.0, is.1.1), ap (λ n. spell_count n ++ flat_map spell x.1) (sym is.1.0));
+        back = λ xs is. ((length xs, xs), (is.0, (refl, is.1)), refl, refl);
+      }) (fields_of (λ n. spell_count n ∷ []) (λ n xs. flat_map fields xs)) (λ xs. spell_count (length xs) ∷ flat_map fields xs)
+      (λ x is. ap (λ n. spell_count n ∷ flat_map fields x.1) (sym is.1.0))
+      (both_broken counting (λ n. spell_count n ∷ []) (λ n xs. flat_map fields xs) (λ n is. append-nil (spell_count n))
+      (λ n is. filled_up Fits limit goes n [] tt (let most = few n is in omega (arith, most))) first_count
+      (λ n is. items_broken item fields spelled limit first goes n [] tt (let most = few n is in omega (arith, most))))
 
 -- ---- fields that are broken at their start
 
@@ -356,26 +334,38 @@ pub val_start : BreaksAtStart val_at
 unfolding val_at
 val_start = field_start _
 
--- ---- so each field is broken where it begins, and nowhere else
-
-pub number_broken : (n : ℕ) → BreaksFirst (λ x. x < 256 ^ n) (λ x. number_bytes n x ∷ []) (number_at n)
-number_broken n = one_broken (number_exact n) 0 (one-le-pow n 256 (omega arith)) (number_start n)
-
-pub int_broken : (n : ℕ) (signed : Bool) → 1 ≤ n → n ≤ 16 → BreaksFirst (FitsInt n signed) (λ z. int_bytes n z ∷ []) (int_at n signed)
-int_broken n signed some few = one_broken (int_exact n signed some few) (pos 0) (nothing signed) (int_start n signed)
-  where
-    nothing : (signed : Bool) → FitsInt n signed (pos 0)
-    nothing true = one-le-pow (8 * n - 1) 2 (omega arith)
-    nothing false = one-le-pow (8 * n) 2 (omega arith)
-
+-- so a bool is broken where it begins, and nowhere else
 pub bool_broken : BreaksFirst (λ (b : Bool). Unit {0}) (λ b. bool_bytes b ∷ []) bool_at
 bool_broken = one_broken bool_exact true tt bool_start
 
-pub label_broken : BreaksFirst (λ text. is_label text ≡ true) (λ text. label_bytes text ∷ []) label_at
-label_broken = one_broken label_exact (codes "a") refl label_start
+-- ---- the fields
 
-pub key_broken : BreaksFirst FitsKey (λ key. key_bytes key ∷ []) key_at
-key_broken = one_broken key_exact (record { t = 0; id = 0 }) (omega arith, omega arith) key_start
+pub number_field : (n : ℕ) → IsField (λ x. x < 256 ^ n) (number_bytes n) (number_at n)
+number_field n = record { exact = number_exact n; start = number_start n }
 
-pub val_broken : BreaksFirst FitsVal (λ val. val_bytes val ∷ []) val_at
-val_broken = one_broken val_exact Null tt val_start
+pub int_field : (n : ℕ) (signed : Bool) → IsTrue (is_width n signed) → IsField (FitsInt n signed) (int_bytes n) (int_at n signed)
+int_field n signed is =
+    let bounds = width_bounds n signed is in
+    record { exact = int_exact n signed bounds.0 bounds.1; start = int_start n signed }
+
+pub bool_field : IsField (λ (b : Bool). Unit {0}) bool_bytes bool_at
+bool_field = record { exact = bool_exact; start = bool_start }
+
+pub label_field : IsField (λ text. IsTrue (is_label text)) label_bytes label_at
+label_field = record { exact = label_exact; start = label_start }
+
+pub key_field : IsField FitsKey key_bytes key_at
+key_field = record { exact = key_exact; start = key_start }
+
+pub val_field : IsField FitsVal val_bytes val_at
+val_field = record { exact = val_exact; start = val_start }
+
+pub are_fields : AreFields
+are_fields = record {
+  numbers = number_field;
+  ints = int_field;
+  bools = bool_field;
+  labels = label_field;
+  keys = key_field;
+  vals = val_field;
+}

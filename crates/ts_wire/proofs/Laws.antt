@@ -219,22 +219,6 @@ module _ {A : Type 0} where
       let P : List ℕ → Type 0 = λ text. read (place text at) ≡ Ok (x, place [] (at + length (spell x))) in
       goes_on (read (place (spell x) at)) (λ y. if nat_eq (length y.1.rest) 0 then Ok y.0 else Err y.1.at) _ _ (subst P (append-nil (spell x)) (base.again x [] at fits)) refl
 
-  pub whole_within : {Fits : A → Type 0} {spell : A → List ℕ} {read : Place → Read A} → Exact Fits spell read
-      → (p : Place) (at : ℕ) → IsBytes p.rest → whole read p ≡ Err at → (p.at ≤ at) × (at ≤ p.at + length p.rest)
-  whole_within {spell = spell} {read = read} base p at all h =
-      elim (failed (read p) (λ y. if nat_eq (length y.1.rest) 0 then Ok y.0 else Err y.1.at) at h) [
-        | inl here ↦ base.within p at all here
-        | inr far ↦
-            let same = end_err far.0 at (nat_eq (length far.0.1.rest) 0) far.2 in
-            let was = base.takes p far.0 all far.1 in
-            let parts = ap length was.0.parts ∙ length-append (spell far.0.0) far.0.1.rest in
-            (omega (arith, same, was.0.count), omega (arith, same, was.0.count, parts))
-      ]
-    where
-      end_err : (y : A × Place) (here : ℕ) (b : Bool) → (if b then Ok y.0 else Err y.1.at) ≡ Err here → y.1.at ≡ here
-      end_err y here true h = absurd (not_both (Ok y.0) y.0 here refl h)
-      end_err y here false h = cc
-
 module _ {A B : Type 0} where
   -- the second step of two
   abbrev rest_of : (A → Place → Read B) → A × Place → Read (A × B)

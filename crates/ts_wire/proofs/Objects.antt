@@ -1,5 +1,5 @@
 -- Objects are read exactly: the envelope and its body, and a value that fills the body.
-use Rattle.std.proofs.Common.{◌≡◌, ◌≢◌, ℕ, ◌+◌, ◌^◌, ◌<◌, ◌≤◌, Bool, true, false, nat_eq, if◌then◌else◌, List, [], ◌∷◌, ◌++◌, length, take, drop, Result, Ok, Err, IfOk, IsOkAnd, IsErrAnd, refl, sym, ap, ◌∙◌, subst, arith, inl, inr, codes, append_assoc, length-append}
+use Rattle.std.proofs.Common.{◌≡◌, ◌≢◌, ℕ, ◌+◌, ◌^◌, ◌<◌, Bool, true, false, nat_eq, if◌then◌else◌, List, [], ◌∷◌, ◌++◌, length, take, drop, Result, Ok, Err, IfOk, IsOkAnd, IsErrAnd, refl, sym, ap, ◌∙◌, subst, arith, codes, append_assoc, length-append}
 use Rattle.std.proofs.lemmas.Bool.{eqb-true, eq-eqb, ne_eqb}
 use Rattle.std.proofs.lemmas.List.{take_at, drop_at, take-append-drop, drop-append-le, take-append-le, nil_from_length}
 use Rattle.ts_wire.specs.declared.faults.Damaged.{Damaged}
@@ -12,7 +12,7 @@ use Rattle.ts_wire.specs.Exact.{IsBytes, Takes, Exact}
 use Rattle.ts_wire.specs.Numbers.{number_bytes, number_at, constant_at}
 use Rattle.ts_wire.specs.Envelope.{kind_code, magic, envelope_bytes, wrapped, front_at, length_at, unwrapped, IsCut, object_at}
 use Rattle.ts_wire.specs.Reading.{Decodes, DecodesOr, IsRead, IsDamagedAt}
-use Rattle.ts_wire.proofs.Laws.{bound, failed, goes_on, same_ok, same_err, not_both, both_exact, ruled_exact, restated, IsBytes-drop, whole_found, whole_only, whole_within}
+use Rattle.ts_wire.proofs.Laws.{bound, goes_on, same_ok, same_err, not_both, both_exact, ruled_exact, restated, IsBytes-drop, whole_found, whole_only}
 use Rattle.ts_wire.proofs.Numbers.{number_exact, one_byte, length-number_bytes}
 
 -- ---- the magic text, the kind and the version
@@ -139,30 +139,6 @@ unwrapped_cut k body object few cut =
     let longer : length body ≢ length (drop 14 object) = λ same. cut.some (nil_from_length cut.end (omega (arith, ap length others, length-append (drop 14 object) cut.end, same))) in
     subst (λ text. unwrapped k text ≡ Err 6) split (unwrapped_length k (length body) (drop 14 object) few longer)
 
--- an object is broken at one of its bytes, or at its end
-pub unwrapped_within : (k : Kind) (object : List ℕ) (at : ℕ) → IsBytes object → unwrapped k object ≡ Err at → at ≤ length object
-unfolding unwrapped
-unwrapped_within k object at all h = elim (failed (front_at k (place object 0)) (λ x. length_at x.1 >>= λ y. Ok y.1.rest) at h) [
-  | inl here ↦ let near = (front_exact k).within (place object 0) at all here in omega arith
-  | inr far ↦
-      let front = front_takes k object far.0 all far.1 in
-      let parts = ap length front.0 ∙ length-append (front_bytes k) far.0.1.rest in
-      elim (failed (length_at far.0.1) (λ y. Ok y.1.rest) at far.2) [
-        | inl there ↦ let near = length_within far.0.1 at front.2 there in omega (arith, near, front.1, parts, length-front_bytes k)
-        | inr over ↦ absurd (not_both (Ok over.0.1.rest) _ at refl over.2)
-      ]
-]
-  where
-    kept_err : (at : ℕ) (x : ℕ × Place) (here : ℕ) (b : Bool) → (if b then Ok x else Err at) ≡ Err here → at ≡ here
-    kept_err at x here true h = absurd (not_both (Ok x) x here refl h)
-    kept_err at x here false h = cc
-
-    length_within : (p : Place) (at : ℕ) → IsBytes p.rest → length_at p ≡ Err at → at ≤ p.at + length p.rest
-    length_within p at all h = elim (failed (number_at 8 p) (λ x. if nat_eq x.0 (length x.1.rest) then Ok x else Err p.at) at h) [
-      | inl here ↦ ((number_exact 8).within p at all here).1
-      | inr far ↦ let same = kept_err p.at far.0 at (nat_eq far.0.0 (length far.0.1.rest)) far.2 in omega arith
-    ]
-
 -- an object has 14 bytes more than its body
 pub length-wrapped : (k : Kind) (body : List ℕ) → length (wrapped k body) ≡ 14 + length body
 unfolding wrapped
@@ -191,17 +167,6 @@ module _ {A : Type 0} {Fits : A → Type 0} {spell : A → List ℕ} {read : Pla
   unfolding object_at
   object_only exact k x few fits =
       goes_on (unwrapped k (wrapped k (spell x))) (λ body. whole read (place body 14)) _ _ (unwrapped_only k (spell x) few) (whole_only exact x 14 fits)
-
-  pub object_within : Exact Fits spell read → (k : Kind) (object : List ℕ) (at : ℕ) → IsBytes object → object_at k read object ≡ Err at → at ≤ length object
-  unfolding object_at
-  object_within exact k object at all h = elim (failed (unwrapped k object) (λ body. whole read (place body 14)) at h) [
-    | inl here ↦ unwrapped_within k object at all here
-    | inr far ↦
-        let was = unwrapped_found k object far.0 all far.1 in
-        let near = whole_within exact (place far.0 14) at (body_bytes k object far.0 all was) far.2 in
-        let parts = ap length was ∙ length-wrapped k far.0 in
-        omega (arith, near.1, parts)
-  ]
 
   pub object_cut : Exact Fits spell read → (k : Kind) (x : A) (object : List ℕ) → length (spell x) < 2 ^ 64 → IsCut 14 (wrapped k (spell x)) object → object_at k read object ≡ Err 6
   unfolding object_at

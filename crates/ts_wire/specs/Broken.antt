@@ -1,8 +1,8 @@
 -- What it means that an object is broken at an offset, said apart from how it is read.
-use Rattle.std.specs.Prelude.{◌≡◌, ℕ, ◌+◌, List, [], ◌∷◌, ◌++◌, length, Err}
+use Rattle.std.specs.Prelude.{◌≡◌, ℕ, ◌+◌, List, ◌∷◌, ◌++◌, length, Err}
 use Rattle.std.specs.List.{flat_map}
 use Rattle.ts_wire.specs.Place.{Place, Read}
-use Rattle.ts_wire.specs.Exact.{IsBytes}
+use Rattle.ts_wire.specs.Exact.{IsBytes, Exact}
 
 -- the spellings of some fields, one after the other
 abbrev pub joined : List (List ℕ) → List ℕ
@@ -32,12 +32,11 @@ pub record Surplus {A : Type 0} (Fits : A → Type 0) (fields : A → List (List
 abbrev pub BreaksAtStart : {A : Type 0} → (Place → Read A) → Type 0
 BreaksAtStart read = (p : Place) (at : ℕ) → read p ≡ Err at → at ≡ p.at
 
+-- a field: what is read was spelled so, what is spelled is read whatever follows it, and it is broken at its start alone
+pub record IsField {A : Type 0} (Fits : A → Type 0) (spell : A → List ℕ) (read : Place → Read A) : Type 0 where
+  pub exact : Exact Fits spell read
+  pub start : BreaksAtStart read
+
 -- a reader that is broken where its first broken field begins
 abbrev pub BreaksFirst : {A : Type 0} → (A → Type 0) → (A → List (List ℕ)) → (Place → Read A) → Type 0
 BreaksFirst Fits fields read = (p : Place) (at : ℕ) → IsBytes p.rest → read p ≡ Err at → Broken Fits fields p at
-
--- the fields of the values, each by its item of the known list
-abbrev pub each_fields : {D A : Type 0} → (D → A → List (List ℕ)) → List D → List A → List (List ℕ)
-each_fields fields [] xs = []
-each_fields fields (d ∷ ds) [] = []
-each_fields fields (d ∷ ds) (x ∷ xs) = fields d x ++ each_fields fields ds xs

@@ -1,5 +1,5 @@
 -- What a call that reads says of its answer: it is the answer of a reader, value for value and offset for offset.
-use Rattle.std.specs.Prelude.{◌≡◌, ◌≢◌, ℕ, [], Option, Some, None, Result, Ok, Err, IsErr}
+use Rattle.std.specs.Prelude.{◌≡◌, ◌≢◌, ℕ, Bool, true, false, [], Option, Some, None, Result, Ok, Err, IsErr}
 use Rattle.ts_wire.specs.declared.faults.Damaged.{Damaged}
 use Rattle.ts_wire.specs.declared.faults.ReadFault.{ReadFault}
 use Rattle.ts_wire.specs.declared.faults.ReadFault.TheVariants as fault
@@ -64,3 +64,8 @@ abbrev pub IsDamagedAt : {A : Type 0} → ℕ → Result A ReadFault → Type 0
 IsDamagedAt at (Ok _) = ⊥
 IsDamagedAt at (Err (fault.Damaged damaged)) = damaged.at ≡ at
 IsDamagedAt at (Err fault.OutOfMemory) = Unit {0}
+
+-- the value is this one, and its rule holds; or the fault is at this offset, and the rule does not hold
+abbrev pub Keeps : {A : Type 0} → ℕ → A → Bool → Result A Damaged → Type 0
+Keeps at x keeps (Ok y) = (y ≡ x) × (keeps ≡ true)
+Keeps at x keeps (Err damaged) = (damaged.at ≡ at) × (keeps ≡ false)

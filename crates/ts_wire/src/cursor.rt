@@ -2,6 +2,7 @@
 ghost use Rattle.std.specs.Prelude.{◌≡◌, ℕ, ◌+◌, ◌^◌, ◌<◌, length, IfOk, IfSome, OnOk, OnSome, IsTrue};
 ghost use Rattle.ts_wire.specs.Place.{place, bytes_at};
 ghost use Rattle.ts_wire.specs.Numbers.{number_at, int_at, is_width};
+ghost use Rattle.ts_wire.specs.Laws.{AreFields};
 ghost use Rattle.ts_wire.specs.Fields.{bool_at, label_at, key_at, val_at, untagged_at};
 ghost use Rattle.ts_wire.specs.Reading.{Gives, GivesOr, GivesSome, ReadsSome, IsEnd};
 
@@ -36,9 +37,13 @@ impl<'a> Model for Cursor<'a> {
 
 impl<'a> Cursor<'a> {
     /// A cursor before these bytes, whose first byte has this offset in the object.
+    ///
+    /// The clause `fields` says of each kind of field that it is read exactly as it is written.
+    #[tactic(auto, using(crate::proofs::First::are_fields))]
     pub fn new(bytes: &'a [u8], base: u64) -> Cursor<'a>
         requires { base + length bytes.now < 2 ^ 64 }
-        ensures { result ≡ place bytes.now base }
+        ensures is { result ≡ place bytes.now base }
+        ensures fields { AreFields }
     {
         Cursor {
             rest: bytes,

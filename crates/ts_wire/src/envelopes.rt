@@ -5,7 +5,7 @@ ghost use Rattle.ts_wire.specs.Envelope.{kind_code, magic, envelope_bytes, wrapp
 ghost use Rattle.ts_wire.specs.Reading.{Reads, Decodes};
 
 use crate::cursor::Cursor;
-use crate::faults::Damaged;
+use crate::faults::{Damaged, kept};
 use crate::kinds::Kind;
 use byteorder::{ByteOrder, LittleEndian};
 use std::alloc::Global;
@@ -79,22 +79,16 @@ fn expect_magic(cursor: &mut Cursor) -> Result<(), Damaged>
     ensures { Reads (λ _. magic) (constant_at 4 magic) cursor.old cursor.new result }
 {
     let at = cursor.at();
-    if cursor.u32()? == MAGIC {
-        Ok(())
-    } else {
-        Err(Damaged { at })
-    }
+    let text = cursor.u32()?;
+    kept(at, (), text == MAGIC)
 }
 
 fn expect_byte(cursor: &mut Cursor, byte: u8) -> Result<(), Damaged>
     ensures { Reads (λ _. byte) (constant_at 1 byte) cursor.old cursor.new result }
 {
     let at = cursor.at();
-    if cursor.u8()? == byte {
-        Ok(())
-    } else {
-        Err(Damaged { at })
-    }
+    let found = cursor.u8()?;
+    kept(at, (), found == byte)
 }
 
 fn read_length(cursor: &mut Cursor) -> Result<u64, Damaged>
@@ -102,9 +96,5 @@ fn read_length(cursor: &mut Cursor) -> Result<u64, Damaged>
 {
     let at = cursor.at();
     let count = cursor.u64()?;
-    if count == cursor.rest().len() as u64 {
-        Ok(count)
-    } else {
-        Err(Damaged { at })
-    }
+    kept(at, count, count == cursor.rest().len() as u64)
 }

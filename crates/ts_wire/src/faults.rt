@@ -1,5 +1,6 @@
 //! What can be wrong with an object that is read.
 ghost use Rattle.std.specs.Prelude.{◌≡◌};
+ghost use Rattle.ts_wire.specs.Reading.{Keeps};
 ghost use Rattle.ts_wire.specs.declared.faults.ReadFault.TheVariants as fault;
 
 use std::alloc::AllocError;
@@ -43,5 +44,16 @@ impl From<AllocError> for ReadFault {
 
     fn from(_error: AllocError) -> ReadFault {
         ReadFault::OutOfMemory
+    }
+}
+
+/// The value of a field that begins at this offset, where the field keeps its rule.
+pub fn kept<T: Drop>(at: u64, value: T, keeps: bool) -> Result<T, Damaged>
+    ensures { Keeps at value keeps result }
+{
+    if keeps {
+        Ok(value)
+    } else {
+        Err(Damaged { at })
     }
 }

@@ -14,6 +14,6 @@ mod tests;
 
 pub use cursor::Cursor;
 pub use envelopes::{unwrap_body, wrap};
-pub use faults::{Damaged, ReadFault};
+pub use faults::{Damaged, ReadFault, kept};
 pub use kinds::Kind;
 pub use scribe::Scribe;

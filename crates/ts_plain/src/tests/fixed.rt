@@ -199,7 +199,7 @@ fn a_write_has_its_145_bytes(rt: HostRuntime) -> Result<(), Fail> {
 }
 
 #[test]
-fn each_broken_field_gives_its_offset(rt: HostRuntime) -> Result<(), Fail> {
+fn a_broken_field_gives_its_offset(rt: HostRuntime) -> Result<(), Fail> {
     let alloc = rt.alloc();
     let (frame, schema) = (frame(false)?, schema(alloc)?);
     for change in &ROW_CHANGES {

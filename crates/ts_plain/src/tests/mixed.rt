@@ -162,7 +162,7 @@ fn cells_stand_in_global_order(rt: HostRuntime) -> Result<(), Fail> {
 }
 
 #[test]
-fn each_broken_field_gives_its_offset(rt: HostRuntime) -> Result<(), Fail> {
+fn a_broken_field_gives_its_offset(rt: HostRuntime) -> Result<(), Fail> {
     let alloc = rt.alloc();
     let (frame, schema) = (frame()?, schema(alloc)?);
     for change in &CHANGES {

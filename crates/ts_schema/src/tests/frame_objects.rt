@@ -108,7 +108,7 @@ fn a_frame_is_spelled_and_read_byte_for_byte(rt: HostRuntime) -> Result<(), Fail
 }
 
 #[test]
-fn each_broken_field_of_a_frame_gives_its_offset(rt: HostRuntime) -> Result<(), Fail> {
+fn a_broken_field_of_a_frame_gives_its_offset(rt: HostRuntime) -> Result<(), Fail> {
     for change in &CHANGES {
         let Change(at, byte, broken) = change;
         let mut bytes = ByteList::of_bytes(rt.alloc(), &FRAME)?;

@@ -1,4 +1,4 @@
-use Rattle.std.proofs.Common.{◌≡◌, ◌∙◌, ap, Ok, Some, ℕ, List}
+use Rattle.std.proofs.Common.{◌≡◌, ◌∙◌, ap, Some}
 use Rattle.std.specs.Int.{to_be_bytes, from_be_bytes, w128}
 use Rattle.uuid.specs.Text.{parsed}
 use Rattle.uuid.proofs.RoundTrips.{parse_gives}

@@ -1,5 +1,3 @@
-use Rattle.std.proofs.Common.{◌≡◌, ap, ◌∙◌, sym, length}
-use Rattle.std.specs.Ordering.{int_cmp}
 use Rattle.ts_order.proofs.OrderLemmas.{slice_cmp_more, slice_cmp_apart}
 use Rattle.ts_order.proofs.compare.cmp_by_rank.Goals as goal
 

@@ -1,4 +1,4 @@
-use Rattle.std.proofs.Common.{◌≡◌, ◌∙◌, sym, ap}
+use Rattle.std.proofs.Common.{◌∙◌, sym, ap}
 use Rattle.std.specs.Ordering.{ordering_then}
 use Rattle.ts_order.specs.Orders.{order_cmp}
 use Rattle.ts_order.proofs.OrderLemmas.{length-is_in_domain, ordering_then-apart}

@@ -1,6 +1,5 @@
-use Rattle.std.proofs.Common.{rules, arith, ◌≡◌, ◌<◌, ◌∙◌, sym, length, get_or, pos, ℤ, FitsSigned, to_z-of_z}
+use Rattle.std.proofs.Common.{rules, get_or, pos, FitsSigned, to_z-of_z}
 use Rattle.std.specs.Int.{w128}
-use Rattle.ts_order.specs.Orders.{tile_numbers}
 use Rattle.ts_order.proofs.OrderLemmas.{is_in_domain_at, length-is_in_domain, get_or-tile_numbers}
 use Rattle.ts_order.proofs.compare.cmp_tile_at.Goals as goal
 

@@ -1,6 +1,5 @@
-use Rattle.std.proofs.Common.{◌≡◌, ◌<◌, ◌∙◌, sym, ◌≤◌, length, get_or, pos}
-use Rattle.std.specs.Ordering.{int_cmp}
-use Rattle.ts_order.specs.Orders.{dim_at, tile_numbers}
+use Rattle.std.proofs.Common.{◌∙◌, sym}
+use Rattle.ts_order.specs.Orders.{tile_numbers}
 use Rattle.ts_order.proofs.OrderLemmas.{slice_cmp_more, slice_cmp_apart, slice_cmp_all, length-is_in_domain, length-tile_numbers}
 use Rattle.ts_order.proofs.compare.cmp_tiles.Goals as goal
 

@@ -1,6 +1,5 @@
-use Rattle.std.proofs.Common.{◌≡◌, ◌∙◌, sym, ap, Some}
+use Rattle.std.proofs.Common.{◌∙◌, sym, ap, Some}
 use Rattle.ts_order.specs.Orders.{turned}
-use Rattle.ts_order.specs.Places.{coords_of_place}
 use Rattle.ts_order.proofs.OrderLemmas.{turned-turned}
 use Rattle.ts_order.proofs.OrderedCoords.{slice_get-coords_in_order, is_in_box-coords_in_order, Ascends-coords_in_order}
 use Rattle.ts_order.proofs.places.coords_at.Goals as goal

@@ -1,4 +1,4 @@
-use Rattle.std.proofs.Common.{rules, arith, ◌≡◌, refl, get_or, ℤ, pos, ◌+ℤ◌, FitsSigned, to_z, of_z, to_z-of_z}
+use Rattle.std.proofs.Common.{rules, arith, ◌≡◌, refl, get_or, pos, ◌+ℤ◌, FitsSigned, to_z, to_z-of_z}
 use Rattle.std.specs.Int.{w128}
 use Rattle.std.proofs.lemmas.Int.{to_z_pos}
 use Rattle.ts_domain.proofs.Between.{length-are_bounds}

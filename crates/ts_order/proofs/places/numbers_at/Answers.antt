@@ -1,4 +1,4 @@
-use Rattle.std.proofs.Common.{rules, arith, ◌≡◌, ◌<◌, ◌≤◌, ◌-◌, length, refl, ap, ◌∙◌, ℤ, FitsSigned, to_z-of_z}
+use Rattle.std.proofs.Common.{rules, arith, ◌≡◌, ◌≤◌, ◌-◌, length, refl, FitsSigned, to_z-of_z}
 use Rattle.std.specs.Prelude.{IsTrue}
 use Rattle.std.specs.Int.{w128}
 use Rattle.ts_domain.specs.Bounds.{are_bounds}

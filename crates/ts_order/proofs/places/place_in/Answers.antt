@@ -1,4 +1,4 @@
-use Rattle.std.proofs.Common.{arith, ◌≡◌, ◌+◌, ◌*◌, ◌<◌, ◌^◌, refl, sym}
+use Rattle.std.proofs.Common.{arith, refl}
 use Rattle.ts_domain.proofs.Between.{are_bounds-is_between}
 use Rattle.ts_order.proofs.PlaceSteps.{place_step, place_all}
 use Rattle.ts_order.proofs.places.place_in.Goals as goal

@@ -1,5 +1,4 @@
-use Rattle.std.proofs.Common.{rules, arith, ◌≡◌, get_or, ℤ, pos, ◌-ℤ◌, FitsSigned, to_z-of_z}
-use Rattle.std.specs.Prelude.{unsigned_abs}
+use Rattle.std.proofs.Common.{rules, arith, get_or, pos, FitsSigned, to_z-of_z}
 use Rattle.std.specs.Int.{w128}
 use Rattle.ts_domain.proofs.Between.{length-are_bounds}
 use Rattle.ts_order.proofs.PlaceSteps.{side_is}

@@ -1,8 +1,8 @@
-use Rattle.std.proofs.Common.{arith, ◌≡◌, ◌∙◌, to_z-of_z, FitsSigned, ℤ, pos, ◌+ℤ◌, ◌-ℤ◌, ◌<ℤ◌, ◌≤ℤ◌, int_rem, true, false}
+use Rattle.std.proofs.Common.{arith, ◌≡◌, to_z-of_z, FitsSigned, ◌-ℤ◌, ◌<ℤ◌, int_rem, true, false}
 use Rattle.std.specs.Prelude.{int_lt}
 use Rattle.std.specs.Int.{w128}
 use Rattle.std.proofs.lemmas.Int.{ints}
-use Rattle.ts_order.proofs.TileOrder.{same_tile, later_tile, far_apart, FitInDim, fit_in_dim, MatchBool-from}
+use Rattle.ts_order.proofs.TileOrder.{same_tile, later_tile, far_apart, fit_in_dim, MatchBool-from}
 use Rattle.ts_order.proofs.tile_order.share_tile.Goals as goal
 
 pub rest-requires-clause-number : goal.rest-requires-clause-number

@@ -1,7 +1,7 @@
-use Rattle.std.proofs.Common.{rules, arith, ◌≡◌, ◌<◌, ◌∙◌, sym, length, get_or, pos, ℤ, FitsSigned, to_z-of_z}
+use Rattle.std.proofs.Common.{rules, ◌≡◌, ◌∙◌, sym, get_or, pos, FitsSigned, to_z-of_z}
 use Rattle.std.specs.Int.{w128, int_min}
 use Rattle.ts_domain.specs.Dims.{tile_end}
-use Rattle.ts_order.proofs.TileSteps.{TileAt, tile_at, length_low, length_high, length_tile, get_or-cut_high}
+use Rattle.ts_order.proofs.TileSteps.{tile_at, length_high, length_tile, get_or-cut_high}
 use Rattle.ts_order.proofs.tiles.cut_high_at.Goals as goal
 
 pub bounds-high-dim : goal.bounds-high-dim

@@ -1,8 +1,8 @@
-use Rattle.std.proofs.Common.{rules, arith, ◌≡◌, ◌<◌, ◌≤◌, ◌∙◌, sym, ap, take, length, length-set, ℤ, FitsSigned, to_z-of_z}
+use Rattle.std.proofs.Common.{rules, arith, ◌≡◌, ◌∙◌, sym, ap, take, length, length-set, FitsSigned, to_z-of_z}
 use Rattle.std.specs.Int.{w128}
 use Rattle.std.proofs.lemmas.List.{take_all}
 use Rattle.ts_order.specs.Tiles.{cut_low}
-use Rattle.ts_order.proofs.TileSteps.{written_more, length_low, length_high, length_tile, length-cut_low}
+use Rattle.ts_order.proofs.TileSteps.{written_more, length_low, length_tile, length-cut_low}
 use Rattle.ts_order.proofs.tiles.cut_low.Goals as goal
 
 pub cut_low_at-requires-clause-within : goal.cut_low_at-requires-clause-within

@@ -1,7 +1,7 @@
-use Rattle.std.proofs.Common.{◌≡◌, refl, ℤ, FitsSigned, to_z-of_z}
+use Rattle.std.proofs.Common.{◌≡◌, refl, FitsSigned, to_z-of_z}
 use Rattle.std.specs.Int.{w128}
 use Rattle.ts_domain.specs.Dims.{tile_start}
-use Rattle.ts_order.proofs.TileSteps.{FitInTile, fit_in_tile}
+use Rattle.ts_order.proofs.TileSteps.{fit_in_tile}
 use Rattle.ts_order.proofs.tiles.tile_end.Goals as goal
 
 pub overflow_add-result : goal.overflow_add-result

@@ -1,7 +1,7 @@
-use Rattle.std.proofs.Common.{rules, arith, ◌≡◌, ◌∙◌, ℤ, ◌-ℤ◌, FitsSigned, to_z-of_z}
+use Rattle.std.proofs.Common.{rules, arith, ◌∙◌, FitsSigned, to_z-of_z}
 use Rattle.std.specs.Int.{w128}
 use Rattle.std.proofs.lemmas.Int.{ints}
-use Rattle.ts_order.proofs.TileOrder.{FitInDim, fit_in_dim}
+use Rattle.ts_order.proofs.TileOrder.{fit_in_dim}
 use Rattle.ts_order.proofs.tiles.tile_number.Goals as goal
 
 pub returns : goal.returns

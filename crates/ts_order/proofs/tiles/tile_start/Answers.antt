@@ -1,6 +1,6 @@
-use Rattle.std.proofs.Common.{rules, arith, refl, ℤ, FitsSigned, to_z-of_z}
+use Rattle.std.proofs.Common.{refl, FitsSigned, to_z-of_z}
 use Rattle.std.specs.Int.{w128}
-use Rattle.ts_order.proofs.TileSteps.{FitInTile, fit_in_tile}
+use Rattle.ts_order.proofs.TileSteps.{fit_in_tile}
 use Rattle.ts_order.proofs.tiles.tile_start.Goals as goal
 
 pub overflow_mul-result : goal.overflow_mul-result

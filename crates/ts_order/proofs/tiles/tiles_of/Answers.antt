@@ -1,8 +1,6 @@
-use Rattle.std.proofs.Common.{rules, arith, ◌≡◌, ◌<◌, ◌≤◌, ◌^◌, ◌-◌, min, ap, ◌∙◌, Some, ◌++◌, ◌∷◌, []}
+use Rattle.std.proofs.Common.{arith, ◌≡◌, ◌^◌, ◌-◌, min, ap, ◌∙◌, Some, ◌++◌, ◌∷◌, []}
 use Rattle.std.specs.Prelude.{slice_get}
-use Rattle.std.specs.List.{All}
-use Rattle.ts_domain.specs.Boxes.{IsBox, cells_of}
-use Rattle.ts_domain.specs.Dims.{IsSoundDim}
+use Rattle.ts_domain.specs.Boxes.{cells_of}
 use Rattle.ts_order.specs.Orders.{coords_in_order}
 use Rattle.ts_order.specs.Tiles.{cut_box, tile_box}
 use Rattle.ts_order.proofs.TilesLemmas.{IsBox-tile_box, cells_of-tile_box, tiles_more, tiles_all, AreTiles-tiles_in}
