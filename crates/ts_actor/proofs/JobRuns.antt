@@ -12,8 +12,8 @@ use Rattle.ts_model.specs.declared.answers.Driven.TheVariants as driven
 use Rattle.ts_model.specs.declared.answers.Outcome.{Outcome}
 use Rattle.ts_model.specs.declared.states.State.{State}
 use Rattle.ts_model.specs.Forms.{Forms}
-use Rattle.ts_model.specs.States.{Exchange, asks, begun, state_of}
-use Rattle.ts_model.specs.Driven.{AskedFrom, EndsFrom, ComesOut}
+use Rattle.ts_model.specs.States.{Exchange, begun, state_of}
+use Rattle.ts_model.specs.Driven.{MayAsk, AskedFrom, EndsFrom, ComesOut}
 use Rattle.ts_model.specs.Driving.{Ran}
 use Rattle.ts_model.proofs.Driving.{ran-driven}
 use Rattle.ts_model.proofs.Traces.{state_from-append}
@@ -25,12 +25,12 @@ abbrev pub job_ends : {F : Type 0} → Forms F → Job → List Exchange → Out
 job_ends forms job past out = EndsFrom forms job (begun job.command) past out
 
 module _ {F A : Type 0} (forms : Forms F) (task : A → Job) (follows : A → Trace → Type 0)
-    (asks_next : (a : A) (past : List Exchange) (c : Call) → follows a (asking past c) → asks forms (task a) (state_of forms (task a) past) ≡ Some c) where
-  -- calls that machines of a job asked for are those that the job asks
+    (asks_next : (a : A) (past : List Exchange) (c : Call) → follows a (asking past c) → MayAsk forms (task a) (state_of forms (task a) past) c) where
+  -- calls that machines of a job asked for are such as the job may make
   pub asked_by : (job : Job) (past xs : List Exchange) → AreAsked task follows job past xs → AskedFrom forms job (state_of forms job past) xs
   asked_by job past [] asked = tt
   asked_by job past (x ∷ xs) ((a, is, follows_it), more) =
-      let P : Job → Type 0 = λ j. asks forms j (state_of forms j past) ≡ Some x.call in
+      let P : Job → Type 0 = λ j. MayAsk forms j (state_of forms j past) x.call in
       let Q : State F → Type 0 = λ s. AskedFrom forms job s xs in
       (subst P is (asks_next a past x.call follows_it), subst Q (state_from-append forms job (begun job.command) past (x ∷ [])) (asked_by job (past ++ x ∷ []) xs more))
 
@@ -38,7 +38,7 @@ module _ {F A : Type 0} (forms : Forms F) (task : A → Job) (follows : A → Tr
   pub comes_out : (job : Job) (last : A) (trace : List Exchange) (result : Driven Outcome) → task last ≡ job → EndsAs (job_ends forms job) (follows last) job.stop trace result → ComesOut forms job trace result
   comes_out job last trace (driven.Done end) is ends = ends
   comes_out job last trace driven.Stopped is (c, follows_it, cut) =
-      let P : Job → Type 0 = λ j. asks forms j (state_of forms j trace) ≡ Some c in
+      let P : Job → Type 0 = λ j. MayAsk forms j (state_of forms j trace) c in
       (c, subst P is (asks_next last trace c follows_it), cut)
 
   module _ {S : Type 0} (held : S → Option Held) (fate : S → Fate) (faults : S → ℕ) (notes : S → Call → Reply → S → Type 0) (journal : S → List Entry) (lane : ℕ)

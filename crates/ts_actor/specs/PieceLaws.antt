@@ -1,6 +1,5 @@
 -- What the grammar of the parts says of one piece, and of the objects that are refused; and where the versions lie that a fetch takes.
 use Rattle.std.specs.Prelude.{◌≡◌, ℕ, ◌+◌, ◌≤◌, true, List, [], ◌∷◌, ◌++◌, length, take, nat_lt, Some, Ok, Err, IsTrue, All}
-use Rattle.std.proofs.Common.{arith}
 use Rattle.ts_base.specs.declared.names.Name.TheVariants as name
 use Rattle.ts_store.specs.declared.call.Call.TheVariants as call
 use Rattle.ts_store.specs.declared.call.Reply.TheVariants as reply
@@ -20,6 +19,7 @@ use Rattle.ts_schema.specs.declared.frames.Frame.{Frame}
 use Rattle.ts_schema.specs.declared.schemas.Schema.{Schema}
 use Rattle.ts_schema.specs.declared.wants.Want.{Want}
 use Rattle.ts_schema.specs.Parts.{Look, Got, Sized, look_in, IsShort}
+use Rattle.ts_schema.specs.Wants.{taken}
 use Rattle.ts_plain.specs.Merges.{IsOrdered}
 use Rattle.ts_model.specs.Forms.{Forms, Spelled, Stepped, Asks, Takes, Breaks, SpeaksOf}
 use Rattle.ts_model.specs.Pieces.{IsOrdinary}
@@ -105,6 +105,12 @@ abbrev pub TakesOrdered : {F : Type 0} → Forms F → Type 0
 TakesOrdered {F} forms = (frame : Frame) (s : Schema) (frag : FragKey) (object : List ℕ) (want : Want) (gots : List Got) (sizes : List Sized) (versions : List Version)
     → IsBytes object → IsShort object → EndsWith forms frame s frag object want (Takes versions) gots sizes → IsOrdered frame versions
 
+-- where a fetch takes what it wants at once, the object of the head's part spells a piece of the fragment by itself, and what it takes is what is wanted of that piece
+abbrev pub TakesSpelled : {F : Type 0} → Forms F → Spelled → Type 0
+TakesSpelled {F} forms spelled = (frame : Frame) (s : Schema) (frag : FragKey) (object : List ℕ) (want : Want) (fetch : F) (versions : List Version)
+    → IsBytes object → IsShort object → forms.opens frame s frag object want ≡ Ok fetch → forms.steps fetch reply.Start ≡ Takes versions
+    → (p : Piece) × (p.head.frag ≡ frag) × spelled frame s p (look_in (record { part = forms.head_part frame; bytes = object } ∷ [])) × (versions ≡ taken want p.versions)
+
 -- ---- heads
 
 -- a head bears the name of its fragment
@@ -151,21 +157,3 @@ pub record AsksBounded {F : Type 0} (forms : Forms F) (spelled : Spelled) (gets 
   pub pays : (f g : F) (r : Reply) (c : Call) → forms.steps f r ≡ Asks g c → gets g + gets_of c ≤ gets f
   pub fair : (frame : Frame) (s : Schema) (p : Piece) (look : Look) (want : Want) (object : List ℕ) (f : F) → spelled frame s p look → look (forms.head_part frame) ≡ Some object
       → forms.opens frame s p.head.frag object want ≡ Ok f → gets f ≤ most frame s p want
-
--- the calls that a fetch asks for, one after the other, over whatever replies
-pub data AsksInTurn {F : Type 0} (forms : Forms F) : F → Reply → List Call → Type 0 where
-  NoMore : (f : F) (r : Reply) → AsksInTurn forms f r []
-  OneMore : (f g : F) (r q : Reply) (c : Call) (calls : List Call) → forms.steps f r ≡ Asks g c → AsksInTurn forms g q calls → AsksInTurn forms f r (c ∷ calls)
-
--- all their gets
-abbrev pub gets_in : List Call → ℕ
-gets_in [] = 0
-gets_in (c ∷ calls) = gets_of c + gets_in calls
-
--- a fetch makes no more gets than it may
-pub gets_bound : {F : Type 0} (forms : Forms F) (spelled : Spelled) (gets : F → ℕ) (most : Frame → Schema → Piece → Want → ℕ) → AsksBounded forms spelled gets most
-    → (f : F) (r : Reply) (calls : List Call) → AsksInTurn forms f r calls → gets_in calls ≤ gets f
-gets_bound forms spelled gets most few f r calls (NoMore f' r') = omega arith
-gets_bound forms spelled gets most few f r calls (OneMore f' g r' q c others asked rest) =
-    let more = gets_bound forms spelled gets most few g q others rest in
-    omega (arith, few.pays f' g r' c asked)

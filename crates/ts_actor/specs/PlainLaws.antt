@@ -34,7 +34,7 @@ use Rattle.ts_plain.proofs.PlainPieces.{piece_again, piece_found, head_again, on
 use Rattle.ts_plain.proofs.OrderedPieces as ordered
 use Rattle.ts_model.specs.Forms.{FormsLaws, OpensWell, Stepped, Asks, Takes, Breaks}
 use Rattle.ts_actor.specs.PlainForms.{plain_object, plain_parts, plain_forms, NeverWaits, IsPlainBroken}
-use Rattle.ts_actor.specs.PieceLaws.{whole_got, SpellsOne, RefusesBroken, OpensUnbroken, Begun, Went, AreInBox, TakesInside, IsFetchOf, First, Then, EndsWith, AtOnce, AfterReply, JudgesRight, AsksBounded, AsksOwn, TakesOrdered, WritesWell}
+use Rattle.ts_actor.specs.PieceLaws.{whole_got, SpellsOne, RefusesBroken, OpensUnbroken, Begun, Went, AreInBox, TakesInside, IsFetchOf, First, Then, EndsWith, AtOnce, AfterReply, JudgesRight, AsksBounded, AsksOwn, TakesOrdered, TakesSpelled, WritesWell}
 use Rattle.ts_actor.specs.PlainWrites.{IsStorable, ordinary_storable}
 
 -- the object of a piece that can be stored holds it, where it is short enough to be got at once
@@ -219,6 +219,15 @@ plain_ordered frame s frag object want gots sizes versions all short (AtOnce f i
     let took : f ≡ versions = cc in
     subst (IsOrdered frame) (same ∙ took) (taken_ordered frame want b.first.versions (ordered.plain_ordered frame s.attrs b.first object found))
 plain_ordered frame s frag object want gots sizes versions all short (AfterReply gs ss f c r waits e) = absurd (waits_never frame s frag object want gs ss f c waits)
+
+-- it takes what is wanted of the piece that the object spells
+pub plain_found : TakesSpelled plain_forms IsPlain
+plain_found frame s frag object want fetch versions all short is e =
+    let b = bound (plain_piece frame s.attrs frag object) (λ p. Ok (taken want p.versions)) fetch is in
+    let found = piece_found frame s.attrs frag object b.first all short b.was in
+    let same : taken want b.first.versions ≡ fetch = cc (b.next) in
+    let took : fetch ≡ versions = cc in
+    (b.first, found.1, (object, refl, found.0), sym (same ∙ took))
 
 -- it makes no get
 pub plain_bounded : AsksBounded plain_forms IsPlain (λ _. 0) (λ _ _ _ _. 0)

@@ -1,12 +1,12 @@
 //! A machine that does the jobs of one kind.
-ghost use Rattle.std.specs.Prelude.{◌≡◌, ◌≢◌, ◌<◌, ◌⊎◌, ℕ, IfOk, IfSome, None};
+ghost use Rattle.std.specs.Prelude.{◌≡◌, ◌≢◌, ◌<◌, ◌⊎◌, ℕ, true, false, IfOk, IfSome, OnErr, None};
 ghost use Rattle.std.specs.Thread.{IsSync};
 ghost use Rattle.ts_store.specs.Calls.{IsSpelledCall, IsSpelledReply};
 ghost use Rattle.ts_model.specs.declared.commands.Job.{Job as AnyJob};
 ghost use Rattle.ts_model.specs.declared.states.State.{State};
 ghost use Rattle.ts_model.specs.declared.states.State.TheVariants.{Over};
 ghost use Rattle.ts_model.specs.Forms.{Forms};
-ghost use Rattle.ts_model.specs.States.{asks, begun, goes, state_from};
+ghost use Rattle.ts_model.specs.States.{asks, begun, goes, is_over, may_run_short, state_from, takes_memory};
 ghost use Rattle.ts_model.specs.Driven.{EndsFrom};
 ghost use Rattle.ts_actor.specs.Machines.{Advances, Follows, calls_left};
 ghost use Rattle.ts_actor.specs.Traces.{CanCome, Expects, Trace, filled, start};
@@ -40,13 +40,13 @@ pub trait Automaton {
     /// The most calls that a job makes from a state on.
     ghost left: { State Self.Fetch → ℕ };
 
-    /// Where a job begins. It takes no memory.
+    /// Where a job begins. It never ends for want of memory.
     fn begin(alloc: Global, job: &Job) -> State<Self::Fetch>
         requires { serves job.now }
         ensures is { result ≡ begun job.now.command }
         ensures may { may job.now result };
 
-    /// The next call of a job, or None where it is over.
+    /// The next call of a job, or None where it is over, which takes no memory.
     fn ask(
         alloc: Global,
         job: &Job,
@@ -55,9 +55,11 @@ pub trait Automaton {
         requires job { serves job.now }
         requires state { may job.now state.now }
         ensures is { IfOk result (λ call. call ≡ asks forms job.now state.now) }
+        ensures lacks { OnErr result (is_over state.now ≡ false) }
         ensures spelled { IfOk result (λ call. IfSome call IsSpelledCall) };
 
-    /// Where a reply leads a job. A job that makes a call has fewer of them left afterwards.
+    /// Where a reply leads a job. A job that makes a call has fewer of them left afterwards. The reply
+    /// to the put of an object leads on without memory.
     fn go<R: Threads + Sync>(
         rt: &R,
         alloc: Global,
@@ -71,6 +73,7 @@ pub trait Automaton {
         requires sync { IsSync R.row }
         ensures is { IfOk result (λ next. next ≡ goes forms job.now state reply) }
         ensures may { IfOk result (may job.now) }
+        ensures lacks { OnErr result (takes_memory state ≡ true) }
         ensures fewer { IfOk result (λ next. asks forms job.now state ≢ None → left next < left state) };
 }
 
@@ -171,6 +174,7 @@ fn state_after<K: Automaton, R: Threads + Sync>(
     ensures serves { K.serves job.now }
     ensures is { IfOk result (λ state. (t : Trace) → Follows K.forms K.serves K.may job.now phase t → CanCome t.asked reply → state_from K.forms job.now (begun job.now.command) (filled t reply) ≡ state) }
     ensures may { IfOk result (K.may job.now) }
+    ensures lacks { OnErr result ((t : Trace) → Follows K.forms K.serves K.may job.now phase t → CanCome t.asked reply → may_run_short job.now (state_from K.forms job.now (begun job.now.command) (filled t reply)) ≡ true) }
     ensures fewer { IfOk result (λ state. K.left state < calls_left K.left job.now phase) }
 {
     match phase {
@@ -182,7 +186,7 @@ fn state_after<K: Automaton, R: Threads + Sync>(
 
 // How a job that asks nothing more has ended.
 fn end_of<F: Drop>(state: State<F>) -> Outcome
-    ensures { (state ≡ Over result) ⊎ (result ≡ Outcome.OutOfMemory) }
+    ensures { (state ≡ Over result) ⊎ ((result ≡ Outcome.OutOfMemory) × (is_over state ≡ false)) }
 {
     match state {
         State::Over(end) => end,

@@ -13,7 +13,7 @@ ghost use Rattle.ts_plain.specs.Merges.{global_order, LiesInside, VersionsAscend
 ghost use Rattle.ts_store.specs.declared.call.Call.{Call as AnyCall};
 ghost use Rattle.ts_model.specs.Forms.{Forms, FormsLaws};
 ghost use Rattle.ts_actor.specs.Fetches.{IsStep, FallsAtAsk, AsksSpelled};
-ghost use Rattle.ts_actor.specs.PieceLaws.{SpellsOne, RefusesBroken, OpensUnbroken, TakesInside, TakesOrdered, JudgesRight, AsksBounded, AsksOwn, NamesHead, SettlesHeads, WritesOrdinary, WritesWell};
+ghost use Rattle.ts_actor.specs.PieceLaws.{SpellsOne, RefusesBroken, OpensUnbroken, TakesInside, TakesOrdered, TakesSpelled, JudgesRight, AsksBounded, AsksOwn, NamesHead, SettlesHeads, WritesOrdinary, WritesWell};
 
 use std::alloc::Global;
 use std::thread::Threads;
@@ -61,7 +61,8 @@ pub trait Pieces: Spelling {
     /// How many gets a fetch may still make.
     ghost gets: { Self.Fetch → ℕ };
 
-    /// How many gets a fetch of what is wanted of a piece may make.
+    /// How many gets a fetch of what is wanted of a piece may make. A way to write fragments chooses
+    /// this number, and its own crate says what it is.
     ghost most_gets: { AnyFrame → AnySchema → AnyPiece → AnyWant → ℕ };
 
     /// The parts of a piece, in the order in which they are put: that of the head is the last.
@@ -148,6 +149,10 @@ pub trait Pieces: Spelling {
     /// What a fetch refuses as damaged is broken by what it got, and what it takes is not.
     ghost judges: { JudgesRight forms Self.off };
 
+    /// Where a fetch takes what it wants without a call, the object of the head's part spells a piece
+    /// of the fragment, and what it takes is what is wanted of that piece.
+    ghost found: { TakesSpelled forms Self.spelled };
+
     /// A fetch asks for parts of its own fragment alone, whatever the replies are.
     ghost own: { AsksOwn forms };
 
@@ -157,7 +162,7 @@ pub trait Pieces: Spelling {
     /// Whatever the replies are, the versions that a fetch takes lie in the box that was wanted.
     ghost inside: { TakesInside forms };
 
-    /// Whatever the replies are, they lie in the domain and stand in global order, those of one place
-    /// by ascending key, so that they can be merged.
+    /// Whatever the replies are, the versions that a fetch takes lie in the domain and stand in global
+    /// order, those of one place by ascending key, so that they can be merged.
     ghost ordered: { TakesOrdered forms };
 }

@@ -2,7 +2,7 @@
 ghost use Rattle.ts_plain.specs.Pieces.{IsPlain};
 ghost use Rattle.ts_actor.specs.PlainForms.{plain_forms, IsPlainBroken, NeverWaits};
 ghost use Rattle.ts_actor.specs.PlainWrites.{IsStorable, ordinary_storable};
-ghost use Rattle.ts_actor.specs.PlainLaws.{plain_laws, plain_writes, plain_one, plain_broken, plain_whole, plain_judges, plain_own, plain_bounded, plain_inside, plain_ordered};
+ghost use Rattle.ts_actor.specs.PlainLaws.{plain_laws, plain_writes, plain_one, plain_broken, plain_whole, plain_judges, plain_own, plain_bounded, plain_inside, plain_ordered, plain_found};
 ghost use Rattle.ts_actor.specs.PlainHeads.{plain_names, plain_settles};
 
 use crate::pieces::{Fetched, Pieces};
@@ -62,6 +62,8 @@ impl Pieces for PlainPieces {
     ghost whole = { plain_whole };
 
     ghost judges = { plain_judges };
+
+    ghost found = { plain_found };
 
     ghost own = { plain_own };
 

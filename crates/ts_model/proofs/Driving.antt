@@ -14,11 +14,11 @@ use Rattle.ts_model.specs.declared.commands.Job.{Job}
 use Rattle.ts_model.specs.declared.answers.Driven.{Driven}
 use Rattle.ts_model.specs.declared.answers.Outcome.{Outcome}
 use Rattle.ts_model.specs.declared.states.State.{State}
-use Rattle.ts_model.specs.States.{Exchange, asks, begun, state_of}
+use Rattle.ts_model.specs.States.{Exchange, begun, state_of}
 use Rattle.ts_model.specs.Stops.{Uncut}
 use Rattle.ts_model.specs.Forms.{Forms}
 use Rattle.ts_model.specs.Told.{Told, IsShortCall, Suits, IsReplied, Replied, after_told, held_told, changes, only_lane, entry_of, entries_of}
-use Rattle.ts_model.specs.Driven.{AskedFrom, ComesOut, IsDriven}
+use Rattle.ts_model.specs.Driven.{MayAsk, AskedFrom, ComesOut, IsDriven}
 use Rattle.ts_model.specs.Driving.{Leaves, RanTo, Ran}
 use Rattle.ts_model.proofs.Asked.{asked-push}
 use Rattle.ts_model.proofs.Traces.{held_told-append, trace_of-own, state_from-append}
@@ -74,9 +74,9 @@ entered number lane now c fate r before after_ told journal b is q enters =
         some : is_no_memory r ≡ false → entries_of (only_lane lane) (told_as number now c fate r ∷ []) ≡ entry lane c fate ∷ []
         some e = rw e refl
 
--- a job that has made these calls makes the one that it asks after them
+-- a job that has made these calls makes one that it may make after them
 pub ran-step : {F : Type 0} (forms : Forms F) (number lane : ℕ) (job : Job) (held now later : Option Held) (before journal after_ : List Entry) (trace : List Exchange) (c : Call) (fate : Fate) (r : Reply)
-    → RanTo forms number lane job held now before journal trace → asks forms job (state_of forms job trace) ≡ Some c → IsShortCall c → FitsCall c r → Answers now later fate c r → Enters journal after_ lane c fate r
+    → RanTo forms number lane job held now before journal trace → MayAsk forms job (state_of forms job trace) c → IsShortCall c → FitsCall c r → Answers now later fate c r → Enters journal after_ lane c fate r
     → RanTo forms number lane job held later before after_ (trace ++ record { call = c; reply = r } ∷ [])
 ran-step forms number lane job held now later before journal after_ trace c fate r ran asks_it short fits answers enters =
     let e : Told = told_as number now c fate r in

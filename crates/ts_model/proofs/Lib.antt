@@ -11,6 +11,7 @@ pub mod LaidLaws
 pub mod Newest
 pub mod Filled
 pub mod Asked
+pub mod Lacks
 pub mod Driving
 pub mod BlobDigits
 pub mod Checked

@@ -11,7 +11,7 @@ use Rattle.ts_base.specs.declared.keys.Key.{Key}
 use Rattle.ts_base.specs.declared.names.Prefix.TheVariants.{Schemas}
 use Rattle.ts_model.specs.Deeds.{History}
 use Rattle.ts_model.specs.Forms.{Forms}
-use Rattle.ts_model.specs.States.{Exchange, begun, goes, list_schemas, state_from, state_of}
+use Rattle.ts_model.specs.States.{Exchange, begun, goes_on, list_schemas, state_from, state_of}
 use Rattle.ts_model.specs.Told.{Told, after_told, deed_in, deed_told, exchange_of, found_after, found_in, grown, held_told, history_from, history_told, schemas_found, trace_of}
 use Rattle.ts_model.specs.declared.commands.Job.{Job}
 use Rattle.ts_model.specs.declared.deeds.Deed.{Deed}
@@ -157,11 +157,11 @@ module _ {F : Type 0} (forms : Forms F) (job : Job) where
   -- more exchanges lead on from where those before led
   pub state_from-append : (s : State F) (xs ys : List Exchange) → state_from forms job s (xs ++ ys) ≡ state_from forms job (state_from forms job s xs) ys
   state_from-append s [] ys = refl
-  state_from-append s (x ∷ xs) ys = state_from-append (goes forms job s x.reply) xs ys
+  state_from-append s (x ∷ xs) ys = state_from-append (goes_on forms job s x) xs ys
 
   -- a call of a job leads it on
   pub state_of-own : (number : ℕ) (seen : List Told) (e : Told) → e.job ≡ Some number
-      → state_of forms job (trace_of number (seen ++ e ∷ [])) ≡ goes forms job (state_of forms job (trace_of number seen)) e.reply
+      → state_of forms job (trace_of number (seen ++ e ∷ [])) ≡ goes_on forms job (state_of forms job (trace_of number seen)) (record { call = e.call; reply = e.reply })
   state_of-own number seen e own =
       ap (state_of forms job) (trace_of-own number seen e own) ∙ state_from-append (begun job.command) (trace_of number seen) (record { call = e.call; reply = e.reply } ∷ [])
 

@@ -22,14 +22,14 @@ pub record Calls (number lane : ℕ) (held now : Option Held) (before after : Li
   pub entries : after ≡ before ++ entries_of (only_lane lane) told
   pub over : IfSome held (λ m. Leaves m now told)
 
--- the job made the calls that it asks, and these are they
+-- the job made calls that it may make, and these are they
 pub record RanTo {F : Type 0} (forms : Forms F) (number lane : ℕ) (job : Job) (held now : Option Held) (before after : List Entry) (trace : List Exchange) : Type 0 where
   pub told : List Told
   pub calls : Calls number lane held now before after told
   pub same : trace_of number told ≡ trace
   pub asked : AskedFrom forms job (begun job.command) trace
 
--- the job made the calls that it asks, and came out so by their replies
+-- the job made calls that it may make, and came out so by their replies
 pub record Ran {F : Type 0} (forms : Forms F) (number lane : ℕ) (job : Job) (held now : Option Held) (before after : List Entry) (result : Driven Outcome) : Type 0 where
   pub told : List Told
   pub calls : Calls number lane held now before after told

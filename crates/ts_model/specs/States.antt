@@ -1,8 +1,9 @@
 -- How a job goes: the call that it makes next, and where a reply leads it.
-use Rattle.std.specs.Prelude.{ℕ, ℤ, ◌-◌, ◌^◌, Bool, false, cond, not, ◌&&◌, if◌then◌else◌, List, [], ◌∷◌, ◌++◌, Option, Some, None, option_map, option_and_then, filter, filter_map, length, nat_le, nat_lt, nat_eq, slice_get, Result, Ok, Err, find, drop, suc, map as list_map}
+use Rattle.std.specs.Prelude.{ℕ, ℤ, ◌-◌, ◌^◌, Bool, true, false, cond, not, ◌&&◌, if◌then◌else◌, List, [], ◌∷◌, ◌++◌, Option, Some, None, option_map, option_and_then, filter, filter_map, length, nat_le, nat_lt, nat_eq, slice_get, Result, Ok, Err, find, drop, suc, map as list_map}
 use Rattle.ts_base.specs.declared.keys.Key.{Key}
 use Rattle.ts_base.specs.declared.keys.FragKey.{FragKey}
 use Rattle.ts_base.specs.declared.names.Name.{Name}
+use Rattle.ts_base.specs.declared.names.LeaseMode.{LeaseMode}
 use Rattle.ts_base.specs.declared.names.Place.{Place}
 use Rattle.ts_base.specs.declared.names.PartBytes.{PartBytes}
 use Rattle.ts_base.specs.declared.heads.Version.{Version}
@@ -31,7 +32,7 @@ use Rattle.std.specs.List.{list_any}
 use Rattle.std.specs.Option.{option_map_or}
 use Rattle.std.specs.Str.{bytes_eq}
 use Rattle.ts_base.specs.Keys.{key_eq, key_cmp, key_lt}
-use Rattle.ts_base.specs.Names.{wrt_of, del_of}
+use Rattle.ts_base.specs.Names.{name_eq, wrt_of, del_of}
 use Rattle.ts_domain.specs.declared.boxes.SubBox.{SubBox}
 use Rattle.ts_domain.specs.Boxes.{coords_of_box}
 use Rattle.ts_cond.specs.CondTexts.{cond_object, cond_of}
@@ -453,15 +454,74 @@ goes forms job (GetsDeletes r opened schemas) r' = with_item (λ f. on_bytes (ge
 goes forms job (Fetches r opened schemas next frag got f c) r' = after_fetched forms r opened schemas next frag got f c r'
 goes forms job (Over o) r = Over o
 
+-- ---- leases
+
+-- how the lease of a command lets other leases stand beside it, if the command has one; none has one yet
+abbrev pub mode_of : Command → Option LeaseMode
+mode_of command = None
+
+-- the lease of a job, if it has one
+abbrev pub lease_of : Job → Option Name
+lease_of job = option_map (name.Lease (key_of job)) (mode_of job.command)
+
+-- the call removes the object
+abbrev pub is_removal : Call → Name → Bool
+is_removal (call.Remove n) lease = name_eq n lease
+is_removal c lease = false
+
+-- the call removes the job's own lease
+abbrev pub is_release : Job → Call → Bool
+is_release job c = option_map_or (is_removal c) (lease_of job) false
+
+-- the job is over
+abbrev pub is_over : {F : Type 0} → State F → Bool
+is_over (Over end) = true
+is_over s = false
+
+-- the job holds its lease: it has one, and is not over
+abbrev pub holds_lease : {F : Type 0} → Job → State F → Bool
+holds_lease job s = option_map_or (λ lease. not (is_over s)) (lease_of job) false
+
+-- ---- want of memory
+
+-- the end tells that all objects of the job are put
+abbrev pub is_made : Outcome → Bool
+is_made outcome.Created = true
+is_made (outcome.Evolved k) = true
+is_made (outcome.Written f) = true
+is_made (outcome.Deleted f) = true
+is_made end = false
+
+-- memory can be wanting on the way to this state: before every end but one that tells what was put
+abbrev pub can_lack : {F : Type 0} → State F → Bool
+can_lack (Over end) = not (is_made end)
+can_lack s = true
+
+-- memory can be wanting for what a reply leads to: not where an object was put, nor where the job is over
+abbrev pub takes_memory : {F : Type 0} → State F → Bool
+takes_memory (Puts objects next end) = false
+takes_memory (Over end) = false
+takes_memory s = true
+
+-- a job that has come this far may end for want of memory: it holds no lease, and does not owe word of what it put
+abbrev pub may_run_short : {F : Type 0} → Job → State F → Bool
+may_run_short job s = cond (holds_lease job s) false (can_lack s)
+
+-- ---- traces
+
 -- a call and its reply
 pub record Exchange : Type 0 where
   pub call : Call
   pub reply : Reply
 
+-- where a call and its reply lead a job: the removal of the lease that it holds is its last call
+abbrev pub goes_on : {F : Type 0} → Forms F → Job → State F → Exchange → State F
+goes_on forms job s x = cond (is_release job x.call) (Over outcome.OutOfMemory) (goes forms job s x.reply)
+
 -- how far a job has come by these calls
 abbrev pub state_from : {F : Type 0} → Forms F → Job → State F → List Exchange → State F
 state_from forms job s [] = s
-state_from forms job s (x ∷ xs) = state_from forms job (goes forms job s x.reply) xs
+state_from forms job s (x ∷ xs) = state_from forms job (goes_on forms job s x) xs
 
 -- how far a job has come by all its calls
 abbrev pub state_of : {F : Type 0} → Forms F → Job → List Exchange → State F

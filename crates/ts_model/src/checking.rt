@@ -16,8 +16,8 @@ use crate::queries::{PlaceList, QueryFault, Ready};
 use std::alloc::Global;
 use ts_base::{ByteList, Coords, Label, LabelList, OutOfMemory};
 use ts_cond::{Cond, CondFault, NamedBox, Query};
-use ts_domain::{Dim, Domain, SubBox};
-use ts_schema::{Attr, Frame, Schema};
+use ts_domain::{Dim, Domain, SubBox, has_name};
+use ts_schema::{Attr, Frame, Schema, has_attr};
 
 // The most cells of a write, and of a read of a dense array.
 const MOST_CELLS: u64 = 1 << 20;
@@ -177,7 +177,7 @@ pub fn unknown_dim(dims: &[Dim], named: &[NamedBox]) -> Option<Label>
     ensures { result ≡ stray_bound dims.now named.now }
 {
     for bounds in named {
-        if !has_dim(dims, &bounds.name) {
+        if !has_name(dims, &bounds.name) {
             return Some(bounds.name);
         }
     }
@@ -188,23 +188,11 @@ fn unknown_field(dims: &[Dim], attrs: &[Attr], names: &[Label]) -> Option<Label>
     ensures { result ≡ find (λ name. not (has_name dims.now name || has_attr attrs.now name)) names.now }
 {
     for name in names {
-        if !(has_dim(dims, name) || has_attr(attrs, name)) {
+        if !(has_name(dims, name) || has_attr(attrs, name)) {
             return Some(*name);
         }
     }
     None
-}
-
-fn has_dim(dims: &[Dim], name: &Label) -> bool
-    ensures { result ≡ has_name dims.now name.now }
-{
-    dims.iter().any(|dim| dim.name == *name)
-}
-
-fn has_attr(attrs: &[Attr], name: &Label) -> bool
-    ensures { result ≡ has_attr attrs.now name.now }
-{
-    attrs.iter().any(|attr| attr.name == *name)
 }
 
 /// The box of named bounds: a dimension that they do not name has its whole domain.

@@ -6,7 +6,7 @@ ghost use Rattle.ts_model.specs.Queries.{attr_field, attr_fields};
 ghost use Rattle.ts_model.specs.Scans.{erased_under, pick_at};
 
 use crate::deeds::{Deed, Erasure, Written};
-use crate::finding::{is_within, schema_with};
+use crate::finding::schema_with;
 use std::alloc::Global;
 use ts_base::{Coords, Duplicate, OutOfMemory, Row, Val};
 use ts_cond::{Cond, CondField, Pick, PickList};
@@ -74,7 +74,7 @@ fn erases(alloc: Global, last: &Last, deed: &Deed, from: u64, to: u64) -> Result
     ensures { IfOk result (λ erased. erased ≡ erased_under last.now.attrs.now from to last.now.at.now last.now.write.now last.now.row.now (deed.now ∷ [])) }
 {
     match deed {
-        Deed::Erased(erasure) if is_within(erasure.key, from, to) => {
+        Deed::Erased(erasure) if erasure.key.is_within(from, to) => {
             erases_cell(alloc, last, erasure)
         }
         _ => Ok(false),

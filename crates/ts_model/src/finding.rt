@@ -96,7 +96,7 @@ fn latest_with<'a>(
 fn counts(at: &Coords, write: &Written, from: u64, to: u64) -> bool
     ensures { result ≡ (is_within from to write.now.key && has_cell at.now write.now) }
 {
-    is_within(write.key, from, to) && find_row(at, write.cells.as_slice()).is_some()
+    write.key.is_within(from, to) && find_row(at, write.cells.as_slice()).is_some()
 }
 
 // A write where it has a greater key than the one before it, and else that one.
@@ -107,13 +107,6 @@ fn later<'a>(last: Option<&'a Written>, write: &'a Written) -> Option<&'a Writte
         Some(other) if !(other.key < write.key) => last,
         _ => Some(write),
     }
-}
-
-// Whether a key is stamped in an interval.
-pub(crate) fn is_within(key: Key, from: u64, to: u64) -> bool
-    ensures { result ≡ is_within from to key }
-{
-    from <= key.t && key.t <= to
 }
 
 // The row at a coordinate among these cells.

@@ -1,12 +1,12 @@
 //! The places of cells in global order, and in the other layouts.
-ghost use Rattle.std.specs.Prelude.{◌≡◌, ◌<◌, ◌≤ℤ◌, pos, length, reverse, slice_index_or, IsTrue, All};
-ghost use Rattle.ts_domain.specs.Dims.{IsSoundDim, tile_number};
+ghost use Rattle.std.specs.Prelude.{◌≡◌, reverse, IsTrue};
 ghost use Rattle.ts_domain.specs.Domains.{is_in_domain};
-ghost use Rattle.ts_order.specs.Orders.{turned, tile_numbers};
+ghost use Rattle.ts_order.specs.Orders.{turned};
 ghost use Rattle.ts_model.specs.Places.{place_of, plain_place, place_in};
 
 use ts_base::Coords;
-use ts_domain::{Dim, Layout, Order};
+use ts_domain::{Layout, Order};
+use ts_order::tile_numbers;
 use ts_schema::Frame;
 
 /// The place of a cell in global order: the numbers of its space tile and its coordinates, those in
@@ -72,35 +72,4 @@ fn reversed(at: &Coords) -> Coords
     numbers[..count].copy_from_slice(at.as_slice());
     numbers[..count].reverse();
     Coords::new(&numbers[..count])
-}
-
-fn tile_numbers(dims: &[Dim], at: &Coords) -> Coords
-    requires sound { All IsSoundDim dims.now }
-    requires inside { IsTrue (is_in_domain dims.now at.now) }
-    ensures { result ≡ tile_numbers dims.now at.now }
-{
-    let count = at.len() as usize;
-    let mut numbers = [0; 8];
-    for dim in 0..count {
-        numbers[dim] = tile_number_at(dims, at.as_slice(), dim);
-    }
-    Coords::new(&numbers[..count])
-}
-
-fn tile_number_at(dims: &[Dim], at: &[i128], dim: usize) -> i128
-    requires sound { All IsSoundDim dims.now }
-    requires inside { IsTrue (is_in_domain dims.now at.now) }
-    requires within { dim < length dims.now }
-    ensures { result ≡ slice_index_or (tile_numbers dims.now at.now) dim (pos 0) }
-{
-    tile_number(&dims[dim], at[dim])
-}
-
-fn tile_number(dim: &Dim, x: i128) -> i128
-    requires sound { IsSoundDim dim.now }
-    requires above { dim.now.low ≤ℤ x }
-    requires below { x ≤ℤ dim.now.high }
-    ensures { result ≡ tile_number dim.now x }
-{
-    (x - dim.low).div_euclid(dim.extent)
 }

@@ -5,8 +5,7 @@ ghost use Rattle.std.specs.Ordering.{int_cmp};
 ghost use Rattle.std.specs.Cmp.Lexicographic.{slice_cmp};
 ghost use Rattle.std.specs.BTreeMap.{IsOrdered};
 ghost use Rattle.ts_base.specs.declared.heads.Cell.{Cell as AnyCell};
-ghost use Rattle.ts_domain.specs.Bounds.{is_between};
-ghost use Rattle.ts_domain.specs.Boxes.{IsBox, cells_of, is_in_box};
+ghost use Rattle.ts_domain.specs.Boxes.{IsBox, cells_of};
 ghost use Rattle.ts_domain.specs.Domains.{LiesInDomain};
 ghost use Rattle.ts_schema.specs.Attrs.{shown_row};
 ghost use Rattle.ts_schema.specs.FrameTexts.{IsFrame};
@@ -28,7 +27,7 @@ use std::alloc::Global;
 use std::collections::BTreeMap;
 use ts_base::{Cell, Coords, Duplicate, Key, OutOfMemory, Row};
 use ts_cond::Query;
-use ts_domain::{Order, SubBox};
+use ts_domain::Order;
 use ts_order::coords_at;
 use ts_schema::{AttrList, Frame, Schema, show_row};
 
@@ -230,32 +229,10 @@ fn add(cells: &mut BTreeMap<Coords, Row>, at: Coords, shown: Option<Row>) -> Res
 fn left_inside(alloc: Global, scan: &Scan, at: &Coords) -> Result<Option<Row>, OutOfMemory>
     ensures { IfOk result (λ shown. shown ≡ left_by scan.now at.now) }
 {
-    if is_in_box(&scan.ready.sub, at) {
+    if scan.ready.sub.contains(at) {
         shown_at(alloc, at, scan.deeds, scan.there, scan.from, scan.to)
     } else {
         Ok(None)
-    }
-}
-
-fn is_in_box(sub: &SubBox, at: &Coords) -> bool
-    ensures { result ≡ is_in_box sub.now at.now }
-{
-    is_between(sub.low.as_slice(), sub.high.as_slice(), at.as_slice())
-}
-
-// Whether each coordinate lies between its bounds.
-fn is_between(low: &[i128], high: &[i128], coords: &[i128]) -> bool
-    ensures { result ≡ is_between low.now high.now coords.now }
-{
-    match low {
-        [] => high.is_empty() && coords.is_empty(),
-        [l, lows @ ..] => match high {
-            [] => false,
-            [h, highs @ ..] => match coords {
-                [] => false,
-                [x, others @ ..] => *l <= *x && *x <= *h && is_between(lows, highs, others),
-            },
-        },
     }
 }
 

@@ -6,4 +6,3 @@ pub mod Leads
 pub mod Newer
 pub mod Rising
 pub mod QueryLaws
-pub mod ReaderLaws

@@ -1,10 +1,10 @@
 //! How a read goes: the call that it makes next, and where the reply leads it.
-ghost use Rattle.std.specs.Prelude.{◌≡◌, ◌≢◌, ◌<◌, None, option_map, slice_get, length, All, IfOk, IfSome};
+ghost use Rattle.std.specs.Prelude.{◌≡◌, ◌≢◌, ◌<◌, true, None, option_map, slice_get, length, All, IfOk, IfSome, OnErr};
 ghost use Rattle.ts_base.specs.Names.{IsSpelledFrag};
 ghost use Rattle.std.specs.Thread.{IsSync};
 ghost use Rattle.ts_store.specs.Calls.{IsSpelledCall, IsSpelledReply};
 ghost use Rattle.ts_model.specs.Jobs.{looked_at};
-ghost use Rattle.ts_model.specs.States.{asks, get_delete, get_head, get_schema, goes};
+ghost use Rattle.ts_model.specs.States.{asks, get_delete, get_head, get_schema, goes, takes_memory};
 ghost use Rattle.ts_reader.specs.Reading.{IsRead, IsReadJob, IsReadState, IsSpelledDelete, MayRead, reads_left};
 
 use crate::erasing::after_delete_reply;
@@ -101,6 +101,7 @@ impl<P: Pieces> Automaton for Reads<P> {
         requires sync { IsSync R.row }
         ensures is { IfOk result (λ next. next ≡ goes P.forms job.now state reply) }
         ensures may { IfOk result (IsReadState P.forms) }
+        ensures lacks { OnErr result (takes_memory state ≡ true) }
         ensures fewer { IfOk result (λ next. asks P.forms job.now state ≢ None → reads_left P.left next < reads_left P.left state) }
     {
         match state {

@@ -1,10 +1,10 @@
 //! How a create goes: the call that it makes next, and where the reply leads it.
-ghost use Rattle.std.specs.Prelude.{◌≡◌, ◌≢◌, ◌<◌, ◌^◌, ◌+◌, None, Some, option_map, IfOk, IsTrue};
+ghost use Rattle.std.specs.Prelude.{◌≡◌, ◌≢◌, ◌<◌, ◌^◌, ◌+◌, true, None, Some, option_map, IfOk, OnErr, IsTrue};
 ghost use Rattle.ts_store.specs.Calls.{IsSpelledReply};
 ghost use Rattle.ts_model.specs.declared.commands.Command.TheVariants.{Create};
 ghost use Rattle.ts_model.specs.Commands.{create_refusal, fits, frame_made};
 ghost use Rattle.ts_model.specs.Jobs.{refused_before};
-ghost use Rattle.ts_model.specs.States.{asks, frame_put, goes, made_by, puts_first};
+ghost use Rattle.ts_model.specs.States.{asks, frame_put, goes, made_by, puts_first, takes_memory};
 ghost use Rattle.ts_writer.specs.Writing.{IsCreate, IsCreateJob, IsCreateState, calls_left};
 
 use crate::ends::{get_ended, list_ended, put_ended, refuse};
@@ -73,6 +73,7 @@ impl<P: Pieces> Automaton for Creates<P> {
         requires reply { IsSpelledReply reply }
         ensures is { IfOk result (λ next. next ≡ goes P.forms job.now state reply) }
         ensures may { IfOk result (IsCreateState job.now) }
+        ensures lacks { OnErr result (takes_memory state ≡ true) }
         ensures fewer { IfOk result (λ next. asks P.forms job.now state ≢ None → calls_left next < calls_left state) }
     {
         match state {

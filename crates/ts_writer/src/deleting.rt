@@ -1,11 +1,11 @@
 //! How a delete goes: the call that it makes next, and where the reply leads it.
-ghost use Rattle.std.specs.Prelude.{◌≡◌, ◌≢◌, ◌<◌, ◌^◌, ◌+◌, None, Ok, IfOk};
+ghost use Rattle.std.specs.Prelude.{◌≡◌, ◌≢◌, ◌<◌, ◌^◌, ◌+◌, true, None, Ok, IfOk, OnErr};
 ghost use Rattle.ts_model.specs.declared.states.Listed.{Listed as AnyListed};
 ghost use Rattle.ts_store.specs.Calls.{IsSpelledReply};
 ghost use Rattle.ts_schema.specs.FrameTexts.{frame_of};
 ghost use Rattle.ts_schema.specs.SchemaTexts.{AreAttrs};
 ghost use Rattle.ts_model.specs.declared.commands.Command.TheVariants.{Delete};
-ghost use Rattle.ts_model.specs.States.{asks, goes, on_read, puts_delete, works};
+ghost use Rattle.ts_model.specs.States.{asks, goes, on_read, puts_delete, works, takes_memory};
 ghost use Rattle.ts_writer.specs.Writing.{IsDelete, IsDeleteJob, IsLaterState, calls_left};
 
 use crate::ends::{get_ended, refuse};
@@ -69,6 +69,7 @@ impl<P: Pieces> Automaton for Deletes<P> {
         requires reply { IsSpelledReply reply }
         ensures is { IfOk result (λ next. next ≡ goes P.forms job.now state reply) }
         ensures may { IfOk result IsLaterState }
+        ensures lacks { OnErr result (takes_memory state ≡ true) }
         ensures fewer { IfOk result (λ next. asks P.forms job.now state ≢ None → calls_left next < calls_left state) }
     {
         match state {

@@ -1,11 +1,11 @@
 //! How an evolve, a write and a delete find the schema that holds at their stamp, and the frame.
-ghost use Rattle.std.specs.Prelude.{◌≡◌, ◌++◌, ◌<◌, ◌^◌, ◌+◌, option_to_list, IfOk, IfSome, OnOk};
+ghost use Rattle.std.specs.Prelude.{◌≡◌, ◌++◌, ◌<◌, ◌^◌, ◌+◌, false, option_to_list, IfOk, IfSome, OnErr, OnOk};
 ghost use Rattle.ts_store.specs.Calls.{IsSpelledCall};
 ghost use Rattle.ts_schema.specs.Evolutions.{schema_at};
 ghost use Rattle.ts_schema.specs.SchemaTexts.{schema_of};
 ghost use Rattle.ts_model.specs.Forms.{Forms};
 ghost use Rattle.ts_model.specs.Jobs.{looked_at};
-ghost use Rattle.ts_model.specs.States.{asks, get_schema, list_schemas, nothing_listed, on_bytes, on_names, on_read, seeks, schema_key_in, schemas_in};
+ghost use Rattle.ts_model.specs.States.{asks, get_schema, is_over, list_schemas, nothing_listed, on_bytes, on_names, on_read, seeks, schema_key_in, schemas_in};
 ghost use Rattle.ts_model.specs.declared.commands.Job.{Job as AnyJob};
 ghost use Rattle.ts_writer.specs.Writing.{IsLaterState, calls_left};
 
@@ -22,6 +22,7 @@ use ts_wire::ReadFault;
 pub(crate) fn ask_later<F>(alloc: Global, state: &State<F>) -> Result<Option<Call>, OutOfMemory>
     requires { IsLaterState state.now }
     ensures is { IfOk result (λ call. (forms : Forms F) (job : AnyJob) → call ≡ asks forms job state.now) }
+    ensures lacks { OnErr result (is_over state.now ≡ false) }
     ensures spelled { IfOk result (λ call. IfSome call IsSpelledCall) }
 {
     match state {

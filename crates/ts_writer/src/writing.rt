@@ -1,5 +1,5 @@
 //! How a write goes: the call that it makes next, and where the reply leads it.
-ghost use Rattle.std.specs.Prelude.{◌≡◌, ◌≢◌, ◌<◌, ◌^◌, ◌+◌, ◌++◌, ◌∷◌, [], None, Ok, List, All, IfOk, IsTrue};
+ghost use Rattle.std.specs.Prelude.{◌≡◌, ◌≢◌, ◌<◌, ◌^◌, ◌+◌, ◌++◌, ◌∷◌, [], true, None, Ok, List, All, IfOk, OnErr, IsTrue};
 ghost use Rattle.ts_model.specs.declared.states.Listed.{Listed as AnyListed};
 ghost use Rattle.ts_base.specs.Names.{IsSpelledFrag, IsSpelledPart, wrt_of};
 ghost use Rattle.ts_store.specs.Calls.{IsSpelledReply};
@@ -8,7 +8,7 @@ ghost use Rattle.ts_schema.specs.SchemaTexts.{AreAttrs};
 ghost use Rattle.ts_model.specs.declared.commands.Command.TheVariants.{Write};
 ghost use Rattle.ts_model.specs.Commands.{is_spelled_write, laid};
 ghost use Rattle.ts_model.specs.Deeds.{IsKey};
-ghost use Rattle.ts_model.specs.States.{asks, goes, on_read, part_objects, puts_cells, works};
+ghost use Rattle.ts_model.specs.States.{asks, goes, on_read, part_objects, puts_cells, works, takes_memory};
 ghost use Rattle.ts_writer.specs.Writing.{AreSpelled, IsWrite, IsWriteJob, IsLaterState, calls_left};
 
 use crate::ends::{get_ended, refuse};
@@ -73,6 +73,7 @@ impl<P: Pieces> Automaton for Writes<P> {
         requires reply { IsSpelledReply reply }
         ensures is { IfOk result (λ next. next ≡ goes P.forms job.now state reply) }
         ensures may { IfOk result IsLaterState }
+        ensures lacks { OnErr result (takes_memory state ≡ true) }
         ensures fewer { IfOk result (λ next. asks P.forms job.now state ≢ None → calls_left next < calls_left state) }
     {
         match state {
