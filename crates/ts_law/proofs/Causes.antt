@@ -61,7 +61,7 @@ fault_has_cause forms number job own p suit segment = by_refusal (refused_before
   where
     by_refusal : (r : Option Refusal) → refused_before job.command ≡ r → MayEndAs forms job segment.found (trace_of number own) (outcome.Refused (refusal.StoreFault p)) r → (e : Told) × Contains own e × (e.fate ≢ fate.Done)
     by_refusal None is (last, at, cause) =
-        let there : Contains (trace_of number own) last = subst (λ t. Contains t last) (sym at.parts) (Contains-push at.before last) in
+        let there : Contains (trace_of number own) last = subst (λ t. Contains t last) (sym at.parts) (Contains-push at.front last) in
         let (e, among, same) = told_with number own last there in
         (e, among, (All-contains Suits own e suit among).failed (same ∙ only_failed forms job segment.found (trace_of number own) last p cause))
     by_refusal (Some r) is (none, inl same) = absurd (not_before job.command r p is same)

@@ -1,10 +1,11 @@
 -- The calls of fetches: each leads to another call, to the next fragment, or to the answer of the read.
-use Rattle.std.proofs.Common.{◌≡◌, ℕ, suc, zero, ◌+◌, ◌-◌, ◌≤◌, true, ◌⊎◌, inl, inr, List, [], ◌∷◌, ◌++◌, Some, Ok, length, length-drop, take, drop, arith, refl, sym, ◌∙◌, ap, subst}
+use Rattle.std.proofs.Common.{◌≡◌, ℕ, suc, zero, ◌+◌, ◌-◌, ◌≤◌, true, ◌⊎◌, inl, inr, List, [], ◌∷◌, ◌++◌, Option, Some, None, Ok, length, length-drop, take, drop, arith, refl, sym, ◌∙◌, ap, subst}
 use Rattle.std.specs.Prelude.{Contains, slice_get, option_map, map as list_map}
+use Rattle.std.specs.List.{list_any}
 use Rattle.std.specs.FinMap as map
 use Rattle.std.proofs.lemmas.Bool.{true≢false}
 use Rattle.std.proofs.lemmas.Option.{none-some, same_Some, slice_get-map}
-use Rattle.std.proofs.lemmas.List.{take_all}
+use Rattle.std.proofs.lemmas.List.{take_all, map-append}
 use Rattle.std.proofs.lemmas.List.Elements.{Contains-append_left}
 use Rattle.ts_base.specs.declared.keys.FragKey.{FragKey}
 use Rattle.ts_base.specs.declared.keys.Key.{Key}
@@ -13,7 +14,8 @@ use Rattle.ts_base.specs.declared.names.Name.TheVariants as name
 use Rattle.ts_base.specs.declared.names.Part.{Part}
 use Rattle.ts_base.specs.declared.names.Place.TheVariants as place
 use Rattle.ts_base.specs.declared.heads.Version.{Version}
-use Rattle.ts_base.specs.Keys.{frag_of, is_within}
+use Rattle.ts_base.specs.declared.heads.Piece.{Piece}
+use Rattle.ts_base.specs.Keys.{is_within}
 use Rattle.ts_base.specs.Held.{Held}
 use Rattle.ts_schema.specs.declared.schemas.Schema.{Schema}
 use Rattle.ts_schema.specs.Wants.{taken}
@@ -36,9 +38,10 @@ use Rattle.ts_model.specs.Deeds.{History, IsHistory, erases, writes, schema_with
 use Rattle.ts_model.specs.Forms.{Forms, Spelled, Tracking, FormsLaws, OpensWell, GoesWell, Stepped, IsToldOf, SpeaksOf}
 use Rattle.ts_model.specs.Forms.Stepped.{Asks, Takes, Breaks}
 use Rattle.ts_model.specs.Jobs.{looks_at}
-use Rattle.ts_law.specs.Stands.{HoldsOne}
+use Rattle.ts_commit.specs.Selections.{has_origin, is_usable}
+use Rattle.ts_law.specs.Stands.{HoldsIn}
 use Rattle.ts_model.specs.States.{known_schema, known_attrs, want_of, ended, fetch_leads, fetch_begins, fetches_one, fetching, after_fetched}
-use Rattle.ts_law.specs.Kept.{AreGot, Clean, Erasing, Gathering, Fetching, Claims}
+use Rattle.ts_law.specs.Kept.{AreGot, Clean, Erasing, Gathering, Fetching, Claims, heads_of}
 use Rattle.ts_model.specs.Told.{Told, IsReplied, after_told, history_told}
 use Rattle.ts_law.specs.Ends.{IsTrueRefusal}
 use Rattle.ts_law.specs.Steps.{Comes, Advances}
@@ -48,8 +51,10 @@ use Rattle.ts_law.proofs.Erasing.{all_erased, erased_in}
 use Rattle.ts_model.proofs.Traces.{history_told_grows}
 use Rattle.ts_law.proofs.Effects.{IsLook, look_stays, look_history, look_leads}
 use Rattle.ts_law.proofs.Stays.{clean_look, fetching_stays, on_way_stays}
-use Rattle.ts_law.proofs.Fetches.{got_more, knows, knows_attrs, map-Contains}
-use Rattle.ts_law.proofs.ReadingLaw.{answer_is}
+use Rattle.ts_law.proofs.Fetches.{Contains-map, got_more, knows, knows_attrs, map-Contains, one_head, origin_open}
+use Rattle.ts_law.proofs.OriginLaws.{any_member}
+use Rattle.ts_law.proofs.TakenLaws.{newest_taken, none_taken}
+use Rattle.ts_law.proofs.ReadingLaw.{answer_is, last_is_all}
 
 -- ---- where a list is dropped up to a place
 
@@ -94,20 +99,37 @@ module _ {F : Type 0} (forms : Forms F) (spelled : Spelled) (tracks : Tracking F
 
   -- the versions in the fragments before the next one were got
   abbrev IsFound : ℕ → List Version → Type 0
-  IsFound next got = AreGot g r.from r.to (r.ready).sub (take next r.near) got
+  IsFound next got = AreGot g r.from r.to (r.ready).sub (heads_of (take next opened)) got
 
-  -- what is wanted of a fragment that holds one write
-  abbrev wanted_of : (frag : FragKey) → HoldsOne spelled g m frag → List Version
-  wanted_of frag one = taken (want_of r (one.schema).attrs) (one.piece).versions
+  -- the fragment's parts spell a piece, which the read can use
+  pub record IsUsed (frag : FragKey) : Type 0 where
+    piece : Piece
+    holds : HoldsIn spelled g m frag piece
+    same_frame : holds.frame ≡ r.frame
+    usable : is_usable r.from r.to piece.head ≡ true
+
+  -- what is wanted of it
+  abbrev wanted_of : (frag : FragKey) → IsUsed frag → List Version
+  wanted_of frag one = taken (want_of r ((one.holds).schema).attrs) (one.piece).versions
+
+  -- how a fetch of it is tracked
+  abbrev tracked : (frag : FragKey) → IsUsed frag → F → Call → Type 0
+  tracked frag one = tracks r.frame (one.holds).schema one.piece ((one.holds).spells).look (want_of r ((one.holds).schema).attrs)
 
   -- a step of a fetch leads to a call, or on with the versions that are wanted
-  step_claims : (next : ℕ) (frag : FragKey) (got : List Version) (on : List Version → State F) → slice_get r.near next ≡ Some frag → (one : HoldsOne spelled g m frag) → one.frame ≡ r.frame → IsFound next got
+  step_claims : (next : ℕ) (frag : FragKey) (got : List Version) (on : List Version → State F) → slice_get r.near next ≡ Some frag → (one : IsUsed frag) → IsFound next got
       → ((vs : List Version) → vs ≡ wanted_of frag one → Holds (on vs))
-      → (s : Stepped F) → GoesWell (tracks r.frame one.schema one.piece (one.spells).look (want_of r (one.schema).attrs)) (wanted_of frag one) s → Holds (fetch_leads r opened schemas next frag got on s)
-  step_claims next frag got on at one same_frame found rest (Asks f c) well =
-      (clean, at, (record { erasing = erasing; all_deletes = all_deletes; found = found }, record { one = one; same_frame = same_frame; way = well }))
-  step_claims next frag got on at one same_frame found rest (Takes vs) well = rest vs well
-  step_claims next frag got on at one same_frame found rest (Breaks part at_offset) well = absurd well
+      → (s : Stepped F) → GoesWell (tracked frag one) (wanted_of frag one) s → Holds (fetch_leads r opened schemas next frag got on s)
+  step_claims next frag got on at one found rest (Asks f c) well = (
+    clean,
+    at,
+    (
+      record { erasing = erasing; all_deletes = all_deletes; found = found },
+      record { piece = one.piece; holds = one.holds; same_frame = one.same_frame; usable = one.usable; way = well },
+    ),
+  )
+  step_claims next frag got on at one found rest (Takes vs) well = rest vs well
+  step_claims next frag got on at one found rest (Breaks part at_offset) well = absurd well
 
   -- the fragments of the open ones are all that were listed
   all_frags : list_map (λ o. o.frag) opened ≡ r.near
@@ -116,6 +138,18 @@ module _ {F : Type 0} (forms : Forms F) (spelled : Spelled) (tracks : Tracking F
   -- the fragment of the open one at a place is the one listed there
   frag_at : (next : ℕ) (o : Opened) → slice_get opened next ≡ Some o → slice_get r.near next ≡ Some o.frag
   frag_at next o at = ap (λ fs. slice_get fs next) (sym all_frags) ∙ slice_get-map (λ o. o.frag) opened next ∙ ap (option_map (λ o. o.frag)) at
+
+  -- the fragment that is listed at a place is that of the open one there
+  open_there : (next : ℕ) (frag : FragKey) → slice_get r.near next ≡ Some frag → (o : Opened) × (slice_get opened next ≡ Some o) × (o.frag ≡ frag)
+  open_there next frag at = by (slice_get opened next) refl (sym (slice_get-map (λ o. o.frag) opened next) ∙ ap (λ fs. slice_get fs next) all_frags ∙ at)
+    where
+      by : (q : Option Opened) → slice_get opened next ≡ q → option_map (λ o. o.frag) q ≡ Some frag → (o : Opened) × (slice_get opened next ≡ Some o) × (o.frag ≡ frag)
+      by None none e = absurd (none-some frag e)
+      by (Some o) there e = (o, there, same_Some o.frag frag e)
+
+  -- an open fragment is one that the read can use
+  abbrev used_open : (o : Opened) → Contains opened o → IsUsed o.frag
+  used_open o at = let opens = ((gathers.opens).are_open).each o at in record { piece = opens.piece; holds = opens.holds; same_frame = opens.same_frame; usable = opens.usable }
 
   module _ (is_g : IsHistory g) (is_h : IsHistory h) where
     -- the history now begins with that at the listing of the commits
@@ -130,11 +164,21 @@ module _ {F : Type 0} (forms : Forms F) (spelled : Spelled) (tracks : Tracking F
     erases_grow : (x : Erasure) → Contains (erases g) x → Contains (erases h) x
     erases_grow x at = subst (λ y. Contains (erases y) x) (sym from_g.1) (rw (erases-append g from_g.0) (Contains-append_left (erases g) (erases from_g.0) x at))
 
+    -- a write in the interval went into one of the open fragments
+    opened_with : (w : Written) → Contains (writes g) w → is_within r.from r.to w.key ≡ true → (o : Opened) × Contains opened o × (has_origin w.key o.head ≡ true)
+    opened_with w at within =
+        let near = ((((gathers.opens).reads).at).listed).covered w at within in
+        let o = map-Contains (λ o. o.frag) opened near.0 (subst (λ fs. Contains fs near.0) (sym all_frags) near.1) in
+        (o.0, o.1, origin_open forms spelled tracks laws g m r opened (gathers.opens).are_open near.0 w.key near.2 o.0 o.1 o.2)
+
+    -- so it is an origin in one of the heads
+    headed : (w : Written) → Contains (writes g) w → is_within r.from r.to w.key ≡ true → list_any (has_origin w.key) (heads_of opened) ≡ true
+    headed w at within = let o = opened_with w at within in any_member (has_origin w.key) (heads_of opened) (o.0).head (Contains-map (λ x. x.head) opened o.0 o.1) o.2
+
     -- what the read knows of schemas
     known_to : (w : Written) → Contains (writes g) w → is_within r.from r.to w.key ≡ true → known_attrs r schemas w.schema ≡ attrs_with g w.schema
     known_to w at within =
-        let near = ((((gathers.opens).reads).at).listed).covered w at within in
-        let o = map-Contains (λ o. o.frag) opened (frag_of w.key) (subst (λ fs. Contains fs (frag_of w.key)) (sym all_frags) near) in
+        let o = opened_with w at within in
         knows_attrs forms spelled g h m r opened schemas grows ((((gathers.opens).reads).at).works).declared (gathers.opens).are_open gathers.gathered erasing.all_schemas w is_g at o.0 o.1 o.2
 
     -- after the last fragment the answer is that of the history
@@ -142,7 +186,8 @@ module _ {F : Type 0} (forms : Forms F) (spelled : Spelled) (tracks : Tracking F
     end_claims next got none found =
         let reads = (gathers.opens).reads in
         let past_end = drop_none opened next none in
-        let whole : take next r.near ≡ r.near = take_all next r.near (let all = gathers.all in omega arith) in (
+        let whole : take next opened ≡ opened = take_all next opened past_end in
+        let are : AreGot g r.from r.to (r.ready).sub (heads_of opened) got = subst (λ os. AreGot g r.from r.to (r.ready).sub (heads_of os) got) whole found in (
           r.from,
           r.to,
           reads.query,
@@ -152,7 +197,7 @@ module _ {F : Type 0} (forms : Forms F) (spelled : Spelled) (tracks : Tracking F
             schemas = ((reads.at).works).schemas;
             between = (reads.at).between;
             order = (reads.at).order;
-            answers = answer_is g is_g r.from r.to (r.ready).sub r.near got (subst (λ fs. AreGot g r.from r.to (r.ready).sub fs got) whole found) ((reads.at).listed).covered r schemas refl known_to
+            answers = answer_is g r.from r.to (r.ready).sub got (λ c inside. are.inside c inside ∙ last_is_all g r.from r.to (heads_of opened) headed c) are.outside r schemas refl known_to
                 (erased_in spelled past jobs seen m number r.from r.to r.near r.deletes (reads.at).listed is_h erases_grow r.erased erasing.erases all_deletes)
                 (all_erased spelled past jobs seen m number r.from r.to r.near r.deletes (reads.at).listed is_h erases_grow r.erased erasing.erases all_deletes)
                 (history_told jobs past (((reads.at).works).schemas).before) reads.query reads.framed
@@ -162,28 +207,37 @@ module _ {F : Type 0} (forms : Forms F) (spelled : Spelled) (tracks : Tracking F
         )
 
     -- a fragment in its schema, which the read knows, is opened
-    one_claims : (next : ℕ) (o : Opened) (got : List Version) (on : List Version → State F) → slice_get opened next ≡ Some o → (one : Contains opened o) → IsFound next got
-        → ((vs : List Version) → vs ≡ wanted_of o.frag (((gathers.opens).are_open).each o one).one → Holds (on vs))
+    one_claims : (next : ℕ) (o : Opened) (got : List Version) (on : List Version → State F) → slice_get opened next ≡ Some o → (there : Contains opened o) → IsFound next got
+        → ((vs : List Version) → vs ≡ wanted_of o.frag (used_open o there) → Holds (on vs))
         → Holds (fetches_one forms r opened schemas next o got on (known_schema r schemas (o.head).schema))
     one_claims next o got on at there found rest =
         let opens = ((gathers.opens).are_open).each o there in
-        let one = opens.one in
-        let want = want_of r (one.schema).attrs in
-        let well : OpensWell forms (tracks r.frame one.schema one.piece (one.spells).look want) r.frame one.schema one.piece o.object want =
-        laws.opens r.frame one.schema one.piece (one.spells).look want o.object (subst (λ frame. spelled frame one.schema one.piece (one.spells).look) opens.same_frame (one.spells).spells) opens.object in
-        let begins : forms.opens r.frame one.schema o.frag o.object want ≡ Ok well.fetch = ap (λ f. forms.opens r.frame one.schema f o.object want) (sym (one.spells).named) ∙ well.opens in
+        let schema = (opens.holds).schema in
+        let spells = (opens.holds).spells in
+        let want = want_of r schema.attrs in
+        let well : OpensWell forms (tracks r.frame schema opens.piece spells.look want) r.frame schema opens.piece o.object want =
+        laws.opens r.frame schema opens.piece spells.look want o.object (subst (λ frame. spelled frame schema opens.piece spells.look) opens.same_frame spells.spells) opens.object in
+        let begins : forms.opens r.frame schema o.frag o.object want ≡ Ok well.fetch = ap (λ f. forms.opens r.frame schema f o.object want) (sym spells.named) ∙ well.opens in
         let known = knows forms spelled g h m r opened schemas grows ((((gathers.opens).reads).at).works).declared (gathers.opens).are_open gathers.gathered erasing.all_schemas o there in
         subst (λ s. Holds (fetches_one forms r opened schemas next o got on s)) (sym known)
         (subst (λ x. Holds (fetch_begins forms r opened schemas next o.frag got on x)) (sym begins)
-        (step_claims next o.frag got on (frag_at next o at) one opens.same_frame found rest (forms.steps well.fetch reply.Start) well.starts))
+        (step_claims next o.frag got on (frag_at next o at) (used_open o there) found rest (forms.steps well.fetch reply.Start) well.starts))
 
-    -- with one fragment more, its versions were got
-    found_more : (next : ℕ) (frag : FragKey) (got : List Version) → slice_get r.near next ≡ Some frag → (one : HoldsOne spelled g m frag) → one.frame ≡ r.frame → IsFound next got
-        → (vs : List Version) → vs ≡ wanted_of frag one → IsFound (suc next) (got ++ vs)
-    found_more next frag got at one same_frame found vs all =
+    -- with one fragment more, what is wanted of it was got
+    found_more : (next : ℕ) (o : Opened) (got : List Version) → slice_get opened next ≡ Some o → (one : IsUsed o.frag) → IsFound next got → (vs : List Version) → vs ≡ wanted_of o.frag one → IsFound (suc next) (got ++ vs)
+    found_more next o got at one found vs all =
         let one_more : next + 1 ≡ suc next = omega arith in
-        subst (λ fs. AreGot g r.from r.to (r.ready).sub fs (got ++ vs)) (sym (take_next r.near next frag at) ∙ ap (λ n. take n r.near) one_more)
-        (subst (λ us. AreGot g r.from r.to (r.ready).sub (take next r.near ++ frag ∷ []) (got ++ us)) (sym all) (got_more spelled g is_g m frag one r same_frame (take next r.near) got found))
+        let opens = ((gathers.opens).are_open).each o (Contains-slice_get opened next o at) in
+        let same : (one.piece).head ≡ o.head = one_head forms spelled tracks laws g m o.frag one.piece opens.piece one.holds opens.holds ∙ sym opens.head in
+        let heads : heads_of (take (suc next) opened) ≡ heads_of (take next opened) ++ (one.piece).head ∷ [] =
+        ap (λ n. heads_of (take n opened)) (sym one_more) ∙ ap heads_of (take_next opened next o at) ∙ map-append (λ x. x.head) (take next opened) (o ∷ [])
+        ∙ ap (λ x. heads_of (take next opened) ++ x ∷ []) (sym same) in
+        let framed = (one.holds).framed ∙ ap Some one.same_frame in
+        subst (λ hs. AreGot g r.from r.to (r.ready).sub hs (got ++ vs)) (sym heads)
+        (subst (λ us. AreGot g r.from r.to (r.ready).sub (heads_of (take next opened) ++ (one.piece).head ∷ []) (got ++ us)) (sym all)
+        (got_more g r.from r.to (r.ready).sub is_g (heads_of (take next opened)) (one.piece).head got (wanted_of o.frag one) found
+        (newest_taken g is_g r.frame framed (one.holds).schema one.piece (one.holds).declared (one.holds).holds (r.ready).sub r.from r.to one.usable)
+        (none_taken g is_g r.frame framed (one.holds).schema one.piece (one.holds).declared (one.holds).holds (r.ready).sub r.from r.to)))
 
     -- the fragments from a place on are fetched
     rest_claims : (rest : List Opened) (next : ℕ) (got : List Version) → drop next opened ≡ rest → IsFound next got → Holds (fetching forms r opened schemas next rest got)
@@ -191,9 +245,7 @@ module _ {F : Type 0} (forms : Forms F) (spelled : Spelled) (tracks : Tracking F
     rest_claims (o ∷ rest) next got left found =
         let parts = drop_first opened next o rest left in
         let there = Contains-slice_get opened next o parts.0 in
-        let opens = ((gathers.opens).are_open).each o there in
-        one_claims next o got _ parts.0 there found
-        (λ vs all. rest_claims rest (suc next) (got ++ vs) parts.1 (found_more next o.frag got (frag_at next o parts.0) opens.one opens.same_frame found vs all))
+        one_claims next o got _ parts.0 there found (λ vs all. rest_claims rest (suc next) (got ++ vs) parts.1 (found_more next o got parts.0 (used_open o there) found vs all))
 
     -- ---- replies
 
@@ -218,30 +270,36 @@ module _ {F : Type 0} (forms : Forms F) (spelled : Spelled) (tracks : Tracking F
       abbrev goes_on : List Version → State F
       goes_on vs = fetching forms r opened schemas (suc next) (drop (suc next) opened) (got ++ vs)
 
-      module _ (one : HoldsOne spelled g m frag) (same_frame : one.frame ≡ r.frame) where
+      module _ (one : IsUsed frag) where
+        -- with the versions of the fragment, what is wanted of it was got
+        found_there : (vs : List Version) → vs ≡ wanted_of frag one → IsFound (suc next) (got ++ vs)
+        found_there vs all =
+            let o = open_there next frag at in
+            subst (λ f. (used : IsUsed f) → vs ≡ wanted_of f used → IsFound (suc next) (got ++ vs)) o.2 (λ used same. found_more next o.0 got o.1 used found vs same) one all
+
         -- a step that goes well leads the read on
-        on_claims : (s : Stepped F) → GoesWell (tracks r.frame one.schema one.piece (one.spells).look (want_of r (one.schema).attrs)) (wanted_of frag one) s
+        on_claims : (s : Stepped F) → GoesWell (tracked frag one) (wanted_of frag one) s
             → Holds (fetch_leads r opened schemas next frag got goes_on s)
-        on_claims s well = step_claims next frag got goes_on at one same_frame found
-            (λ vs all. rest_claims (drop (suc next) opened) (suc next) (got ++ vs) refl (found_more next frag got at one same_frame found vs all)) s well
+        on_claims s well = step_claims next frag got goes_on at one found
+            (λ vs all. rest_claims (drop (suc next) opened) (suc next) (got ++ vs) refl (found_there vs all)) s well
 
         -- what a part tells leads the read on
-        told_claims : (c : Call) (part : Part) (bytes : List ℕ) (said : Reply) → tracks r.frame one.schema one.piece (one.spells).look (want_of r (one.schema).attrs) fetch c → (one.spells).look part ≡ Some bytes
+        told_claims : (c : Call) (part : Part) (bytes : List ℕ) (said : Reply) → tracked frag one fetch c → ((one.holds).spells).look part ≡ Some bytes
             → SpeaksOf c (name.Part ((one.piece).head).frag part) → IsToldOf c bytes said → Holds (after_fetched forms r opened schemas next frag got fetch c said)
         told_claims (call.Get q from len) part bytes said way held speaks told =
             subst (λ x. Holds (after_fetched forms r opened schemas next frag got fetch (call.Get q from len) x)) (sym told)
             (on_claims (forms.steps fetch (reply.Bytes (part_of from len bytes)))
-            (laws.goes r.frame one.schema one.piece (one.spells).look (want_of r (one.schema).attrs) fetch (call.Get q from len) part bytes (reply.Bytes (part_of from len bytes)) way held speaks refl))
+            (laws.goes r.frame (one.holds).schema one.piece ((one.holds).spells).look (want_of r ((one.holds).schema).attrs) fetch (call.Get q from len) part bytes (reply.Bytes (part_of from len bytes)) way held speaks refl))
         told_claims (call.Size q) part bytes said way held speaks told =
             subst (λ x. Holds (after_fetched forms r opened schemas next frag got fetch (call.Size q) x)) (sym told)
             (on_claims (forms.steps fetch (reply.Length (length bytes)))
-            (laws.goes r.frame one.schema one.piece (one.spells).look (want_of r (one.schema).attrs) fetch (call.Size q) part bytes (reply.Length (length bytes)) way held speaks refl))
+            (laws.goes r.frame (one.holds).schema one.piece ((one.holds).spells).look (want_of r ((one.holds).schema).attrs) fetch (call.Size q) part bytes (reply.Length (length bytes)) way held speaks refl))
         told_claims (call.Put q more) part bytes said way held speaks told = absurd speaks
         told_claims (call.Remove q) part bytes said way held speaks told = absurd speaks
         told_claims (call.List p) part bytes said way held speaks told = absurd speaks
 
         -- where a reply leads the read
-        reply_claims : (c : Call) (part : Part) (bytes : List ℕ) (said : Reply) → tracks r.frame one.schema one.piece (one.spells).look (want_of r (one.schema).attrs) fetch c → (one.spells).look part ≡ Some bytes
+        reply_claims : (c : Call) (part : Part) (bytes : List ℕ) (said : Reply) → tracked frag one fetch c → ((one.holds).spells).look part ≡ Some bytes
             → SpeaksOf c (name.Part ((one.piece).head).frag part) → (said ≡ reply.NoMemory) ⊎ ((said ≡ reply.Failed) ⊎ IsToldOf c bytes said) → Holds (after_fetched forms r opened schemas next frag got fetch c said)
         reply_claims c part bytes said way held speaks (inl none) =
             subst (λ x. Holds (after_fetched forms r opened schemas next frag got fetch c x)) (sym none) (no_memory_claims c (name.Part ((one.piece).head).frag part) speaks)
@@ -304,21 +362,21 @@ module _ {F : Type 0} (forms : Forms F) (spelled : Spelled) (tracks : Tracking F
   fetch_steps laws comes =
       let fetches = comes.claims.2.0 in
       let way = comes.claims.2.1 in
-      let asks = laws.asks r.frame (way.one).schema (way.one).piece ((way.one).spells).look (want_of r ((way.one).schema).attrs) fetch c way.way in
+      let asks = laws.asks r.frame (way.holds).schema way.piece ((way.holds).spells).look (want_of r ((way.holds).schema).attrs) fetch c way.way in
       let is : e.call ≡ c = sym (same_Some c e.call comes.asked) in
-      let look : IsLook e.call = subst IsLook (sym is) (speaks_look c (name.Part (((way.one).piece).head).frag asks.part) asks.named) in
+      let look : IsLook e.call = subst IsLook (sym is) (speaks_look c (name.Part ((way.piece).head).frag asks.part) asks.named) in
       let leads = look_leads spelled past jobs seen e m job.id comes.stands look comes.replied in
       let same_held = (look_stays m e look comes.replied).0 in
       let same_history = look_history jobs past seen e m look comes.replied in
       let clean = clean_look m (after_told m e) (history_told jobs past seen) (history_told jobs past (seen ++ e ∷ [])) job same_held same_history comes.claims.0 in
       let later = fetching_stays spelled past jobs seen e m (after_told m e) job.id leads.leaves number forms job r opened schemas next got
-      (λ own lists. subst (λ x. SpeaksOf x (name.Part (((way.one).piece).head).frag asks.part)) (sym is ∙ lists) asks.named) fetches in
+      (λ own lists. subst (λ x. SpeaksOf x (name.Part ((way.piece).head).frag asks.part)) (sym is ∙ lists) asks.named) fetches in
       let on_way = on_way_stays spelled past jobs seen e m (after_told m e) job.id leads.leaves number tracks
       (history_told jobs past (((((((fetches.erasing).gathers).opens).reads).at).listed).commits).before) r frag fetch c way in
-      let one = on_way.one in
-      let again = laws.asks r.frame one.schema one.piece (one.spells).look (want_of r (one.schema).attrs) fetch c on_way.way in
-      let held : map.get m (name.Part frag again.part) ≡ Some again.bytes = subst (λ x. map.get x (name.Part frag again.part) ≡ Some again.bytes) same_held ((one.spells).held again.part again.bytes again.held) in
-      let speaks : SpeaksOf c (name.Part frag again.part) = subst (λ f. SpeaksOf c (name.Part f again.part)) (one.spells).named again.named in
+      let spells = (on_way.holds).spells in
+      let again = laws.asks r.frame (on_way.holds).schema on_way.piece spells.look (want_of r ((on_way.holds).schema).attrs) fetch c on_way.way in
+      let held : map.get m (name.Part frag again.part) ≡ Some again.bytes = subst (λ x. map.get x (name.Part frag again.part) ≡ Some again.bytes) same_held (spells.held again.part again.bytes again.held) in
+      let speaks : SpeaksOf c (name.Part frag again.part) = subst (λ f. SpeaksOf c (name.Part f again.part)) spells.named again.named in
       let is_h : IsHistory (history_told jobs past seen) = (comes.stands).history in
       let commits = ((((((fetches.erasing).gathers).opens).reads).at).listed).commits in
       let from_g = begins_now jobs past seen commits.before commits.listing commits.later commits.place in
@@ -326,6 +384,6 @@ module _ {F : Type 0} (forms : Forms F) (spelled : Spelled) (tracks : Tracking F
       record {
         leads = leads;
         own = reply_claims forms spelled tracks laws past jobs (seen ++ e ∷ []) (after_told m e) number job clean r opened schemas later.erasing later.all_deletes is_g (subst IsHistory (sym same_history) is_h)
-            next frag got comes.claims.1 later.found fetch one on_way.same_frame c again.part again.bytes e.reply on_way.way again.held again.named
+            next frag got comes.claims.1 later.found fetch (record { piece = on_way.piece; holds = on_way.holds; same_frame = on_way.same_frame; usable = on_way.usable }) c again.part again.bytes e.reply on_way.way again.held again.named
             (tells_of m (name.Part frag again.part) again.bytes held e c is speaks comes.replied);
       }

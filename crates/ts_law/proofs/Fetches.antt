@@ -1,40 +1,47 @@
 -- What a read got, fragment by fragment, and the schemas that it knows.
-use Rattle.std.proofs.Common.{◌≡◌, ℕ, ℤ, Bool, true, false, cond, not, ◌&&◌, inl, inr, List, [], ◌∷◌, ◌++◌, Option, Some, None, length, arith, take, refl, sym, ◌∙◌, ap, subst}
-use Rattle.std.specs.Prelude.{Contains, All, filter, find, map as list_map}
+use Rattle.std.proofs.Common.{◌≡◌, ℕ, ℤ, Bool, true, false, cond, not, ◌&&◌, ◌⊎◌, inl, inr, List, [], ◌∷◌, ◌++◌, Option, Some, None, Ok, Result, length, arith, take, refl, sym, ◌∙◌, ap, subst}
+use Rattle.std.specs.Prelude.{Contains, filter, find, option_and_then, map as list_map}
+use Rattle.std.specs.List.{list_any}
 use Rattle.std.specs.Option.{is_some, option_map_or}
 use Rattle.std.specs.FinMap as map
 use Rattle.std.specs.FinMap.Entries.{is_some-find}
-use Rattle.std.proofs.lemmas.Bool.{cond-true, and_parts, and_from}
+use Rattle.std.proofs.lemmas.Bool.{and_parts, and_from}
 use Rattle.std.proofs.lemmas.Cmp.{eq_by_cmp_equiv}
-use Rattle.std.proofs.lemmas.Option.{none-some, same_Some}
+use Rattle.std.proofs.lemmas.Option.{same_Some}
 use Rattle.std.proofs.lemmas.List.{take_all}
 use Rattle.std.proofs.lemmas.List.Elements.{Contains-push, Contains-push_cases, Contains-append_left}
 use Rattle.std.proofs.lemmas.Map.Views.{Contains-from_any, list_any-from_Contains}
 use Rattle.ts_base.specs.declared.keys.Key.{Key}
 use Rattle.ts_base.specs.declared.keys.FragKey.{FragKey}
+use Rattle.ts_base.specs.declared.names.Name.TheVariants as name
+use Rattle.ts_base.specs.declared.heads.Head.{Head}
+use Rattle.ts_base.specs.declared.heads.Piece.{Piece}
 use Rattle.ts_base.specs.declared.heads.Version.{Version}
-use Rattle.ts_base.specs.Keys.{key_eq, key_cmp, frag_of, is_within}
+use Rattle.ts_base.specs.Keys.{key_eq, key_cmp, key_lt, greater, greatest, is_within}
+use Rattle.ts_base.specs.Coords.{coords_eq}
 use Rattle.ts_base.specs.Exact.{key_total}
 use Rattle.ts_base.specs.Held.{Held}
 use Rattle.ts_domain.specs.declared.boxes.SubBox.{SubBox}
 use Rattle.ts_domain.specs.Boxes.{is_in_box}
-use Rattle.ts_schema.specs.declared.frames.Frame.{Frame}
 use Rattle.ts_schema.specs.declared.schemas.Schema.{Schema}
-use Rattle.ts_schema.specs.Wants.{taken}
+use Rattle.ts_commit.specs.Selections.{has_origin}
 use Rattle.ts_model.specs.declared.deeds.Written.{Written}
-use Rattle.ts_model.specs.declared.deeds.Deed.TheVariants.{Wrote}
 use Rattle.ts_model.specs.declared.states.Opened.{Opened}
 use Rattle.ts_model.specs.declared.states.Reading.{Reading}
-use Rattle.ts_model.specs.Deeds.{History, IsHistory, CellFits, writes, frame_in, schema_with, attrs_with}
-use Rattle.ts_model.specs.Forms.{Forms, Spelled}
-use Rattle.ts_model.specs.Pieces.{version_at, version_of}
-use Rattle.ts_law.specs.Stands.{HoldsOne}
-use Rattle.ts_model.specs.States.{keys_named, known_schema, known_attrs, want_of}
-use Rattle.ts_law.specs.Kept.{AreGot, AreOpen, AreSchemas}
-use Rattle.ts_model.proofs.ListLemmas.{Contains-nil, Contains-cons, Contains-here, Contains-there, Contains-filter, find-append, find-Some, find_member, or_else}
-use Rattle.ts_model.proofs.KeyLemmas.{key_of_frag, key_same, key_itself}
-use Rattle.ts_model.proofs.HistoryLaws.{one_write, write_follows, frame_in-append, schema_with-append}
-use Rattle.ts_law.proofs.TakenLaws.{taken_of_write}
+use Rattle.ts_model.specs.Deeds.{History, IsHistory, writes, schema_with, attrs_with, has_cell}
+use Rattle.ts_model.specs.Forms.{Forms, FormsLaws, Spelled, Tracking}
+use Rattle.ts_model.specs.Pieces.{version_of}
+use Rattle.ts_law.specs.Origins.{origins_of, wrote_in, last_of, last_version, newest_at}
+use Rattle.ts_law.specs.Stands.{HoldsIn, WentInto}
+use Rattle.ts_model.specs.States.{keys_named, known_schema, known_attrs}
+use Rattle.ts_law.specs.Kept.{AreGot, AreOpen, AreSchemas, IsOpen}
+use Rattle.ts_model.proofs.ListLemmas.{Contains-nil, Contains-cons, Contains-here, Contains-there, Contains-filter, filter-Contains, find-Some, find_member}
+use Rattle.ts_model.proofs.KeyLemmas.{key_same, key_itself, greatest-None, greatest-Some, same_from_both}
+use Rattle.ts_model.proofs.HistoryLaws.{one_write}
+use Rattle.ts_model.proofs.Newest.{greater_assoc, version_key}
+use Rattle.ts_law.proofs.NewestBy.{has_cell-version, version-has_cell, key_of_version, last_is}
+use Rattle.ts_law.proofs.OriginLaws.{key_there, any_member, member_any, last_of_fewer}
+use Rattle.ts_law.proofs.Grows.{filter_none, filter-append}
 
 -- ---- members of mapped lists
 
@@ -55,105 +62,179 @@ module _ {X Y : Type 0} (f : X → Y) where
     | inr later ↦ let found = map-Contains xs y later in (found.0, Contains-there x xs found.0 found.1, found.2)
   ]
 
--- ---- writes
+-- ---- the newest of two lists
 
--- the fragment is that of the write that it holds
-pub frag_of_held : (spelled : Spelled) (h : History) (m : Held) (f : FragKey) (one : HoldsOne spelled h m f) → f ≡ frag_of (one.write).key
-frag_of_held spelled h m f one = sym (one.spells).named ∙ (one.holds).named
+-- the greatest of two lists is the greater one of each
+greatest-append : {X : Type 0} (key : X → Key) (xs ys : List X) → greatest key (xs ++ ys) ≡ greater key (greatest key xs) (greatest key ys)
+greatest-append key [] ys = refl
+greatest-append key (x ∷ xs) ys = ap (greater key (Some x)) (greatest-append key xs ys) ∙ sym (greater_assoc key (Some x) (greatest key xs) (greatest key ys))
 
--- the write that the fragment of a write holds is that write
-pub held_write : (spelled : Spelled) (h : History) (m : Held) (f : FragKey) (one : HoldsOne spelled h m f) (w : Written) → IsHistory h → Contains (writes h) w → f ≡ frag_of w.key → one.write ≡ w
-held_write spelled h m f one w is at own = one_write h one.write w is one.written at (key_of_frag (one.write).key w.key (sym (frag_of_held spelled h m f one) ∙ own))
+-- the newest version of two lists is the newer one of each
+newest-append : (xs ys : List Version) (c : List ℤ) → newest_at (xs ++ ys) c ≡ greater version_key (newest_at xs c) (newest_at ys c)
+newest-append xs ys c =
+    ap (greatest version_key) (filter-append (λ v. coords_eq v.coords c) xs ys) ∙ greatest-append version_key (filter (λ v. coords_eq v.coords c) xs) (filter (λ v. coords_eq v.coords c) ys)
 
--- the cells of a write fit the frame and its schema
-pub cells_fit : (h : History) (w : Written) (frame : Frame) (s : Schema) → IsHistory h → Contains (writes h) w → frame_in h ≡ Some frame → schema_with h w.schema ≡ Some s
-    → All (CellFits frame.domain s.attrs) w.cells
-cells_fit h w frame s is at framed declared =
-    let place = write_follows h w is at in
-    let follows = place.3 in
-    let later : h ≡ place.0 ++ Wrote w ∷ place.1 = place.2 in
-    let one_frame : follows.frame ≡ frame = same_Some follows.frame frame (sym (frame_in-append place.0 (Wrote w ∷ place.1) follows.frame follows.framed) ∙ ap frame_in (sym later) ∙ framed) in
-    let one_schema : follows.schema ≡ s = same_Some follows.schema s (sym (schema_with-append place.0 (Wrote w ∷ place.1) w.schema follows.schema follows.declared)
-    ∙ ap (λ g. schema_with g w.schema) (sym later) ∙ declared) in
-    subst (λ f. All (CellFits f.domain s.attrs) w.cells) one_frame (subst (λ t. All (CellFits (follows.frame).domain t.attrs) w.cells) one_schema follows.fit)
+-- the version of the last of all writes is the newer one of each part's last
+module _ (h : History) (is : IsHistory h) (ws us all : List Written) (c : List ℤ)
+    (of_ws : (w : Written) → Contains ws w → Contains all w × Contains (writes h) w) (of_us : (w : Written) → Contains us w → Contains all w × Contains (writes h) w)
+    (either : (w : Written) → Contains all w → Contains ws w ⊎ Contains us w) where
+  -- no write is above the last of all
+  not_above : (w : Written) → last_of all c ≡ Some w → (u : Written) → Contains all u → has_cell c u ≡ true → key_lt w.key u.key ≡ false
+  not_above w last u at has = (greatest-Some (λ x. x.key) (filter (has_cell c) all) w last).top u (Contains-filter (has_cell c) all u at has)
+
+  -- nor is its version
+  no_newer : (w : Written) (v : Version) → last_of all c ≡ Some w → version_of w c ≡ Some v → (u : Written) (x : Version) → Contains all u → version_of u c ≡ Some x → key_lt v.key x.key ≡ false
+  no_newer w v last made u x at is_x =
+      subst (λ k. key_lt k x.key ≡ false) (sym (key_of_version w c v made)) (subst (λ k. key_lt w.key k ≡ false) (sym (key_of_version u c x is_x)) (not_above w last u at (has_cell-version u c x is_x)))
+
+  -- the last of all stands in the first part
+  in_first : (w : Written) (v : Version) → last_of all c ≡ Some w → version_of w c ≡ Some v → Contains ws w → greater version_key (last_version ws c) (last_version us c) ≡ Some v
+  in_first w v last made at =
+      ap (λ o. greater version_key (option_and_then (λ x. version_of x c) o) (last_version us c)) (last_of_fewer h is all ws c w of_ws last at)
+      ∙ ap (λ o. greater version_key o (last_version us c)) made ∙ by (last_of us c) refl
+    where
+      by : (o : Option Written) → last_of us c ≡ o → greater version_key (Some v) (option_and_then (λ x. version_of x c) o) ≡ Some v
+      by None none = refl
+      by (Some u) some =
+          let own = last_is us c u some in
+          let its = version-has_cell u c own.1 in
+          ap (greater version_key (Some v)) its.1 ∙ ap (λ b. Some (cond b its.0 v)) (no_newer w v last made u its.0 (of_us u own.0).0 its.1)
+
+  -- or in the second
+  in_second : (w : Written) (v : Version) → last_of all c ≡ Some w → version_of w c ≡ Some v → Contains us w → greater version_key (last_version ws c) (last_version us c) ≡ Some v
+  in_second w v last made at =
+      ap (λ o. greater version_key (last_version ws c) (option_and_then (λ x. version_of x c) o)) (last_of_fewer h is all us c w of_us last at)
+      ∙ ap (greater version_key (last_version ws c)) made ∙ by (last_of ws c) refl
+    where
+      newer : (u : Written) (x : Version) → Contains ws u → version_of u c ≡ Some x → (b : Bool) → key_lt x.key v.key ≡ b → Some (cond b v x) ≡ Some v
+      newer u x own is_x true below = refl
+      newer u x own is_x false below =
+          let same_key = same_from_both u.key w.key
+          (subst (λ k. key_lt u.key k ≡ false) (key_of_version w c v made) (subst (λ k. key_lt k v.key ≡ false) (key_of_version u c x is_x) below))
+          (not_above w last u (of_ws u own).0 (has_cell-version u c x is_x)) in
+          sym is_x ∙ ap (λ y. version_of y c) (one_write h u w is (of_ws u own).1 (of_us w at).1 same_key) ∙ made
+
+      by : (o : Option Written) → last_of ws c ≡ o → greater version_key (option_and_then (λ x. version_of x c) o) (Some v) ≡ Some v
+      by None none = refl
+      by (Some u) some =
+          let own = last_is ws c u some in
+          let its = version-has_cell u c own.1 in
+          ap (λ o. greater version_key o (Some v)) its.1 ∙ newer u its.0 own.0 its.1 (key_lt (its.0).key v.key) refl
+
+  -- where all have none, each part has none
+  none_of : last_of all c ≡ None → (xs : List Written) → ((w : Written) → Contains xs w → Contains all w) → last_version xs c ≡ None
+  none_of none xs part = by (last_of xs c) refl
+    where
+      by : (o : Option Written) → last_of xs c ≡ o → option_and_then (λ w. version_of w c) o ≡ None
+      by None e = refl
+      by (Some w) e =
+          let own = last_is xs c w e in
+          absurd (Contains-nil w (subst (λ l. Contains l w) (greatest-None (λ u. u.key) (filter (has_cell c) all) none) (Contains-filter (has_cell c) all w (part w own.0) own.1)))
+
+  pub last_joined : greater version_key (last_version ws c) (last_version us c) ≡ last_version all c
+  last_joined = by (last_of all c) refl
+    where
+      by : (o : Option Written) → last_of all c ≡ o → greater version_key (last_version ws c) (last_version us c) ≡ option_and_then (λ w. version_of w c) o
+      by None none =
+          ap (λ o. greater version_key o (last_version us c)) (none_of none ws (λ w at. (of_ws w at).0)) ∙ ap (greater version_key None) (none_of none us (λ w at. (of_us w at).0))
+      by (Some w) last =
+          let own = last_is all c w last in
+          let its = version-has_cell w c own.1 in
+          let found : greater version_key (last_version ws c) (last_version us c) ≡ Some its.0 = elim (either w own.0) [
+            | inl first ↦ in_first w its.0 last its.1 first
+            | inr second ↦ in_second w its.0 last its.1 second
+          ] in
+          found ∙ sym its.1
 
 -- ---- what was got
 
--- before the first fetch nothing was got
-pub got_none : (h : History) (from to : ℕ) (sub : SubBox) → AreGot h from to sub [] []
-got_none h from to sub = record {
-  of_each = λ w at here within c inside. absurd (Contains-nil (frag_of w.key) here);
-  of_others = λ k c v found. absurd (none-some v found);
-}
-
--- the first of two answers stands, where the second tells the same
-first_stands : {A : Type 0} (o p : Option A) (b : Bool) → (b ≡ true → p ≡ o) → or_else o (cond b p None) ≡ o
-first_stands (Some x) p b same = refl
-first_stands None p true same = same refl
-first_stands None p false same = refl
-
--- an answer of two is the first's or the second's
-which_of : {A : Type 0} {Goal : Type 0} (o p : Option A) (b : Bool) (x : A) → or_else o (cond b p None) ≡ Some x → (o ≡ Some x → Goal) → (b ≡ true → Goal) → Goal
-which_of (Some y) p b x e first second = first e
-which_of None p true x e first second = second refl
-which_of None p false x e first second = absurd (none-some x e)
-
-module _ (spelled : Spelled) (h : History) (is : IsHistory h) (m : Held) (f : FragKey) (one : HoldsOne spelled h m f) (r : Reading) (same_frame : one.frame ≡ r.frame)
-    (fetched : List FragKey) (got : List Version) (are : AreGot h r.from r.to (r.ready).sub fetched got) where
-  -- the versions that were got, and those of the fragment
-  abbrev more : List Version
-  more = got ++ taken (want_of r (one.schema).attrs) (one.piece).versions
-
-  -- the key of the fragment's write
-  abbrev own_key : Key
-  own_key = (one.write).key
-
-  -- the key is that of the write, and stamped in the interval, and the cell lies in the box
-  abbrev is_own : Key → List ℤ → Bool
-  is_own k c = key_eq k own_key && (is_within r.from r.to k && is_in_box (r.ready).sub c)
-
-  -- the cells of the write fit the frame and its schema
-  fit : All (CellFits (r.frame).domain (one.schema).attrs) (one.write).cells
-  fit = cells_fit h one.write r.frame one.schema is one.written (one.framed ∙ ap Some same_frame) one.declared
-
-  -- a version of these is one that was got before, or one of the write
-  version_at_more : (k : Key) (c : List ℤ) → version_at more k c ≡ or_else (version_at got k c) (cond (is_own k c) (version_of one.write c) None)
-  version_at_more k c = find-append _ got (taken (want_of r (one.schema).attrs) (one.piece).versions) ∙ ap (or_else (version_at got k c)) (taken_of_write r (one.schema).attrs one.write fit one.piece one.holds k c)
-
-  -- the versions of a write that was fetched before
-  of_before : (w : Written) → Contains (writes h) w → Contains fetched (frag_of w.key) → is_within r.from r.to w.key ≡ true → (c : List ℤ) → is_in_box (r.ready).sub c ≡ true
-      → version_at more w.key c ≡ version_of w c
-  of_before w at here within c inside =
-      version_at_more w.key c ∙ ap (λ o. or_else o (cond (is_own w.key c) (version_of one.write c) None)) (are.of_each w at here within c inside)
-      ∙ first_stands (version_of w c) (version_of one.write c) (is_own w.key c)
-      (λ tie. ap (λ u. version_of u c) (one_write h one.write w is one.written at (sym (key_same w.key own_key (and_parts (key_eq w.key own_key) (is_within r.from r.to w.key && is_in_box (r.ready).sub c) tie).0))))
-
-  -- the versions of the write of the fragment
-  of_this : (w : Written) → Contains (writes h) w → f ≡ frag_of w.key → is_within r.from r.to w.key ≡ true → (c : List ℤ) → is_in_box (r.ready).sub c ≡ true
-      → (o : Option Version) → version_at got w.key c ≡ o → version_at more w.key c ≡ version_of w c
-  of_this w at this within c inside (Some v) found = of_before w at (are.of_others w.key c v found).1.3 within c inside
-  of_this w at this within c inside None none =
-      let same : one.write ≡ w = held_write spelled h m f one w is at this in
-      version_at_more w.key c ∙ ap (λ o. or_else o (cond (is_own w.key c) (version_of one.write c) None)) none
-      ∙ ap (λ u. cond (key_eq w.key u.key && (is_within r.from r.to w.key && is_in_box (r.ready).sub c)) (version_of u c) None) same
-      ∙ cond-true (key_eq w.key w.key && (is_within r.from r.to w.key && is_in_box (r.ready).sub c)) (version_of w c) None
-      (and_from (key_eq w.key w.key) (is_within r.from r.to w.key && is_in_box (r.ready).sub c) (key_itself w.key) (and_from (is_within r.from r.to w.key) (is_in_box (r.ready).sub c) within inside))
-
-  -- with one fragment more, the versions of its write were got too
-  pub got_more : AreGot h r.from r.to (r.ready).sub (fetched ++ f ∷ []) (got ++ taken (want_of r (one.schema).attrs) (one.piece).versions)
-  got_more = record {
-    of_each = λ w at here within c inside. elim (Contains-push_cases fetched f (frag_of w.key) here) [
-      | inl before ↦ of_before w at before within c inside
-      | inr this ↦ of_this w at this within c inside (version_at got w.key c) refl
-    ];
-    of_others = λ k c v found. which_of (version_at got k c) (version_of one.write c) (is_own k c) v (sym (version_at_more k c) ∙ found)
-        (λ first. let of = are.of_others k c v first in (of.0, (of.1.0, of.1.1, of.1.2, Contains-append_left fetched (f ∷ []) (frag_of k) of.1.3, of.1.4)))
-        (λ tie.
-        let both = and_parts (key_eq k own_key) (is_within r.from r.to k && is_in_box (r.ready).sub c) tie in
-        let tests = and_parts (is_within r.from r.to k) (is_in_box (r.ready).sub c) both.1 in
-        let same = key_same k own_key both.0 in
-        (tests.1, (one.write, one.written, sym same, subst (Contains (fetched ++ f ∷ [])) (frag_of_held spelled h m f one ∙ ap frag_of (sym same)) (Contains-push fetched f), tests.0)));
+module _ (h : History) (from to : ℕ) (sub : SubBox) where
+  -- before the first fetch nothing was got
+  pub got_none : AreGot h from to sub [] []
+  got_none = record {
+    inside = λ c inside. sym (ap (λ ws. last_version ws c) (filter_none (λ w. is_within from to w.key && false) (writes h) (λ w at. never (is_within from to w.key))));
+    outside = λ c outside. refl;
   }
+    where
+      never : (t : Bool) → t && false ≡ false
+      never true = refl
+      never false = refl
+
+  module _ (is : IsHistory h) (heads : List Head) (head : Head) where
+    -- the writes in the interval that went into the first fragments
+    abbrev before : List Written
+    before = wrote_in h from to heads
+
+    -- those that went into one more
+    abbrev own : List Written
+    own = filter (λ w. is_within from to w.key) (origins_of h head)
+
+    -- all of them
+    abbrev all : List Written
+    all = wrote_in h from to (heads ++ head ∷ [])
+
+    -- a write of the first fragments is one of all
+    of_before : (w : Written) → Contains before w → Contains all w × Contains (writes h) w
+    of_before w at =
+        let parts = filter-Contains (λ u. is_within from to u.key && list_any (has_origin u.key) heads) (writes h) w at in
+        let tests = and_parts (is_within from to w.key) (list_any (has_origin w.key) heads) parts.1 in
+        let one = member_any (has_origin w.key) heads tests.1 in (
+          Contains-filter (λ u. is_within from to u.key && list_any (has_origin u.key) (heads ++ head ∷ [])) (writes h) w parts.0
+              (and_from (is_within from to w.key) (list_any (has_origin w.key) (heads ++ head ∷ [])) tests.0
+              (any_member (has_origin w.key) (heads ++ head ∷ []) one.0 (Contains-append_left heads (head ∷ []) one.0 one.1) one.2)),
+          parts.0,
+        )
+
+    -- a write of the further one is one of all
+    of_own : (w : Written) → Contains own w → Contains all w × Contains (writes h) w
+    of_own w at =
+        let in_time = filter-Contains (λ u. is_within from to u.key) (origins_of h head) w at in
+        let origin = filter-Contains (λ u. has_origin u.key head) (writes h) w in_time.0 in (
+          Contains-filter (λ u. is_within from to u.key && list_any (has_origin u.key) (heads ++ head ∷ [])) (writes h) w origin.0
+              (and_from (is_within from to w.key) (list_any (has_origin w.key) (heads ++ head ∷ [])) in_time.1
+              (any_member (has_origin w.key) (heads ++ head ∷ []) head (Contains-push heads head) origin.1)),
+          origin.0,
+        )
+
+    -- and there are no others
+    either_of : (w : Written) → Contains all w → Contains before w ⊎ Contains own w
+    either_of w at =
+        let parts = filter-Contains (λ u. is_within from to u.key && list_any (has_origin u.key) (heads ++ head ∷ [])) (writes h) w at in
+        let tests = and_parts (is_within from to w.key) (list_any (has_origin w.key) (heads ++ head ∷ [])) parts.1 in
+        let one = member_any (has_origin w.key) (heads ++ head ∷ []) tests.1 in
+        elim (Contains-push_cases heads head one.0 one.1) [
+          | inl first ↦ inl (Contains-filter (λ u. is_within from to u.key && list_any (has_origin u.key) heads) (writes h) w parts.0
+              (and_from (is_within from to w.key) (list_any (has_origin w.key) heads) tests.0 (any_member (has_origin w.key) heads one.0 first one.2)))
+          | inr last ↦ inr (Contains-filter (λ u. is_within from to u.key) (origins_of h head) w
+              (Contains-filter (λ u. has_origin u.key head) (writes h) w parts.0 (subst (λ x. has_origin w.key x ≡ true) (sym last) one.2)) tests.0)
+        ]
+
+    -- with one fragment more, whose newest versions are those of its last origins, the newest of all are those of all
+    pub got_more : (got vs : List Version) → AreGot h from to sub heads got → ((c : List ℤ) → is_in_box sub c ≡ true → newest_at vs c ≡ last_version own c)
+        → ((c : List ℤ) → is_in_box sub c ≡ false → newest_at vs c ≡ None) → AreGot h from to sub (heads ++ head ∷ []) (got ++ vs)
+    got_more got vs are newest none = record {
+      inside = λ c inside. newest-append got vs c ∙ ap (λ o. greater version_key o (newest_at vs c)) (are.inside c inside) ∙ ap (greater version_key (last_version before c)) (newest c inside)
+          ∙ last_joined h is before own all c of_before of_own either_of;
+      outside = λ c outside. newest-append got vs c ∙ ap (λ o. greater version_key o (newest_at vs c)) (are.outside c outside) ∙ ap (greater version_key None) (none c outside);
+    }
+
+-- ---- heads
+
+-- a fragment has one head, whatever pieces its parts spell
+pub one_head : {F : Type 0} (forms : Forms F) (spelled : Spelled) (tracks : Tracking F) → FormsLaws forms spelled tracks → (g : History) (m : Held) (f : FragKey) (p q : Piece)
+    → HoldsIn spelled g m f p → HoldsIn spelled g m f q → p.head ≡ q.head
+one_head forms spelled tracks laws g m f p q a b =
+    let first = laws.head a.frame a.schema p (a.spells).look (a.spells).spells in
+    let second = laws.head b.frame b.schema q (b.spells).look (b.spells).spells in
+    let frame : a.frame ≡ b.frame = same_Some a.frame b.frame (sym a.framed ∙ b.framed) in
+    let object : first.0 ≡ second.0 = same_Some first.0 second.0 (sym ((a.spells).held (forms.head_part a.frame) first.0 first.1) ∙ ap (λ x. map.get m (name.Part f (forms.head_part x))) frame
+    ∙ (b.spells).held (forms.head_part b.frame) second.0 second.1) in
+    let same : forms.head a.frame p.head.frag first.0 ≡ forms.head b.frame q.head.frag second.0 =
+    ap (λ x. forms.head x p.head.frag first.0) frame ∙ ap (λ x. forms.head b.frame x first.0) ((a.spells).named ∙ sym (b.spells).named) ∙ ap (forms.head b.frame q.head.frag) object in
+    one_read (forms.head b.frame q.head.frag second.0) p.head q.head (sym same ∙ first.2) second.2
+  where
+    one_read : (r : Result Head ℕ) (x y : Head) → r ≡ Ok x → r ≡ Ok y → x ≡ y
+    one_read r x y e f = cc
 
 -- ---- the schemas that a read knows
 
@@ -183,20 +264,24 @@ module _ {F : Type 0} (forms : Forms F) (spelled : Spelled) (g h : History) (m :
   all_keys = gathered.keys_are ∙ ap (λ n. take n (keys_named r opened)) all_schemas ∙ take_all (length (keys_named r opened)) (keys_named r opened) (omega arith)
 
   module _ (o : Opened) (at : Contains opened o) where
-    -- what the fragment holds
-    abbrev one : HoldsOne spelled g m o.frag
-    one = (are_open.each o at).one
+    -- how it is open
+    abbrev open_at : IsOpen forms spelled g m r.frame r.from r.to o
+    open_at = are_open.each o at
+
+    -- its schema
+    abbrev own_schema : Schema
+    own_schema = (open_at.holds).schema
 
     -- the key that its head names
     abbrev key : Key
     key = (o.head).schema
 
     -- the schema of the fragment is a deed
-    is_declared : schema_with h key ≡ Some one.schema
-    is_declared = grows key one.schema (ap (schema_with g) (ap (λ x. x.schema) (are_open.each o at).head ∙ (one.holds).schema) ∙ one.declared)
+    is_declared : schema_with h key ≡ Some own_schema
+    is_declared = grows key own_schema (ap (λ x. schema_with g x.schema) open_at.head ∙ (open_at.holds).declared)
 
     -- where it is not the one there, it was gathered
-    is_further : key_eq key (r.there).key ≡ false → find (λ s. key_eq s.key key) schemas ≡ Some one.schema
+    is_further : key_eq key (r.there).key ≡ false → find (λ s. key_eq s.key key) schemas ≡ Some own_schema
     is_further other =
         let s = map-Contains (λ t. t.key) schemas key (subst (λ ks. Contains ks key) (sym all_keys) (keys_named_has r opened o at other)) in
         let found = find_member (λ t. key_eq t.key key) schemas s.0 s.1 (ap (λ k. key_eq k key) s.2 ∙ key_itself key) in
@@ -204,18 +289,26 @@ module _ {F : Type 0} (forms : Forms F) (spelled : Spelled) (g h : History) (m :
         found.1 ∙ sym (gathered.each found.0 is.0) ∙ ap (schema_with h) (key_same (found.0).key key is.1) ∙ is_declared
 
     -- a read knows the schema of each open fragment
-    pub knows : known_schema r schemas (o.head).schema ≡ Some ((are_open.each o at).one).schema
+    pub knows : known_schema r schemas (o.head).schema ≡ Some ((are_open.each o at).holds).schema
     knows = by_test (key_eq key (r.there).key) refl
       where
-        by_test : (b : Bool) → key_eq key (r.there).key ≡ b → cond b (Some r.there) (find (λ s. key_eq s.key key) schemas) ≡ Some one.schema
+        by_test : (b : Bool) → key_eq key (r.there).key ≡ b → cond b (Some r.there) (find (λ s. key_eq s.key key) schemas) ≡ Some own_schema
         by_test true same = sym there ∙ ap (schema_with h) (sym (key_same key (r.there).key same)) ∙ is_declared
         by_test false other = is_further other
 
-  -- a read knows the attributes of the schema of each write whose fragment is open
-  pub knows_attrs : (w : Written) → IsHistory g → Contains (writes g) w → (o : Opened) → Contains opened o → o.frag ≡ frag_of w.key → known_attrs r schemas w.schema ≡ attrs_with g w.schema
-  knows_attrs w is written o at own =
+  -- a read knows the attributes of the schema of each write that went into an open fragment
+  pub knows_attrs : (w : Written) → IsHistory g → Contains (writes g) w → (o : Opened) → Contains opened o → has_origin w.key o.head ≡ true → known_attrs r schemas w.schema ≡ attrs_with g w.schema
+  knows_attrs w is written o at origin =
       let opens = are_open.each o at in
-      let same : (opens.one).write ≡ w = held_write spelled g m o.frag opens.one w is written own in
-      let key : (o.head).schema ≡ w.schema = ap (λ x. x.schema) opens.head ∙ ((opens.one).holds).schema ∙ ap (λ u. u.schema) same in
-      ap (λ k. known_attrs r schemas k) (sym key) ∙ ap (λ s. option_map_or (λ t. t.attrs) s []) (knows o at)
-      ∙ ap (λ s. option_map_or (λ t. t.attrs) s []) (sym (opens.one).declared) ∙ ap (λ u. attrs_with g u.schema) same
+      let own = ((opens.holds).holds).origins w.key (key_there w.key (opens.piece).head.origins (subst (λ x. has_origin w.key x ≡ true) opens.head origin)) in
+      let key : w.schema ≡ (o.head).schema = ap (λ (u : Written). u.schema) (sym (one_write g own.0 w is own.1 written own.2)) ∙ own.3 ∙ ap (λ x. x.schema) (sym opens.head) in
+      ap (λ k. known_attrs r schemas k) key ∙ ap (λ s. option_map_or (λ t. t.attrs) s []) (knows o at)
+      ∙ ap (λ s. option_map_or (λ t. t.attrs) s []) (sym (opens.holds).declared) ∙ ap (λ x. attrs_with g x.schema) (sym opens.head) ∙ ap (attrs_with g) (sym key)
+
+-- a write that went into a fragment which is open is one of the origins in its head
+pub origin_open : {F : Type 0} (forms : Forms F) (spelled : Spelled) (tracks : Tracking F) → FormsLaws forms spelled tracks → (g : History) (m : Held) (r : Reading) (opened : List Opened)
+    → AreOpen forms spelled g m r opened → (f : FragKey) (k : Key) → WentInto spelled g m f k → (o : Opened) → Contains opened o → o.frag ≡ f → has_origin k o.head ≡ true
+origin_open forms spelled tracks laws g m r opened are_open f k went o at own =
+    let opens = are_open.each o at in
+    let same : (went.piece).head ≡ o.head = one_head forms spelled tracks laws g m f went.piece opens.piece went.holds (subst (λ x. HoldsIn spelled g m x opens.piece) own opens.holds) ∙ sym opens.head in
+    subst (λ x. has_origin k x ≡ true) same went.origin

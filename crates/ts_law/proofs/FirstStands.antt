@@ -10,16 +10,17 @@ use Rattle.ts_base.specs.declared.names.Name.TheVariants as name
 use Rattle.ts_base.specs.declared.names.CommitKind.TheVariants.{Del}
 use Rattle.ts_base.specs.Names.{name_cmp, wrt_of}
 use Rattle.ts_base.specs.Held.{Held}
+use Rattle.ts_model.specs.declared.commands.Job.{Job}
 use Rattle.ts_model.specs.declared.commands.Line.{Line}
 use Rattle.ts_model.specs.declared.answers.Driven.{Driven}
 use Rattle.ts_model.specs.declared.answers.Outcome.{Outcome}
 use Rattle.ts_model.specs.Forms.{Forms, Spelled, Tracking, FormsLaws}
 use Rattle.ts_model.specs.Jobs.{IsFitLine}
 use Rattle.ts_law.specs.Stands.{Stands}
-use Rattle.ts_law.specs.Fresh.{IsFreshSeed, jobs_of}
+use Rattle.ts_law.specs.Fresh.{IsFreshSeed, AreJobsOf}
+use Rattle.ts_law.specs.Lanes.{IsOwned, IsWithin, InTurn}
 use Rattle.ts_model.specs.Told.{Told, Suits, Replied}
-use Rattle.ts_model.specs.Driven.{AreDriven}
-use Rattle.ts_law.specs.Runs.{IsTrueRun}
+use Rattle.ts_law.specs.Runs.{AreDriven, IsTrueRun}
 use Rattle.ts_model.proofs.ListLemmas.{Contains-nil}
 use Rattle.ts_law.proofs.HeldLemmas.{Holds}
 use Rattle.ts_law.proofs.TrueRuns.{true_run}
@@ -56,8 +57,9 @@ fresh_over_nothing seed id upper (inl (k, at, is)) = Contains-nil k at
 fresh_over_nothing seed id upper (inr (n, held, is)) = none_held n held
 
 -- a run over nothing is true of the empty history
-pub true_from_nothing : {F : Type 0} (forms : Forms F) (spelled : Spelled) (tracks : Tracking F) → FormsLaws forms spelled tracks → (seed : ℕ) (lines : List Line) (told : List Told) (results : List (Driven Outcome))
-    → seed < 2 ^ 64 → length lines < 2 ^ 32 → All IsFitLine lines → Replied nothing told → All Suits told → AreDriven forms 0 (jobs_of seed lines) results told
-    → IsTrueRun spelled (jobs_of seed lines) [] nothing told results
-true_from_nothing forms spelled tracks laws seed lines told results seed_fits few fit replied suit driven =
-    true_run forms spelled tracks laws seed lines [] nothing told results (nothing_stands spelled) (fresh_over_nothing seed) seed_fits few fit replied suit driven
+pub true_from_nothing : {F : Type 0} (forms : Forms F) (spelled : Spelled) (tracks : Tracking F) → FormsLaws forms spelled tracks
+    → (seed lane : ℕ) (lines : List Line) (lanes : ℕ → ℕ) (jobs : List Job) (told : List Told) (results : List (Driven Outcome))
+    → AreJobsOf seed lane lines jobs → seed < 2 ^ 64 → lane < 2 ^ 32 → length lines < 2 ^ 32 → All IsFitLine lines
+    → Replied nothing told → All Suits told → All IsOwned told → All (IsWithin jobs) told → InTurn lanes told → AreDriven forms jobs results told → IsTrueRun spelled lanes jobs [] nothing told results
+true_from_nothing forms spelled tracks laws seed lane lines lanes jobs told results are seed_fits lane_fits few fit replied suit owned within in_turn driven =
+    true_run forms spelled tracks laws seed lane lines lanes jobs [] nothing told results are (nothing_stands spelled) (fresh_over_nothing seed) seed_fits lane_fits few fit replied suit owned within in_turn driven

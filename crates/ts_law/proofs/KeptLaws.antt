@@ -13,6 +13,7 @@ use Rattle.ts_base.specs.declared.names.Prefix.TheVariants.{Commits, Schemas}
 use Rattle.ts_law.proofs.EraseSteps.{deletes_steps}
 use Rattle.ts_law.proofs.FetchSteps.{fetch_steps}
 use Rattle.ts_law.proofs.Frames.{aims-carry, claims_stay}
+use Rattle.ts_model.proofs.Asked.{next_call}
 use Rattle.ts_model.proofs.HistoryLaws.{job_of_id}
 use Rattle.ts_model.proofs.ListLemmas.{Contains-slice_get}
 use Rattle.ts_law.proofs.ListSteps.{commits_steps, schemas_steps}
@@ -41,24 +42,24 @@ use Rattle.ts_base.specs.declared.names.Name.TheVariants as name
 -- ---- what a put of a job carries
 
 -- a put has one name
-one_name : (n q : Name) (bytes more : List ℕ) → call.Put n bytes ≡ call.Put q more → n ≡ q
+pub one_name : (n q : Name) (bytes more : List ℕ) → call.Put n bytes ≡ call.Put q more → n ≡ q
 one_name n q bytes more same = cc
 
 -- a listing is no put
-no_listing : (p : Prefix) (q : Name) (more : List ℕ) → call.List p ≡ call.Put q more → ⊥
+pub no_listing : (p : Prefix) (q : Name) (more : List ℕ) → call.List p ≡ call.Put q more → ⊥
 no_listing p q more same = cc
 
 -- a get is no put
-no_get : (n : Name) (from len : ℕ) (q : Name) (more : List ℕ) → call.Get n from len ≡ call.Put q more → ⊥
+pub no_get : (n : Name) (from len : ℕ) (q : Name) (more : List ℕ) → call.Get n from len ≡ call.Put q more → ⊥
 no_get n from len q more same = cc
 
 -- the item by which a job asks
-asked_by : {A : Type 0} (of : A → Call) (o : Option A) (c : Call) → option_map of o ≡ Some c → (x : A) × (o ≡ Some x) × (of x ≡ c)
+pub asked_by : {A : Type 0} (of : A → Call) (o : Option A) (c : Call) → option_map of o ≡ Some c → (x : A) × (o ≡ Some x) × (of x ≡ c)
 asked_by of None c e = absurd (none-some c e)
 asked_by of (Some x) c e = (x, refl, same_Some (of x) c e)
 
 -- a call that speaks of an object puts none
-speaks_no_put : (c : Call) (n q : Name) (more : List ℕ) → SpeaksOf c n → c ≡ call.Put q more → ⊥
+pub speaks_no_put : (c : Call) (n q : Name) (more : List ℕ) → SpeaksOf c n → c ≡ call.Put q more → ⊥
 speaks_no_put c n q more speaks same = subst (λ d. SpeaksOf d n) same speaks
 
 module _ {F : Type 0} (forms : Forms F) (spelled : Spelled) (tracks : Tracking F) (laws : FormsLaws forms spelled tracks) (past : History) (jobs : List Job) (seen : List Told) (m : Held) where
@@ -88,8 +89,8 @@ module _ {F : Type 0} (forms : Forms F) (spelled : Spelled) (tracks : Tracking F
       absurd (no_get (name.Commit f.0 Del) 0 (2 ^ 64 - 1) n bytes f.2)
   own_put number job (Fetches r opened schemas next frag got fetch c) n bytes id claims asked carried =
       let way = claims.2.1 in
-      let held = laws.asks r.frame (way.one).schema (way.one).piece ((way.one).spells).look (want_of r ((way.one).schema).attrs) fetch c way.way in
-      absurd (speaks_no_put c (name.Part (((way.one).piece).head).frag held.part) n bytes held.named (same_Some c (call.Put n bytes) asked))
+      let held = laws.asks r.frame (way.holds).schema way.piece ((way.holds).spells).look (want_of r ((way.holds).schema).attrs) fetch c way.way in
+      absurd (speaks_no_put c (name.Part ((way.piece).head).frag held.part) n bytes held.named (same_Some c (call.Put n bytes) asked))
   own_put number job (Over end) n bytes id claims asked carried = absurd (none-some _ asked)
 
 -- ---- one call
@@ -103,7 +104,7 @@ module _ {F : Type 0} (forms : Forms F) (spelled : Spelled) (tracks : Tracking F
     numbered = λ other is. subst (λ n. n < length jobs) (same_Some may.number other (sym may.own ∙ is)) (slice_get_within jobs may.number may.job may.is_job);
     puts = λ n bytes id is carried.
         let same = own_put forms spelled tracks laws past jobs seen m may.number may.job (state_of forms may.job (trace_of may.number seen)) n bytes id
-        (kept.claims may.number may.job may.is_job may.alive) (may.asked ∙ ap Some is) carried in
+        (kept.claims may.number may.job may.is_job may.alive) (next_call forms may.job (state_of forms may.job (trace_of may.number seen)) e.call may.asked ∙ ap Some is) carried in
         subst (λ i. IsSome (job_with jobs i)) same (rw (job_of_id jobs may.number may.job kept.apart may.is_job) refl);
   }
 
@@ -180,7 +181,7 @@ module _ {F : Type 0} (forms : Forms F) (spelled : Spelled) (tracks : Tracking F
         is_job = may.is_job;
         replied = replied;
         short = may.short;
-        asked = may.asked;
+        asked = next_call forms may.job (state_of forms may.job (trace_of may.number seen)) e.call may.asked;
         claims = kept.claims may.number may.job may.is_job may.alive;
       }))
 

@@ -1,5 +1,9 @@
 pub mod HeldLemmas
+pub mod Lists
 pub mod Effects
+pub mod NewestBy
+pub mod OriginLaws
+pub mod Grows
 pub mod Stays
 pub mod Frames
 pub mod Spawns
@@ -21,9 +25,13 @@ pub mod ListSteps
 pub mod ReadSteps
 pub mod EraseSteps
 pub mod KeptLaws
+pub mod Lanes
+pub mod Doing
 pub mod OneMoreJob
 pub mod Journals
+pub mod JournalHistories
 pub mod Causes
+pub mod RowGrows
 pub mod RowCalls
 pub mod RowReads
 pub mod RowThere
@@ -31,5 +39,7 @@ pub mod RowJobs
 pub mod Segments
 pub mod TrueRuns
 pub mod RunLaw
+pub mod Alone
 pub mod FirstStands
 pub mod WorkedRows
+pub mod WorkedOrigins

@@ -1,6 +1,7 @@
 -- What the listings of a job find, and where they lead.
-use Rattle.std.proofs.Common.{◌≡◌, ℕ, true, List, [], ◌∷◌, ◌++◌, Option, Some, None, refl, sym, ◌∙◌, ap, subst, arith}
-use Rattle.std.specs.Prelude.{Contains, filter, option_map}
+use Rattle.std.proofs.Common.{◌≡◌, ℕ, ◌&&◌, true, List, [], ◌∷◌, ◌++◌, Option, Some, None, refl, sym, ◌∙◌, ap, subst, arith}
+use Rattle.std.specs.Prelude.{Contains, filter, nat_le, option_map}
+use Rattle.std.proofs.lemmas.Bool.{and_from, and_parts, le-leb, leb-true}
 use Rattle.std.specs.FinMap as map
 use Rattle.std.proofs.lemmas.Option.{same_Some, none-some}
 use Rattle.ts_base.specs.declared.keys.Key.{Key}
@@ -33,7 +34,8 @@ use Rattle.ts_model.specs.declared.states.State.TheVariants.{ListsCommits, Lists
 use Rattle.ts_model.specs.Deeds.{History, IsHistory, erases, erase_of, schemas, schema_with, schema_there}
 use Rattle.ts_model.specs.Forms.{Forms, FormsLaws, Spelled, Tracking}
 use Rattle.ts_model.specs.Jobs.{looked_at}
-use Rattle.ts_law.specs.Stands.{IsCommitted, HoldsOne, Stands}
+use Rattle.ts_law.specs.Stands.{IsCommitted, HoldsIn, WentInto, Stands}
+use Rattle.ts_law.proofs.OriginLaws.{key_there}
 use Rattle.ts_model.specs.States.{wrt_in, committed_in, del_in, deletes_in, schema_key_in, schemas_in, meets, looked_into, list_commits, list_schemas, on_names, seeks}
 use Rattle.ts_model.specs.Told.{Told, trace_of, after_told, IsReplied, schemas_found, history_told}
 use Rattle.ts_law.specs.Ends.{IsUndone}
@@ -75,6 +77,21 @@ committed_from_looked m from to f at =
 -- the fragment of a write in the interval meets it
 meets_of_within : (from to : ℕ) (k : Key) → is_within from to k ≡ true → meets from to (frag_of k) ≡ true
 meets_of_within from to k within = grind arith
+
+-- a fragment that a write in the interval went into meets it
+meets_of_origin : (spelled : Spelled) (m : Held) (h : History) (from to : ℕ) (f : FragKey) (k : Key) → WentInto spelled h m f k → is_within from to k ≡ true → meets from to f ≡ true
+meets_of_origin spelled m h from to f k went within =
+    let span = ((went.holds).holds).span in
+    let at = key_there k (went.piece).head.origins went.origin in
+    let from_on = span.from_on k at in
+    let up_to = span.up_to k at in
+    let tests = and_parts (nat_le from k.t) (nat_le k.t to) within in
+    let low = leb-true from k.t tests.0 in
+    let high = leb-true k.t to tests.1 in
+    subst (λ g. meets from to g ≡ true) ((went.holds).spells).named
+    (and_from (nat_le from to) (nat_le (went.piece).head.frag.t1 to && nat_le from (went.piece).head.frag.t2) (le-leb from to (omega (arith, low, high)))
+    (and_from (nat_le (went.piece).head.frag.t1 to) (nat_le from (went.piece).head.frag.t2) (le-leb (went.piece).head.frag.t1 to (omega (arith, from_on, high)))
+    (le-leb from (went.piece).head.frag.t2 (omega (arith, up_to, low)))))
 
 -- an instant that meets the interval is stamped in it
 within_of_meets : (from to : ℕ) (k : Key) → meets from to (frag_of k) ≡ true → is_within from to k ≡ true
@@ -236,9 +253,13 @@ module _ {F : Type 0} (forms : Forms F) (spelled : Spelled) (tracks : Tracking F
       → HasNear spelled past jobs (seen ++ e ∷ []) m' number (Read from to query) (looked_into (Read from to query) (names_under Commits m))
   near_listed stands own is same_held from to query = record {
     commits = listed_now seen e number Commits own is;
-    whole = λ f at. subst (λ n. HoldsOne spelled h n f) (sym same_held) (stands.whole f (committed_from_looked m from to f at).0);
-    in_time = λ f at. (committed_from_looked m from to f at).1;
-    covered = λ w at within. looked_from_committed m from to (frag_of w.key) (stands.covered w at) (meets_of_within from to w.key within);
+    whole = λ f at.
+        let committed = committed_from_looked m from to f at in
+        let is = stands.whole f committed.0 in
+        (is.0, subst (λ n. HoldsIn spelled h n f is.0) (sym same_held) is.1, is.2 from to (subst (λ g. meets from to g ≡ true) (sym ((is.1).spells).named) committed.1));
+    covered = λ w at within.
+        let is = stands.covered w at in
+        (is.0, looked_from_committed m from to is.0 is.1 (meets_of_origin spelled m h from to is.0 w.key is.2 within), subst (λ n. WentInto spelled h n is.0 w.key) (sym same_held) is.2);
     erased = erase_from_looked spelled m h stands from to;
     erasing = looked_from_erase spelled m h stands from to;
   }

@@ -1,21 +1,27 @@
 -- One job after the other.
-use Rattle.std.proofs.Common.{◌≡◌, ℕ, List, [], ◌∷◌, ◌++◌, Option, Some, None, refl, sym, ◌∙◌, ap, subst, append_assoc, append-nil, arith, length, ◌<◌, ◌+◌, zero-add, take, get_or, All}
-use Rattle.std.specs.Prelude.{IfSome}
-use Rattle.std.proofs.lemmas.List.Elements.{All-append, filter_map-append}
+use Rattle.std.proofs.Common.{◌≡◌, ℕ, inl, inr, List, [], ◌∷◌, ◌++◌, Option, Some, None, refl, sym, ◌∙◌, ap, subst, append_assoc, append-nil, arith, length, ◌<◌, ◌+◌, take, get_or, All}
+use Rattle.std.specs.Prelude.{IfSome, slice_get}
+use Rattle.std.proofs.lemmas.Option.{same_Some, none-some, slice_get_within}
+use Rattle.std.proofs.lemmas.List.{take_more, length-take, length_push, map-append}
+use Rattle.std.proofs.lemmas.List.Elements.{All-nil, All-append, All-contains, All-weaker, filter_map-append}
 use Rattle.ts_base.specs.Held.{Held}
 use Rattle.ts_store.specs.declared.journal.Entry.{Entry}
-use Rattle.ts_store.specs.Calls.{after}
 use Rattle.ts_model.specs.declared.commands.Job.{Job}
+use Rattle.ts_model.specs.declared.commands.Line.{Line}
 use Rattle.ts_model.specs.declared.answers.Driven.{Driven}
 use Rattle.ts_model.specs.declared.answers.Outcome.{Outcome}
 use Rattle.ts_model.specs.Forms.{Forms}
-use Rattle.ts_model.specs.Told.{Told, trace_of, Suits, Replied, after_told, held_told, only_lane, entry_of, entries_of}
-use Rattle.ts_model.specs.declared.commands.Line.{Line}
+use Rattle.ts_model.specs.States.{Exchange}
+use Rattle.ts_model.specs.Told.{Told, trace_of, Suits, Replied, after_told, held_told, entry_of, entries_of}
+use Rattle.ts_model.specs.Driven.{IsDriven}
+use Rattle.ts_model.specs.Driving.{Leaves}
+use Rattle.ts_model.proofs.ListLemmas.{slice_get_push}
+use Rattle.ts_model.proofs.Traces.{held_told-append, trace_of-append}
+use Rattle.ts_law.specs.Doing.{RanOver, AllRan}
 use Rattle.ts_law.specs.Fresh.{job_from, jobs_from, jobs_of, id_of}
-use Rattle.std.proofs.lemmas.List.{take_more, length-take}
-use Rattle.ts_model.specs.Driven.{IsDriven, AreDriven}
-use Rattle.ts_model.specs.Driving.{Leaves, Ran, AllRan}
-use Rattle.ts_model.proofs.Traces.{held_told-append}
+use Rattle.ts_law.specs.Lanes.{lane_by, one_lane, IsOwned, IsWithin, IsBefore}
+use Rattle.ts_law.specs.Runs.{exchanges, AreDriven}
+use Rattle.ts_law.proofs.Lanes.{AreBy, none_made, none_by, own_entries, in_turn-append, own_in_turn}
 
 -- calls that are made where others left off are replied to
 replied-append : (m : Held) (told more : List Told) → Replied m told → Replied (held_told m told) more → Replied m (told ++ more)
@@ -37,19 +43,41 @@ over-append : (held now later : Option Held) (told more : List Told) → IfSome 
 over-append None now later told more leaves next = tt
 over-append (Some m) now later told more leaves next = leaves-append m now later told more leaves next
 
--- one more job, after the others
-driven-push : {F : Type 0} (forms : Forms F) (first : ℕ) (jobs : List Job) (results : List (Driven Outcome)) (told own : List Told) (number : ℕ) (job : Job) (result : Driven Outcome) → AreDriven forms first jobs results told → number ≡ first + length jobs → All (λ e. e.job ≡ Some number) own → IsDriven forms job (trace_of number own) result → AreDriven forms first (jobs ++ job ∷ []) (results ++ result ∷ []) (told ++ own)
-driven-push forms first [] [] told own number job result h is mine driven =
-    let P : List Told → Type 0 = λ t. AreDriven forms first (job ∷ []) (result ∷ []) (t ++ own) in
-    let Q : ℕ → Type 0 = λ n. All (λ e. e.job ≡ Some n) own × IsDriven forms job (trace_of n own) result in
-    let same : number ≡ first = omega arith in
-    let here = subst Q same (mine, driven) in
-    subst P (sym h) (own, [], sym (append-nil own), here.0, here.1, refl)
-driven-push forms first [] (r ∷ results) told own number job result h is mine driven = absurd h
-driven-push forms first (j ∷ jobs) [] told own number job result h is mine driven = absurd h
-driven-push forms first (j ∷ jobs) (r ∷ results) told own number job result h is mine driven =
-    let next : number ≡ first + 1 + length jobs = omega arith in
-    (h.0, h.1 ++ own, ap (λ t. t ++ own) h.2 ∙ append_assoc h.0 h.1 own, h.3, h.4, driven-push forms (first + 1) jobs results h.1 own number job result h.5 next mine driven)
+-- a job that comes after the others was driven like them
+driven-push : {F : Type 0} (forms : Forms F) (jobs : List Job) (results : List (Driven Outcome)) (told own : List Told) (number : ℕ) (job : Job) (result : Driven Outcome)
+    → AreDriven forms jobs results told → All (IsWithin jobs) told → number ≡ length jobs → AreBy number own → IsDriven forms job (trace_of number own) result
+    → AreDriven forms (jobs ++ job ∷ []) (results ++ result ∷ []) (told ++ own)
+driven-push {F} forms jobs results told own number job result all within last by_it driven =
+    record {
+      one_each = let a = length_push jobs job in let b = length_push results result in omega (arith, a, b, all.one_each);
+      driven = λ k j r j_at r_at. elim (slice_get_push jobs job k j j_at) [
+        | inl j_before ↦ elim (slice_get_push results result k r r_at) [
+          | inl r_before ↦ earlier k j r j_before r_before
+          | inr r_last ↦ let less = slice_get_within jobs k j j_before in absurd (omega (arith, less, r_last.0, all.one_each))
+        ]
+        | inr j_last ↦ elim (slice_get_push results result k r r_at) [
+          | inl r_before ↦ let less = slice_get_within results k r r_before in absurd (omega (arith, less, j_last.0, all.one_each))
+          | inr r_last ↦ now k j r (last ∙ sym j_last.0) j_last.1 r_last.1
+        ]
+      ];
+    }
+  where
+    earlier : (k : ℕ) (j : Job) (r : Driven Outcome) → slice_get jobs k ≡ Some j → slice_get results k ≡ Some r → IsDriven forms j (trace_of k (told ++ own)) r
+    earlier k j r j_at r_at =
+        let less = slice_get_within jobs k j j_at in
+        let others : trace_of k own ≡ [] = none_by number k own by_it (λ same. omega (arith, less, same, last)) in
+        subst (λ t. IsDriven forms j t r) (sym (trace_of-append k told own ∙ ap (λ t. trace_of k told ++ t) others ∙ append-nil (trace_of k told))) (all.driven k j r j_at r_at)
+
+    -- none of the calls before is one of the last job
+    none : trace_of number told ≡ []
+    none = none_made number told (All-weaker (IsWithin jobs) (λ e. e.job ≡ Some number → ⊥) (λ e is mine. let less = is number mine in omega (arith, less, last)) told within)
+
+    now : (k : ℕ) (j : Job) (r : Driven Outcome) → number ≡ k → job ≡ j → result ≡ r → IsDriven forms j (trace_of k (told ++ own)) r
+    now k j r same_number same_job same_result =
+        subst (λ n. IsDriven forms j (trace_of n (told ++ own)) r) same_number
+        (subst (λ i. IsDriven forms i (trace_of number (told ++ own)) r) same_job
+        (subst (λ o. IsDriven forms job (trace_of number (told ++ own)) o) same_result
+        (subst (λ t. IsDriven forms job t result) (sym (trace_of-append number told own ∙ ap (λ t. t ++ trace_of number own) none)) driven)))
 
 -- the jobs of one more line
 pub jobs_from-push : (seed lane number : ℕ) (lines : List Line) (line : Line) → jobs_from seed lane number (lines ++ line ∷ []) ≡ jobs_from seed lane number lines ++ job_from (id_of seed lane (number + length lines)) line ∷ []
@@ -63,20 +91,53 @@ pub length-jobs_from : (seed lane number : ℕ) (lines : List Line) → length (
 length-jobs_from seed lane number [] = refl
 length-jobs_from seed lane number (x ∷ lines) = let rest = length-jobs_from seed lane (number + 1) lines in omega arith
 
--- a job that was done after the others
-pub ran-one_more : {F : Type 0} (forms : Forms F) (lane : ℕ) (jobs : List Job) (held now later : Option Held) (before journal after_ : List Entry) (results : List (Driven Outcome)) (number : ℕ) (job : Job) (result : Driven Outcome)
-    → AllRan forms lane jobs held now before journal results → number ≡ length jobs → Ran forms number lane job now later journal after_ result
-    → AllRan forms lane (jobs ++ job ∷ []) held later before after_ (results ++ result ∷ [])
-ran-one_more forms lane jobs held now later before journal after_ results number job result all is ran =
+-- a job that was done after the others, in their lane
+pub ran-one_more : {F S : Type 0} (forms : Forms F) (held : S → Option Held) (made : S → List Exchange → S → Type 0)
+    → ((a b c : S) (xs ys : List Exchange) → made a xs b → made b ys c → made a (xs ++ ys) c)
+    → (lane : ℕ) (jobs : List Job) (first now later : S) (before journal after_ : List Entry) (results : List (Driven Outcome)) (number : ℕ) (job : Job) (result : Driven Outcome)
+    → AllRan forms held made lane jobs first now before journal results → number ≡ length jobs → RanOver forms held made number lane job now later journal after_ result
+    → AllRan forms held made lane (jobs ++ job ∷ []) first later before after_ (results ++ result ∷ [])
+ran-one_more forms held made joins lane jobs first now later before journal after_ results number job result all is over =
+    let ran = over.ran in
+    let more = length_push jobs job in
+    let own = ran.calls.own in
     record {
       told = all.told ++ ran.told;
+      owned = All-append IsOwned all.told ran.told all.owned (All-weaker (λ e. e.job ≡ Some number) IsOwned (λ e mine. (number, mine)) ran.told own);
+      within = All-append (IsWithin (jobs ++ job ∷ [])) all.told ran.told
+          (All-weaker (IsWithin jobs) (IsWithin (jobs ++ job ∷ [])) (λ e below n by_it. let less = below n by_it in omega (arith, less, more)) all.told all.within)
+          (All-weaker (λ e. e.job ≡ Some number) (IsWithin (jobs ++ job ∷ [])) (λ e mine n by_it. let same = same_Some number n (sym mine ∙ by_it) in omega (arith, same, is, more)) ran.told own);
+      in_turn = in_turn-append (one_lane lane) all.told ran.told all.in_turn (own_in_turn (one_lane lane) number ran.told own)
+          (λ d at. All-weaker (λ e. e.job ≡ Some number) (IsBefore (one_lane lane) d)
+          (λ e mine i j di ej same. let less = All-contains (IsWithin jobs) all.told d all.within at i di in let last = same_Some number j (sym mine ∙ ej) in omega (arith, less, last, is)) ran.told own);
       suit = All-append Suits all.told ran.told all.suit ran.calls.suit;
+      made_of = subst (λ xs. made first xs later) (sym (map-append (λ (e : Told). record { call = e.call; reply = e.reply }) all.told ran.told)) (joins first now later (exchanges all.told) (exchanges ran.told) all.made_of over.made_of);
       entries =
-          ran.calls.entries ∙ ap (λ es. es ++ entries_of (only_lane lane) ran.told) all.entries ∙ append_assoc before (entries_of (only_lane lane) all.told) (entries_of (only_lane lane) ran.told)
-          ∙ ap (λ es. before ++ es) (sym (filter_map-append (entry_of (only_lane lane)) all.told ran.told));
-      driven = driven-push forms 0 jobs results all.told ran.told number job result all.driven (is ∙ sym (zero-add (length jobs))) ran.calls.own ran.driven;
-      over = over-append held now later all.told ran.told all.over ran.calls.over;
+          ran.calls.entries ∙ ap (λ es. journal ++ es) (own_entries number lane ran.told own)
+          ∙ ap (λ es. es ++ entries_of (lane_by (one_lane lane)) ran.told) all.entries ∙ append_assoc before (entries_of (lane_by (one_lane lane)) all.told) (entries_of (lane_by (one_lane lane)) ran.told)
+          ∙ ap (λ es. before ++ es) (sym (filter_map-append (entry_of (lane_by (one_lane lane))) all.told ran.told));
+      driven = driven-push forms jobs results all.told ran.told number job result all.driven all.within is own ran.driven;
+      over = over-append (held first) (held now) (held later) all.told ran.told all.over ran.calls.over;
     }
+
+-- no job was done yet
+pub ran-no_job : {F S : Type 0} (forms : Forms F) (held : S → Option Held) (made : S → List Exchange → S → Type 0) (lane : ℕ) (store : S) (journal : List Entry)
+    → made store [] store → AllRan forms held made lane [] store store journal journal []
+ran-no_job forms held made lane store journal none = record {
+  told = [];
+  owned = All-nil IsOwned;
+  within = All-nil (IsWithin []);
+  in_turn = tt;
+  suit = All-nil Suits;
+  made_of = none;
+  entries = sym (append-nil journal);
+  driven = record { one_each = refl; driven = λ k j r j_at r_at. absurd (none-some j j_at) };
+  over = nothing (held store);
+}
+  where
+    nothing : (now : Option Held) → IfSome now (λ m. Leaves m now [])
+    nothing None = tt
+    nothing (Some m) = record { replied = tt; held = refl }
 
 -- the jobs of the lines up to the next one
 pub jobs_of-more : (seed : ℕ) (lines : List Line) (i : ℕ) (d : Line) → i < length lines → jobs_of seed (take (i + 1) lines) ≡ jobs_of seed (take i lines) ++ job_from (id_of seed 0 (i + 1)) (get_or lines i d) ∷ []

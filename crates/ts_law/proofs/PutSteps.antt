@@ -1,5 +1,5 @@
 -- The puts of schemas, of deletes and of the objects of writes, and what an evolve, a write and a delete come to once they have the frame.
-use Rattle.std.proofs.Common.{List, None, Ok, Option, Some, [], ap, arith, cond, false, inl, inr, length, nat_le, refl, subst, suc, sym, true, zero, ℕ, ◌++◌, ◌<◌, ◌∙◌, ◌∷◌, ◌≡◌, ◌≤◌}
+use Rattle.std.proofs.Common.{List, None, Ok, Option, Some, [], ap, arith, cond, false, inl, inr, length, nat_le, refl, subst, suc, sym, true, zero, ℕ, ℤ, ◌++◌, ◌<◌, ◌∙◌, ◌∷◌, ◌≡◌, ◌≤◌}
 use Rattle.std.proofs.Math.Nat.{eq-or-lt_of_le}
 use Rattle.std.proofs.lemmas.Bool.{le-ltb, lt-ltb}
 use Rattle.std.proofs.lemmas.List.{append-nil}
@@ -27,7 +27,7 @@ use Rattle.ts_schema.specs.declared.frames.Frame.{Frame}
 use Rattle.ts_schema.specs.declared.schemas.Schema.{Schema}
 use Rattle.ts_store.specs.declared.call.Reply.{Reply}
 use Rattle.ts_model.specs.Commands.{create_refusal, fits, frame_made, laid, piece_of}
-use Rattle.ts_model.specs.Deeds.{EraseFollows, History, IsHistory, IsKey, SchemaFollows, WriteFollows, erases, frame_in, schema_there, schema_with, writes}
+use Rattle.ts_model.specs.Deeds.{EraseFollows, History, IsHistory, IsKey, SchemaFollows, WriteFollows, erases, frame_in, has_cell, schema_there, schema_with, writes}
 use Rattle.ts_law.specs.Ends.{HasDeclared, IsDeleted, IsTrueEnd, IsTrueRefusal, IsUndone, IsWritten, kind_of}
 use Rattle.ts_model.specs.Forms.{Forms, FormsLaws, Spelled, Tracking}
 use Rattle.ts_model.specs.Jobs.{AreApart, IsFit, erasure_as, frag_of_job, key_of, looked_at, looks_at, schema_of_job, written_as}
@@ -35,6 +35,9 @@ use Rattle.ts_law.specs.Kept.{Claims, Clean, Putting, Works}
 use Rattle.ts_model.specs.Pieces.{HoldsWrite, IsOrdinary}
 use Rattle.ts_model.specs.Queries.{erasing_in}
 use Rattle.ts_law.specs.Stands.{Spells, Stands}
+use Rattle.ts_law.specs.Origins.{box_in}
+use Rattle.ts_domain.specs.Boxes.{is_in_box}
+use Rattle.ts_law.proofs.Grows.{piece_box}
 use Rattle.ts_model.specs.States.{works as comes_to, delete_object_of, goes, list_schemas, part_objects, put_of, puts_cells, puts_delete, puts_schema, putting, refuse, schema_name, schema_object_of, unless_refused, write_objects}
 use Rattle.ts_law.specs.Steps.{Advances, Comes, Keeps, Leads}
 use Rattle.ts_model.specs.Told.{IsShortCall, Told, after_told, cells_of, condition_of, declared_by, deed_of, deed_told, erased_by, erased_in, history_told, schema_used, schemas_found, trace_of, written_by, written_in}
@@ -423,6 +426,10 @@ module _ {F : Type 0} (forms : Forms F) (spelled : Spelled) (tracks : Tracking F
     own_holds fit is = written_held frame there.attrs (key_of job) there.key w cells (own_frame_is is) (own_schema_is is).0 (key_fits fit) (own_schema_is is).1
         (subst (λ x. IsTrue (fits x)) writes_them fit.command) lays
 
+    -- into a dense array it has the cells between its corners
+    own_box : IsFit job → IsHistory h → own_piece.head.dense ≡ true → (c : List ℤ) → has_cell c own_write ≡ is_in_box (box_in own_piece.head) c
+    own_box fit is = piece_box frame own_write (laid_follows frame there.attrs w cells (subst (λ x. IsTrue (fits x)) writes_them fit.command) (own_frame_is is) lays).boxed
+
     -- a write looks at its own stamp
     looks : looked_at job ≡ job.at
     looks = ap (looks_at job) writes_them
@@ -479,7 +486,7 @@ module _ {F : Type 0} (forms : Forms F) (spelled : Spelled) (tracks : Tracking F
         leads : LeadsHere
         leads = leads_at spelled past jobs seen e m job.id (map.insert m (wrt_of frag) []) (h ++ Wrote own_write ∷ []) same_held same_history
             (stands_commit spelled m h own_write frame there own_piece free (own_follows c.fit (c.stands).history (c.claims).undone) framed works.declared
-            (own_spells c) (own_holds c.fit (c.stands).history) c.stands)
+            (own_ordinary c.fit (c.stands).history).dense (own_spells c) (own_holds c.fit (c.stands).history) (own_box c.fit (c.stands).history) c.stands)
             (keeps_put m h (wrt_of frag) [] job.id (Wrote own_write ∷ []) free (inl refl) (λ k own. ap (λ l. l.id) (sym (Contains-only (key_of job) k own))))
 
         no_more : nat_lt (suc (length own_parts)) (length own_objects) ≡ false

@@ -16,6 +16,7 @@ use Rattle.ts_base.specs.declared.names.Name.TheVariants as name
 use Rattle.ts_base.specs.declared.names.Place.TheVariants as place
 use Rattle.ts_base.specs.declared.names.Prefix.{Prefix}
 use Rattle.ts_base.specs.declared.heads.Head.{Head}
+use Rattle.ts_base.specs.declared.heads.Piece.{Piece}
 use Rattle.ts_base.specs.Keys.{frag_of, key_eq, key_cmp}
 use Rattle.ts_base.specs.Held.{Held}
 use Rattle.ts_base.specs.Exact.{key_total}
@@ -43,7 +44,8 @@ use Rattle.ts_model.specs.declared.states.Reading.{Reading}
 use Rattle.ts_model.specs.Deeds.{History, IsHistory, frame_in, schema_with}
 use Rattle.ts_model.specs.Forms.{Forms, FormsLaws, Spelled, Tracking}
 use Rattle.ts_model.specs.Jobs.{looked_at, IsFit, AreApart}
-use Rattle.ts_law.specs.Stands.{HoldsOne, Stands}
+use Rattle.ts_commit.specs.Selections.{is_usable}
+use Rattle.ts_law.specs.Stands.{HoldsIn, Stands}
 use Rattle.ts_model.specs.States.{list_schemas, get_all, get_frame, get_head, get_schema, on_bytes, on_read, keys_named, fetching, erasing, gathering, opening, reading_of, asks_for, works, after_head, after_schema, with_item}
 use Rattle.ts_model.specs.Told.{Told, after_told, IsReplied, history_told}
 use Rattle.ts_law.specs.Ends.{IsTrueRefusal, IsUndone, ListedAt}
@@ -74,15 +76,20 @@ named_from_found k (o ∷ os) found = cond_both (key_eq k o.head.schema) (Some o
     (λ tie _. (o, Contains-here o os, sym (key_same k o.head.schema tie)))
     (λ _ later. let rest = named_from_found k os later in (rest.0, Contains-there o os rest.0 rest.1, rest.2)) found
 
--- a key that heads name is that of one of them
-named_by : (r : Reading) (opened : List Opened) (k : Key) → Contains (keys_named r opened) k → (o : Opened) × Contains opened o × (o.head.schema ≡ k)
-named_by r opened k at =
+-- a key that heads name is that of one of them, and not that of the schema there
+pub named_apart : (r : Reading) (opened : List Opened) (k : Key) → Contains (keys_named r opened) k → (o : Opened) × Contains opened o × (o.head.schema ≡ k) × (not (key_eq o.head.schema r.there.key) ≡ true)
+named_apart r opened k at =
     let others = filter (λ o. not (key_eq o.head.schema r.there.key)) opened in
     let pairs = list_map (λ o. (o.head.schema, o.head.schema)) others in
     let held : map.contains_key (map.from_entries {R = key_cmp} pairs) k ≡ true =
     map.contains_key-keys (map.from_entries {R = key_cmp} pairs) k ∙ list_any-from_Contains (eq_by_cmp_equiv key_total) k (keys_named r opened) at in
     let named = named_from_found k others (ap is_some (sym (map.get-from_entries key_total pairs k)) ∙ held) in
-    (named.0, (filter-Contains (λ o. not (key_eq o.head.schema r.there.key)) opened named.0 named.1).0, named.2)
+    let among = filter-Contains (λ o. not (key_eq o.head.schema r.there.key)) opened named.0 named.1 in
+    (named.0, among.0, named.2, among.1)
+
+-- a key that heads name is that of one of them
+named_by : (r : Reading) (opened : List Opened) (k : Key) → Contains (keys_named r opened) k → (o : Opened) × Contains opened o × (o.head.schema ≡ k)
+named_by r opened k at = let named = named_apart r opened k at in (named.0, named.1, named.2)
 
 -- ---- what a read knows leads on
 
@@ -324,32 +331,39 @@ module _ {F : Type 0} (forms : Forms F) (spelled : Spelled) (tracks : Tracking F
     abbrev g : History
     g = history_told jobs past (((opens.reads.at).listed).commits).before
 
-    -- the fragment holds one write of it
-    abbrev one : HoldsOne spelled g m' f
-    one = ((opens.reads.at).listed).whole f (Contains-slice_get r.near (length opened) f next)
+    -- the fragment's piece, which the read can use
+    abbrev own : (p : Piece) × HoldsIn spelled g m' f p × (is_usable r.from r.to p.head ≡ true)
+    own = ((opens.reads.at).listed).whole f (Contains-slice_get r.near (length opened) f next)
+
+    abbrev piece : Piece
+    piece = own.0
+
+    -- it holds writes of that history
+    abbrev holds : HoldsIn spelled g m' f piece
+    holds = own.1
 
     -- the part that has the head is there, and is read as the head
-    abbrev found : (object : List ℕ) × ((one.spells).look (forms.head_part one.frame) ≡ Some object) × (forms.head one.frame ((one.piece).head).frag object ≡ Ok (one.piece).head)
-    found = laws.head one.frame one.schema one.piece (one.spells).look (one.spells).spells
+    abbrev found : (object : List ℕ) × ((holds.spells).look (forms.head_part holds.frame) ≡ Some object) × (forms.head holds.frame piece.head.frag object ≡ Ok piece.head)
+    found = laws.head holds.frame holds.schema piece (holds.spells).look (holds.spells).spells
 
     -- the fragment, open
     abbrev more : Opened
-    more = record { frag = f; head = (one.piece).head; object = found.0 }
+    more = record { frag = f; head = piece.head; object = found.0 }
 
     -- an array has one frame
-    same_frame : one.frame ≡ r.frame
-    same_frame = same_Some one.frame r.frame
-        (sym (frame_at forms spelled tracks past jobs (seen ++ e ∷ []) m' number job (((opens.reads.at).listed).commits) one.frame one.framed)
+    same_frame : holds.frame ≡ r.frame
+    same_frame = same_Some holds.frame r.frame
+        (sym (frame_at forms spelled tracks past jobs (seen ++ e ∷ []) m' number job (((opens.reads.at).listed).commits) holds.frame holds.framed)
         ∙ frame_at forms spelled tracks past jobs (seen ++ e ∷ []) m' number job (((opens.reads.at).works).schemas) r.frame opens.reads.framed)
 
     -- the part that has the head is there in the frame that the read knows
-    at_part : (one.spells).look (forms.head_part r.frame) ≡ Some found.0
-    at_part = subst (λ frame. (one.spells).look (forms.head_part frame) ≡ Some found.0) same_frame found.1
+    at_part : (holds.spells).look (forms.head_part r.frame) ≡ Some found.0
+    at_part = subst (λ frame. (holds.spells).look (forms.head_part frame) ≡ Some found.0) same_frame found.1
 
     -- and its object is read as the head
-    read : forms.head r.frame f found.0 ≡ Ok (one.piece).head
-    read = subst (λ frame. forms.head frame f found.0 ≡ Ok (one.piece).head) same_frame
-        (subst (λ frag. forms.head one.frame frag found.0 ≡ Ok (one.piece).head) one.spells.named found.2)
+    read : forms.head r.frame f found.0 ≡ Ok piece.head
+    read = subst (λ frame. forms.head frame f found.0 ≡ Ok piece.head) same_frame
+        (subst (λ frag. forms.head holds.frame frag found.0 ≡ Ok piece.head) (holds.spells).named found.2)
 
     -- one fragment more is open
     opened_more : Opening forms spelled past jobs (seen ++ e ∷ []) m' number job r (opened ++ more ∷ [])
@@ -359,7 +373,8 @@ module _ {F : Type 0} (forms : Forms F) (spelled : Spelled) (tracks : Tracking F
         frags = push_next (λ o. o.frag) opened more r.near opens.are_open.frags next;
         each = λ o at. elim (Contains-push_cases opened more o at) [
           | inl before ↦ opens.are_open.each o before
-          | inr last ↦ subst (IsOpen forms spelled g m' r.frame) last (record { one = one; same_frame = same_frame; head = refl; object = at_part })
+          | inr last ↦
+              subst (IsOpen forms spelled g m' r.frame r.from r.to) last (record { piece = piece; holds = holds; same_frame = same_frame; usable = own.2; head = refl; object = at_part })
         ];
       };
     }
@@ -369,9 +384,9 @@ module _ {F : Type 0} (forms : Forms F) (spelled : Spelled) (tracks : Tracking F
     head_lead is replied same_held clean history =
         let on : Head → State F = λ head. opening forms r (opened ++ record { frag = f; head = head; object = found.0 } ∷ []) in
         whole_lead (name.Part f (forms.head_part r.frame)) found.0 (after_head forms r opened f) is replied
-        (ap (λ n. map.get n (name.Part f (forms.head_part r.frame))) (sym same_held) ∙ one.spells.held (forms.head_part r.frame) found.0 at_part)
-        (one.spells.short (forms.head_part r.frame) found.0 at_part) clean.undone
-        (read_lead (name.Part f (forms.head_part r.frame)) on (one.piece).head (forms.head r.frame f found.0) read
+        (ap (λ n. map.get n (name.Part f (forms.head_part r.frame))) (sym same_held) ∙ (holds.spells).held (forms.head_part r.frame) found.0 at_part)
+        ((holds.spells).short (forms.head_part r.frame) found.0 at_part) clean.undone
+        (read_lead (name.Part f (forms.head_part r.frame)) on piece.head (forms.head r.frame f found.0) read
         (opening_claims forms spelled tracks past jobs (seen ++ e ∷ []) m' number job laws clean history r (opened ++ more ∷ []) none opened_more))
 
   -- the get of a head leads a read to the next one, or on
@@ -395,10 +410,10 @@ module _ {F : Type 0} (forms : Forms F) (spelled : Spelled) (tracks : Tracking F
   further_declared r opened schemas gathers k at =
       let by = named_by r opened k at in
       let is = gathers.opens.are_open.each by.0 by.1 in
-      let keyed : ((is.one).write).schema ≡ k = sym is.one.holds.schema ∙ ap (λ head. head.schema) (sym is.head) ∙ by.2 in (
-        (is.one).schema,
-        schema_at_listing forms spelled tracks past jobs seen m number job ((((gathers.opens.reads).at).listed).commits) k (is.one).schema
-            (subst (λ l. schema_with (history_told jobs past ((((gathers.opens.reads).at).listed).commits).before) l ≡ Some (is.one).schema) keyed is.one.declared),
+      let keyed : (is.piece).head.schema ≡ k = ap (λ head. head.schema) (sym is.head) ∙ by.2 in (
+        (is.holds).schema,
+        schema_at_listing forms spelled tracks past jobs seen m number job ((((gathers.opens.reads).at).listed).commits) k (is.holds).schema
+            (subst (λ l. schema_with (history_told jobs past ((((gathers.opens.reads).at).listed).commits).before) l ≡ Some (is.holds).schema) keyed (is.holds).declared),
       )
 
   -- the get of a further schema leads a read to the next one, or to the first fetch

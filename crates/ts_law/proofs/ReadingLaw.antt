@@ -2,122 +2,73 @@
 use Rattle.std.proofs.Common.{◌≡◌, ℕ, ℤ, Bool, true, false, cond, not, ◌&&◌, List, [], ◌∷◌, length, Option, Some, None, Ok, int_cmp, refl, sym, ◌∙◌, ap, subst}
 use Rattle.std.specs.Prelude.{Contains, filter, option_map, option_and_then, map as list_map}
 use Rattle.std.specs.List.{list_any}
-use Rattle.std.specs.Option.{is_some, option_or}
+use Rattle.std.specs.Option.{option_or}
 use Rattle.std.specs.Cmp.{both_ways}
 use Rattle.std.specs.Cmp.Lexicographic.{slice_cmp}
 use Rattle.std.specs.FinMap as map
-use Rattle.std.proofs.lemmas.Bool.{true≢false, and_parts, and_from}
+use Rattle.std.proofs.lemmas.Bool.{and_parts, and_from}
 use Rattle.std.proofs.lemmas.List.{length-map}
 use Rattle.std.proofs.lemmas.List.Folds.{Any-from_list_any, list_any-from_Any}
 use Rattle.std.proofs.lemmas.Option.{same_Some, none-some}
-use Rattle.ts_base.specs.declared.keys.FragKey.{FragKey}
 use Rattle.ts_base.specs.declared.values.Val.{Val}
+use Rattle.ts_base.specs.declared.heads.Head.{Head}
 use Rattle.ts_base.specs.declared.heads.Version.{Version}
-use Rattle.ts_base.specs.Keys.{key_eq, key_lt, frag_of, is_within}
-use Rattle.ts_base.specs.Coords.{coords_eq}
+use Rattle.ts_base.specs.Keys.{is_within, greatest}
 use Rattle.ts_cond.specs.declared.query.Query.{Query}
 use Rattle.ts_domain.specs.declared.boxes.SubBox.{SubBox}
 use Rattle.ts_domain.specs.Boxes.{is_in_box}
 use Rattle.ts_schema.specs.declared.schemas.Schema.{Schema}
 use Rattle.ts_schema.specs.Attrs.{shown_row}
+use Rattle.ts_commit.specs.Selections.{has_origin}
 use Rattle.ts_model.specs.declared.deeds.Erasure.{Erasure}
 use Rattle.ts_model.specs.declared.deeds.Written.{Written}
 use Rattle.ts_model.specs.declared.states.Reading.{Reading}
-use Rattle.ts_model.specs.Deeds.{History, IsHistory, writes, erases, row_at, has_cell, last_write, attrs_with, frame_in, schema_there}
+use Rattle.ts_model.specs.Deeds.{History, writes, erases, row_at, has_cell, last_write, attrs_with, frame_in, schema_there}
 use Rattle.ts_model.specs.Answers.{Cells, erases_cell, is_erased, shown_in, shown_at, shown_inside, fills_of, unwritten, IsAnswer}
-use Rattle.ts_model.specs.Pieces.{version_at, version_of, newest_of}
+use Rattle.ts_model.specs.Pieces.{version_of, newest_of}
 use Rattle.ts_model.specs.Queries.{low_of, high_of, ready_in, selected}
 use Rattle.ts_model.specs.States.{known_attrs, is_erased_by, cell_shown, cells_left, version_left, row_or_fill, cells_filled, cells_shown, answer_of}
-use Rattle.ts_law.specs.Kept.{AreGot}
-use Rattle.ts_model.proofs.ListLemmas.{Contains-nil, Contains-filter, filter-Contains, find-Some, find-filter}
-use Rattle.ts_model.proofs.KeyLemmas.{greatest-None, greatest-Some, same_from_both}
-use Rattle.ts_model.proofs.HistoryLaws.{one_write}
+use Rattle.ts_law.specs.Origins.{last_version, newest_at, wrote_in}
+use Rattle.ts_model.proofs.ListLemmas.{Contains-here, Contains-there, filter-Contains}
+use Rattle.ts_model.proofs.KeyLemmas.{greatest-Some}
 use Rattle.ts_model.proofs.Referred.{ready_box}
 use Rattle.ts_model.proofs.Filled.{box_map, entries_box, get_box, or_fill, left_alone}
 use Rattle.ts_law.proofs.MapValues.{left_of, left_values, entries_left, get_left}
-use Rattle.ts_model.proofs.Newest.{version_key, versions_at, newest_at, get_newest_of, OwnCoords, own_newest, coords_exact}
-
--- ---- writes and the versions that they make
-
--- the writes in [from, to] that have a cell at the coordinate
-abbrev writes_at : History → ℕ → ℕ → List ℤ → List Written
-writes_at h from to c = filter (λ w. is_within from to w.key && has_cell c w) (writes h)
-
--- the version that a row makes
-abbrev version_with : Written → List ℤ → List Val → Version
-version_with w c row = record { key = w.key; schema = w.schema; coords = c; row = row }
-
--- a write has a cell where it makes a version
-has_cell-version : (w : Written) (c : List ℤ) (v : Version) → version_of w c ≡ Some v → has_cell c w ≡ true
-has_cell-version w c v = elim (row_at c w.cells) as (λ o. option_map (version_with w c) o ≡ Some v → is_some o ≡ true) [
-  | None ↦ λ e. absurd (none-some v e)
-  | Some row ↦ λ _. refl
-]
-
--- a write makes a version where it has a cell
-version-has_cell : (w : Written) (c : List ℤ) → has_cell c w ≡ true → (v : Version) × (version_of w c ≡ Some v)
-version-has_cell w c = elim (row_at c w.cells) as (λ o. is_some o ≡ true → (v : Version) × (option_map (version_with w c) o ≡ Some v)) [
-  | None ↦ λ e. absurd (true≢false (sym e))
-  | Some row ↦ λ _. (version_with w c row, refl)
-]
-
--- the version that a write makes has its key
-key_of_version : (w : Written) (c : List ℤ) (v : Version) → version_of w c ≡ Some v → v.key ≡ w.key
-key_of_version w c v = elim (row_at c w.cells) as (λ o. option_map (version_with w c) o ≡ Some v → v.key ≡ w.key) [
-  | None ↦ λ e. absurd (none-some v e)
-  | Some row ↦ λ e. ap (λ u. u.key) (sym (same_Some _ v e))
-]
+use Rattle.ts_model.proofs.Newest.{get_newest_of, OwnCoords, own_newest, coords_exact}
+use Rattle.ts_law.proofs.NewestBy.{version_with}
 
 -- a test that a member passes is passed by one
 any_from_member : {X : Type 0} (p : X → Bool) (xs : List X) (x : X) → Contains xs x → p x ≡ true → list_any p xs ≡ true
 any_from_member p xs x at passes = list_any-from_Any p xs (at.0, x, at.1, at.2, passes)
 
--- the newest version of a coordinate is the one of its key
-newest_is_at : (got : List Version) (c : List ℤ) (v : Version) → newest_at got c ≡ Some v → version_at got v.key c ≡ Some v
-newest_is_at got c v newest =
-    sym (find-filter (λ u. key_eq u.key v.key) (λ u. coords_eq u.coords c) got) ∙ (greatest-Some version_key (versions_at got c) v newest).first
+-- ---- the last write of all
+
+-- one item more, of two lists of which the same is kept
+keep_step : {X : Type 0} (p q : X → Bool) (x : X) (xs ys : List X) (s t v : Bool) → p x ≡ s && t → q x ≡ t → (s ≡ true → v ≡ true) → filter p xs ≡ filter q ys
+    → filter p (x ∷ xs) ≡ filter q (cond (s && v) (x ∷ ys) ys)
+keep_step p q x xs ys true t v first second all rest =
+    ap (λ b. cond b (x ∷ filter p xs) (filter p xs)) first ∙ ap (λ l. cond t (x ∷ l) l) rest ∙ ap (λ b. cond b (x ∷ filter q ys) (filter q ys)) (sym second) ∙ sym (ap (λ b. filter q (cond b (x ∷ ys) ys)) (all refl))
+keep_step p q x xs ys false t v first second all rest = ap (λ b. cond b (x ∷ filter p xs) (filter p xs)) first ∙ rest
+
+module _ (h : History) (from to : ℕ) (heads : List Head) (covered : (w : Written) → Contains (writes h) w → is_within from to w.key ≡ true → list_any (has_origin w.key) heads ≡ true) (c : List ℤ) where
+  -- where each write in the interval went into one of the fragments, no write is left out
+  seen_there : (ws : List Written) → ((w : Written) → Contains ws w → Contains (writes h) w)
+      → filter (λ w. is_within from to w.key && has_cell c w) ws ≡ filter (has_cell c) (filter (λ w. is_within from to w.key && list_any (has_origin w.key) heads) ws)
+  seen_there [] all = refl
+  seen_there (w ∷ ws) all =
+      keep_step (λ x. is_within from to x.key && has_cell c x) (has_cell c) w ws (filter (λ x. is_within from to x.key && list_any (has_origin x.key) heads) ws)
+      (is_within from to w.key) (has_cell c w) (list_any (has_origin w.key) heads) refl refl (covered w (all w (Contains-here w ws))) (seen_there ws (λ x at. all x (Contains-there w ws x at)))
+
+  -- so the last of them is the last write
+  pub last_is_all : last_version (wrote_in h from to heads) c ≡ option_and_then (λ w. version_of w c) (last_write h from to c)
+  last_is_all = ap (λ ws. option_and_then (λ w. version_of w c) (greatest (λ w. w.key) ws)) (sym (seen_there (writes h) (λ w at. at)))
 
 -- ---- the law
 
-module _ (h : History) (is : IsHistory h) (from to : ℕ) (sub : SubBox) (fetched : List FragKey) (got : List Version) (are : AreGot h from to sub fetched got)
-    (covered : (w : Written) → Contains (writes h) w → is_within from to w.key ≡ true → Contains fetched (frag_of w.key)) where
-  -- a version that was got is that of a write in the interval, and lies in the box
-  of_write : (c : List ℤ) (v : Version) → version_at got v.key c ≡ Some v → (is_in_box sub c ≡ true) × ((w : Written) × Contains (writes_at h from to c) w × (version_of w c ≡ Some v))
-  of_write c v found =
-      let others = are.of_others v.key c v found in
-      let of = others.1 in
-      let within : is_within from to (of.0).key ≡ true = rw of.2 of.4 in
-      let version : version_of of.0 c ≡ Some v = sym (are.of_each of.0 of.1 (rw of.2 of.3) within c others.0) ∙ ap (λ k. version_at got k c) of.2 ∙ found in
-      (others.0, (of.0, Contains-filter _ (writes h) of.0 of.1 (and_from (is_within from to (of.0).key) (has_cell c of.0) within (has_cell-version of.0 c v version)), version))
-
-  -- outside the box there is no version
-  none_outside : (c : List ℤ) (o : Option Version) → newest_at got c ≡ o → is_in_box sub c ≡ false → o ≡ None
-  none_outside c None newest outside = refl
-  none_outside c (Some v) newest outside = absurd (true≢false (sym (of_write c v (newest_is_at got c v newest)).0 ∙ outside))
-
-  module _ (c : List ℤ) (inside : is_in_box sub c ≡ true) where
-    -- each of these writes made a version that was got
-    was_got : (w : Written) → Contains (writes_at h from to c) w → (v : Version) × Contains (versions_at got c) v × (version_of w c ≡ Some v)
-    was_got w at =
-        let parts = filter-Contains _ (writes h) w at in
-        let tests = and_parts (is_within from to w.key) (has_cell c w) parts.1 in
-        let made = version-has_cell w c tests.1 in
-        let found = find-Some _ got made.0 (are.of_each w parts.0 (covered w parts.0 tests.0) tests.0 c inside ∙ made.1) in
-        (made.0, Contains-filter (λ v. coords_eq v.coords c) got made.0 found.0 (and_parts (key_eq (made.0).key w.key) (coords_eq (made.0).coords c) found.1).1, made.1)
-
-    -- the last write of a coordinate made the newest version there
-    last_is_newest : (w : Written) (v : Version) → last_write h from to c ≡ Some w → newest_at got c ≡ Some v → version_of w c ≡ Some v
-    last_is_newest w v last newest =
-        let top = greatest-Some (λ u. u.key) (writes_at h from to c) w last in
-        let highest = greatest-Some version_key (versions_at got c) v newest in
-        let own = was_got w top.member in
-        let of = (of_write c v (newest_is_at got c v newest)).1 in
-        let not_below : key_lt v.key w.key ≡ false = subst (λ k. key_lt v.key k ≡ false) (key_of_version w c own.0 own.2) (highest.top own.0 own.1) in
-        let not_above : key_lt w.key v.key ≡ false = subst (λ k. key_lt w.key k ≡ false) (sym (key_of_version of.0 c v of.2)) (top.top of.0 of.1) in
-        let one_key = same_from_both w.key v.key not_above not_below ∙ key_of_version of.0 c v of.2 in
-        let one = one_write h w of.0 is (filter-Contains _ (writes h) w top.member).0 (filter-Contains _ (writes h) of.0 of.1).0 one_key in
-        rw one of.2
-
+-- in the box the newest version of a coordinate is that of its last write, and outside there is none
+module _ (h : History) (from to : ℕ) (sub : SubBox) (got : List Version)
+    (newest_is : (c : List ℤ) → is_in_box sub c ≡ true → newest_at got c ≡ option_and_then (λ w. version_of w c) (last_write h from to c))
+    (none_outside : (c : List ℤ) → is_in_box sub c ≡ false → newest_at got c ≡ None) where
   module _ (r : Reading) (schemas : List Schema) (box : (r.ready).sub ≡ sub)
       (known : (w : Written) → Contains (writes h) w → is_within from to w.key ≡ true → known_attrs r schemas w.schema ≡ attrs_with h w.schema)
       (erased_in : (x : Erasure) → Contains r.erased x → Contains (erases h) x × (is_within from to x.key ≡ true))
@@ -167,23 +118,32 @@ module _ (h : History) (is : IsHistory h) (from to : ℕ) (sub : SubBox) (fetche
         ]
 
     -- what is newest at a coordinate of the box shows what the history shows there
-    shows : (c : List ℤ) → is_in_box sub c ≡ true → (w : Option Written) (v : Option Version) → last_write h from to c ≡ w → newest_at got c ≡ v
-        → option_and_then (version_left r schemas) v ≡ option_and_then (shown_in h r.there from to c) w
-    shows c inside None None last newest = refl
-    shows c inside None (Some v) last newest =
-        let of = (of_write c v (newest_is_at got c v newest)).1 in
-        absurd (Contains-nil of.0 (subst (λ ws. Contains ws of.0) (greatest-None (λ w. w.key) (writes_at h from to c) last) of.1))
-    shows c inside (Some w) None last newest =
-        let own = was_got c inside w (greatest-Some (λ u. u.key) (writes_at h from to c) w last).member in
-        absurd (Contains-nil own.0 (subst (λ vs. Contains vs own.0) (greatest-None version_key (versions_at got c) newest) own.1))
-    shows c inside (Some w) (Some v) last newest =
-        let parts = filter-Contains _ (writes h) w (greatest-Some (λ u. u.key) (writes_at h from to c) w last).member in
-        shows_cell c w v (known w parts.0 (and_parts (is_within from to w.key) (has_cell c w) parts.1).0) (last_is_newest c inside w v last newest)
+    shows : (c : List ℤ) → is_in_box sub c ≡ true → option_and_then (version_left r schemas) (newest_at got c) ≡ shown_at h r.there from to c
+    shows c inside = ap (option_and_then (version_left r schemas)) (newest_is c inside) ∙ by_write (last_write h from to c) refl
+      where
+        nothing_there : (w : Written) → version_of w c ≡ None → None ≡ shown_in h r.there from to c w
+        nothing_there w none = by_row (row_at c w.cells) none
+          where
+            by_row : (o : Option (List Val)) → option_map (version_with w c) o ≡ None
+                → None ≡ option_map (λ row. shown_row (attrs_with h w.schema) row r.there.attrs) (option_and_then (λ row. cond (is_erased h from to c w row) None (Some row)) o)
+            by_row None e = refl
+            by_row (Some row) e = absurd (none-some (version_with w c row) (sym e))
+
+        by_version : (w : Written) → Contains (writes h) w → is_within from to w.key ≡ true → (o : Option Version) → version_of w c ≡ o → option_and_then (version_left r schemas) o ≡ shown_in h r.there from to c w
+        by_version w at within None none = nothing_there w none
+        by_version w at within (Some v) made = shows_cell c w v (known w at within) made
+
+        by_write : (o : Option Written) → last_write h from to c ≡ o
+            → option_and_then (version_left r schemas) (option_and_then (λ w. version_of w c) o) ≡ option_and_then (shown_in h r.there from to c) o
+        by_write None last = refl
+        by_write (Some w) last =
+            let parts = filter-Contains _ (writes h) w (greatest-Some (λ u. u.key) (filter (λ u. is_within from to u.key && has_cell c u) (writes h)) w last).member in
+            by_version w parts.0 (and_parts (is_within from to w.key) (has_cell c w) parts.1).0 (version_of w c) refl
 
     -- so it is at each coordinate, if nothing is shown outside the box
     shows_inside : (c : List ℤ) (b : Bool) → is_in_box sub c ≡ b → option_and_then (version_left r schemas) (newest_at got c) ≡ cond b (shown_at h r.there from to c) None
-    shows_inside c true inside = shows c inside (last_write h from to c) (newest_at got c) refl refl
-    shows_inside c false outside = ap (option_and_then (version_left r schemas)) (none_outside c (newest_at got c) refl outside)
+    shows_inside c true inside = shows c inside
+    shows_inside c false outside = ap (option_and_then (version_left r schemas)) (none_outside c outside)
 
     -- so it is of what is newest in the map
     left_there : (c : List ℤ) (b : Bool) → is_in_box sub c ≡ b → option_and_then (version_left r schemas) (map.get (newest_of got) c) ≡ cond b (shown_at h r.there from to c) None

@@ -1,9 +1,10 @@
 -- Calls of a job along its row, and what follows where a state leads.
-use Rattle.std.proofs.Common.{length, ◌≡◌, ℕ, suc, zero, Bool, true, false, cond, ◌⊎◌, List, [], ◌∷◌, drop, Option, Some, None, IsTrue, refl, sym, ◌∙◌, ap, inl, inr, subst, slice_get}
+use Rattle.std.proofs.Common.{length, ◌≡◌, ℕ, suc, zero, Bool, true, false, cond, ◌⊎◌, List, [], ◌∷◌, ◌++◌, drop, Option, Some, None, IsTrue, refl, sym, ◌∙◌, ap, inl, inr, subst, slice_get, append_assoc}
 use Rattle.std.specs.Prelude.{Contains, ⊤, option_map, nat_lt, map as list_map}
 use Rattle.std.proofs.lemmas.Bool.{ltb-false}
 use Rattle.std.proofs.Math.ListN.{drop_of_length-le}
 use Rattle.std.proofs.lemmas.Option.{same_Some, none-some}
+use Rattle.std.proofs.lemmas.List.{append-nil}
 use Rattle.std.proofs.lemmas.List.Elements.{All-nil, All-cons}
 use Rattle.ts_base.specs.declared.names.Name.{Name}
 use Rattle.ts_schema.specs.declared.evolution.Evolution.{Evolution}
@@ -22,7 +23,9 @@ use Rattle.ts_model.specs.Forms.{Forms, is_look}
 use Rattle.ts_model.specs.Jobs.{key_of, frag_of_job}
 use Rattle.ts_model.specs.States.{Exchange, asks, goes, ended, refuse, place_of, put_of, putting, on_made}
 use Rattle.ts_model.specs.Driven.{AskedFrom, EndsFrom}
-use Rattle.ts_law.specs.Rows.{Found, SaysThere, IsGot, AreFound, IsNext, lets_on, Along, EndsAt, refused_in, IsCause}
+use Rattle.ts_law.specs.Rows.{Found, SaysThere, IsGot, AreFound, IsLookOf, Looks, IsNext, lets_on, Along, EndsAt, refused_in, IsCause}
+use Rattle.ts_law.proofs.RowGrows.{among_more, got_stays}
+use Rattle.ts_model.proofs.Asked.{next_call}
 use Rattle.ts_model.proofs.ListLemmas.{Contains-here, Contains-there}
 use Rattle.ts_cond.specs.declared.query.Query.{Query}
 use Rattle.ts_base.specs.declared.names.Name.TheVariants as name
@@ -34,18 +37,26 @@ use Rattle.ts_model.specs.declared.answers.Refusal.TheVariants as refusal
 -- ---- rows
 
 -- the last call comes where it may
-at_last : (row rest : List Call) (x : Exchange) → IsNext row x.call rest → EndsAt row (x ∷ []) x
-at_last row rest x next = record { before = []; left = row; rest = rest; parts = refl; along = refl; next = next }
+at_last : (looks : Looks) (seen : List Exchange) (row rest : List Call) (x : Exchange) → IsNext looks seen row x.call rest → EndsAt looks seen row (x ∷ []) x
+at_last looks seen row rest x next = record {
+  front = [];
+  left = row;
+  rest = rest;
+  parts = refl;
+  along = refl;
+  next = subst (λ t. IsNext looks t row x.call rest) (sym (append-nil seen)) next;
+}
 
 -- a call more before calls that went along the rest of a row up to the last one
-at_cons : (row rest : List Call) (x : Exchange) (xs : List Exchange) (last : Exchange) → IsTrue (lets_on x.call x.reply) → IsNext row x.call rest → EndsAt rest xs last → EndsAt row (x ∷ xs) last
-at_cons row rest x xs last on next h = record {
-  before = x ∷ h.before;
+at_cons : (looks : Looks) (seen : List Exchange) (row rest : List Call) (x : Exchange) (xs : List Exchange) (last : Exchange) → IsTrue (lets_on x.call x.reply) → IsNext looks seen row x.call rest → EndsAt looks (seen ++ x ∷ []) rest xs last
+    → EndsAt looks seen row (x ∷ xs) last
+at_cons looks seen row rest x xs last on next h = record {
+  front = x ∷ h.front;
   left = h.left;
   rest = h.rest;
   parts = ap (λ ys. x ∷ ys) h.parts;
   along = (on, (rest, next, h.along));
-  next = h.next;
+  next = subst (λ t. IsNext looks t h.left last.call h.rest) (append_assoc seen (x ∷ []) h.front) h.next;
 }
 
 -- a put of a new object lets a job go on
@@ -115,52 +126,75 @@ drop_past : {X : Type 0} (xs : List X) (i : ℕ) → nat_lt i (length xs) ≡ fa
 drop_past xs i is = drop_of_length-le xs (ltb-false i (length xs) is)
 
 -- an item at a place is one of the list
-item_in : {X : Type 0} (xs : List X) (i : ℕ) (x : X) → slice_get xs i ≡ Some x → Contains xs x
+pub item_in : {X : Type 0} (xs : List X) (i : ℕ) (x : X) → slice_get xs i ≡ Some x → Contains xs x
 item_in [] i x is = absurd (none-some x is)
 item_in (y ∷ xs) zero x is = subst (Contains (y ∷ xs)) (same_Some y x is) (Contains-here y xs)
 item_in (y ∷ xs) (suc i) x is = Contains-there y xs x (item_in xs i x is)
 
 -- ---- ends
 
-module _ {F : Type 0} (forms : Forms F) (job : Job) (whole : List Exchange) where
-  -- how the last calls of a whole trace may end along a row
-  abbrev pub Ends : Found → List Call → List Exchange → Outcome → Type 0
-  Ends found row xs (outcome.Refused r) = (last : Exchange) × EndsAt row xs last × IsCause forms job found whole last r
-  Ends found row xs outcome.OutOfMemory = ((left : List Call) × Along row xs left) ⊎ ((last : Exchange) × EndsAt row xs last)
-  Ends found row xs outcome.Created = Along row xs [] × ((f : FrameIn) × (job.command ≡ Create f))
-  Ends found row xs (outcome.Evolved k) = Along row xs [] × ((change : Evolution) × (job.command ≡ Evolve change)) × (k ≡ key_of job) × IsGot job found whole × (refused_in found job.command ≡ None)
-  Ends found row xs (outcome.Written f) = Along row xs [] × ((w : WriteIn) × (job.command ≡ Write w)) × (f ≡ frag_of_job job) × IsGot job found whole × (refused_in found job.command ≡ None)
-  Ends found row xs (outcome.Deleted f) = Along row xs [] × ((text : List ℕ) × (job.command ≡ Delete text)) × (f ≡ frag_of_job job) × IsGot job found whole × (refused_in found job.command ≡ None)
-  Ends found row xs (outcome.Read answer) = Along row xs [] × ((from : ℕ) × (to : ℕ) × (query : Query) × (job.command ≡ Read from to query)) × IsGot job found whole × (refused_in found job.command ≡ None)
+module _ {F : Type 0} (forms : Forms F) (job : Job) where
+  -- how calls after those before may end along a row, where these are all calls of the job
+  abbrev EndsIn : List Exchange → List Exchange → Found → List Call → List Exchange → Outcome → Type 0
+  EndsIn whole seen found row xs (outcome.Refused r) = (last : Exchange) × EndsAt (IsLookOf forms job found) seen row xs last × IsCause forms job found whole last r
+  EndsIn whole seen found row xs outcome.OutOfMemory = ((left : List Call) × Along (IsLookOf forms job found) seen row xs left) ⊎ ((last : Exchange) × EndsAt (IsLookOf forms job found) seen row xs last)
+  EndsIn whole seen found row xs outcome.Created = Along (IsLookOf forms job found) seen row xs [] × ((f : FrameIn) × (job.command ≡ Create f))
+  EndsIn whole seen found row xs (outcome.Evolved k) =
+      Along (IsLookOf forms job found) seen row xs [] × ((change : Evolution) × (job.command ≡ Evolve change)) × (k ≡ key_of job) × IsGot job found whole × (refused_in found job.command ≡ None)
+  EndsIn whole seen found row xs (outcome.Written f) =
+      Along (IsLookOf forms job found) seen row xs [] × ((w : WriteIn) × (job.command ≡ Write w)) × (f ≡ frag_of_job job) × IsGot job found whole × (refused_in found job.command ≡ None)
+  EndsIn whole seen found row xs (outcome.Deleted f) =
+      Along (IsLookOf forms job found) seen row xs [] × ((text : List ℕ) × (job.command ≡ Delete text)) × (f ≡ frag_of_job job) × IsGot job found whole × (refused_in found job.command ≡ None)
+  EndsIn whole seen found row xs (outcome.Read answer) =
+      Along (IsLookOf forms job found) seen row xs [] × ((from : ℕ) × (to : ℕ) × (query : Query) × (job.command ≡ Read from to query)) × IsGot job found whole × (refused_in found job.command ≡ None)
+
+  -- how the last calls may end along a row
+  abbrev pub Ends : List Exchange → Found → List Call → List Exchange → Outcome → Type 0
+  Ends seen found row xs end = EndsIn (seen ++ xs) seen found row xs end
 
   -- what a job that ends well must be
-  abbrev pub Well : Found → Outcome → Type 0
-  Well found outcome.Created = (f : FrameIn) × (job.command ≡ Create f)
-  Well found (outcome.Evolved k) = ((change : Evolution) × (job.command ≡ Evolve change)) × (k ≡ key_of job) × IsGot job found whole × (refused_in found job.command ≡ None)
-  Well found (outcome.Written f) = ((w : WriteIn) × (job.command ≡ Write w)) × (f ≡ frag_of_job job) × IsGot job found whole × (refused_in found job.command ≡ None)
-  Well found (outcome.Deleted f) = ((text : List ℕ) × (job.command ≡ Delete text)) × (f ≡ frag_of_job job) × IsGot job found whole × (refused_in found job.command ≡ None)
-  Well found (outcome.Read answer) = ((from : ℕ) × (to : ℕ) × (query : Query) × (job.command ≡ Read from to query)) × IsGot job found whole × (refused_in found job.command ≡ None)
-  Well found _ = ⊥
+  abbrev pub Well : List Exchange → Found → Outcome → Type 0
+  Well whole found outcome.Created = (f : FrameIn) × (job.command ≡ Create f)
+  Well whole found (outcome.Evolved k) = ((change : Evolution) × (job.command ≡ Evolve change)) × (k ≡ key_of job) × IsGot job found whole × (refused_in found job.command ≡ None)
+  Well whole found (outcome.Written f) = ((w : WriteIn) × (job.command ≡ Write w)) × (f ≡ frag_of_job job) × IsGot job found whole × (refused_in found job.command ≡ None)
+  Well whole found (outcome.Deleted f) = ((text : List ℕ) × (job.command ≡ Delete text)) × (f ≡ frag_of_job job) × IsGot job found whole × (refused_in found job.command ≡ None)
+  Well whole found (outcome.Read answer) = ((from : ℕ) × (to : ℕ) × (query : Query) × (job.command ≡ Read from to query)) × IsGot job found whole × (refused_in found job.command ≡ None)
+  Well whole found _ = ⊥
+
+  -- a job that can end well can after a call more
+  well_stays : (seen : List Exchange) (found : Found) (x : Exchange) (o : Outcome) → Well seen found o → Well (seen ++ x ∷ []) found o
+  well_stays seen found x outcome.Created is = is
+  well_stays seen found x (outcome.Evolved k) is = (is.0, is.1, got_stays job found seen (seen ++ x ∷ []) (among_more seen x) is.2, is.3)
+  well_stays seen found x (outcome.Written f) is = (is.0, is.1, got_stays job found seen (seen ++ x ∷ []) (among_more seen x) is.2, is.3)
+  well_stays seen found x (outcome.Deleted f) is = (is.0, is.1, got_stays job found seen (seen ++ x ∷ []) (among_more seen x) is.2, is.3)
+  well_stays seen found x (outcome.Read answer) is = (is.0, got_stays job found seen (seen ++ x ∷ []) (among_more seen x) is.1, is.2)
+  well_stays seen found x _ is = absurd is
 
   -- a job that ends well at the end of its row ends along it
-  well_ended : (found : Found) (row : List Call) (xs : List Exchange) (o : Outcome) → Well found o → Along row xs [] → Ends found row xs o
-  well_ended found row xs outcome.Created is along = (along, is)
-  well_ended found row xs (outcome.Evolved k) is along = (along, is.0, is.1, is.2, is.3)
-  well_ended found row xs (outcome.Written f) is along = (along, is.0, is.1, is.2, is.3)
-  well_ended found row xs (outcome.Deleted f) is along = (along, is.0, is.1, is.2, is.3)
-  well_ended found row xs (outcome.Read answer) is along = (along, is.0, is.1, is.2)
-  well_ended found row xs _ is along = absurd is
+  well_ended : (seen : List Exchange) (found : Found) (row : List Call) (xs : List Exchange) (o : Outcome) → Well (seen ++ xs) found o → Along (IsLookOf forms job found) seen row xs [] → Ends seen found row xs o
+  well_ended seen found row xs outcome.Created is along = (along, is)
+  well_ended seen found row xs (outcome.Evolved k) is along = (along, is.0, is.1, is.2, is.3)
+  well_ended seen found row xs (outcome.Written f) is along = (along, is.0, is.1, is.2, is.3)
+  well_ended seen found row xs (outcome.Deleted f) is along = (along, is.0, is.1, is.2, is.3)
+  well_ended seen found row xs (outcome.Read answer) is along = (along, is.0, is.1, is.2)
+  well_ended seen found row xs _ is along = absurd is
 
   -- a call that lets the job go on, before calls along the rest of the row
-  ends_cons : (found : Found) (row rest : List Call) (x : Exchange) (xs : List Exchange) (end : Outcome) → IsTrue (lets_on x.call x.reply) → IsNext row x.call rest → Ends found rest xs end → Ends found row (x ∷ xs) end
-  ends_cons found row rest x xs outcome.Created on next h = ((on, (rest, next, h.0)), h.1)
-  ends_cons found row rest x xs (outcome.Evolved k) on next h = ((on, (rest, next, h.0)), h.1, h.2, h.3, h.4)
-  ends_cons found row rest x xs (outcome.Written f) on next h = ((on, (rest, next, h.0)), h.1, h.2, h.3, h.4)
-  ends_cons found row rest x xs (outcome.Deleted f) on next h = ((on, (rest, next, h.0)), h.1, h.2, h.3, h.4)
-  ends_cons found row rest x xs (outcome.Read answer) on next h = ((on, (rest, next, h.0)), h.1, h.2, h.3)
-  ends_cons found row rest x xs (outcome.Refused r) on next h = (h.0, at_cons row rest x xs h.0 on next h.1, h.2)
-  ends_cons found row rest x xs outcome.OutOfMemory on next (inl h) = inl (h.0, (on, (rest, next, h.1)))
-  ends_cons found row rest x xs outcome.OutOfMemory on next (inr h) = inr (h.0, at_cons row rest x xs h.0 on next h.1)
+  ends_before : (whole seen : List Exchange) (found : Found) (row rest : List Call) (x : Exchange) (xs : List Exchange) (end : Outcome) → IsTrue (lets_on x.call x.reply) → IsNext (IsLookOf forms job found) seen row x.call rest
+      → EndsIn whole (seen ++ x ∷ []) found rest xs end → EndsIn whole seen found row (x ∷ xs) end
+  ends_before whole seen found row rest x xs outcome.Created on next h = ((on, (rest, next, h.0)), h.1)
+  ends_before whole seen found row rest x xs (outcome.Evolved k) on next h = ((on, (rest, next, h.0)), h.1, h.2, h.3, h.4)
+  ends_before whole seen found row rest x xs (outcome.Written f) on next h = ((on, (rest, next, h.0)), h.1, h.2, h.3, h.4)
+  ends_before whole seen found row rest x xs (outcome.Deleted f) on next h = ((on, (rest, next, h.0)), h.1, h.2, h.3, h.4)
+  ends_before whole seen found row rest x xs (outcome.Read answer) on next h = ((on, (rest, next, h.0)), h.1, h.2, h.3)
+  ends_before whole seen found row rest x xs (outcome.Refused r) on next h = (h.0, at_cons (IsLookOf forms job found) seen row rest x xs h.0 on next h.1, h.2)
+  ends_before whole seen found row rest x xs outcome.OutOfMemory on next (inl h) = inl (h.0, (on, (rest, next, h.1)))
+  ends_before whole seen found row rest x xs outcome.OutOfMemory on next (inr h) = inr (h.0, at_cons (IsLookOf forms job found) seen row rest x xs h.0 on next h.1)
+
+  ends_cons : (seen : List Exchange) (found : Found) (row rest : List Call) (x : Exchange) (xs : List Exchange) (end : Outcome) → IsTrue (lets_on x.call x.reply) → IsNext (IsLookOf forms job found) seen row x.call rest
+      → Ends (seen ++ x ∷ []) found rest xs end → Ends seen found row (x ∷ xs) end
+  ends_cons seen found row rest x xs end on next h =
+      ends_before (seen ++ x ∷ xs) seen found row rest x xs end on next (subst (λ whole. EndsIn whole (seen ++ x ∷ []) found rest xs end) (append_assoc seen (x ∷ []) xs) h)
 
   -- ---- a job that is over
 
@@ -171,97 +205,97 @@ module _ {F : Type 0} (forms : Forms F) (job : Job) (whole : List Exchange) wher
   -- a job that is over asks nothing, and has ended so, or for want of memory
   pub over_ends : (o : Outcome) (xs : List Exchange) (end : Outcome) → AskedFrom forms job (Over o) xs → EndsFrom forms job (Over o) xs end → (xs ≡ []) × ((end ≡ o) ⊎ (end ≡ outcome.OutOfMemory))
   over_ends o [] end a (inl e) = (refl, inl (over_is o end e))
-  over_ends o [] end a (inr e) = (refl, inr e)
-  over_ends o (x ∷ xs) end a e = absurd (none-some x.call a.0)
+  over_ends o [] end a (inr e) = (refl, inr e.0)
+  over_ends o (x ∷ xs) end a e = absurd (none-some x.call (next_call forms job (Over o) x.call a.0))
 
   -- ---- where states lead
 
+  -- the call may come along a row after those before
+  abbrev pub Next : List Exchange → Found → List Call → Call → List Call → Type 0
+  Next seen found row c rest = IsNext (IsLookOf forms job found) seen row c rest
+
   -- the calls from a state on say what was found, and end along the row
-  abbrev pub Goes : Found → List Call → List Exchange → Outcome → State F → Type 0
-  Goes found row xs end s = AskedFrom forms job s xs → EndsFrom forms job s xs end → AreFound job found xs × Ends found row xs end
+  abbrev pub Goes : List Exchange → Found → List Call → List Exchange → Outcome → State F → Type 0
+  Goes seen found row xs end s = AskedFrom forms job s xs → EndsFrom forms job s xs end → AreFound job found xs × Ends seen found row xs end
 
   -- so do the calls after one more, which leads to a state
-  abbrev pub Follows : Found → List Call → Exchange → List Exchange → Outcome → State F → Type 0
-  Follows found row x xs end s = AskedFrom forms job s xs → EndsFrom forms job s xs end → AreFound job found (x ∷ xs) × Ends found row (x ∷ xs) end
+  abbrev pub Follows : List Exchange → Found → List Call → Exchange → List Exchange → Outcome → State F → Type 0
+  Follows seen found row x xs end s = AskedFrom forms job s xs → EndsFrom forms job s xs end → AreFound job found (x ∷ xs) × Ends seen found row (x ∷ xs) end
 
   -- one that leads on
-  pub follows_on : (found : Found) (row rest : List Call) (x : Exchange) (xs : List Exchange) (end : Outcome) (s : State F) → SaysThere found job.command x.call x.reply → IsTrue (lets_on x.call x.reply) → IsNext row x.call rest → Goes found rest xs end s → Follows found row x xs end s
-  follows_on found row rest x xs end s says on next goes_on a e =
+  pub follows_on : (seen : List Exchange) (found : Found) (row rest : List Call) (x : Exchange) (xs : List Exchange) (end : Outcome) (s : State F) → SaysThere found job.command x.call x.reply → IsTrue (lets_on x.call x.reply) → Next seen found row x.call rest → Goes (seen ++ x ∷ []) found rest xs end s → Follows seen found row x xs end s
+  follows_on seen found row rest x xs end s says on next goes_on a e =
       let h = goes_on a e in
-      (All-cons (λ y. SaysThere found job.command y.call y.reply) x xs says h.0, ends_cons found row rest x xs end on next h.1)
+      (All-cons (λ y. SaysThere found job.command y.call y.reply) x xs says h.0, ends_cons seen found row rest x xs end on next h.1)
 
   -- one by which the job ends
-  pub follows_over : (found : Found) (row rest : List Call) (x : Exchange) (xs : List Exchange) (end o : Outcome) → SaysThere found job.command x.call x.reply → IsNext row x.call rest → Ends found row (x ∷ []) o → Follows found row x xs end (Over o)
-  follows_over found row rest x xs end o says next h a e =
+  pub follows_over : (seen : List Exchange) (found : Found) (row rest : List Call) (x : Exchange) (xs : List Exchange) (end o : Outcome) → SaysThere found job.command x.call x.reply → Next seen found row x.call rest → Ends seen found row (x ∷ []) o → Follows seen found row x xs end (Over o)
+  follows_over seen found row rest x xs end o says next h a e =
       let over = over_ends o xs end a e in
-      subst (λ ys. AreFound job found (x ∷ ys) × Ends found row (x ∷ ys) end) (sym over.0)
+      subst (λ ys. AreFound job found (x ∷ ys) × Ends seen found row (x ∷ ys) end) (sym over.0)
       (All-cons (λ y. SaysThere found job.command y.call y.reply) x [] says (All-nil (λ y. SaysThere found job.command y.call y.reply)), by_end over.1)
     where
-      by_end : (end ≡ o) ⊎ (end ≡ outcome.OutOfMemory) → Ends found row (x ∷ []) end
-      by_end (inl q) = subst (Ends found row (x ∷ [])) (sym q) h
-      by_end (inr q) = subst (Ends found row (x ∷ [])) (sym q) (inr (x, at_last row rest x next))
+      by_end : (end ≡ o) ⊎ (end ≡ outcome.OutOfMemory) → Ends seen found row (x ∷ []) end
+      by_end (inl q) = subst (Ends seen found row (x ∷ [])) (sym q) h
+      by_end (inr q) = subst (Ends seen found row (x ∷ [])) (sym q) (inr (x, at_last (IsLookOf forms job found) seen row rest x next))
 
   -- one by which it ends for want of memory
-  pub follows_none : (found : Found) (row rest : List Call) (x : Exchange) (xs : List Exchange) (end : Outcome) → SaysThere found job.command x.call x.reply → IsNext row x.call rest → Follows found row x xs end (Over outcome.OutOfMemory)
-  follows_none found row rest x xs end says next = follows_over found row rest x xs end outcome.OutOfMemory says next (inr (x, at_last row rest x next))
+  pub follows_none : (seen : List Exchange) (found : Found) (row rest : List Call) (x : Exchange) (xs : List Exchange) (end : Outcome) → SaysThere found job.command x.call x.reply → Next seen found row x.call rest → Follows seen found row x xs end (Over outcome.OutOfMemory)
+  follows_none seen found row rest x xs end says next = follows_over seen found row rest x xs end outcome.OutOfMemory says next (inr (x, at_last (IsLookOf forms job found) seen row rest x next))
 
   -- one whose refusal has its cause
-  pub follows_refused : (found : Found) (row rest : List Call) (x : Exchange) (xs : List Exchange) (end : Outcome) (r : Refusal) → SaysThere found job.command x.call x.reply → IsNext row x.call rest → IsCause forms job found whole x r → Follows found row x xs end (refuse r)
-  follows_refused found row rest x xs end r says next cause = follows_over found row rest x xs end (outcome.Refused r) says next (x, at_last row rest x next, cause)
+  pub follows_refused : (seen : List Exchange) (found : Found) (row rest : List Call) (x : Exchange) (xs : List Exchange) (end : Outcome) (r : Refusal) → SaysThere found job.command x.call x.reply → Next seen found row x.call rest → IsCause forms job found (seen ++ x ∷ []) x r → Follows seen found row x xs end (refuse r)
+  follows_refused seen found row rest x xs end r says next cause = follows_over seen found row rest x xs end (outcome.Refused r) says next (x, at_last (IsLookOf forms job found) seen row rest x next, cause)
 
   -- one whose reply does not let the job go on
-  pub follows_ended : (found : Found) (row rest : List Call) (c : Call) (r : Reply) (xs : List Exchange) (end : Outcome) → LeavesFrame c r → SaysThere found job.command c r → IsNext row c rest → Follows found row (record { call = c; reply = r }) xs end (ended c r)
-  follows_ended found row rest c reply.Failed xs end leaves says next = follows_refused found row rest (record { call = c; reply = reply.Failed }) xs end (refusal.StoreFault (place_of c)) says next (refl, refl)
-  follows_ended found row rest (call.Put n bytes) reply.Taken xs end leaves says next = follows_refused found row rest (record { call = call.Put n bytes; reply = reply.Taken }) xs end (refusal.Taken n) says next (taken_elsewhere n bytes leaves, bytes, refl)
-  follows_ended found row rest (call.Get n from len) reply.Absent xs end leaves says next = follows_refused found row rest (record { call = call.Get n from len; reply = reply.Absent }) xs end (refusal.Missing n) says next (refl, refl)
-  follows_ended found row rest (call.Size n) reply.Absent xs end leaves says next = follows_refused found row rest (record { call = call.Size n; reply = reply.Absent }) xs end (refusal.Missing n) says next (refl, refl)
-  follows_ended found row rest (call.Put n bytes) r xs end leaves says next = follows_none found row rest (record { call = call.Put n bytes; reply = r }) xs end says next
-  follows_ended found row rest (call.Get n from len) r xs end leaves says next = follows_none found row rest (record { call = call.Get n from len; reply = r }) xs end says next
-  follows_ended found row rest (call.Size n) r xs end leaves says next = follows_none found row rest (record { call = call.Size n; reply = r }) xs end says next
-  follows_ended found row rest (call.Remove n) r xs end leaves says next = follows_none found row rest (record { call = call.Remove n; reply = r }) xs end says next
-  follows_ended found row rest (call.List p) r xs end leaves says next = follows_none found row rest (record { call = call.List p; reply = r }) xs end says next
+  pub follows_ended : (seen : List Exchange) (found : Found) (row rest : List Call) (c : Call) (r : Reply) (xs : List Exchange) (end : Outcome) → LeavesFrame c r → SaysThere found job.command c r → Next seen found row c rest → Follows seen found row (record { call = c; reply = r }) xs end (ended c r)
+  follows_ended seen found row rest c reply.Failed xs end leaves says next = follows_refused seen found row rest (record { call = c; reply = reply.Failed }) xs end (refusal.StoreFault (place_of c)) says next (refl, refl)
+  follows_ended seen found row rest (call.Put n bytes) reply.Taken xs end leaves says next = follows_refused seen found row rest (record { call = call.Put n bytes; reply = reply.Taken }) xs end (refusal.Taken n) says next (taken_elsewhere n bytes leaves, bytes, refl)
+  follows_ended seen found row rest (call.Get n from len) reply.Absent xs end leaves says next = follows_refused seen found row rest (record { call = call.Get n from len; reply = reply.Absent }) xs end (refusal.Missing n) says next (refl, refl)
+  follows_ended seen found row rest (call.Size n) reply.Absent xs end leaves says next = follows_refused seen found row rest (record { call = call.Size n; reply = reply.Absent }) xs end (refusal.Missing n) says next (refl, refl)
+  follows_ended seen found row rest (call.Put n bytes) r xs end leaves says next = follows_none seen found row rest (record { call = call.Put n bytes; reply = r }) xs end says next
+  follows_ended seen found row rest (call.Get n from len) r xs end leaves says next = follows_none seen found row rest (record { call = call.Get n from len; reply = r }) xs end says next
+  follows_ended seen found row rest (call.Size n) r xs end leaves says next = follows_none seen found row rest (record { call = call.Size n; reply = r }) xs end says next
+  follows_ended seen found row rest (call.Remove n) r xs end leaves says next = follows_none seen found row rest (record { call = call.Remove n; reply = r }) xs end says next
+  follows_ended seen found row rest (call.List p) r xs end leaves says next = follows_none seen found row rest (record { call = call.List p; reply = r }) xs end says next
 
   -- a job that makes no call, and is not over, ends for want of memory
-  pub goes_none : (found : Found) (row : List Call) (end : Outcome) (s : State F) → ((o : Outcome) → s ≡ Over o → ⊥) → Goes found row [] end s
-  goes_none found row end s not_over a (inl e) = absurd (not_over end e)
-  goes_none found row end s not_over a (inr e) = (All-nil (λ y. SaysThere found job.command y.call y.reply), subst (Ends found row []) (sym e) (inl (row, refl)))
+  pub goes_none : (seen : List Exchange) (found : Found) (row : List Call) (end : Outcome) (s : State F) → ((o : Outcome) → s ≡ Over o → ⊥) → Goes seen found row [] end s
+  goes_none seen found row end s not_over a (inl e) = absurd (not_over end e)
+  goes_none seen found row end s not_over a (inr e) = (All-nil (λ y. SaysThere found job.command y.call y.reply), subst (Ends seen found row []) (sym e.0) (inl (row, refl)))
 
   -- a call that a state asks, and what follows from where it leads
-  pub goes_by : (found : Found) (row : List Call) (x : Exchange) (xs : List Exchange) (end : Outcome) (s : State F) (c : Call) → asks forms job s ≡ Some c → (x.call ≡ c → Follows found row (record { call = c; reply = x.reply }) xs end (goes forms job s x.reply)) → Goes found row (x ∷ xs) end s
-  goes_by found row x xs end s c is follows a e =
-      subst (λ d. AreFound job found (record { call = d; reply = x.reply } ∷ xs) × Ends found row (record { call = d; reply = x.reply } ∷ xs) end) (sym (call_is c x.call (sym is ∙ a.0))) (follows (call_is c x.call (sym is ∙ a.0)) a.1 e)
+  pub goes_by : (seen : List Exchange) (found : Found) (row : List Call) (x : Exchange) (xs : List Exchange) (end : Outcome) (s : State F) (c : Call) → asks forms job s ≡ Some c → (x.call ≡ c → Follows seen found row (record { call = c; reply = x.reply }) xs end (goes forms job s x.reply)) → Goes seen found row (x ∷ xs) end s
+  goes_by seen found row x xs end s c is follows a e =
+      subst (λ d. AreFound job found (record { call = d; reply = x.reply } ∷ xs) × Ends seen found row (record { call = d; reply = x.reply } ∷ xs) end) (sym (call_is c x.call (sym is ∙ next_call forms job s x.call a.0))) (follows (call_is c x.call (sym is ∙ next_call forms job s x.call a.0)) a.1 e)
 
   -- ---- puts
 
   -- after a call, objects are put from a place on
-  pub follows_putting : (found : Found) (row : List Call) (x : Exchange) (xs : List Exchange) (end : Outcome) (objects : List NewObject) (next : ℕ) (o : Outcome) → Well found o → SaysThere found job.command x.call x.reply → IsTrue (lets_on x.call x.reply) → IsNext row x.call (list_map put_of (drop next objects))
-      → Goes found (list_map put_of (drop next objects)) xs end (Puts objects next o) → Follows found row x xs end (putting objects next o)
-  follows_putting found row x xs end objects next o well says on following goes_on = by_count (nat_lt next (length objects)) refl
+  pub follows_putting : (seen : List Exchange) (found : Found) (row : List Call) (x : Exchange) (xs : List Exchange) (end : Outcome) (objects : List NewObject) (next : ℕ) (o : Outcome) → Well (seen ++ x ∷ []) found o → SaysThere found job.command x.call x.reply → IsTrue (lets_on x.call x.reply) → Next seen found row x.call (list_map put_of (drop next objects))
+      → Goes (seen ++ x ∷ []) found (list_map put_of (drop next objects)) xs end (Puts objects next o) → Follows seen found row x xs end (putting objects next o)
+  follows_putting seen found row x xs end objects next o well says on following goes_on = by_count (nat_lt next (length objects)) refl
     where
-      by_count : (b : Bool) → nat_lt next (length objects) ≡ b → Follows found row x xs end (cond b (Puts objects next o) (Over o))
-      by_count true is = follows_on found row (list_map put_of (drop next objects)) x xs end (Puts objects next o) says on following goes_on
+      by_count : (b : Bool) → nat_lt next (length objects) ≡ b → Follows seen found row x xs end (cond b (Puts objects next o) (Over o))
+      by_count true is = follows_on seen found row (list_map put_of (drop next objects)) x xs end (Puts objects next o) says on following goes_on
       by_count false is =
-          let none : IsNext row x.call [] = subst (λ os. IsNext row x.call (list_map put_of os)) (drop_past objects next is) following in
-          follows_over found row [] x xs end o says none (well_ended found row (x ∷ []) o well (on, ([], none, refl)))
+          let none : Next seen found row x.call [] = subst (λ os. Next seen found row x.call (list_map put_of os)) (drop_past objects next is) following in
+          follows_over seen found row [] x xs end o says none (well_ended seen found row (x ∷ []) o well (on, ([], none, refl)))
 
   -- a job that puts objects goes along their puts
-  pub puts_go : (found : Found) (objects : List NewObject) (o : Outcome) → Well found o → ((ob : NewObject) → Contains objects ob → ob.name ≡ name.Domain → ⊥) → ((ob : NewObject) → Contains objects ob → (r : Reply) → SaysThere found job.command (put_of ob) r)
-      → (xs : List Exchange) (end : Outcome) (next : ℕ) → Goes found (list_map put_of (drop next objects)) xs end (Puts objects next o)
-  puts_go found objects o well elsewhere silent [] end next = goes_none found (list_map put_of (drop next objects)) end (Puts objects next o) (λ e q. cc)
-  puts_go found objects o well elsewhere silent (x ∷ xs) end next = by_item (slice_get objects next) refl (puts_go found objects o well elsewhere silent xs end (suc next))
+  pub puts_go : (seen : List Exchange) (found : Found) (objects : List NewObject) (o : Outcome) → Well seen found o → ((ob : NewObject) → Contains objects ob → ob.name ≡ name.Domain → ⊥) → ((ob : NewObject) → Contains objects ob → (r : Reply) → SaysThere found job.command (put_of ob) r)
+      → (xs : List Exchange) (end : Outcome) (next : ℕ) → Goes seen found (list_map put_of (drop next objects)) xs end (Puts objects next o)
+  puts_go seen found objects o well elsewhere silent [] end next = goes_none seen found (list_map put_of (drop next objects)) end (Puts objects next o) (λ e q. cc)
+  puts_go seen found objects o well elsewhere silent (x ∷ xs) end next = by_item (slice_get objects next) refl (λ y. puts_go (seen ++ y ∷ []) found objects o (well_stays seen found y o well) elsewhere silent xs end (suc next))
     where
-      by_item : (i : Option NewObject) → slice_get objects next ≡ i → Goes found (list_map put_of (drop (suc next) objects)) xs end (Puts objects (suc next) o) → Goes found (list_map put_of (drop next objects)) (x ∷ xs) end (Puts objects next o)
-      by_item None is goes_on = λ a e. absurd (none-some x.call (sym (ap (option_map put_of) is) ∙ a.0))
+      by_item : (i : Option NewObject) → slice_get objects next ≡ i → ((y : Exchange) → Goes (seen ++ y ∷ []) found (list_map put_of (drop (suc next) objects)) xs end (Puts objects (suc next) o)) → Goes seen found (list_map put_of (drop next objects)) (x ∷ xs) end (Puts objects next o)
+      by_item None is goes_on = λ a e. absurd (none-some x.call (sym (ap (option_map put_of) is) ∙ next_call forms job (Puts objects next o) x.call a.0))
       by_item (Some ob) is goes_on =
           let left : drop next objects ≡ ob ∷ drop (suc next) objects = drop_item objects next ob is in
-          goes_by found (list_map put_of (drop next objects)) x xs end (Puts objects next o) (put_of ob) (ap (option_map put_of) is)
-          (λ same. subst (λ os. Follows found (list_map put_of os) (record { call = put_of ob; reply = x.reply }) xs end (goes forms job (Puts objects next o) x.reply)) (sym left) (rw is (by_reply x.reply)))
+          goes_by seen found (list_map put_of (drop next objects)) x xs end (Puts objects next o) (put_of ob) (ap (option_map put_of) is)
+          (λ same. subst (λ os. Follows seen found (list_map put_of os) (record { call = put_of ob; reply = x.reply }) xs end (goes forms job (Puts objects next o) x.reply)) (sym left) (rw is (by_reply x.reply)))
         where
-          by_reply : (r : Reply) → Follows found (put_of ob ∷ list_map put_of (drop (suc next) objects)) (record { call = put_of ob; reply = r }) xs end (on_made (put_of ob) (putting objects (suc next) o) r)
+          by_reply : (r : Reply) → Follows seen found (put_of ob ∷ list_map put_of (drop (suc next) objects)) (record { call = put_of ob; reply = r }) xs end (on_made (put_of ob) (putting objects (suc next) o) r)
           by_reply reply.Made =
-              follows_putting found (put_of ob ∷ list_map put_of (drop (suc next) objects)) (record { call = put_of ob; reply = reply.Made }) xs end objects (suc next) o well (silent ob (item_in objects next ob is) reply.Made) (lets_put ob.name ob.bytes) (inr refl) goes_on
-          by_reply r = follows_ended found (put_of ob ∷ list_map put_of (drop (suc next) objects)) (list_map put_of (drop (suc next) objects)) (put_of ob) r xs end (leaves_frame ob.name ob.bytes r (elsewhere ob (item_in objects next ob is))) (silent ob (item_in objects next ob is) r) (inr refl)
-
-  -- the calls are among those of the whole trace
-  abbrev pub Within : List Exchange → Type 0
-  Within xs = (x : Exchange) → Contains xs x → Contains whole x
+              follows_putting seen found (put_of ob ∷ list_map put_of (drop (suc next) objects)) (record { call = put_of ob; reply = reply.Made }) xs end objects (suc next) o (well_stays seen found (record { call = put_of ob; reply = reply.Made }) o well) (silent ob (item_in objects next ob is) reply.Made) (lets_put ob.name ob.bytes) (inr refl) (goes_on (record { call = put_of ob; reply = reply.Made }))
+          by_reply r = follows_ended seen found (put_of ob ∷ list_map put_of (drop (suc next) objects)) (list_map put_of (drop (suc next) objects)) (put_of ob) r xs end (leaves_frame ob.name ob.bytes r (elsewhere ob (item_in objects next ob is))) (silent ob (item_in objects next ob is) r) (inr refl)

@@ -1,5 +1,5 @@
 -- A job of each command makes the calls of its row, and ends by it.
-use Rattle.std.proofs.Common.{length, ◌≡◌, ℕ, suc, ◌+◌, Bool, true, false, cond, List, [], ◌∷◌, ◌++◌, Option, Some, None, Result, Ok, Err, IsTrue, arith, refl, sym, ap, inl, inr, subst}
+use Rattle.std.proofs.Common.{length, ◌≡◌, ℕ, suc, Bool, true, false, cond, List, [], ◌∷◌, ◌++◌, Option, Some, None, Result, Ok, Err, IsTrue, arith, refl, sym, ap, inl, inr, subst}
 use Rattle.std.specs.Prelude.{Contains, option_map, nat_eq, map as list_map}
 use Rattle.std.specs.Result.{result_err}
 use Rattle.std.proofs.lemmas.Bool.{lt-ltb, ne_eqb}
@@ -28,21 +28,21 @@ use Rattle.ts_model.specs.declared.states.State.{State}
 use Rattle.ts_model.specs.declared.states.NewObject.{NewObject}
 use Rattle.ts_model.specs.declared.states.State.TheVariants.{PutsFrame, ComparesFrame, ListsDeclared, ListsCommits, ListsSchemas}
 use Rattle.ts_model.specs.declared.commands.Command.TheVariants.{Create, Evolve, Write, Read, Delete}
-use Rattle.ts_model.specs.Forms.{Forms, is_look, AsksLooks}
+use Rattle.ts_model.specs.Forms.{Forms, AsksLooks}
 use Rattle.ts_model.specs.Commands.{laid, piece_of}
 use Rattle.ts_model.specs.Jobs.{key_of, frag_of_job, written_as, refused_before}
-use Rattle.ts_model.specs.States.{Exchange, goes, begins, begun, refuse, unless_refused, get_schema, get_frame, list_schemas, list_commits, looked_into, commit_of, part_objects, put_of, putting, puts_cells, schema_object_of, write_objects, frame_put, is_own_frame, nothing_listed, asks_for, reading_of, puts_delete, delete_object_of}
+use Rattle.ts_model.specs.States.{Exchange, goes, begins, begun, refuse, unless_refused, get_schema, get_frame, list_schemas, list_commits, looked_into, committed_in, deletes_in, meets, commit_of, part_objects, put_of, putting, puts_cells, schema_object_of, write_objects, frame_put, is_own_frame, nothing_listed, asks_for, reading_of, puts_delete, delete_object_of}
 use Rattle.ts_model.specs.Driven.{AskedFrom, EndsFrom}
-use Rattle.ts_law.specs.Rows.{Found, cell_puts, row_of, IsSchemaIn, IsFrameIn, SaysThere, IsGot, AreFound, IsNext, lets_on, refused_in, IsCause, EndsAlong, MayEndAs, delete_puts}
-use Rattle.ts_model.proofs.ListLemmas.{Contains-nil, Contains-there, Contains-cons, Contains-only}
+use Rattle.ts_law.specs.Rows.{Found, cell_puts, row_of, IsSchemaIn, IsFrameIn, SaysThere, IsGot, AreFound, LooksThere, IsLookOf, lets_on, refused_in, IsCause, EndsAlong, MayEndAs, delete_puts}
+use Rattle.ts_model.proofs.ListLemmas.{Contains-nil, Contains-here, Contains-cons, Contains-only, filter-Contains}
+use Rattle.ts_law.proofs.RowGrows.{among_more}
 use Rattle.ts_law.proofs.LaidRefusals.{IsOfColumns, FailsByColumns, laid_fails}
-use Rattle.ts_model.specs.declared.states.Listed.{Listed}
 use Rattle.ts_model.specs.declared.queries.Ready.{Ready}
 use Rattle.ts_cond.specs.declared.query.Query.{Query}
 use Rattle.ts_cond.specs.Tests.{Condition}
 use Rattle.ts_model.specs.Queries.{ready_in, erasing_in}
 use Rattle.ts_law.proofs.QueryRefusals.{IsOfQuery, FailsByQuery, ready_fails, erasing_fails}
-use Rattle.ts_law.proofs.RowCalls.{Ends, Well, over_ends, Goes, Follows, follows_on, follows_refused, follows_ended, goes_none, goes_by, follows_putting, puts_go, Within}
+use Rattle.ts_law.proofs.RowCalls.{Ends, Well, over_ends, Goes, Follows, follows_on, follows_refused, follows_ended, goes_none, goes_by, follows_putting, puts_go, Next}
 use Rattle.ts_law.proofs.RowReads.{follows_opening, reads_on}
 use Rattle.ts_law.proofs.RowThere.{no_schema, no_frame, found_as, OfBytes, schemas_found}
 use Rattle.ts_base.specs.declared.names.Name.TheVariants as name
@@ -76,10 +76,10 @@ written_apart forms job frame there cells =
     parts_apart (frag_of_job job) (forms.parts frame there (piece_of frame (written_as job there.key cells))) (record { name = commit_of job; bytes = [] } ∷ [])
     (λ ob at same. let is = Contains-only (record { name = commit_of job; bytes = [] }) ob at in cc)
 
-module _ {F : Type 0} (forms : Forms F) (any : Job) (whole : List Exchange) where
+module _ {F : Type 0} (forms : Forms F) (any : Job) where
   -- the calls say what a job found, and end along its row
   abbrev AreTold : Job → Found → List Exchange → Outcome → Type 0
-  AreTold job found xs end = AreFound job found xs × Ends forms job whole found (row_of forms job found) xs end
+  AreTold job found xs end = AreFound job found xs × Ends forms job [] found (row_of forms job found) xs end
 
   -- a job found something, and its calls from a state on say so and end along its row
   abbrev Finds : Job → List Exchange → Outcome → State F → Type 0
@@ -120,119 +120,127 @@ module _ {F : Type 0} (forms : Forms F) (any : Job) (whole : List Exchange) wher
   delete_frame text found _ is = tt
 
   -- what an evolve does once it has the schema there and the frame
-  evolve_works : (change : Evolution) (there : Schema) (frame : Frame) (x : Exchange) (xs : List Exchange) (end : Outcome) → IsGot (with (Evolve change)) (found_as there frame) whole → SaysThere (found_as there frame) (Evolve change) x.call x.reply → IsTrue (lets_on x.call x.reply) → IsTrue (is_look x.call)
+  evolve_works : (change : Evolution) (there : Schema) (frame : Frame) (seen : List Exchange) (x : Exchange) (xs : List Exchange) (end : Outcome) → IsGot (with (Evolve change)) (found_as there frame) (seen ++ x ∷ []) → SaysThere (found_as there frame) (Evolve change) x.call x.reply → IsTrue (lets_on x.call x.reply) → LooksThere (with (Evolve change)) seen x.call
       → (fault : Option SchemaFault) → evolution_fault frame.domain there.attrs change ≡ fault
-      → Follows forms (with (Evolve change)) whole (found_as there frame) (put_of (schema_object_of any (evolved_attrs there.attrs change)) ∷ []) x xs end
+      → Follows forms (with (Evolve change)) seen (found_as there frame) (put_of (schema_object_of any (evolved_attrs there.attrs change)) ∷ []) x xs end
       (unless_refused (putting (schema_object_of any (evolved_attrs there.attrs change) ∷ []) 0 (outcome.Evolved (key_of any))) (option_map refusal.SchemaBad fault))
-  evolve_works change there frame x xs end got says on look None is =
+  evolve_works change there frame seen x xs end got says on look None is =
       let job = with (Evolve change) in
       let object = schema_object_of any (evolved_attrs there.attrs change) in
-      let well : Well forms job whole (found_as there frame) (outcome.Evolved (key_of any)) = ((change, refl), refl, got, ap (option_map refusal.SchemaBad) is) in
-      follows_putting forms job whole (found_as there frame) (put_of object ∷ []) x xs end (object ∷ []) 0 (outcome.Evolved (key_of any)) well says on (inl (look, refl))
-      (puts_go forms job whole (found_as there frame) (object ∷ []) (outcome.Evolved (key_of any)) well (schema_apart (key_of any) object.bytes) (λ ob at r. tt) xs end 0)
-  evolve_works change there frame x xs end got says on look (Some fault) is =
+      let well : Well forms job (seen ++ x ∷ []) (found_as there frame) (outcome.Evolved (key_of any)) = ((change, refl), refl, got, ap (option_map refusal.SchemaBad) is) in
+      follows_putting forms job seen (found_as there frame) (put_of object ∷ []) x xs end (object ∷ []) 0 (outcome.Evolved (key_of any)) well says on (inl (look, refl))
+      (puts_go forms job (seen ++ x ∷ []) (found_as there frame) (object ∷ []) (outcome.Evolved (key_of any)) well (schema_apart (key_of any) object.bytes) (λ ob at r. tt) xs end 0)
+  evolve_works change there frame seen x xs end got says on look (Some fault) is =
       let object = schema_object_of any (evolved_attrs there.attrs change) in
-      follows_refused forms (with (Evolve change)) whole (found_as there frame) (put_of object ∷ []) (put_of object ∷ []) x xs end (refusal.SchemaBad fault) says (inl (look, refl)) (got, ap (option_map refusal.SchemaBad) is)
+      follows_refused forms (with (Evolve change)) seen (found_as there frame) (put_of object ∷ []) (put_of object ∷ []) x xs end (refusal.SchemaBad fault) says (inl (look, refl)) (got, ap (option_map refusal.SchemaBad) is)
 
   -- a refusal of columns is its own cause
-  columns_cause : (w : WriteIn) (found : Found) (x : Exchange) (r : Refusal) → IsGot (with (Write w)) found whole → IsOfColumns r → refused_in found (Write w) ≡ Some r → IsCause forms (with (Write w)) found whole x r
-  columns_cause w found x (refusal.SchemaClash label) got is cause = (got, cause)
-  columns_cause w found x (refusal.Domain dim value) got is cause = (got, cause)
-  columns_cause w found x (refusal.DuplicateCell place) got is cause = (got, cause)
-  columns_cause w found x (refusal.TooMany cells) got is cause = (got, cause)
-  columns_cause w found x _ got is cause = absurd is
+  columns_cause : (w : WriteIn) (found : Found) (seen : List Exchange) (x : Exchange) (r : Refusal) → IsGot (with (Write w)) found seen → IsOfColumns r → refused_in found (Write w) ≡ Some r → IsCause forms (with (Write w)) found seen x r
+  columns_cause w found seen x (refusal.SchemaClash label) got is cause = (got, cause)
+  columns_cause w found seen x (refusal.Domain dim value) got is cause = (got, cause)
+  columns_cause w found seen x (refusal.DuplicateCell place) got is cause = (got, cause)
+  columns_cause w found seen x (refusal.TooMany cells) got is cause = (got, cause)
+  columns_cause w found seen x _ got is cause = absurd is
 
   -- what a write does then
-  write_works : (w : WriteIn) (there : Schema) (frame : Frame) (x : Exchange) (xs : List Exchange) (end : Outcome) → IsGot (with (Write w)) (found_as there frame) whole → SaysThere (found_as there frame) (Write w) x.call x.reply → IsTrue (lets_on x.call x.reply) → IsTrue (is_look x.call)
+  write_works : (w : WriteIn) (there : Schema) (frame : Frame) (seen : List Exchange) (x : Exchange) (xs : List Exchange) (end : Outcome) → IsGot (with (Write w)) (found_as there frame) (seen ++ x ∷ []) → SaysThere (found_as there frame) (Write w) x.call x.reply → IsTrue (lets_on x.call x.reply) → LooksThere (with (Write w)) seen x.call
       → (laying : Result (List Cell) Refusal) → laid frame there.attrs w ≡ laying → FailsByColumns laying
-      → Follows forms (with (Write w)) whole (found_as there frame) (cell_puts forms (with (Write w)) (found_as there frame) laying) x xs end (puts_cells forms (with (Write w)) frame there laying)
-  write_works w there frame x xs end got says on look (Ok cells) is fails =
+      → Follows forms (with (Write w)) seen (found_as there frame) (cell_puts forms (with (Write w)) (found_as there frame) laying) x xs end (puts_cells forms (with (Write w)) frame there laying)
+  write_works w there frame seen x xs end got says on look (Ok cells) is fails =
       let job = with (Write w) in
       let objects = write_objects forms frame there job cells in
-      let well : Well forms job whole (found_as there frame) (outcome.Written (frag_of_job any)) = ((w, refl), refl, got, ap result_err is) in
-      follows_putting forms job whole (found_as there frame) (list_map put_of objects) x xs end objects 0 (outcome.Written (frag_of_job any)) well says on (inl (look, refl))
-      (puts_go forms job whole (found_as there frame) objects (outcome.Written (frag_of_job any)) well (written_apart forms job frame there cells) (λ ob at r. tt) xs end 0)
-  write_works w there frame x xs end got says on look (Err r) is fails =
-      follows_refused forms (with (Write w)) whole (found_as there frame) [] [] x xs end r says (inl (look, refl)) (columns_cause w (found_as there frame) x r got fails (ap result_err is))
+      let well : Well forms job (seen ++ x ∷ []) (found_as there frame) (outcome.Written (frag_of_job any)) = ((w, refl), refl, got, ap result_err is) in
+      follows_putting forms job seen (found_as there frame) (list_map put_of objects) x xs end objects 0 (outcome.Written (frag_of_job any)) well says on (inl (look, refl))
+      (puts_go forms job (seen ++ x ∷ []) (found_as there frame) objects (outcome.Written (frag_of_job any)) well (written_apart forms job frame there cells) (λ ob at r. tt) xs end 0)
+  write_works w there frame seen x xs end got says on look (Err r) is fails =
+      follows_refused forms (with (Write w)) seen (found_as there frame) [] [] x xs end r says (inl (look, refl)) (columns_cause w (found_as there frame) (seen ++ x ∷ []) x r got fails (ap result_err is))
 
   -- a refusal of a query is its own cause
-  query_cause : (command : Command) (found : Found) (x : Exchange) (r : Refusal) → IsGot (with command) found whole → IsOfQuery r → refused_in found command ≡ Some r → IsCause forms (with command) found whole x r
-  query_cause command found x (refusal.Domain dim value) got is cause = (got, cause)
-  query_cause command found x (refusal.TooMany cells) got is cause = (got, cause)
-  query_cause command found x refusal.DenseArray got is cause = (got, cause)
-  query_cause command found x (refusal.UnknownField field) got is cause = (got, cause)
-  query_cause command found x (refusal.Condition fault) got is cause = (got, cause)
-  query_cause command found x _ got is cause = absurd is
+  query_cause : (command : Command) (found : Found) (seen : List Exchange) (x : Exchange) (r : Refusal) → IsGot (with command) found seen → IsOfQuery r → refused_in found command ≡ Some r → IsCause forms (with command) found seen x r
+  query_cause command found seen x (refusal.Domain dim value) got is cause = (got, cause)
+  query_cause command found seen x (refusal.TooMany cells) got is cause = (got, cause)
+  query_cause command found seen x refusal.DenseArray got is cause = (got, cause)
+  query_cause command found seen x (refusal.UnknownField field) got is cause = (got, cause)
+  query_cause command found seen x (refusal.Condition fault) got is cause = (got, cause)
+  query_cause command found seen x _ got is cause = absurd is
 
   -- what a delete does then
-  delete_works : (text : List ℕ) (there : Schema) (frame : Frame) (x : Exchange) (xs : List Exchange) (end : Outcome) → IsGot (with (Delete text)) (found_as there frame) whole → SaysThere (found_as there frame) (Delete text) x.call x.reply → IsTrue (lets_on x.call x.reply) → IsTrue (is_look x.call)
+  delete_works : (text : List ℕ) (there : Schema) (frame : Frame) (seen : List Exchange) (x : Exchange) (xs : List Exchange) (end : Outcome) → IsGot (with (Delete text)) (found_as there frame) (seen ++ x ∷ []) → SaysThere (found_as there frame) (Delete text) x.call x.reply → IsTrue (lets_on x.call x.reply) → LooksThere (with (Delete text)) seen x.call
       → (spelled : Result Condition Refusal) → erasing_in frame there.attrs text ≡ spelled → FailsByQuery spelled
-      → Follows forms (with (Delete text)) whole (found_as there frame) (delete_puts (with (Delete text)) spelled) x xs end (puts_delete (with (Delete text)) spelled)
-  delete_works text there frame x xs end got says on look (Ok condition) is fails =
+      → Follows forms (with (Delete text)) seen (found_as there frame) (delete_puts (with (Delete text)) spelled) x xs end (puts_delete (with (Delete text)) spelled)
+  delete_works text there frame seen x xs end got says on look (Ok condition) is fails =
       let job = with (Delete text) in
       let object = delete_object_of job condition in
-      let well : Well forms job whole (found_as there frame) (outcome.Deleted (frag_of_job any)) = ((text, refl), refl, got, ap result_err is) in
-      follows_putting forms job whole (found_as there frame) (put_of object ∷ []) x xs end (object ∷ []) 0 (outcome.Deleted (frag_of_job any)) well says on (inl (look, refl))
-      (puts_go forms job whole (found_as there frame) (object ∷ []) (outcome.Deleted (frag_of_job any)) well (delete_apart job condition) (λ ob at r. tt) xs end 0)
-  delete_works text there frame x xs end got says on look (Err r) is fails =
-      follows_refused forms (with (Delete text)) whole (found_as there frame) [] [] x xs end r says (inl (look, refl)) (query_cause (Delete text) (found_as there frame) x r got fails (ap result_err is))
+      let well : Well forms job (seen ++ x ∷ []) (found_as there frame) (outcome.Deleted (frag_of_job any)) = ((text, refl), refl, got, ap result_err is) in
+      follows_putting forms job seen (found_as there frame) (put_of object ∷ []) x xs end (object ∷ []) 0 (outcome.Deleted (frag_of_job any)) well says on (inl (look, refl))
+      (puts_go forms job (seen ++ x ∷ []) (found_as there frame) (object ∷ []) (outcome.Deleted (frag_of_job any)) well (delete_apart job condition) (λ ob at r. tt) xs end 0)
+  delete_works text there frame seen x xs end got says on look (Err r) is fails =
+      follows_refused forms (with (Delete text)) seen (found_as there frame) [] [] x xs end r says (inl (look, refl)) (query_cause (Delete text) (found_as there frame) (seen ++ x ∷ []) x r got fails (ap result_err is))
 
   -- what a read does then
-  read_works : AsksLooks forms → (from to : ℕ) (query : Query) (looked : Listed) (there : Schema) (frame : Frame) (x : Exchange) (xs : List Exchange) (end : Outcome) → Within forms (with (Read from to query)) whole xs → IsGot (with (Read from to query)) (found_as there frame) whole → IsTrue (lets_on x.call x.reply) → IsTrue (is_look x.call)
+  read_works : AsksLooks forms → (from to : ℕ) (query : Query) (names : List Name) (there : Schema) (frame : Frame) (seen : List Exchange) (x : Exchange) (xs : List Exchange) (end : Outcome) → Contains seen (record { call = list_commits; reply = reply.Names names }) → IsGot (with (Read from to query)) (found_as there frame) (seen ++ x ∷ []) → IsTrue (lets_on x.call x.reply) → IsLookOf forms (with (Read from to query)) (found_as there frame) seen x.call
       → (asked : Result Ready Refusal) → ready_in frame there.attrs query ≡ asked → FailsByQuery asked
-      → Follows forms (with (Read from to query)) whole (found_as there frame) [] x xs end (asks_for forms from to looked frame there asked)
-  read_works looks from to query looked there frame x xs end within got on look (Ok ready) is fails =
+      → Follows forms (with (Read from to query)) seen (found_as there frame) [] x xs end (asks_for forms from to (looked_into (Read from to query) names) frame there asked)
+  read_works looks from to query names there frame seen x xs end told got on look (Ok ready) is fails =
       let job = with (Read from to query) in
-      follows_opening forms job whole looks from to query refl (found_as there frame) got ready is [] x xs end on (inl (look, refl)) (reads_on forms job whole looks from to query refl (found_as there frame) got ready is xs end within)
-      (reading_of from to looked frame there ready) [] (record { finds = refl; objects = λ o at. absurd (Contains-nil o at); further = λ s at. absurd (Contains-nil s at) })
-  read_works looks from to query looked there frame x xs end within got on look (Err r) is fails =
-      follows_refused forms (with (Read from to query)) whole (found_as there frame) [] [] x xs end r tt (inl (look, refl)) (query_cause (Read from to query) (found_as there frame) x r got fails (ap result_err is))
+      follows_opening forms job looks from to query refl (found_as there frame) ready is seen [] x xs end on (inl (look, refl)) (reads_on forms job looks from to query refl (found_as there frame) ready is (seen ++ x ∷ []) xs end)
+      (reading_of from to (looked_into (Read from to query) names) frame there ready) [] (record {
+        finds = refl;
+        got = got;
+        near = λ f at. let kept = filter-Contains (meets from to) (committed_in names) f at in (names, among_more seen x _ told, kept.0, kept.1);
+        dead = λ f at. let kept = filter-Contains (meets from to) (deletes_in names) f at in (names, among_more seen x _ told, kept.0, kept.1);
+        objects = λ o at. absurd (Contains-nil o at);
+        further = λ s at. absurd (Contains-nil s at);
+      })
+  read_works looks from to query names there frame seen x xs end told got on look (Err r) is fails =
+      follows_refused forms (with (Read from to query)) seen (found_as there frame) [] [] x xs end r tt (inl (look, refl)) (query_cause (Read from to query) (found_as there frame) (seen ++ x ∷ []) x r got fails (ap result_err is))
 
   -- an evolve
-  evolve_finds : (change : Evolution) (xs : List Exchange) (end : Outcome) → Within forms (with (Evolve change)) whole xs → Finds (with (Evolve change)) xs end (ListsSchemas nothing_listed)
-  evolve_finds change xs end within a e =
+  evolve_finds : (change : Evolution) (xs : List Exchange) (end : Outcome) → Finds (with (Evolve change)) xs end (ListsSchemas nothing_listed)
+  evolve_finds change xs end a e =
       let (there, frame, goes_on) =
-      schemas_found forms (with (Evolve change)) whole refl (λ found r. tt) (evolve_schema change) (evolve_frame change) (λ found. put_of (schema_object_of any (evolved_attrs (found.there).attrs change)) ∷ [])
-      (λ looked there frame x xs end within got says on look. evolve_works change there frame x xs end got says on look (evolution_fault frame.domain there.attrs change) refl) nothing_listed xs end within in
+      schemas_found forms (with (Evolve change)) refl (λ found seen c look. look) (λ found r. tt) (evolve_schema change) (evolve_frame change) (λ found. put_of (schema_object_of any (evolved_attrs (found.there).attrs change)) ∷ []) [] nothing_listed
+      (λ there frame seen x xs end since got says on look. evolve_works change there frame seen x xs end got says on look (evolution_fault frame.domain there.attrs change) refl) [] xs end (λ x at. at) in
       (found_as there frame, goes_on a e)
 
   -- a write
-  write_finds : (w : WriteIn) (xs : List Exchange) (end : Outcome) → Within forms (with (Write w)) whole xs → Finds (with (Write w)) xs end (ListsSchemas nothing_listed)
-  write_finds w xs end within a e =
+  write_finds : (w : WriteIn) (xs : List Exchange) (end : Outcome) → Finds (with (Write w)) xs end (ListsSchemas nothing_listed)
+  write_finds w xs end a e =
       let (there, frame, goes_on) =
-      schemas_found forms (with (Write w)) whole refl (λ found r. tt) (write_schema w) (write_frame w) (λ found. cell_puts forms (with (Write w)) found (laid found.frame (found.there).attrs w))
-      (λ looked there frame x xs end within got says on look. write_works w there frame x xs end got says on look (laid frame there.attrs w) refl (laid_fails frame there.attrs w)) nothing_listed xs end within in
+      schemas_found forms (with (Write w)) refl (λ found seen c look. look) (λ found r. tt) (write_schema w) (write_frame w) (λ found. cell_puts forms (with (Write w)) found (laid found.frame (found.there).attrs w)) [] nothing_listed
+      (λ there frame seen x xs end since got says on look. write_works w there frame seen x xs end got says on look (laid frame there.attrs w) refl (laid_fails frame there.attrs w)) [] xs end (λ x at. at) in
       (found_as there frame, goes_on a e)
 
   -- a delete
-  delete_finds : (text : List ℕ) (xs : List Exchange) (end : Outcome) → Within forms (with (Delete text)) whole xs → Finds (with (Delete text)) xs end (ListsSchemas nothing_listed)
-  delete_finds text xs end within a e =
+  delete_finds : (text : List ℕ) (xs : List Exchange) (end : Outcome) → Finds (with (Delete text)) xs end (ListsSchemas nothing_listed)
+  delete_finds text xs end a e =
       let (there, frame, goes_on) =
-      schemas_found forms (with (Delete text)) whole refl (λ found r. tt) (delete_schema text) (delete_frame text) (λ found. delete_puts (with (Delete text)) (erasing_in found.frame (found.there).attrs text))
-      (λ looked there frame x xs end within got says on look. delete_works text there frame x xs end got says on look (erasing_in frame there.attrs text) refl (erasing_fails frame there.attrs text)) nothing_listed xs end within in
+      schemas_found forms (with (Delete text)) refl (λ found seen c look. look) (λ found r. tt) (delete_schema text) (delete_frame text) (λ found. delete_puts (with (Delete text)) (erasing_in found.frame (found.there).attrs text)) [] nothing_listed
+      (λ there frame seen x xs end since got says on look. delete_works text there frame seen x xs end got says on look (erasing_in frame there.attrs text) refl (erasing_fails frame there.attrs text)) [] xs end (λ x at. at) in
       (found_as there frame, goes_on a e)
 
   -- a read
-  read_finds : AsksLooks forms → (from to : ℕ) (query : Query) (xs : List Exchange) (end : Outcome) → Within forms (with (Read from to query)) whole xs → Finds (with (Read from to query)) xs end ListsCommits
-  read_finds looks from to query [] end within a e = (found_as no_schema no_frame, goes_none forms (with (Read from to query)) whole (found_as no_schema no_frame) (list_commits ∷ list_schemas ∷ []) end ListsCommits (λ o q. cc) a e)
-  read_finds looks from to query (x ∷ xs) end within a e =
+  read_finds : AsksLooks forms → (from to : ℕ) (query : Query) (xs : List Exchange) (end : Outcome) → Finds (with (Read from to query)) xs end ListsCommits
+  read_finds looks from to query [] end a e = (found_as no_schema no_frame, goes_none forms (with (Read from to query)) [] (found_as no_schema no_frame) (list_commits ∷ list_schemas ∷ []) end ListsCommits (λ o q. cc) a e)
+  read_finds looks from to query (x ∷ xs) end a e =
       let (found, follows) = by_reply x.reply in
-      (found, goes_by forms job whole found (list_commits ∷ list_schemas ∷ []) x xs end ListsCommits list_commits refl (λ same. follows) a e)
+      (found, goes_by forms (with (Read from to query)) [] found (list_commits ∷ list_schemas ∷ []) x xs end ListsCommits list_commits refl (λ same. follows) a e)
     where
       job : Job
       job = with (Read from to query)
 
       CommitsFor : Reply → Type 0
-      CommitsFor r = (found : Found) × Follows forms job whole found (list_commits ∷ list_schemas ∷ []) (record { call = list_commits; reply = r }) xs end (goes forms job ListsCommits r)
+      CommitsFor r = (found : Found) × Follows forms job [] found (list_commits ∷ list_schemas ∷ []) (record { call = list_commits; reply = r }) xs end (goes forms job ListsCommits r)
 
       by_reply : (r : Reply) → CommitsFor r
       by_reply (reply.Names names) =
+          let y : Exchange = record { call = list_commits; reply = reply.Names names } in
           let (there, frame, later) =
-          schemas_found forms job whole refl (λ found r. tt) (λ found k r is. tt) (λ found r is. tt) (λ found. [])
-          (λ looked there frame y ys end' within' got says on look. read_works looks from to query looked there frame y ys end' within' got on look (ready_in frame there.attrs query) refl (ready_fails frame there.attrs query))
-          (looked_into (Read from to query) names) xs end (λ y at. within y (Contains-there x xs y at)) in
-          (found_as there frame, follows_on forms job whole (found_as there frame) (list_commits ∷ list_schemas ∷ []) (list_schemas ∷ []) (record { call = list_commits; reply = reply.Names names }) xs end (ListsSchemas (looked_into (Read from to query) names)) tt refl (inr refl) later)
-      by_reply r = (found_as no_schema no_frame, follows_ended forms job whole (found_as no_schema no_frame) (list_commits ∷ list_schemas ∷ []) (list_schemas ∷ []) list_commits r xs end tt tt (inr refl))
+          schemas_found forms job refl (λ found seen c look. inl look) (λ found r. tt) (λ found k r is. tt) (λ found r is. tt) (λ found. []) (y ∷ []) (looked_into (Read from to query) names)
+          (λ there frame seen z zs end' since got says on look. read_works looks from to query names there frame seen z zs end' (since y (Contains-here y [])) got on look (ready_in frame there.attrs query) refl (ready_fails frame there.attrs query))
+          (y ∷ []) xs end (λ z at. at) in
+          (found_as there frame, follows_on forms job [] (found_as there frame) (list_commits ∷ list_schemas ∷ []) (list_schemas ∷ []) y xs end (ListsSchemas (looked_into (Read from to query) names)) tt refl (inr refl) later)
+      by_reply r = (found_as no_schema no_frame, follows_ended forms job [] (found_as no_schema no_frame) (list_commits ∷ list_schemas ∷ []) (list_schemas ∷ []) list_commits r xs end tt tt (inr refl))
 
   -- ---- a create
 
@@ -250,96 +258,96 @@ module _ {F : Type 0} (forms : Forms F) (any : Job) (whole : List Exchange) wher
     found_by taken = record { taken = taken; there = no_schema; frame = no_frame }
 
     -- after a call, the first schema is put
-    first_follows : (taken : Bool) (row : List Call) (x : Exchange) (xs : List Exchange) (end : Outcome) → SaysThere (found_by taken) (Create f) x.call x.reply → IsTrue (lets_on x.call x.reply) → IsNext row x.call (put_of first_object ∷ [])
-        → Follows forms creating whole (found_by taken) row x xs end (putting (first_object ∷ []) 0 outcome.Created)
-    first_follows taken row x xs end says on following =
-        follows_putting forms creating whole (found_by taken) row x xs end (first_object ∷ []) 0 outcome.Created (f, refl) says on following
-        (puts_go forms creating whole (found_by taken) (first_object ∷ []) outcome.Created (f, refl) (schema_apart (key_of any) first_object.bytes) silent_put xs end 0)
+    first_follows : (taken : Bool) (seen : List Exchange) (row : List Call) (x : Exchange) (xs : List Exchange) (end : Outcome) → SaysThere (found_by taken) (Create f) x.call x.reply → IsTrue (lets_on x.call x.reply) → Next forms creating seen (found_by taken) row x.call (put_of first_object ∷ [])
+        → Follows forms creating seen (found_by taken) row x xs end (putting (first_object ∷ []) 0 outcome.Created)
+    first_follows taken seen row x xs end says on following =
+        follows_putting forms creating seen (found_by taken) row x xs end (first_object ∷ []) 0 outcome.Created (f, refl) says on following
+        (puts_go forms creating (seen ++ x ∷ []) (found_by taken) (first_object ∷ []) outcome.Created (f, refl) (schema_apart (key_of any) first_object.bytes) silent_put xs end 0)
       where
         silent_put : (ob : NewObject) → Contains (first_object ∷ []) ob → (r : Reply) → SaysThere (found_by taken) (Create f) (put_of ob) r
         silent_put ob at r = subst (λ o. SaysThere (found_by taken) (Create f) (put_of o) r) (Contains-only first_object ob at) tt
 
     -- the listing of the schemas
-    declared_goes : (xs : List Exchange) (end : Outcome) → Goes forms creating whole (found_by true) (list_schemas ∷ put_of first_object ∷ []) xs end ListsDeclared
-    declared_goes [] end = goes_none forms creating whole (found_by true) (list_schemas ∷ put_of first_object ∷ []) end ListsDeclared (λ o q. cc)
-    declared_goes (x ∷ xs) end = goes_by forms creating whole (found_by true) (list_schemas ∷ put_of first_object ∷ []) x xs end ListsDeclared list_schemas refl (λ same. by_reply x.reply)
+    declared_goes : (seen xs : List Exchange) (end : Outcome) → Goes forms creating seen (found_by true) (list_schemas ∷ put_of first_object ∷ []) xs end ListsDeclared
+    declared_goes seen [] end = goes_none forms creating seen (found_by true) (list_schemas ∷ put_of first_object ∷ []) end ListsDeclared (λ o q. cc)
+    declared_goes seen (x ∷ xs) end = goes_by forms creating seen (found_by true) (list_schemas ∷ put_of first_object ∷ []) x xs end ListsDeclared list_schemas refl (λ same. by_reply x.reply)
       where
-        by_names : (names : List Name) → Follows forms creating whole (found_by true) (list_schemas ∷ put_of first_object ∷ []) (record { call = list_schemas; reply = reply.Names names }) xs end
+        by_names : (names : List Name) → Follows forms creating seen (found_by true) (list_schemas ∷ put_of first_object ∷ []) (record { call = list_schemas; reply = reply.Names names }) xs end
             (cond (nat_eq (length names) 0) (putting (first_object ∷ []) 0 outcome.Created) (refuse refusal.ArrayExists))
-        by_names [] = first_follows true (list_schemas ∷ put_of first_object ∷ []) (record { call = list_schemas; reply = reply.Names [] }) xs end tt refl (inr refl)
+        by_names [] = first_follows true seen (list_schemas ∷ put_of first_object ∷ []) (record { call = list_schemas; reply = reply.Names [] }) xs end tt refl (inr refl)
         by_names (n ∷ names) =
-            subst (λ b. Follows forms creating whole (found_by true) (list_schemas ∷ put_of first_object ∷ []) (record { call = list_schemas; reply = reply.Names (n ∷ names) }) xs end (cond b (putting (first_object ∷ []) 0 outcome.Created) (refuse refusal.ArrayExists)))
+            subst (λ b. Follows forms creating seen (found_by true) (list_schemas ∷ put_of first_object ∷ []) (record { call = list_schemas; reply = reply.Names (n ∷ names) }) xs end (cond b (putting (first_object ∷ []) 0 outcome.Created) (refuse refusal.ArrayExists)))
             (sym (ne_eqb (suc (length names)) 0 (λ e. absurd (omega arith))))
-            (follows_refused forms creating whole (found_by true) (list_schemas ∷ put_of first_object ∷ []) (put_of first_object ∷ []) (record { call = list_schemas; reply = reply.Names (n ∷ names) }) xs end refusal.ArrayExists tt (inr refl)
+            (follows_refused forms creating seen (found_by true) (list_schemas ∷ put_of first_object ∷ []) (put_of first_object ∷ []) (record { call = list_schemas; reply = reply.Names (n ∷ names) }) xs end refusal.ArrayExists tt (inr refl)
             (f, refl, inr (n ∷ names, refl, lt-ltb 0 (suc (length names)) (omega arith))))
 
-        by_reply : (r : Reply) → Follows forms creating whole (found_by true) (list_schemas ∷ put_of first_object ∷ []) (record { call = list_schemas; reply = r }) xs end (goes forms creating ListsDeclared r)
+        by_reply : (r : Reply) → Follows forms creating seen (found_by true) (list_schemas ∷ put_of first_object ∷ []) (record { call = list_schemas; reply = r }) xs end (goes forms creating ListsDeclared r)
         by_reply (reply.Names names) = by_names names
-        by_reply r = follows_ended forms creating whole (found_by true) (list_schemas ∷ put_of first_object ∷ []) (put_of first_object ∷ []) list_schemas r xs end tt tt (inr refl)
+        by_reply r = follows_ended forms creating seen (found_by true) (list_schemas ∷ put_of first_object ∷ []) (put_of first_object ∷ []) list_schemas r xs end tt tt (inr refl)
 
     -- the get of the frame that was there
-    compare_goes : (xs : List Exchange) (end : Outcome) → Goes forms creating whole (found_by true) (list_schemas ∷ put_of first_object ∷ []) xs end ComparesFrame
-    compare_goes [] end = goes_none forms creating whole (found_by true) (list_schemas ∷ put_of first_object ∷ []) end ComparesFrame (λ o q. cc)
-    compare_goes (x ∷ xs) end = goes_by forms creating whole (found_by true) (list_schemas ∷ put_of first_object ∷ []) x xs end ComparesFrame get_frame refl (λ same. by_reply x.reply)
+    compare_goes : (seen xs : List Exchange) (end : Outcome) → Contains seen (record { call = frame_put f; reply = reply.Taken }) → Goes forms creating seen (found_by true) (list_schemas ∷ put_of first_object ∷ []) xs end ComparesFrame
+    compare_goes seen [] end told = goes_none forms creating seen (found_by true) (list_schemas ∷ put_of first_object ∷ []) end ComparesFrame (λ o q. cc)
+    compare_goes seen (x ∷ xs) end told = goes_by forms creating seen (found_by true) (list_schemas ∷ put_of first_object ∷ []) x xs end ComparesFrame get_frame refl (λ same. by_reply x.reply)
       where
-        by_own : (bytes : List ℕ) (b : Bool) → is_own_frame (Some f) bytes ≡ b → Follows forms creating whole (found_by true) (list_schemas ∷ put_of first_object ∷ []) (record { call = get_frame; reply = reply.Bytes bytes }) xs end (cond b ListsDeclared (refuse refusal.ArrayExists))
-        by_own bytes true is = follows_on forms creating whole (found_by true) (list_schemas ∷ put_of first_object ∷ []) (list_schemas ∷ put_of first_object ∷ []) (record { call = get_frame; reply = reply.Bytes bytes }) xs end ListsDeclared tt refl (inl (refl, refl)) (declared_goes xs end)
+        by_own : (bytes : List ℕ) (b : Bool) → is_own_frame (Some f) bytes ≡ b → Follows forms creating seen (found_by true) (list_schemas ∷ put_of first_object ∷ []) (record { call = get_frame; reply = reply.Bytes bytes }) xs end (cond b ListsDeclared (refuse refusal.ArrayExists))
+        by_own bytes true is = follows_on forms creating seen (found_by true) (list_schemas ∷ put_of first_object ∷ []) (list_schemas ∷ put_of first_object ∷ []) (record { call = get_frame; reply = reply.Bytes bytes }) xs end ListsDeclared tt refl (inl ((told, refl), refl)) (declared_goes (seen ++ record { call = get_frame; reply = reply.Bytes bytes } ∷ []) xs end)
         by_own bytes false is =
-            follows_refused forms creating whole (found_by true) (list_schemas ∷ put_of first_object ∷ []) (list_schemas ∷ put_of first_object ∷ []) (record { call = get_frame; reply = reply.Bytes bytes }) xs end refusal.ArrayExists tt (inl (refl, refl)) (f, refl, inl (bytes, refl, is))
+            follows_refused forms creating seen (found_by true) (list_schemas ∷ put_of first_object ∷ []) (list_schemas ∷ put_of first_object ∷ []) (record { call = get_frame; reply = reply.Bytes bytes }) xs end refusal.ArrayExists tt (inl ((told, refl), refl)) (f, refl, inl (bytes, refl, is))
 
-        by_reply : (r : Reply) → Follows forms creating whole (found_by true) (list_schemas ∷ put_of first_object ∷ []) (record { call = get_frame; reply = r }) xs end (goes forms creating ComparesFrame r)
+        by_reply : (r : Reply) → Follows forms creating seen (found_by true) (list_schemas ∷ put_of first_object ∷ []) (record { call = get_frame; reply = r }) xs end (goes forms creating ComparesFrame r)
         by_reply (reply.Bytes bytes) = by_own bytes (is_own_frame (Some f) bytes) refl
-        by_reply r = follows_ended forms creating whole (found_by true) (list_schemas ∷ put_of first_object ∷ []) (list_schemas ∷ put_of first_object ∷ []) get_frame r xs end tt tt (inl (refl, refl))
+        by_reply r = follows_ended forms creating seen (found_by true) (list_schemas ∷ put_of first_object ∷ []) (list_schemas ∷ put_of first_object ∷ []) get_frame r xs end tt tt (inl ((told, refl), refl))
 
     -- a create
     create_finds : (xs : List Exchange) (end : Outcome) → Finds creating xs end PutsFrame
-    create_finds [] end a e = (found_by false, goes_none forms creating whole (found_by false) (row_of forms creating (found_by false)) end PutsFrame (λ o q. cc) a e)
+    create_finds [] end a e = (found_by false, goes_none forms creating [] (found_by false) (row_of forms creating (found_by false)) end PutsFrame (λ o q. cc) a e)
     create_finds (x ∷ xs) end a e =
         let (taken, follows) = by_reply x.reply in
-        (found_by taken, goes_by forms creating whole (found_by taken) (row_of forms creating (found_by taken)) x xs end PutsFrame (frame_put f) refl (λ same. follows) a e)
+        (found_by taken, goes_by forms creating [] (found_by taken) (row_of forms creating (found_by taken)) x xs end PutsFrame (frame_put f) refl (λ same. follows) a e)
       where
         FrameFor : Reply → Type 0
-        FrameFor r = (taken : Bool) × Follows forms creating whole (found_by taken) (row_of forms creating (found_by taken)) (record { call = frame_put f; reply = r }) xs end (goes forms creating PutsFrame r)
+        FrameFor r = (taken : Bool) × Follows forms creating [] (found_by taken) (row_of forms creating (found_by taken)) (record { call = frame_put f; reply = r }) xs end (goes forms creating PutsFrame r)
 
         by_reply : (r : Reply) → FrameFor r
-        by_reply reply.Made = (false, first_follows false (row_of forms creating (found_by false)) (record { call = frame_put f; reply = reply.Made }) xs end refl refl (inr refl))
-        by_reply reply.Taken = (true, follows_on forms creating whole (found_by true) (row_of forms creating (found_by true)) (list_schemas ∷ put_of first_object ∷ []) (record { call = frame_put f; reply = reply.Taken }) xs end ComparesFrame refl refl (inr refl) (compare_goes xs end))
-        by_reply r = (false, follows_ended forms creating whole (found_by false) (row_of forms creating (found_by false)) (put_of first_object ∷ []) (frame_put f) r xs end tt tt (inr refl))
+        by_reply reply.Made = (false, first_follows false [] (row_of forms creating (found_by false)) (record { call = frame_put f; reply = reply.Made }) xs end refl refl (inr refl))
+        by_reply reply.Taken = (true, follows_on forms creating [] (found_by true) (row_of forms creating (found_by true)) (list_schemas ∷ put_of first_object ∷ []) (record { call = frame_put f; reply = reply.Taken }) xs end ComparesFrame refl refl (inr refl) (compare_goes (record { call = frame_put f; reply = reply.Taken } ∷ []) xs end (Contains-here (record { call = frame_put f; reply = reply.Taken }) [])))
+        by_reply r = (false, follows_ended forms creating [] (found_by false) (row_of forms creating (found_by false)) (put_of first_object ∷ []) (frame_put f) r xs end tt tt (inr refl))
 
   -- ---- where a job begins
 
   -- the ends of a whole trace along the row of a job
-  ends_along : (job : Job) (found : Found) (row : List Call) (end : Outcome) → Ends forms job whole found row whole end → EndsAlong forms job found row whole end
-  ends_along job found row outcome.Created h = h
-  ends_along job found row (outcome.Evolved k) h = h
-  ends_along job found row (outcome.Written f) h = h
-  ends_along job found row (outcome.Deleted f) h = h
-  ends_along job found row (outcome.Read answer) h = h
-  ends_along job found row (outcome.Refused r) h = h
-  ends_along job found row outcome.OutOfMemory h = h
+  ends_along : (job : Job) (found : Found) (row : List Call) (whole : List Exchange) (end : Outcome) → Ends forms job [] found row whole end → EndsAlong forms job found row whole end
+  ends_along job found row whole outcome.Created h = h
+  ends_along job found row whole (outcome.Evolved k) h = h
+  ends_along job found row whole (outcome.Written f) h = h
+  ends_along job found row whole (outcome.Deleted f) h = h
+  ends_along job found row whole (outcome.Read answer) h = h
+  ends_along job found row whole (outcome.Refused r) h = h
+  ends_along job found row whole outcome.OutOfMemory h = h
 
   -- what a job found, and how it may end
-  abbrev MayEnd : Job → Found → Outcome → Option Refusal → Type 0
-  MayEnd job found end r = AreFound job found whole × MayEndAs forms job found whole end r
+  abbrev MayEnd : Job → Found → List Exchange → Outcome → Option Refusal → Type 0
+  MayEnd job found whole end r = AreFound job found whole × MayEndAs forms job found whole end r
 
   -- where no refusal comes before the first call
-  begins_finds : AsksLooks forms → (command : Command) (end : Outcome) → Finds (with command) whole end (begins command)
-  begins_finds looks (Create f) end = create_finds f whole end
-  begins_finds looks (Evolve change) end = evolve_finds change whole end (λ x at. at)
-  begins_finds looks (Write w) end = write_finds w whole end (λ x at. at)
-  begins_finds looks (Read from to query) end = read_finds looks from to query whole end (λ x at. at)
-  begins_finds looks (Delete text) end = delete_finds text whole end (λ x at. at)
+  begins_finds : AsksLooks forms → (command : Command) (whole : List Exchange) (end : Outcome) → Finds (with command) whole end (begins command)
+  begins_finds looks (Create f) whole end = create_finds f whole end
+  begins_finds looks (Evolve change) whole end = evolve_finds change whole end
+  begins_finds looks (Write w) whole end = write_finds w whole end
+  begins_finds looks (Read from to query) whole end = read_finds looks from to query whole end
+  begins_finds looks (Delete text) whole end = delete_finds text whole end
 
   -- a job of any command
-  pub begun_finds : AsksLooks forms → (command : Command) (end : Outcome) → AskedFrom forms (with command) (begun command) whole → EndsFrom forms (with command) (begun command) whole end
-      → (found : Found) × MayEnd (with command) found end (refused_before command)
-  begun_finds looks command end a e = by_refusal (refused_before command) a e
+  pub begun_finds : AsksLooks forms → (command : Command) (whole : List Exchange) (end : Outcome) → AskedFrom forms (with command) (begun command) whole → EndsFrom forms (with command) (begun command) whole end
+      → (found : Found) × MayEnd (with command) found whole end (refused_before command)
+  begun_finds looks command whole end a e = by_refusal (refused_before command) a e
     where
       by_refusal : (r : Option Refusal) → AskedFrom forms (with command) (unless_refused (begins command) r) whole → EndsFrom forms (with command) (unless_refused (begins command) r) whole end
-          → (found : Found) × MayEnd (with command) found end r
+          → (found : Found) × MayEnd (with command) found whole end r
       by_refusal None a' e' =
-          let (found, told) = begins_finds looks command end a' e' in
-          (found, (told.0, ends_along (with command) found (row_of forms (with command) found) end told.1))
+          let (found, told) = begins_finds looks command whole end a' e' in
+          (found, (told.0, ends_along (with command) found (row_of forms (with command) found) whole end told.1))
       by_refusal (Some r) a' e' =
-          let over = over_ends forms (with command) whole (outcome.Refused r) whole end a' e' in
+          let over = over_ends forms (with command) (outcome.Refused r) whole end a' e' in
           (found_as no_schema no_frame, (subst (AreFound (with command) (found_as no_schema no_frame)) (sym over.0) (All-nil (λ x. SaysThere (found_as no_schema no_frame) command x.call x.reply)), over))

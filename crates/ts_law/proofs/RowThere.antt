@@ -1,6 +1,7 @@
 -- A job that works in a schema lists the schemas, and gets the schema there and the frame.
-use Rattle.std.proofs.Common.{◌≡◌, ℕ, false, List, [], ◌∷◌, Option, Some, None, Result, Ok, Err, IsTrue, refl, inl, inr, subst}
-use Rattle.std.specs.Prelude.{Contains, ⊤}
+use Rattle.std.proofs.Common.{◌≡◌, ℕ, false, List, [], ◌∷◌, ◌++◌, Option, Some, None, Result, Ok, Err, IsTrue, refl, inl, inr}
+use Rattle.std.specs.Prelude.{⊤}
+use Rattle.std.proofs.lemmas.List.Elements.{Contains-push}
 use Rattle.ts_base.specs.declared.keys.Key.{Key}
 use Rattle.ts_base.specs.declared.names.Name.{Name}
 use Rattle.ts_schema.specs.declared.frames.Frame.{Frame}
@@ -14,13 +15,13 @@ use Rattle.ts_store.specs.declared.call.Reply.{Reply}
 use Rattle.ts_model.specs.declared.commands.Job.{Job}
 use Rattle.ts_model.specs.declared.answers.Outcome.{Outcome}
 use Rattle.ts_model.specs.declared.states.State.TheVariants.{ListsSchemas, GetsSchema, GetsFrame}
-use Rattle.ts_model.specs.Forms.{Forms, is_look}
+use Rattle.ts_model.specs.Forms.{Forms}
 use Rattle.ts_model.specs.Jobs.{looked_at}
 use Rattle.ts_model.specs.States.{Exchange, goes, ended, get_schema, get_frame, list_schemas, schemas_in, made_by, works as comes_to}
-use Rattle.ts_law.specs.Rows.{Found, IsSchemaIn, IsFrameIn, SaysThere, GotSchema, IsGot, lets_on}
-use Rattle.ts_model.proofs.ListLemmas.{Contains-here, Contains-there}
+use Rattle.ts_law.specs.Rows.{Found, IsSchemaIn, IsFrameIn, SaysThere, GotSchema, IsKeyThere, IsGot, LooksThere, IsLookOf, lets_on}
 use Rattle.ts_model.specs.declared.states.Listed.{Listed}
-use Rattle.ts_law.proofs.RowCalls.{Goes, Follows, follows_on, follows_refused, follows_ended, goes_none, goes_by, Within}
+use Rattle.ts_law.proofs.RowCalls.{Goes, Follows, follows_on, follows_refused, follows_ended, goes_none, goes_by}
+use Rattle.ts_law.proofs.RowGrows.{AreAmong, among_more, schema_stays, key_stays}
 use Rattle.ts_domain.specs.declared.orders.Order.TheVariants as order
 use Rattle.ts_base.specs.declared.names.Name.TheVariants as name
 use Rattle.ts_store.specs.declared.call.Reply.TheVariants as reply
@@ -45,35 +46,30 @@ abbrev pub OfBytes : (List ℕ → Type 0) → Reply → Type 0
 OfBytes P (reply.Bytes bytes) = P bytes
 OfBytes P r = ⊤
 
-module _ {F : Type 0} (forms : Forms F) (job : Job) (whole : List Exchange) (no_create : made_by job.command ≡ None)
+module _ {F : Type 0} (forms : Forms F) (job : Job) (no_create : made_by job.command ≡ None)
+    (may_look : (found : Found) (seen : List Exchange) (c : Call) → LooksThere job seen c → IsLookOf forms job found seen c)
     (says_list : (found : Found) (r : Reply) → SaysThere found job.command list_schemas r)
     (says_schema : (found : Found) (k : Key) (r : Reply) → OfBytes (λ bytes. IsSchemaIn found.there k (schema_of bytes)) r → SaysThere found job.command (get_schema k) r)
     (says_frame : (found : Found) (r : Reply) → OfBytes (λ bytes. IsFrameIn found.frame (frame_of bytes)) r → SaysThere found job.command get_frame r)
-    (tail : Found → List Call)
-    (works_go : (listed : Listed) (there : Schema) (frame : Frame) (x : Exchange) (xs : List Exchange) (end : Outcome) → Within forms job whole xs → IsGot job (found_as there frame) whole → SaysThere (found_as there frame) job.command x.call x.reply → IsTrue (lets_on x.call x.reply)
-    → IsTrue (is_look x.call) → Follows forms job whole (found_as there frame) (tail (found_as there frame)) x xs end (comes_to forms job job.command listed frame there)) where
-  -- the key is that of the schema there of the job's listing
-  record ListedKey (k : Key) : Type 0 where
-    names : List Name
-    listed : Contains whole (record { call = list_schemas; reply = reply.Names names })
-    newest : schema_at (schemas_in names) (looked_at job) ≡ Some k
-
-  -- the job got the schema there
-  record GotThere (there : Schema) : Type 0 where
-    key : ListedKey there.key
-    spelled : GotSchema whole there
+    (tail : Found → List Call) (early : List Exchange) (looked : Listed)
+    (works_go : (there : Schema) (frame : Frame) (seen : List Exchange) (x : Exchange) (xs : List Exchange) (end : Outcome) → AreAmong early seen → IsGot job (found_as there frame) (seen ++ x ∷ []) → SaysThere (found_as there frame) job.command x.call x.reply
+    → IsTrue (lets_on x.call x.reply) → IsLookOf forms job (found_as there frame) seen x.call → Follows forms job seen (found_as there frame) (tail (found_as there frame)) x xs end (comes_to forms job job.command looked frame there)) where
+  -- a job got the schema there
+  record GotThere (seen : List Exchange) (there : Schema) : Type 0 where
+    key : IsKeyThere job seen there.key
+    spelled : GotSchema seen there
 
   -- with the frame it got all that it found
-  got_all : (there : Schema) (frame : Frame) (bytes : List ℕ) → GotThere there → Contains whole (record { call = get_frame; reply = reply.Bytes bytes }) → frame_of bytes ≡ Ok frame → IsGot job (found_as there frame) whole
-  got_all there frame bytes have got is = record {
-    names = have.key.names;
-    listed = have.key.listed;
-    newest = have.key.newest;
-    schema = have.spelled;
-    frame_bytes = bytes;
-    frame_got = got;
-    frame_is = is;
-  }
+  got_all : (seen : List Exchange) (there : Schema) (frame : Frame) (bytes : List ℕ) → GotThere seen there → frame_of bytes ≡ Ok frame → IsGot job (found_as there frame) (seen ++ record { call = get_frame; reply = reply.Bytes bytes } ∷ [])
+  got_all seen there frame bytes have is =
+      let x : Exchange = record { call = get_frame; reply = reply.Bytes bytes } in
+      record {
+        key = key_stays job seen (seen ++ x ∷ []) there.key (among_more seen x) have.key;
+        schema = schema_stays seen (seen ++ x ∷ []) there (among_more seen x) have.spelled;
+        frame_bytes = bytes;
+        frame_got = Contains-push seen x;
+        frame_is = is;
+      }
 
   -- bytes that are broken spell no other schema
   silent_schema : (found : Found) (k : Key) (at : ℕ) (bytes : List ℕ) → schema_of bytes ≡ Err at → IsSchemaIn found.there k (schema_of bytes)
@@ -83,108 +79,113 @@ module _ {F : Type 0} (forms : Forms F) (job : Job) (whole : List Exchange) (no_
   silent_frame : (found : Found) (at : ℕ) (bytes : List ℕ) → frame_of bytes ≡ Err at → IsFrameIn found.frame (frame_of bytes)
   silent_frame found at bytes is = rw is tt
 
+  -- the get of the frame is a look
+  looks_frame : (seen : List Exchange) (there : Schema) (found : Found) → GotThere seen there → IsLookOf forms job found seen get_frame
+  looks_frame seen there found have = may_look found seen get_frame (inr (there, have.key, have.spelled, refl))
+
+  -- so is that of the schema there
+  looks_schema : (seen : List Exchange) (k : Key) (found : Found) → IsKeyThere job seen k → IsLookOf forms job found seen (get_schema k)
+  looks_schema seen k found is = may_look found seen (get_schema k) (inl (k, is, refl))
+
   -- the get of the frame says which it is
-  frame_found : (looked : Listed) (there : Schema) (xs : List Exchange) (end : Outcome) → Within forms job whole xs
-      → (frame : Frame) × (GotThere there → Goes forms job whole (found_as there frame) (tail (found_as there frame)) xs end (GetsFrame looked there))
-  frame_found looked there [] end within = (no_frame, λ have. goes_none forms job whole (found_as there no_frame) (tail (found_as there no_frame)) end (GetsFrame looked there) (λ o q. cc))
-  frame_found looked there (x ∷ xs) end within =
-      let (frame, follows) = by_reply x.reply in (
-        frame,
-        λ have. goes_by forms job whole (found_as there frame) (tail (found_as there frame)) x xs end (GetsFrame looked there) get_frame refl
-            (λ same. follows have (subst (λ c. Contains whole (record { call = c; reply = x.reply })) same (within x (Contains-here x xs)))),
-      )
+  frame_found : (there : Schema) (seen xs : List Exchange) (end : Outcome) → AreAmong early seen
+      → (frame : Frame) × (GotThere seen there → Goes forms job seen (found_as there frame) (tail (found_as there frame)) xs end (GetsFrame looked there))
+  frame_found there seen [] end since = (no_frame, λ have. goes_none forms job seen (found_as there no_frame) (tail (found_as there no_frame)) end (GetsFrame looked there) (λ o q. cc))
+  frame_found there seen (x ∷ xs) end since =
+      let (frame, follows) = by_reply x.reply in
+      (frame, λ have. goes_by forms job seen (found_as there frame) (tail (found_as there frame)) x xs end (GetsFrame looked there) get_frame refl (λ same. follows have))
     where
       FrameFor : Reply → Type 0
-      FrameFor r = (frame : Frame)
-          × (GotThere there → Contains whole (record { call = get_frame; reply = r }) → Follows forms job whole (found_as there frame) (tail (found_as there frame)) (record { call = get_frame; reply = r }) xs end (goes forms job (GetsFrame looked there) r))
+      FrameFor r = (frame : Frame) × (GotThere seen there → Follows forms job seen (found_as there frame) (tail (found_as there frame)) (record { call = get_frame; reply = r }) xs end (goes forms job (GetsFrame looked there) r))
 
       by_frame : (bytes : List ℕ) (f : Result Frame ℕ) → frame_of bytes ≡ f → FrameFor (reply.Bytes bytes)
-      by_frame bytes (Ok frame) is =
-          (frame, λ have got. rw is (works_go looked there frame (record { call = get_frame; reply = reply.Bytes bytes }) xs end (λ y at. within y (Contains-there x xs y at)) (got_all there frame bytes have got is) (says_frame (found_as there frame) (reply.Bytes bytes) (rw is refl)) refl refl))
+      by_frame bytes (Ok frame) is = (
+        frame,
+        λ have. rw is (works_go there frame seen (record { call = get_frame; reply = reply.Bytes bytes }) xs end since (got_all seen there frame bytes have is) (says_frame (found_as there frame) (reply.Bytes bytes) (rw is refl)) refl
+            (looks_frame seen there (found_as there frame) have)),
+      )
       by_frame bytes (Err at) is = (
         no_frame,
-        λ have got. rw is (follows_refused forms job whole (found_as there no_frame) (tail (found_as there no_frame)) (tail (found_as there no_frame)) (record { call = get_frame; reply = reply.Bytes bytes }) xs end (refusal.Damaged name.Domain at)
-            (says_frame (found_as there no_frame) (reply.Bytes bytes) (silent_frame (found_as there no_frame) at bytes is)) (inl (refl, refl)) (inl (bytes, got, is))),
+        λ have. rw is (follows_refused forms job seen (found_as there no_frame) (tail (found_as there no_frame)) (tail (found_as there no_frame)) (record { call = get_frame; reply = reply.Bytes bytes }) xs end (refusal.Damaged name.Domain at)
+            (says_frame (found_as there no_frame) (reply.Bytes bytes) (silent_frame (found_as there no_frame) at bytes is)) (inl (looks_frame seen there (found_as there no_frame) have, refl))
+            (inl (bytes, Contains-push seen (record { call = get_frame; reply = reply.Bytes bytes }), is))),
       )
 
-      other : (r : Reply) → OfBytes (λ bytes. IsFrameIn no_frame (frame_of bytes)) r → Follows forms job whole (found_as there no_frame) (tail (found_as there no_frame)) (record { call = get_frame; reply = r }) xs end (ended get_frame r)
-      other r quiet = follows_ended forms job whole (found_as there no_frame) (tail (found_as there no_frame)) (tail (found_as there no_frame)) get_frame r xs end tt (says_frame (found_as there no_frame) r quiet) (inl (refl, refl))
+      other : (r : Reply) → OfBytes (λ bytes. IsFrameIn no_frame (frame_of bytes)) r → GotThere seen there → Follows forms job seen (found_as there no_frame) (tail (found_as there no_frame)) (record { call = get_frame; reply = r }) xs end (ended get_frame r)
+      other r quiet have =
+          follows_ended forms job seen (found_as there no_frame) (tail (found_as there no_frame)) (tail (found_as there no_frame)) get_frame r xs end tt (says_frame (found_as there no_frame) r quiet) (inl (looks_frame seen there (found_as there no_frame) have, refl))
 
       by_reply : (r : Reply) → FrameFor r
       by_reply (reply.Bytes bytes) = by_frame bytes (frame_of bytes) refl
-      by_reply r = (no_frame, λ have got. other r tt)
+      by_reply r = (no_frame, λ have. other r tt have)
 
   -- the get of the schema there says which it is
-  schema_found : (looked : Listed) (k : Key) (xs : List Exchange) (end : Outcome) → Within forms job whole xs
-      → (there : Schema) × (frame : Frame) × (ListedKey k → Goes forms job whole (found_as there frame) (tail (found_as there frame)) xs end (GetsSchema looked k))
-  schema_found looked k [] end within = (no_schema, no_frame, λ listed. goes_none forms job whole (found_as no_schema no_frame) (tail (found_as no_schema no_frame)) end (GetsSchema looked k) (λ o q. cc))
-  schema_found looked k (x ∷ xs) end within =
-      let (there, frame, follows) = by_reply x.reply in (
-        there,
-        frame,
-        λ listed. goes_by forms job whole (found_as there frame) (tail (found_as there frame)) x xs end (GetsSchema looked k) (get_schema k) refl
-            (λ same. follows listed (subst (λ c. Contains whole (record { call = c; reply = x.reply })) same (within x (Contains-here x xs)))),
-      )
+  schema_found : (k : Key) (seen xs : List Exchange) (end : Outcome) → AreAmong early seen
+      → (there : Schema) × (frame : Frame) × (IsKeyThere job seen k → Goes forms job seen (found_as there frame) (tail (found_as there frame)) xs end (GetsSchema looked k))
+  schema_found k seen [] end since = (no_schema, no_frame, λ listed. goes_none forms job seen (found_as no_schema no_frame) (tail (found_as no_schema no_frame)) end (GetsSchema looked k) (λ o q. cc))
+  schema_found k seen (x ∷ xs) end since =
+      let (there, frame, follows) = by_reply x.reply in
+      (there, frame, λ listed. goes_by forms job seen (found_as there frame) (tail (found_as there frame)) x xs end (GetsSchema looked k) (get_schema k) refl (λ same. follows listed))
     where
       SchemaFor : Reply → Type 0
       SchemaFor r = (there : Schema) × (frame : Frame)
-          × (ListedKey k → Contains whole (record { call = get_schema k; reply = r }) → Follows forms job whole (found_as there frame) (tail (found_as there frame)) (record { call = get_schema k; reply = r }) xs end (goes forms job (GetsSchema looked k) r))
+          × (IsKeyThere job seen k → Follows forms job seen (found_as there frame) (tail (found_as there frame)) (record { call = get_schema k; reply = r }) xs end (goes forms job (GetsSchema looked k) r))
 
       by_attrs : (bytes : List ℕ) (a : Result (List Attr) ℕ) → schema_of bytes ≡ a → SchemaFor (reply.Bytes bytes)
       by_attrs bytes (Ok attrs) is =
           let there : Schema = record { key = k; attrs = attrs } in
-          let (frame, later) = frame_found looked there xs end (λ y at. within y (Contains-there x xs y at)) in (
+          let y : Exchange = record { call = get_schema k; reply = reply.Bytes bytes } in
+          let (frame, later) = frame_found there (seen ++ y ∷ []) xs end (λ z at. among_more seen y z (since z at)) in (
             there,
             frame,
-            λ listed got. rw is (follows_on forms job whole (found_as there frame) (tail (found_as there frame)) (tail (found_as there frame)) (record { call = get_schema k; reply = reply.Bytes bytes }) xs end (GetsFrame looked there)
-                (says_schema (found_as there frame) k (reply.Bytes bytes) (rw is refl)) refl (inl (refl, refl)) (later (record { key = listed; spelled = (bytes, got, is) }))),
+            λ listed. rw is (follows_on forms job seen (found_as there frame) (tail (found_as there frame)) (tail (found_as there frame)) y xs end (GetsFrame looked there)
+                (says_schema (found_as there frame) k (reply.Bytes bytes) (rw is refl)) refl (inl (looks_schema seen k (found_as there frame) listed, refl))
+                (later (record { key = key_stays job seen (seen ++ y ∷ []) k (among_more seen y) listed; spelled = (bytes, Contains-push seen y, is) }))),
           )
-      by_attrs bytes (Err at) is = (
-        no_schema,
-        no_frame,
-        λ listed got. rw is (follows_refused forms job whole (found_as no_schema no_frame) (tail (found_as no_schema no_frame)) (tail (found_as no_schema no_frame)) (record { call = get_schema k; reply = reply.Bytes bytes }) xs end (refusal.Damaged (name.Schema k) at)
-            (says_schema (found_as no_schema no_frame) k (reply.Bytes bytes) (silent_schema (found_as no_schema no_frame) k at bytes is)) (inl (refl, refl)) (inl (bytes, got, is))),
-      )
+      by_attrs bytes (Err at) is =
+          let y : Exchange = record { call = get_schema k; reply = reply.Bytes bytes } in (
+            no_schema,
+            no_frame,
+            λ listed. rw is (follows_refused forms job seen (found_as no_schema no_frame) (tail (found_as no_schema no_frame)) (tail (found_as no_schema no_frame)) y xs end (refusal.Damaged (name.Schema k) at)
+                (says_schema (found_as no_schema no_frame) k (reply.Bytes bytes) (silent_schema (found_as no_schema no_frame) k at bytes is)) (inl (looks_schema seen k (found_as no_schema no_frame) listed, refl)) (inl (bytes, Contains-push seen y, is))),
+          )
 
-      other : (r : Reply) → OfBytes (λ bytes. IsSchemaIn no_schema k (schema_of bytes)) r → Follows forms job whole (found_as no_schema no_frame) (tail (found_as no_schema no_frame)) (record { call = get_schema k; reply = r }) xs end (ended (get_schema k) r)
-      other r quiet = follows_ended forms job whole (found_as no_schema no_frame) (tail (found_as no_schema no_frame)) (tail (found_as no_schema no_frame)) (get_schema k) r xs end tt (says_schema (found_as no_schema no_frame) k r quiet) (inl (refl, refl))
+      other : (r : Reply) → OfBytes (λ bytes. IsSchemaIn no_schema k (schema_of bytes)) r → IsKeyThere job seen k → Follows forms job seen (found_as no_schema no_frame) (tail (found_as no_schema no_frame)) (record { call = get_schema k; reply = r }) xs end (ended (get_schema k) r)
+      other r quiet listed =
+          follows_ended forms job seen (found_as no_schema no_frame) (tail (found_as no_schema no_frame)) (tail (found_as no_schema no_frame)) (get_schema k) r xs end tt (says_schema (found_as no_schema no_frame) k r quiet) (inl (looks_schema seen k (found_as no_schema no_frame) listed, refl))
 
       by_reply : (r : Reply) → SchemaFor r
       by_reply (reply.Bytes bytes) = by_attrs bytes (schema_of bytes) refl
-      by_reply r = (no_schema, no_frame, λ listed got. other r tt)
+      by_reply r = (no_schema, no_frame, λ listed. other r tt listed)
 
   -- the listing of the schemas comes first
-  pub schemas_found : (looked : Listed) (xs : List Exchange) (end : Outcome) → Within forms job whole xs
-      → (there : Schema) × (frame : Frame) × Goes forms job whole (found_as there frame) (list_schemas ∷ tail (found_as there frame)) xs end (ListsSchemas looked)
-  schemas_found looked [] end within = (no_schema, no_frame, goes_none forms job whole (found_as no_schema no_frame) (list_schemas ∷ tail (found_as no_schema no_frame)) end (ListsSchemas looked) (λ o q. cc))
-  schemas_found looked (x ∷ xs) end within =
-      let (there, frame, follows) = by_reply x.reply in (
-        there,
-        frame,
-        goes_by forms job whole (found_as there frame) (list_schemas ∷ tail (found_as there frame)) x xs end (ListsSchemas looked) list_schemas refl
-            (λ same. follows (subst (λ c. Contains whole (record { call = c; reply = x.reply })) same (within x (Contains-here x xs)))),
-      )
+  pub schemas_found : (seen xs : List Exchange) (end : Outcome) → AreAmong early seen
+      → (there : Schema) × (frame : Frame) × Goes forms job seen (found_as there frame) (list_schemas ∷ tail (found_as there frame)) xs end (ListsSchemas looked)
+  schemas_found seen [] end since = (no_schema, no_frame, goes_none forms job seen (found_as no_schema no_frame) (list_schemas ∷ tail (found_as no_schema no_frame)) end (ListsSchemas looked) (λ o q. cc))
+  schemas_found seen (x ∷ xs) end since =
+      let (there, frame, follows) = by_reply x.reply in
+      (there, frame, goes_by forms job seen (found_as there frame) (list_schemas ∷ tail (found_as there frame)) x xs end (ListsSchemas looked) list_schemas refl (λ same. follows))
     where
       ListedFor : Reply → Type 0
-      ListedFor r = (there : Schema) × (frame : Frame)
-          × (Contains whole (record { call = list_schemas; reply = r }) → Follows forms job whole (found_as there frame) (list_schemas ∷ tail (found_as there frame)) (record { call = list_schemas; reply = r }) xs end (goes forms job (ListsSchemas looked) r))
+      ListedFor r = (there : Schema) × (frame : Frame) × Follows forms job seen (found_as there frame) (list_schemas ∷ tail (found_as there frame)) (record { call = list_schemas; reply = r }) xs end (goes forms job (ListsSchemas looked) r)
 
       by_key : (names : List Name) (k : Option Key) → schema_at (schemas_in names) (looked_at job) ≡ k → ListedFor (reply.Names names)
       by_key names (Some k) is =
-          let (there, frame, later) = schema_found looked k xs end (λ y at. within y (Contains-there x xs y at)) in (
+          let y : Exchange = record { call = list_schemas; reply = reply.Names names } in
+          let (there, frame, later) = schema_found k (seen ++ y ∷ []) xs end (λ z at. among_more seen y z (since z at)) in (
             there,
             frame,
-            λ got. rw is (follows_on forms job whole (found_as there frame) (list_schemas ∷ tail (found_as there frame)) (tail (found_as there frame)) (record { call = list_schemas; reply = reply.Names names }) xs end (GetsSchema looked k)
-                (says_list (found_as there frame) (reply.Names names)) refl (inr refl) (later (record { names = names; listed = got; newest = is }))),
+            rw is (follows_on forms job seen (found_as there frame) (list_schemas ∷ tail (found_as there frame)) (tail (found_as there frame)) y xs end (GetsSchema looked k)
+                (says_list (found_as there frame) (reply.Names names)) refl (inr refl) (later (record { names = names; listed = Contains-push seen y; newest = is }))),
           )
       by_key names None is = (
         no_schema,
         no_frame,
-        λ got. rw is (follows_refused forms job whole (found_as no_schema no_frame) (list_schemas ∷ tail (found_as no_schema no_frame)) (tail (found_as no_schema no_frame)) (record { call = list_schemas; reply = reply.Names names }) xs end
+        rw is (follows_refused forms job seen (found_as no_schema no_frame) (list_schemas ∷ tail (found_as no_schema no_frame)) (tail (found_as no_schema no_frame)) (record { call = list_schemas; reply = reply.Names names }) xs end
             (refusal.NoSchema (looked_at job)) (says_list (found_as no_schema no_frame) (reply.Names names)) (inr refl) (no_create, names, refl, refl, is)),
       )
 
       by_reply : (r : Reply) → ListedFor r
       by_reply (reply.Names names) = by_key names (schema_at (schemas_in names) (looked_at job)) refl
       by_reply r =
-          (no_schema, no_frame, λ got. follows_ended forms job whole (found_as no_schema no_frame) (list_schemas ∷ tail (found_as no_schema no_frame)) (tail (found_as no_schema no_frame)) list_schemas r xs end tt (says_list (found_as no_schema no_frame) r) (inr refl))
+          (no_schema, no_frame, follows_ended forms job seen (found_as no_schema no_frame) (list_schemas ∷ tail (found_as no_schema no_frame)) (tail (found_as no_schema no_frame)) list_schemas r xs end tt (says_list (found_as no_schema no_frame) r) (inr refl))

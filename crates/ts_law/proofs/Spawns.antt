@@ -28,8 +28,8 @@ use Rattle.ts_law.specs.Ends.{HasDeclared, IsCreated, IsTrueEnd, IsTrueRefusal, 
 use Rattle.ts_model.specs.Forms.{Forms, Spelled, Tracking}
 use Rattle.ts_law.specs.Fresh.{IsCarried, IsNewId, id_in}
 use Rattle.ts_model.specs.Jobs.{AreApart, IsFit, erasure_as, job_with, key_of, looked_at, schema_of_job, written_as}
-use Rattle.ts_law.specs.Kept.{Aims, AreErasures, AreGot, AreOpen, AreSchemas, Claims, Clean, Erasing, Fetching, Gathering, HasListed, HasNear, IsOfJobs, Kept, Near, OnWay, Opening, Putting, ReadsAt, ReadsIn, Works}
-use Rattle.ts_law.specs.Stands.{HoldsOne, Stands}
+use Rattle.ts_law.specs.Kept.{Aims, AreErasures, AreGot, AreOpen, AreSchemas, Claims, Clean, Erasing, Fetching, Gathering, HasListed, HasNear, IsOfJobs, Kept, Near, OnWay, Opening, Putting, ReadsAt, ReadsIn, Works, heads_of}
+use Rattle.ts_law.specs.Stands.{HoldsIn, WentInto, Stands}
 use Rattle.ts_model.specs.States.{begun, keys_named, made_by, state_of, unless_refused}
 use Rattle.ts_model.specs.Told.{Told, cells_of, condition_of, declared_by, deed_in, deed_of, deed_told, erased_by, erased_in, grown, history_from, history_told, is_by, schema_used, schemas_found, trace_of, written_by, written_in}
 use Rattle.ts_model.specs.declared.answers.Outcome.{Outcome}
@@ -337,9 +337,10 @@ module _ (jobs : List Job) (job : Job) where
     abbrev near_more : (from to : ℕ) (near deletes : List FragKey) → Near spelled past jobs seen m number from to near deletes → Near spelled past all seen m number from to near deletes
     near_more from to near deletes is = record {
       commits = is.commits;
-      whole = λ f at. subst (λ g. HoldsOne spelled g m f) (listed_more Commits is.commits) (is.whole f at);
-      in_time = is.in_time;
-      covered = λ w at within. is.covered w (subst (λ g. Contains (writes g) w) (sym (listed_more Commits is.commits)) at) within;
+      whole = λ f at. let own = is.whole f at in (own.0, subst (λ g. HoldsIn spelled g m f own.0) (listed_more Commits is.commits) own.1, own.2);
+      covered = λ w at within.
+          let own = is.covered w (subst (λ g. Contains (writes g) w) (sym (listed_more Commits is.commits)) at) within in
+          (own.0, own.1, subst (λ g. WentInto spelled g m own.0 w.key) (listed_more Commits is.commits) own.2);
       erased = λ f at. let found = is.erased f at in (found.0, subst (λ g. Contains (erases g) found.0) (listed_more Commits is.commits) found.1, found.2, found.3);
       erasing = λ x at within. is.erasing x (subst (λ g. Contains (erases g) x) (sym (listed_more Commits is.commits)) at) within;
     }
@@ -412,7 +413,7 @@ module _ (jobs : List Job) (job : Job) where
     fetching_more r opened schemas next got is = record {
       erasing = erasing_more r opened schemas is.erasing;
       all_deletes = is.all_deletes;
-      found = subst (λ g. AreGot g r.from r.to (r.ready).sub (take next r.near) got) (listed_more Commits ((((((is.erasing).gathers).opens).reads).at).listed).commits) is.found;
+      found = subst (λ g. AreGot g r.from r.to (r.ready).sub (heads_of (take next opened)) got) (listed_more Commits ((((((is.erasing).gathers).opens).reads).at).listed).commits) is.found;
     }
 
     -- what the last put of a job makes of it is the same among all

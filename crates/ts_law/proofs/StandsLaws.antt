@@ -1,5 +1,5 @@
 -- What each put does to what is held: it leaves the rest alone, and the objects go on standing for the history.
-use Rattle.std.proofs.Common.{◌≡◌, ℕ, true, false, cond, ◌⊎◌, inl, inr, List, [], ◌∷◌, ◌++◌, Option, Some, None, find, refl, sym, ◌∙◌, ap, subst, arith}
+use Rattle.std.proofs.Common.{◌≡◌, ℕ, ℤ, true, false, cond, ◌⊎◌, inl, inr, List, [], ◌∷◌, ◌++◌, Option, Some, None, find, refl, sym, ◌∙◌, ap, subst, arith}
 use Rattle.std.specs.Prelude.{Contains, option_map}
 use Rattle.std.specs.Ordering.{eq_by_cmp}
 use Rattle.std.specs.Option.{is_some}
@@ -7,7 +7,7 @@ use Rattle.std.specs.FinMap as map
 use Rattle.std.proofs.lemmas.Bool.{true≢false}
 use Rattle.std.proofs.lemmas.Option.{same_Some, none-some}
 use Rattle.std.proofs.lemmas.List.{append-nil}
-use Rattle.std.proofs.lemmas.List.Elements.{filter_map-append, Contains-append_left, Contains-append_right, Contains-append_cases}
+use Rattle.std.proofs.lemmas.List.Elements.{filter_map-append, Contains-append_right, Contains-append_cases}
 use Rattle.ts_base.specs.declared.keys.Key.{Key}
 use Rattle.ts_base.specs.declared.keys.FragKey.{FragKey}
 use Rattle.ts_base.specs.declared.names.Name.{Name}
@@ -24,14 +24,16 @@ use Rattle.ts_schema.specs.declared.schemas.Schema.{Schema}
 use Rattle.ts_schema.specs.FrameTexts.{frame_object, IsFrame}
 use Rattle.ts_schema.specs.SchemaTexts.{schema_object}
 use Rattle.ts_schema.specs.Parts.{IsShort}
+use Rattle.ts_domain.specs.Boxes.{is_in_box}
 use Rattle.ts_cond.specs.CondTexts.{cond_object}
 use Rattle.ts_model.specs.declared.deeds.Written.{Written}
 use Rattle.ts_model.specs.declared.deeds.Erasure.{Erasure}
 use Rattle.ts_model.specs.declared.deeds.Deed.TheVariants.{Framed, Declared, Wrote, Erased}
-use Rattle.ts_model.specs.Deeds.{History, schema_in, erase_in, frame_in, schemas, writes, erases, keys, schema_with, erase_of, SchemaFollows, WriteFollows, EraseFollows, IsHistory}
+use Rattle.ts_model.specs.Deeds.{History, schema_in, erase_in, frame_in, schemas, writes, erases, keys, schema_with, erase_of, has_cell, SchemaFollows, WriteFollows, EraseFollows, IsNewKey, IsHistory}
 use Rattle.ts_model.specs.Pieces.{HoldsWrite}
 use Rattle.ts_model.specs.Forms.{Spelled}
-use Rattle.ts_law.specs.Stands.{IsCommitted, Spells, HoldsOne, Stands}
+use Rattle.ts_law.specs.Origins.{IsReadable, box_in}
+use Rattle.ts_law.specs.Stands.{IsCommitted, Spells, HoldsIn, WentInto, Stands}
 use Rattle.ts_law.specs.Fresh.{id_in}
 use Rattle.ts_law.specs.Steps.{Keeps, Leads}
 use Rattle.ts_model.specs.declared.commands.Job.{Job}
@@ -40,6 +42,7 @@ use Rattle.ts_model.proofs.ListLemmas.{Contains-nil, Contains-here, Contains-onl
 use Rattle.ts_model.proofs.KeyLemmas.{frag_itself, frag_same, key_itself, key_same, same_from_tie}
 use Rattle.ts_model.proofs.HistoryLaws.{writes-append, frame_in-append, schema_with-append, IsHistory-push, no_deeds}
 use Rattle.ts_law.proofs.HeldLemmas.{Holds, Holds-from_get, get_put, get_apart, held_before, stays_held, holds_stays}
+use Rattle.ts_law.proofs.Grows.{PartsStay, holds_on_in, holds_in_grows, ordinary_holds, ordinary_readable, origin_is}
 
 -- ---- histories that grow
 
@@ -110,43 +113,45 @@ keeps_put m h n bytes id more free carries come = record {
 
 -- ---- what stands after a put
 
+-- what is asked of a committed fragment, and of a write
+abbrev IsWhole : Spelled → History → Held → FragKey → Type 0
+IsWhole spelled h m f = (p : Piece) × HoldsIn spelled h m f p × IsReadable p.head
+
+abbrev IsCovered : Spelled → History → Held → Written → Type 0
+IsCovered spelled h m w = (f : FragKey) × IsCommitted m f × WentInto spelled h m f w.key
+
 module _ (spelled : Spelled) (m : Held) (h : History) (n : Name) (bytes : List ℕ) (more : History) (free : Holds m n → ⊥) (stands : Stands spelled m h) where
   -- what is held after the put
   abbrev later : Held
   later = map.insert m n bytes
 
-  -- a fragment that holds a write goes on holding it
-  one_grows : (f : FragKey) → HoldsOne spelled h m f → HoldsOne spelled (h ++ more) later f
-  one_grows f one = record {
-    write = one.write;
-    written = rw (writes-append h more) (Contains-append_left (writes h) (writes more) one.write one.written);
-    frame = one.frame;
-    framed = frame_in-append h more one.frame one.framed;
-    schema = one.schema;
-    declared = schema_with-append h more (one.write).schema one.schema one.declared;
-    piece = one.piece;
-    spells = record {
-      look = (one.spells).look;
-      spells = (one.spells).spells;
-      held = λ part kept e. stays_held m n bytes (name.Part f part) kept free ((one.spells).held part kept e);
-      short = (one.spells).short;
-      named = (one.spells).named;
-    };
-    holds = one.holds;
-  }
+  -- what is written has new keys
+  abbrev AreNew : Type 0
+  AreNew = (w : Written) → Contains (writes more) w → IsNewKey h w.key
 
-  -- each fragment that was committed before goes on holding one write
-  whole_grows : (f : FragKey) → IsCommitted later f → (wrt_of f ≡ n → HoldsOne spelled (h ++ more) later f) → HoldsOne spelled (h ++ more) later f
-  whole_grows f committed new = elim (held_before m n bytes (wrt_of f) committed) [
-    | inl before ↦ one_grows f (stands.whole f before)
-    | inr same ↦ new same
+  -- parts that are held stay held
+  parts_stay : (f : FragKey) → PartsStay m later f
+  parts_stay f part kept e = stays_held m n bytes (name.Part f part) kept free e
+
+  -- what a fragment holds it goes on holding
+  in_grows : AreNew → (f : FragKey) (p : Piece) → HoldsIn spelled h m f p → HoldsIn spelled (h ++ more) later f p
+  in_grows new f p is = holds_on_in spelled (h ++ more) m later f p (parts_stay f) (holds_in_grows h more new spelled m f p is)
+
+  -- each fragment that was committed before goes on holding what its origins wrote
+  whole_grows : AreNew → (f : FragKey) → IsCommitted later f → (wrt_of f ≡ n → IsWhole spelled (h ++ more) later f) → IsWhole spelled (h ++ more) later f
+  whole_grows new f committed own = elim (held_before m n bytes (wrt_of f) committed) [
+    | inl before ↦ let is = stands.whole f before in (is.0, in_grows new f is.0 is.1, is.2)
+    | inr same ↦ own same
   ]
 
-  -- the fragment of each write goes on being committed
-  covered_grows : (w : Written) → Contains (writes (h ++ more)) w → (Contains (writes more) w → IsCommitted later (frag_of w.key)) → IsCommitted later (frag_of w.key)
-  covered_grows w at new = elim (Contains-append_cases (writes h) (writes more) w (subst (λ ws. Contains ws w) (writes-append h more) at)) [
-    | inl before ↦ holds_stays m n bytes (wrt_of (frag_of w.key)) free (stands.covered w before)
-    | inr own ↦ new own
+  -- each write goes on being in a committed fragment
+  covered_grows : AreNew → (w : Written) → Contains (writes (h ++ more)) w → (Contains (writes more) w → IsCovered spelled (h ++ more) later w) → IsCovered spelled (h ++ more) later w
+  covered_grows new w at come = elim (Contains-append_cases (writes h) (writes more) w (subst (λ ws. Contains ws w) (writes-append h more) at)) [
+    | inl before ↦
+        let is = stands.covered w before in
+        let went = is.2 in
+        (is.0, holds_stays m n bytes (wrt_of is.0) free is.1, record { piece = went.piece; holds = in_grows new is.0 went.piece went.holds; origin = went.origin })
+    | inr own ↦ come own
   ]
 
   -- the frame goes on standing where none is put
@@ -195,8 +200,8 @@ stands_put spelled m h f part bytes free short stands = subst (Stands spelled (m
   short_frame = short_frame_grows spelled m h (name.Part f part) bytes [] free stands short;
   short_schemas = short_schemas_grow spelled m h (name.Part f part) bytes [] free stands short;
   short_deletes = short_deletes_grow spelled m h (name.Part f part) bytes [] free stands short;
-  whole = λ g committed. whole_grows spelled m h (name.Part f part) bytes [] free stands g committed (λ e. cc);
-  covered = λ w at. covered_grows spelled m h (name.Part f part) bytes [] free stands w at (λ none. absurd (Contains-nil w none));
+  whole = λ g committed. whole_grows spelled m h (name.Part f part) bytes [] free stands (λ v none. absurd (Contains-nil v none)) g committed (λ e. cc);
+  covered = λ w at. covered_grows spelled m h (name.Part f part) bytes [] free stands (λ v none. absurd (Contains-nil v none)) w at (λ none. absurd (Contains-nil w none));
 })
 
 -- ---- the frame
@@ -228,8 +233,8 @@ stands_frame spelled m h frame free is short stands = record {
   short_frame = short_frame_grows spelled m h name.Domain (frame_object frame) (Framed frame ∷ []) free stands short;
   short_schemas = short_schemas_grow spelled m h name.Domain (frame_object frame) (Framed frame ∷ []) free stands short;
   short_deletes = short_deletes_grow spelled m h name.Domain (frame_object frame) (Framed frame ∷ []) free stands short;
-  whole = λ f committed. whole_grows spelled m h name.Domain (frame_object frame) (Framed frame ∷ []) free stands f committed (λ e. cc);
-  covered = λ w at. covered_grows spelled m h name.Domain (frame_object frame) (Framed frame ∷ []) free stands w at (λ none. absurd (Contains-nil w none));
+  whole = λ f committed. whole_grows spelled m h name.Domain (frame_object frame) (Framed frame ∷ []) free stands (λ v none. absurd (Contains-nil v none)) f committed (λ e. cc);
+  covered = λ w at. covered_grows spelled m h name.Domain (frame_object frame) (Framed frame ∷ []) free stands (λ v none. absurd (Contains-nil v none)) w at (λ none. absurd (Contains-nil w none));
 }
 
 -- ---- a schema
@@ -262,8 +267,8 @@ stands_schema spelled m h s free follows short stands = record {
   short_frame = short_frame_grows spelled m h (name.Schema s.key) (schema_object s.attrs) (Declared s ∷ []) free stands short;
   short_schemas = short_schemas_grow spelled m h (name.Schema s.key) (schema_object s.attrs) (Declared s ∷ []) free stands short;
   short_deletes = short_deletes_grow spelled m h (name.Schema s.key) (schema_object s.attrs) (Declared s ∷ []) free stands short;
-  whole = λ f committed. whole_grows spelled m h (name.Schema s.key) (schema_object s.attrs) (Declared s ∷ []) free stands f committed (λ e. cc);
-  covered = λ w at. covered_grows spelled m h (name.Schema s.key) (schema_object s.attrs) (Declared s ∷ []) free stands w at (λ none. absurd (Contains-nil w none));
+  whole = λ f committed. whole_grows spelled m h (name.Schema s.key) (schema_object s.attrs) (Declared s ∷ []) free stands (λ v none. absurd (Contains-nil v none)) f committed (λ e. cc);
+  covered = λ w at. covered_grows spelled m h (name.Schema s.key) (schema_object s.attrs) (Declared s ∷ []) free stands (λ v none. absurd (Contains-nil v none)) w at (λ none. absurd (Contains-nil w none));
 }
   where
     same_key : (k : Key) → name.Schema k ≡ name.Schema s.key → k ≡ s.key
@@ -285,42 +290,72 @@ short_nothing : IsShort []
 short_nothing = omega arith
 
 -- the write whose `.wrt` is put is a deed, where its parts spell it
-pub stands_commit : (spelled : Spelled) (m : Held) (h : History) (w : Written) (frame : Frame) (schema : Schema) (p : Piece) → (Holds m (wrt_of (frag_of w.key)) → ⊥) → WriteFollows h w
-    → frame_in h ≡ Some frame → schema_with h w.schema ≡ Some schema → Spells spelled m frame schema (frag_of w.key) p → HoldsWrite w p → Stands spelled m h
-    → Stands spelled (map.insert m (wrt_of (frag_of w.key)) []) (h ++ Wrote w ∷ [])
-stands_commit spelled m h w frame schema p free follows framed declared spells holds stands = record {
-  history = IsHistory-push h (Wrote w) stands.history follows;
-  frame = frame_grows spelled m h (wrt_of (frag_of w.key)) [] (Wrote w ∷ []) free stands (λ e. cc) refl;
-  schemas = λ k. schema_grows spelled m h (wrt_of (frag_of w.key)) [] (Wrote w ∷ []) free stands k (λ e. cc) (schema_with-undeclared h (Wrote w ∷ []) k refl);
-  deletes = λ f. delete_grows spelled m h (wrt_of (frag_of w.key)) [] (Wrote w ∷ []) free stands f (λ e. cc) (erase_of-unerased h (Wrote w ∷ []) f refl);
-  short_frame = short_frame_grows spelled m h (wrt_of (frag_of w.key)) [] (Wrote w ∷ []) free stands short_nothing;
-  short_schemas = short_schemas_grow spelled m h (wrt_of (frag_of w.key)) [] (Wrote w ∷ []) free stands short_nothing;
-  short_deletes = short_deletes_grow spelled m h (wrt_of (frag_of w.key)) [] (Wrote w ∷ []) free stands short_nothing;
-  whole = λ f committed. whole_grows spelled m h (wrt_of (frag_of w.key)) [] (Wrote w ∷ []) free stands f committed
-      (λ same. subst (HoldsOne spelled (h ++ Wrote w ∷ []) (map.insert m (wrt_of (frag_of w.key)) [])) (sym (frag_of_wrt f (frag_of w.key) same)) new_one);
-  covered = λ v at. covered_grows spelled m h (wrt_of (frag_of w.key)) [] (Wrote w ∷ []) free stands v at
-      (λ own. subst (λ u. IsCommitted (map.insert m (wrt_of (frag_of w.key)) []) (frag_of u.key)) (Contains-only w v own)
-      (Holds-from_get (map.insert m (wrt_of (frag_of w.key)) []) (wrt_of (frag_of w.key)) [] (get_put m (wrt_of (frag_of w.key)) [])));
-}
-  where
-    new_one : HoldsOne spelled (h ++ Wrote w ∷ []) (map.insert m (wrt_of (frag_of w.key)) []) (frag_of w.key)
-    new_one = record {
-      write = w;
-      written = rw (writes-append h (Wrote w ∷ [])) (Contains-append_right (writes h) (w ∷ []) w (Contains-here w []));
-      frame = frame;
-      framed = frame_in-append h (Wrote w ∷ []) frame framed;
-      schema = schema;
-      declared = schema_with-append h (Wrote w ∷ []) w.schema schema declared;
-      piece = p;
-      spells = record {
-        look = spells.look;
-        spells = spells.spells;
-        held = λ part kept e. stays_held m (wrt_of (frag_of w.key)) [] (name.Part (frag_of w.key) part) kept free (spells.held part kept e);
-        short = spells.short;
-        named = spells.named;
-      };
-      holds = holds;
-    }
+module _ (spelled : Spelled) (m : Held) (h : History) (w : Written) (frame : Frame) (schema : Schema) (p : Piece) (free : Holds m (wrt_of (frag_of w.key)) → ⊥) (follows : WriteFollows h w)
+    (framed : frame_in h ≡ Some frame) (declared : schema_with h w.schema ≡ Some schema) (dense : p.head.dense ≡ frame.dense) (spells : Spells spelled m frame schema (frag_of w.key) p)
+    (holds : HoldsWrite w p) (box : p.head.dense ≡ true → (c : List ℤ) → has_cell c w ≡ is_in_box (box_in p.head) c) (stands : Stands spelled m h) where
+  -- the fragment of the write
+  abbrev own : FragKey
+  own = frag_of w.key
+
+  -- what is held after the put
+  abbrev then_held : Held
+  then_held = map.insert m (wrt_of own) []
+
+  -- the deed
+  abbrev come : History
+  come = Wrote w ∷ []
+
+  -- the deeds are a history still
+  is_history : IsHistory (h ++ come)
+  is_history = IsHistory-push h (Wrote w) stands.history follows
+
+  -- the write is new
+  fresh : (v : Written) → Contains (writes come) v → IsNewKey h v.key
+  fresh v at = subst (λ (u : Written). IsNewKey h u.key) (Contains-only w v at) follows.new
+
+  -- it is one of the history
+  written : Contains (writes (h ++ come)) w
+  written = rw (writes-append h come) (Contains-append_right (writes h) (w ∷ []) w (Contains-here w []))
+
+  -- its fragment holds it
+  own_holds : HoldsIn spelled (h ++ come) then_held own p
+  own_holds = record {
+    frame = frame;
+    framed = frame_in-append h come frame framed;
+    dense = dense;
+    schema = schema;
+    declared = subst (λ k. schema_with (h ++ come) k ≡ Some schema) (sym holds.schema) (schema_with-append h come w.schema schema declared);
+    spells = record {
+      look = spells.look;
+      spells = spells.spells;
+      held = λ part kept e. parts_stay spelled m h (wrt_of own) [] come free stands own part kept (spells.held part kept e);
+      short = spells.short;
+      named = spells.named;
+    };
+    holds = ordinary_holds (h ++ come) is_history w written p holds box;
+  }
+
+  -- it is in its fragment
+  own_went : IsCovered spelled (h ++ come) then_held w
+  own_went = (
+    own,
+    Holds-from_get then_held (wrt_of own) [] (get_put m (wrt_of own) []),
+    record { piece = p; holds = own_holds; origin = origin_is (h ++ come) is_history w written p holds box w.key ∙ key_itself w.key },
+  )
+
+  pub stands_commit : Stands spelled then_held (h ++ come)
+  stands_commit = record {
+    history = is_history;
+    frame = frame_grows spelled m h (wrt_of own) [] come free stands (λ e. cc) refl;
+    schemas = λ k. schema_grows spelled m h (wrt_of own) [] come free stands k (λ e. cc) (schema_with-undeclared h come k refl);
+    deletes = λ f. delete_grows spelled m h (wrt_of own) [] come free stands f (λ e. cc) (erase_of-unerased h come f refl);
+    short_frame = short_frame_grows spelled m h (wrt_of own) [] come free stands short_nothing;
+    short_schemas = short_schemas_grow spelled m h (wrt_of own) [] come free stands short_nothing;
+    short_deletes = short_deletes_grow spelled m h (wrt_of own) [] come free stands short_nothing;
+    whole = λ f committed. whole_grows spelled m h (wrt_of own) [] come free stands fresh f committed
+        (λ same. subst (IsWhole spelled (h ++ come) then_held) (sym (frag_of_wrt f own same)) (p, own_holds, ordinary_readable w p holds));
+    covered = λ v at. covered_grows spelled m h (wrt_of own) [] come free stands fresh v at (λ one. subst (IsCovered spelled (h ++ come) then_held) (Contains-only w v one) own_went);
+  }
 
 -- ---- a delete
 
@@ -352,8 +387,8 @@ stands_delete spelled m h x free follows short stands = record {
   short_frame = short_frame_grows spelled m h (del_of x.key) (cond_object x.cond) (Erased x ∷ []) free stands short;
   short_schemas = short_schemas_grow spelled m h (del_of x.key) (cond_object x.cond) (Erased x ∷ []) free stands short;
   short_deletes = short_deletes_grow spelled m h (del_of x.key) (cond_object x.cond) (Erased x ∷ []) free stands short;
-  whole = λ f committed. whole_grows spelled m h (del_of x.key) (cond_object x.cond) (Erased x ∷ []) free stands f committed (λ e. cc);
-  covered = λ w at. covered_grows spelled m h (del_of x.key) (cond_object x.cond) (Erased x ∷ []) free stands w at (λ none. absurd (Contains-nil w none));
+  whole = λ f committed. whole_grows spelled m h (del_of x.key) (cond_object x.cond) (Erased x ∷ []) free stands (λ v none. absurd (Contains-nil v none)) f committed (λ e. cc);
+  covered = λ w at. covered_grows spelled m h (del_of x.key) (cond_object x.cond) (Erased x ∷ []) free stands (λ v none. absurd (Contains-nil v none)) w at (λ none. absurd (Contains-nil w none));
 }
   where
     same_name : (f : FragKey) → name.Commit f Del ≡ del_of x.key → f ≡ frag_of x.key

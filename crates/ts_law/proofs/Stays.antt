@@ -5,6 +5,7 @@ use Rattle.std.proofs.lemmas.Option.{none-some, same_Some}
 use Rattle.std.specs.Prelude.{Contains}
 use Rattle.ts_base.specs.Held.{Held}
 use Rattle.ts_base.specs.declared.heads.Version.{Version}
+use Rattle.ts_base.specs.declared.heads.Piece.{Piece}
 use Rattle.ts_base.specs.declared.keys.FragKey.{FragKey}
 use Rattle.ts_base.specs.declared.keys.Key.{Key}
 use Rattle.ts_base.specs.declared.names.Name.{Name}
@@ -19,7 +20,8 @@ use Rattle.ts_model.specs.Forms.{Forms, Spelled, Tracking}
 use Rattle.ts_law.specs.Fresh.{id_in}
 use Rattle.ts_model.specs.Jobs.{erasure_as, key_of, schema_of_job, written_as}
 use Rattle.ts_law.specs.Kept.{AreErasures, AreOpen, AreSchemas, Clean, Erasing, Fetching, Gathering, HasListed, HasNear, IsOpen, Near, OnWay, Opening, ReadsAt, ReadsIn, Works}
-use Rattle.ts_law.specs.Stands.{HoldsOne}
+use Rattle.ts_law.specs.Stands.{HoldsIn, WentInto}
+use Rattle.ts_law.proofs.Grows.{holds_on_in}
 use Rattle.ts_model.specs.States.{keys_named, list_schemas}
 use Rattle.ts_law.specs.Steps.{Keeps}
 use Rattle.ts_model.specs.Told.{Told, history_told}
@@ -92,25 +94,13 @@ module _ (m m' : Held) (h h' : History) (id : ℕ) (keeps : Keeps m m' h h' id) 
     undone = new_stays (key_of job) other clean.undone;
   }
 
-  -- what holds one write holds it still
-  abbrev pub holds_one_stays : (spelled : Spelled) (g : History) (f : FragKey) → HoldsOne spelled g m f → HoldsOne spelled g m' f
-  holds_one_stays spelled g f one = record {
-    write = one.write;
-    written = one.written;
-    frame = one.frame;
-    framed = one.framed;
-    schema = one.schema;
-    declared = one.declared;
-    piece = one.piece;
-    spells = record {
-      look = (one.spells).look;
-      spells = (one.spells).spells;
-      held = λ part bytes is. keeps.keeps (name.Part f part) bytes ((one.spells).held part bytes is);
-      short = (one.spells).short;
-      named = (one.spells).named;
-    };
-    holds = one.holds;
-  }
+  -- what a fragment holds it holds still
+  abbrev pub in_stays : (spelled : Spelled) (g : History) (f : FragKey) (p : Piece) → HoldsIn spelled g m f p → HoldsIn spelled g m' f p
+  in_stays spelled g f p is = holds_on_in spelled g m m' f p (λ part bytes held. keeps.keeps (name.Part f part) bytes held) is
+
+  -- what went into a fragment is in it still
+  pub went_stays : (spelled : Spelled) (g : History) (f : FragKey) (k : Key) → WentInto spelled g m f k → WentInto spelled g m' f k
+  went_stays spelled g f k is = record { piece = is.piece; holds = in_stays spelled g f is.piece is.holds; origin = is.origin }
 
   -- what a refusal tells stays
   pub refusal_stays : (job : Job) (r : Refusal) → (job.id ≡ id → ⊥) → IsTrueRefusal h job r → IsTrueRefusal h' job r
@@ -152,9 +142,8 @@ module _ (spelled : Spelled) (past : History) (jobs : List Job) (seen : List Tol
   abbrev pub near_stays : (from to : ℕ) (near deletes : List FragKey) → Near spelled past jobs seen m number from to near deletes → Near spelled past jobs (seen ++ e ∷ []) m' number from to near deletes
   near_stays from to near deletes is = record {
     commits = listed_stays seen e number Commits is.commits;
-    whole = λ f at. holds_one_stays m m' (history_told jobs past seen) (history_told jobs past (seen ++ e ∷ [])) id keeps spelled (history_told jobs past (is.commits).before) f (is.whole f at);
-    in_time = is.in_time;
-    covered = is.covered;
+    whole = λ f at. let own = is.whole f at in (own.0, in_stays m m' (history_told jobs past seen) (history_told jobs past (seen ++ e ∷ [])) id keeps spelled (history_told jobs past (is.commits).before) f own.0 own.1, own.2);
+    covered = λ w at within. let own = is.covered w at within in (own.0, own.1, went_stays m m' (history_told jobs past seen) (history_told jobs past (seen ++ e ∷ [])) id keeps spelled (history_told jobs past (is.commits).before) own.0 w.key own.2);
     erased = is.erased;
     erasing = is.erasing;
   }
@@ -209,10 +198,12 @@ module _ (spelled : Spelled) (past : History) (jobs : List Job) (seen : List Tol
 
   module _ {F : Type 0} (forms : Forms F) where
     -- an open fragment stays open
-    pub open_stays : (g : History) (frame : Frame) (o : Opened) → IsOpen forms spelled g m frame o → IsOpen forms spelled g m' frame o
-    open_stays g frame o is = record {
-      one = holds_one_stays m m' (history_told jobs past seen) (history_told jobs past (seen ++ e ∷ [])) id keeps spelled g o.frag is.one;
+    pub open_stays : (g : History) (frame : Frame) (from to : ℕ) (o : Opened) → IsOpen forms spelled g m frame from to o → IsOpen forms spelled g m' frame from to o
+    open_stays g frame from to o is = record {
+      piece = is.piece;
+      holds = in_stays m m' (history_told jobs past seen) (history_told jobs past (seen ++ e ∷ [])) id keeps spelled g o.frag is.piece is.holds;
       same_frame = is.same_frame;
+      usable = is.usable;
       head = is.head;
       object = is.object;
     }
@@ -221,7 +212,7 @@ module _ (spelled : Spelled) (past : History) (jobs : List Job) (seen : List Tol
     pub are_open_stays : (g : History) (r : Reading) (opened : List Opened) → AreOpen forms spelled g m r opened → AreOpen forms spelled g m' r opened
     are_open_stays g r opened is = record {
       frags = is.frags;
-      each = λ o at. open_stays g r.frame o (is.each o at);
+      each = λ o at. open_stays g r.frame r.from r.to o (is.each o at);
     }
 
     -- the further schemas of a read stay
@@ -276,8 +267,10 @@ module _ (spelled : Spelled) (past : History) (jobs : List Job) (seen : List Tol
   -- a fetch stays on its way
   pub on_way_stays : {F : Type 0} (tracks : Tracking F) (g : History) (r : Reading) (frag : FragKey) (fetch : F) (c : Call) → OnWay spelled tracks g m r frag fetch c → OnWay spelled tracks g m' r frag fetch c
   on_way_stays tracks g r frag fetch c is = record {
-    one = holds_one_stays m m' (history_told jobs past seen) (history_told jobs past (seen ++ e ∷ [])) id keeps spelled g frag is.one;
+    piece = is.piece;
+    holds = in_stays m m' (history_told jobs past seen) (history_told jobs past (seen ++ e ∷ [])) id keeps spelled g frag is.piece is.holds;
     same_frame = is.same_frame;
+    usable = is.usable;
     way = is.way;
   }
 

@@ -1,7 +1,7 @@
--- What a fetch takes of a piece: the versions of its write that are stamped in the interval and lie in the box, each with its whole row.
-use Rattle.std.proofs.Common.{◌≡◌, ℕ, suc, zero, ℤ, Bool, true, false, cond, ◌&&◌, List, [], ◌∷◌, Option, Some, None, length, refl, ◌∙◌, ap, subst}
+-- What a fetch takes of a piece: its versions in the interval and in the box, each with its whole row; the newest of a coordinate is that of the last origin there.
+use Rattle.std.proofs.Common.{◌≡◌, ℕ, suc, zero, ℤ, Bool, true, false, cond, ◌&&◌, List, [], ◌∷◌, ◌++◌, Option, Some, None, length, refl, sym, ◌∙◌, ap, subst}
 use Rattle.std.specs.Prelude.{Contains, All, filter, find, option_map, map as list_map}
-use Rattle.std.proofs.lemmas.Bool.{and_parts}
+use Rattle.std.proofs.lemmas.Bool.{and_parts, and_from}
 use Rattle.std.proofs.lemmas.List.Elements.{All-contains}
 use Rattle.std.proofs.lemmas.Option.{same_Some, none-some}
 use Rattle.ts_base.specs.declared.keys.Key.{Key}
@@ -15,15 +15,23 @@ use Rattle.ts_domain.specs.Boxes.{is_in_box}
 use Rattle.ts_schema.specs.declared.attrs.Attr.{Attr}
 use Rattle.ts_schema.specs.declared.wants.Want.{Want}
 use Rattle.ts_schema.specs.Wants.{value_of, cut_row, cut, is_wanted, taken}
+use Rattle.ts_commit.specs.Selections.{has_origin, keeps_last, is_usable}
+use Rattle.ts_domain.specs.declared.boxes.SubBox.{SubBox}
+use Rattle.ts_schema.specs.declared.frames.Frame.{Frame}
+use Rattle.ts_schema.specs.declared.schemas.Schema.{Schema}
 use Rattle.ts_model.specs.declared.deeds.Written.{Written}
-use Rattle.ts_model.specs.declared.states.Reading.{Reading}
-use Rattle.ts_model.specs.Deeds.{row_at, RowFits, CellFits}
-use Rattle.ts_model.specs.Pieces.{version_at, version_of, HoldsWrite}
+use Rattle.ts_model.specs.declared.deeds.Deed.TheVariants.{Wrote}
+use Rattle.ts_model.specs.Deeds.{History, IsHistory, row_at, RowFits, CellFits, frame_in, schema_with, writes}
+use Rattle.ts_model.specs.Pieces.{version_at, version_of}
 use Rattle.ts_model.specs.Queries.{places_from}
-use Rattle.ts_model.specs.States.{want_of}
-use Rattle.ts_model.proofs.ListLemmas.{Contains-here, Contains-there, find-filter}
+use Rattle.ts_model.specs.States.{wanted}
+use Rattle.ts_law.specs.Origins.{origins_of, last_of, last_version, newest_at, HoldsWrites}
+use Rattle.ts_model.proofs.ListLemmas.{Contains-here, Contains-there, filter-Contains, find-filter}
 use Rattle.ts_model.proofs.KeyLemmas.{key_same}
+use Rattle.ts_model.proofs.HistoryLaws.{one_write, write_follows, frame_in-append, schema_with-append}
 use Rattle.ts_model.proofs.Newest.{coords_same}
+use Rattle.ts_law.proofs.NewestBy.{key_of_version, last_is, newest_by, newest_is_at}
+use Rattle.ts_law.proofs.OriginLaws.{kept_of-is, key_there, reads_own, reads_last}
 
 -- ---- rows that are left whole
 
@@ -96,35 +104,93 @@ cell_of_row c (cell ∷ cells) row found = elim (coords_eq cell.coords c)
       | false ↦ λ _ h. let later = cell_of_row c cells row h in (later.0, Contains-there cell cells later.0 later.1, later.2, later.3)
     ] refl found
 
-module _ (r : Reading) (attrs : List Attr) (w : Written) (fit : All (CellFits r.frame.domain attrs) w.cells) where
-  -- what a read wants of the fragment
+-- the cells of a write fit the frame and its schema
+cells_fit : (h : History) (w : Written) (frame : Frame) (s : Schema) → IsHistory h → Contains (writes h) w → frame_in h ≡ Some frame → schema_with h w.schema ≡ Some s
+    → All (CellFits frame.domain s.attrs) w.cells
+cells_fit h w frame s is at framed declared =
+    let place = write_follows h w is at in
+    let follows = place.3 in
+    let later : h ≡ place.0 ++ Wrote w ∷ place.1 = place.2 in
+    let one_frame : follows.frame ≡ frame = same_Some follows.frame frame (sym (frame_in-append place.0 (Wrote w ∷ place.1) follows.frame follows.framed) ∙ ap frame_in (sym later) ∙ framed) in
+    let one_schema : follows.schema ≡ s = same_Some follows.schema s (sym (schema_with-append place.0 (Wrote w ∷ place.1) w.schema follows.schema follows.declared)
+    ∙ ap (λ g. schema_with g w.schema) (sym later) ∙ declared) in
+    subst (λ f. All (CellFits f.domain s.attrs) w.cells) one_frame (subst (λ t. All (CellFits (follows.frame).domain t.attrs) w.cells) one_schema follows.fit)
+
+-- ---- the versions of a piece
+
+-- the version that a row makes
+abbrev made : Written → List ℤ → List Val → Version
+made w c row = record { key = w.key; schema = w.schema; coords = c; row = row }
+
+module _ (h : History) (is : IsHistory h) (frame : Frame) (framed : frame_in h ≡ Some frame) (s : Schema) (p : Piece) (declared : schema_with h p.head.schema ≡ Some s) (holds : HoldsWrites h p)
+    (sub : SubBox) (a b : ℕ) where
+  -- what a read wants of the piece
   abbrev want : Want
-  want = want_of r attrs
+  want = wanted sub a b s.attrs
 
-  -- the version that a row makes
-  abbrev made : List ℤ → List Val → Version
-  made c row = record { key = w.key; schema = w.schema; coords = c; row = row }
+  -- a version of the piece is left whole
+  whole_version : (k : Key) (c : List ℤ) (v : Version) → version_at p.versions k c ≡ Some v → cut want v ≡ v
+  whole_version k c v found =
+      let of = kept_of-is (keeps_last p.head) (origins_of h p.head) k c v (sym (holds.versions k c) ∙ found) in
+      let w = of.0 in
+      let at = filter-Contains (λ u. has_origin u.key p.head) (writes h) w of.1 in
+      let own = holds.origins w.key (key_there w.key p.head.origins at.1) in
+      let schema : w.schema ≡ p.head.schema = ap (λ (u : Written). u.schema) (sym (one_write h own.0 w is own.1 at.0 own.2)) ∙ own.3 in
+      by_row w (cells_fit h w frame s is at.0 framed (ap (schema_with h) schema ∙ declared)) (row_at c w.cells) refl of.2
+    where
+      by_row : (w : Written) → All (CellFits frame.domain s.attrs) w.cells → (o : Option (List Val)) → row_at c w.cells ≡ o → option_map (made w c) o ≡ Some v → cut want v ≡ v
+      by_row w fit None there is_made = absurd (none-some v is_made)
+      by_row w fit (Some row) there is_made =
+          let cell = cell_of_row c w.cells row there in
+          let fits = All-contains (CellFits frame.domain s.attrs) w.cells cell.0 fit cell.1 in
+          let whole : cut want (made w c row) ≡ made w c row = ap (made w c) (whole_row s.attrs row (subst (RowFits s.attrs) cell.3 fits.row)) in
+          subst (λ x. cut want x ≡ x) (same_Some (made w c row) v is_made) whole
 
-  -- the row of a cell that fits is left whole
-  left_whole : (c : List ℤ) (row : List Val) → row_at c w.cells ≡ Some row → cut want (made c row) ≡ made c row
-  left_whole c row found =
-      let cell = cell_of_row c w.cells row found in
-      let fits = All-contains (CellFits r.frame.domain attrs) w.cells cell.0 fit cell.1 in
-      ap (made c) (whole_row attrs row (subst (RowFits attrs) cell.3 fits.row))
+  -- what is taken at a key and a coordinate is what the piece has there, where it is wanted
+  taken_at : (k : Key) (c : List ℤ) → version_at (taken want p.versions) k c ≡ cond (is_within a b k && is_in_box sub c) (version_at p.versions k c) None
+  taken_at k c = version_taken want p.versions k c ∙ by (is_within a b k && is_in_box sub c) (version_at p.versions k c) refl
+    where
+      by : (t : Bool) (o : Option Version) → version_at p.versions k c ≡ o → option_map (cut want) (cond t o None) ≡ cond t o None
+      by true None found = refl
+      by true (Some v) found = ap Some (whole_version k c v found)
+      by false o found = refl
 
-  -- what is taken at a coordinate, by the row that the write has there
-  by_row : (c : List ℤ) (own here : Bool) (o : Option (List Val)) → row_at c w.cells ≡ o
-      → option_map (cut want) (cond here (cond own (option_map (made c) o) None) None) ≡ cond (own && here) (option_map (made c) o) None
-  by_row c true true None found = refl
-  by_row c true true (Some row) found = ap Some (left_whole c row found)
-  by_row c true false o found = refl
-  by_row c false true o found = refl
-  by_row c false false o found = refl
+  -- outside the box nothing is taken
+  pub none_taken : (c : List ℤ) → is_in_box sub c ≡ false → newest_at (taken want p.versions) c ≡ None
+  none_taken c outside = by (newest_at (taken want p.versions) c) refl
+    where
+      fails : (t : Bool) (o : Option Version) (v : Version) → cond (t && false) o None ≡ Some v → ⊥
+      fails true o v e = none-some v e
+      fails false o v e = none-some v e
 
-  -- of a piece that holds the write its versions are taken where they are stamped in the interval and lie in the box, and no others
-  pub taken_of_write : (p : Piece) → HoldsWrite w p → (k : Key) (c : List ℤ)
-      → version_at (taken (want_of r attrs) p.versions) k c ≡ cond (key_eq k w.key && (is_within r.from r.to k && is_in_box (r.ready).sub c)) (version_of w c) None
-  taken_of_write p holds k c =
-      version_taken want p.versions k c
-      ∙ ap (λ o. option_map (cut want) (cond (is_within r.from r.to k && is_in_box (r.ready).sub c) o None)) (holds.versions k c)
-      ∙ by_row c (key_eq k w.key) (is_within r.from r.to k && is_in_box (r.ready).sub c) (row_at c w.cells) refl
+      by : (o : Option Version) → newest_at (taken want p.versions) c ≡ o → o ≡ None
+      by None newest = refl
+      by (Some v) newest =
+          absurd (fails (is_within a b v.key) (version_at p.versions v.key c) v (ap (λ t. cond (is_within a b v.key && t) (version_at p.versions v.key c) None) (sym outside)
+          ∙ sym (taken_at v.key c) ∙ newest_is_at (taken want p.versions) c v newest))
+
+  -- in the box the newest version that is taken is that of the last origin in the interval
+  module _ (usable : is_usable a b p.head ≡ true) (c : List ℤ) (inside : is_in_box sub c ≡ true) where
+    -- the origins in the interval
+    abbrev wrote : List Written
+    wrote = filter (λ w. is_within a b w.key) (origins_of h p.head)
+
+    -- a version that is taken is that of one of them
+    of_write : (v : Version) → version_at (taken want p.versions) v.key c ≡ Some v → (w : Written) × Contains wrote w × (version_of w c ≡ Some v)
+    of_write v found = by (is_within a b v.key && is_in_box sub c) refl (sym (taken_at v.key c) ∙ found)
+      where
+        by : (t : Bool) → (is_within a b v.key && is_in_box sub c) ≡ t → cond t (version_at p.versions v.key c) None ≡ Some v → (w : Written) × Contains wrote w × (version_of w c ≡ Some v)
+        by true tests e = reads_own h is p holds a b usable c v (and_parts (is_within a b v.key) (is_in_box sub c) tests).0 e
+        by false tests e = absurd (none-some v e)
+
+    -- the version of the last one is taken
+    has_last : (w : Written) (v : Version) → last_of wrote c ≡ Some w → version_of w c ≡ Some v → version_at (taken want p.versions) v.key c ≡ Some v
+    has_last w v last is_made =
+        let of = filter-Contains (λ u. is_within a b u.key) (origins_of h p.head) w (last_is wrote c w last).0 in
+        let within : is_within a b v.key ≡ true = subst (λ k. is_within a b k ≡ true) (sym (key_of_version w c v is_made)) of.1 in
+        taken_at v.key c
+        ∙ ap (λ t. cond t (version_at p.versions v.key c) None) (and_from (is_within a b v.key) (is_in_box sub c) within inside)
+        ∙ reads_last h is p holds a b usable c w v last is_made
+
+    pub newest_taken : newest_at (taken want p.versions) c ≡ last_version wrote c
+    newest_taken = newest_by (taken want p.versions) wrote c of_write has_last

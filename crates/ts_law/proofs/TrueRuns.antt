@@ -1,100 +1,101 @@
--- The jobs of one lane, each driven by its automaton over a store that stands for a history, make a true run.
-use Rattle.std.proofs.Common.{◌≡◌, ℕ, ◌+◌, ◌*◌, ◌/◌, ◌^◌, ◌<◌, ◌≤◌, suc, zero, ◌⊎◌, inl, inr, List, [], ◌∷◌, ◌++◌, Some, length, refl, sym, ◌∙◌, ap, subst, append_assoc, arith}
+-- Jobs that are driven by their automata over a store which stands for a history make a true run.
+use Rattle.std.proofs.Common.{◌≡◌, ℕ, ◌+◌, ◌*◌, ◌/◌, ◌^◌, ◌<◌, suc, zero, inl, inr, List, [], ◌∷◌, ◌++◌, Some, length, refl, sym, ◌∙◌, ap, subst, append_assoc, arith}
 use Rattle.std.specs.Prelude.{All, Contains, slice_get}
 use Rattle.std.specs.List.{cons_option}
+use Rattle.std.proofs.lemmas.Bool.{cases_eq}
 use Rattle.std.proofs.lemmas.Option.{same_Some, none-some, slice_get_within}
 use Rattle.std.proofs.lemmas.List.{append-nil}
-use Rattle.std.proofs.lemmas.List.Elements.{All-nil, All-cons, All-head, All-tail, All-contains, Contains-append_left, Contains-append_right}
+use Rattle.std.proofs.lemmas.List.Elements.{All-head, All-tail, All-contains, All-contains_itself, All-weaker}
 use Rattle.ts_base.specs.Held.{Held}
+use Rattle.ts_store.specs.declared.journal.Entry.{Entry}
 use Rattle.ts_store.specs.Journals.{held_after}
 use Rattle.ts_model.specs.declared.commands.Job.{Job}
 use Rattle.ts_model.specs.declared.commands.Line.{Line}
 use Rattle.ts_model.specs.declared.answers.Driven.{Driven}
 use Rattle.ts_model.specs.declared.answers.Driven.TheVariants.{Done}
 use Rattle.ts_model.specs.declared.answers.Outcome.{Outcome}
-use Rattle.ts_model.specs.declared.answers.Outcome.TheVariants as outcome
-use Rattle.ts_model.specs.declared.states.State.TheVariants.{Over}
 use Rattle.ts_model.specs.Deeds.{History}
 use Rattle.ts_model.specs.Forms.{Forms, Spelled, Tracking, FormsLaws}
 use Rattle.ts_model.specs.Jobs.{IsFit, AreFit, IsFitLine, AreApart}
 use Rattle.ts_law.specs.Stands.{Stands}
-use Rattle.ts_model.specs.States.{state_of}
-use Rattle.ts_law.specs.Fresh.{IsCarried, IsNewId, IsFreshSeed, id_of, jobs_from, jobs_of}
-use Rattle.ts_model.specs.Told.{Told, IsShortCall, Suits, trace_of, held_told, history_told, Replied, only_lane, entries_of}
+use Rattle.ts_model.specs.States.{begun, state_of}
+use Rattle.ts_law.specs.Fresh.{IsCarried, IsNewId, IsFreshSeed, id_of, job_from, jobs_from, IsJobOf, AreJobsOf}
+use Rattle.ts_law.specs.Lanes.{lane_by, IsOwned, IsWithin, InTurn}
+use Rattle.ts_model.specs.Told.{Told, IsShortCall, Suits, trace_of, held_told, history_told, Replied, entries_of}
 use Rattle.ts_law.specs.Ends.{IsTrueEnd}
-use Rattle.ts_model.specs.Driven.{AskedFrom, ComesOut, AreDriven}
-use Rattle.ts_law.specs.Runs.{IsTrueRun}
+use Rattle.ts_model.specs.Driven.{AskedFrom}
+use Rattle.ts_law.specs.Runs.{AreDriven, IsTrueRun}
+use Rattle.ts_law.specs.Histories.{history_of}
 use Rattle.ts_law.specs.Kept.{Kept, AreAllowed}
-use Rattle.ts_model.proofs.ListLemmas.{Contains-nil, Contains-here, Contains-there, slice_get-Contains, slice_get_left}
-use Rattle.ts_model.proofs.Traces.{trace_of-append, exchange_of_own, exchange_of_other, state_of-own}
+use Rattle.ts_model.proofs.ListLemmas.{Contains-nil, Contains-here, Contains-there, Contains-slice_get, slice_get-Contains, slice_get_left}
+use Rattle.ts_model.proofs.Traces.{exchange_of_own, exchange_of_other, state_of-own, state_of-other}
 use Rattle.ts_law.proofs.KeptLaws.{end_is_true, all_kept, every_prefix}
+use Rattle.ts_law.proofs.Lists.{item_at}
 use Rattle.ts_law.proofs.Spawns.{starts_kept, spawn_kept}
 use Rattle.ts_law.proofs.Journals.{journal_held}
+use Rattle.ts_law.proofs.JournalHistories.{front_history, front_told, lanes_turn}
 
 -- ---- the jobs of a script
 
--- the identifier of the job at a place
-id_at : (seed lane number : ℕ) (lines : List Line) (i : ℕ) (job : Job) → slice_get (jobs_from seed lane number lines) i ≡ Some job → job.id ≡ id_of seed lane (number + i)
-id_at seed lane number [] i job at = absurd (none-some job at)
-id_at seed lane number (line ∷ lines) zero job at = ap (λ j. j.id) (sym (same_Some _ job at)) ∙ ap (id_of seed lane) (omega arith)
-id_at seed lane number (line ∷ lines) (suc i) job at = id_at seed lane (number + 1) lines i job at ∙ ap (id_of seed lane) (omega arith)
+-- the jobs that are made of lines are those of the lines
+made_at : (seed lane number : ℕ) (lines : List Line) (i : ℕ) (line : Line) (job : Job) → slice_get lines i ≡ Some line → slice_get (jobs_from seed lane number lines) i ≡ Some job → IsJobOf (id_of seed lane (number + i)) line job
+made_at seed lane number [] i line job line_at at = absurd (none-some line line_at)
+made_at seed lane number (l ∷ lines) zero line job line_at at =
+    let P : Line → Type 0 = λ k. IsJobOf (id_of seed lane (number + zero)) k job in
+    let Q : Job → Type 0 = λ j. IsJobOf (id_of seed lane (number + zero)) l j in
+    subst P (same_Some l line line_at) (subst Q (same_Some (job_from (id_of seed lane number) l) job at) (record { id_is = ap (id_of seed lane) (omega arith); command = refl; stamp = refl; stop = refl }))
+made_at seed lane number (l ∷ lines) (suc i) line job line_at at =
+    let P : ℕ → Type 0 = λ n. IsJobOf (id_of seed lane n) line job in
+    let same : number + 1 + i ≡ number + suc i = omega arith in
+    subst P same (made_at seed lane (number + 1) lines i line job line_at at)
 
--- the identifiers of the jobs of a script are apart
-pub ids_apart : (seed : ℕ) (lines : List Line) → AreApart (jobs_of seed lines)
-ids_apart seed lines i k a b at_i at_k same =
-    let ids : id_of seed 0 (1 + i) ≡ id_of seed 0 (1 + k) = sym (id_at seed 0 1 lines i a at_i) ∙ same ∙ id_at seed 0 1 lines k b at_k in
-    omega arith
+made_count : (seed lane number : ℕ) (lines : List Line) → length (jobs_from seed lane number lines) ≡ length lines
+made_count seed lane number [] = refl
+made_count seed lane number (l ∷ lines) = let rest = made_count seed lane (number + 1) lines in omega arith
 
--- a job of a script is that of one of its lines
-at_within : (seed lane number : ℕ) (lines : List Line) (i : ℕ) (job : Job) → slice_get (jobs_from seed lane number lines) i ≡ Some job → i < length lines
-at_within seed lane number [] i job at = absurd (none-some job at)
-at_within seed lane number (line ∷ lines) zero job at = omega arith
-at_within seed lane number (line ∷ lines) (suc i) job at = let less = at_within seed lane (number + 1) lines i job at in omega arith
+pub jobs_of_lines : (seed lane : ℕ) (lines : List Line) → AreJobsOf seed lane lines (jobs_from seed lane 1 lines)
+jobs_of_lines seed lane lines = record { one_each = made_count seed lane 1 lines; each = made_at seed lane 1 lines }
 
--- the upper 64 bits of an identifier are the seed
-pub id_has_seed : (seed : ℕ) (lines : List Line) (i : ℕ) (job : Job) → length lines < 2 ^ 32 → slice_get (jobs_of seed lines) i ≡ Some job → job.id / 2 ^ 64 ≡ seed
-id_has_seed seed lines i job few at =
-    let less = at_within seed 0 1 lines i job at in
-    ap (λ n. n / 2 ^ 64) (id_at seed 0 1 lines i job at) ∙ divided seed (1 + i) (omega arith)
-  where
-    divided : (s n : ℕ) → n < 2 ^ 64 → (s * 2 ^ 64 + 0 * 2 ^ 32 + n) / 2 ^ 64 ≡ s
-    divided s n small = omega arith
+module _ (seed lane : ℕ) (lines : List Line) (jobs : List Job) (are : AreJobsOf seed lane lines jobs) where
+  -- a job is that of the line at its place
+  line_of : (i : ℕ) (job : Job) → slice_get jobs i ≡ Some job → (line : Line) × (slice_get lines i ≡ Some line) × IsJobOf (id_of seed lane (1 + i)) line job
+  line_of i job at =
+      let there = item_at jobs lines i are.one_each (slice_get_within jobs i job at) in
+      (there.0, there.1, are.each i there.0 job there.1 at)
 
--- the numbers of the jobs have their widths, where those of the lines, of the seed and of the lane have
-pub jobs_fit : (seed lane number : ℕ) (lines : List Line) → seed < 2 ^ 64 → lane < 2 ^ 32 → number + length lines ≤ 2 ^ 32 → All IsFitLine lines → AreFit (jobs_from seed lane number lines)
-jobs_fit seed lane number [] seed_fits lane_fits few fit = All-nil IsFit
-jobs_fit seed lane number (line ∷ lines) seed_fits lane_fits few fit =
-    let here = All-head IsFitLine line lines fit in
-    All-cons IsFit _ (jobs_from seed lane (number + 1) lines) (record { stamp = here.stamp; id = omega arith; command = here.command })
-    (jobs_fit seed lane (number + 1) lines seed_fits lane_fits (omega arith) (All-tail IsFitLine line lines fit))
+  -- the identifiers of the jobs of a lane are apart
+  pub ids_apart : AreApart jobs
+  ids_apart i k a b at_i at_k same =
+      let ids : id_of seed lane (1 + i) ≡ id_of seed lane (1 + k) = sym (line_of i a at_i).2.id_is ∙ same ∙ (line_of k b at_k).2.id_is in
+      omega arith
 
--- ---- calls of one job, and of the jobs after it
+  -- the upper 64 bits of an identifier are the seed
+  pub id_has_seed : lane < 2 ^ 32 → length lines < 2 ^ 32 → (i : ℕ) (job : Job) → slice_get jobs i ≡ Some job → job.id / 2 ^ 64 ≡ seed
+  id_has_seed lane_fits few i job at =
+      let less = slice_get_within jobs i job at in
+      ap (λ n. n / 2 ^ 64) (line_of i job at).2.id_is ∙ divided seed lane (1 + i) lane_fits (omega (arith, less, are.one_each, few))
+    where
+      divided : (s l n : ℕ) → l < 2 ^ 32 → n < 2 ^ 32 → (s * 2 ^ 64 + l * 2 ^ 32 + n) / 2 ^ 64 ≡ s
+      divided s l n l_fits small = omega arith
 
--- the calls are made by the job with a number
-abbrev AreBy : ℕ → List Told → Type 0
-AreBy number own = All (λ e. e.job ≡ Some number) own
+  -- the numbers of the jobs have their widths, where those of the lines, of the seed and of the lane have
+  pub jobs_fit : seed < 2 ^ 64 → lane < 2 ^ 32 → length lines < 2 ^ 32 → All IsFitLine lines → AreFit jobs
+  jobs_fit seed_fits lane_fits few fit = All-weaker (Contains jobs) IsFit one jobs (All-contains_itself jobs)
+    where
+      width : (s l n : ℕ) → s < 2 ^ 64 → l < 2 ^ 32 → n < 2 ^ 32 → s * 2 ^ 64 + l * 2 ^ 32 + n < 2 ^ 128
+      width s l n s_fits l_fits n_fits = omega arith
 
--- another job made none of these calls
-none_by : (number other : ℕ) (own : List Told) → AreBy number own → (number ≡ other → ⊥) → trace_of other own ≡ []
-none_by number other [] by_it apart = refl
-none_by number other (e ∷ own) by_it apart =
-    ap (λ o. cons_option o (trace_of other own)) (exchange_of_other other e (λ mine. apart (same_Some number other (sym (All-head (λ x. x.job ≡ Some number) e own by_it) ∙ mine))))
-    ∙ none_by number other own (All-tail (λ x. x.job ≡ Some number) e own by_it) apart
-
--- the jobs from a number on made none of the calls of those before
-none_before : {F : Type 0} (forms : Forms F) (start : ℕ) (jobs : List Job) (results : List (Driven Outcome)) (told : List Told) (other : ℕ) → AreDriven forms start jobs results told → other < start → trace_of other told ≡ []
-none_before forms start [] [] told other driven below = ap (trace_of other) driven
-none_before forms start (job ∷ jobs) [] told other driven below = absurd driven
-none_before forms start [] (result ∷ results) told other driven below = absurd driven
-none_before forms start (job ∷ jobs) (result ∷ results) told other (own, rest, parts, by_it, is, more) below =
-    ap (trace_of other) parts ∙ trace_of-append other own rest
-    ∙ ap (λ t. t ++ trace_of other rest) (none_by start other own by_it (λ same. omega arith))
-    ∙ none_before forms (start + 1) jobs results rest other more (omega arith)
-
--- the trace of a job is that of its own calls
-trace_is_own : {F : Type 0} (forms : Forms F) (number : ℕ) (jobs : List Job) (results : List (Driven Outcome)) (own rest : List Told) → AreDriven forms (number + 1) jobs results rest → trace_of number (own ++ rest) ≡ trace_of number own
-trace_is_own forms number jobs results own rest more =
-    trace_of-append number own rest ∙ ap (λ t. trace_of number own ++ t) (none_before forms (number + 1) jobs results rest number more (omega arith)) ∙ append-nil (trace_of number own)
+      one : (job : Job) → Contains jobs job → IsFit job
+      one job among =
+          let (i, at) = slice_get-Contains jobs job among in
+          let less = slice_get_within jobs i job at in
+          let (line, line_at, is) = line_of i job at in
+          let here = All-contains IsFitLine lines line fit (Contains-slice_get lines i line line_at) in
+          record {
+            stamp = subst (λ n. n < 2 ^ 64) (sym is.stamp) here.stamp;
+            id = subst (λ n. n < 2 ^ 128) (sym is.id_is) (width seed lane (1 + i) seed_fits lane_fits (omega (arith, less, are.one_each, few)));
+            command = rw is.command here.command;
+          }
 
 -- ---- the calls are allowed
 
@@ -107,91 +108,72 @@ pub short_from_suits : (told : List Told) → All Suits told → AreShort told
 short_from_suits told suit e at = (All-contains Suits told e suit at).short
 
 module _ {F : Type 0} (forms : Forms F) where
-  -- calls that may come after calls that may come
-  allowed_append : (jobs : List Job) (dead : List ℕ) (seen a b : List Told) → AreAllowed forms jobs dead seen a → AreAllowed forms jobs dead (seen ++ a) b → AreAllowed forms jobs dead seen (a ++ b)
-  allowed_append jobs dead seen [] b front back = subst (λ t. AreAllowed forms jobs dead t b) (append-nil seen) back
-  allowed_append jobs dead seen (e ∷ a) b front back =
-      (front.0, allowed_append jobs dead (seen ++ e ∷ []) a b front.1 (subst (λ t. AreAllowed forms jobs dead t b) (sym (append_assoc seen (e ∷ []) a)) back))
-
-  -- the calls of one job, where it asks for each
-  own_allowed : (jobs : List Job) (number : ℕ) (job : Job) (seen own : List Told) → slice_get jobs number ≡ Some job → AreBy number own → AreShort own
-      → AskedFrom forms job (state_of forms job (trace_of number seen)) (trace_of number own) → AreAllowed forms jobs [] seen own
-  own_allowed jobs number job seen [] at by_it short asked = tt
-  own_allowed jobs number job seen (e ∷ own) at by_it short asked =
-      let mine = All-head (λ x. x.job ≡ Some number) e own by_it in
-      let here : AskedFrom forms job (state_of forms job (trace_of number seen)) (record { call = e.call; reply = e.reply } ∷ trace_of number own) =
-      subst (λ o. AskedFrom forms job (state_of forms job (trace_of number seen)) (cons_option o (trace_of number own))) (exchange_of_own number e mine) asked in (
-        record { number = number; job = job; own = mine; is_job = at; alive = Contains-nil number; asked = here.0; short = short e (Contains-here e own) },
-        own_allowed jobs number job (seen ++ e ∷ []) own at (All-tail (λ x. x.job ≡ Some number) e own by_it) (λ d among. short d (Contains-there e own d among))
-            (subst (λ s. AskedFrom forms job s (trace_of number own)) (sym (state_of-own forms job number seen e mine)) here.1),
+  -- calls that jobs made may come, where each job asked for its own
+  pub driven_allowed : (jobs : List Job) (seen told : List Told) → All IsOwned told → All (IsWithin jobs) told → AreShort told
+      → ((k : ℕ) (job : Job) → slice_get jobs k ≡ Some job → AskedFrom forms job (state_of forms job (trace_of k seen)) (trace_of k told)) → AreAllowed forms jobs [] seen told
+  driven_allowed jobs seen [] owned within short asked = tt
+  driven_allowed jobs seen (e ∷ told) owned within short asked =
+      let (number, mine) = All-head IsOwned e told owned in
+      let (job, at) = item_at jobs jobs number refl (All-head (IsWithin jobs) e told within number mine) in (
+        record { number = number; job = job; own = mine; is_job = at; alive = Contains-nil number; asked = (own number job mine at).0; short = short e (Contains-here e told) },
+        driven_allowed jobs (seen ++ e ∷ []) told (All-tail IsOwned e told owned) (All-tail (IsWithin jobs) e told within) (λ d among. short d (Contains-there e told d among)) (next number mine),
       )
+    where
+      -- what a job asks from the call on, where it made the call
+      own : (k : ℕ) (j : Job) → e.job ≡ Some k → slice_get jobs k ≡ Some j → AskedFrom forms j (state_of forms j (trace_of k seen)) (record { call = e.call; reply = e.reply } ∷ trace_of k told)
+      own k j by_it j_at = subst (λ o. AskedFrom forms j (state_of forms j (trace_of k seen)) (cons_option o (trace_of k told))) (exchange_of_own k e by_it) (asked k j j_at)
 
-  -- the calls of the jobs from a number on, where none of them made a call before
-  pub driven_allowed : (all : List Job) (start : ℕ) (jobs : List Job) (results : List (Driven Outcome)) (seen told : List Told)
-      → ((k : ℕ) (job : Job) → slice_get jobs k ≡ Some job → slice_get all (start + k) ≡ Some job)
-      → ((other : ℕ) → start ≤ other → trace_of other seen ≡ []) → AreShort told → AreDriven forms start jobs results told → AreAllowed forms all [] seen told
-  driven_allowed all start [] [] seen told among fresh short driven = subst (AreAllowed forms all [] seen) (sym driven) tt
-  driven_allowed all start (job ∷ jobs) [] seen told among fresh short driven = absurd driven
-  driven_allowed all start [] (result ∷ results) seen told among fresh short driven = absurd driven
-  driven_allowed all start (job ∷ jobs) (result ∷ results) seen told among fresh short (own, rest, parts, by_it, is, more) =
-      let short_here : AreShort (own ++ rest) = subst AreShort parts short in
-      subst (AreAllowed forms all [] seen) (sym parts) (allowed_append all [] seen own rest
-      (own_allowed all start job seen own (ap (slice_get all) (omega arith) ∙ among 0 job refl) by_it (λ e at. short_here e (Contains-append_left own rest e at))
-      (subst (λ t. AskedFrom forms job (state_of forms job t) (trace_of start own)) (sym (fresh start (omega arith))) is.asked))
-      (driven_allowed all (start + 1) jobs results (seen ++ own) rest
-      (λ k j at. ap (slice_get all) (omega arith) ∙ among (suc k) j at)
-      (λ other above. trace_of-append other seen own ∙ ap (λ t. t ++ trace_of other own) (fresh other (omega arith)) ∙ none_by start other own by_it (λ same. omega arith))
-      (λ e at. short_here e (Contains-append_right own rest e at)) more))
-
-  -- ---- the ends
-
-  -- each job that came to its end ended by its own calls
-  ended_by_own : (start : ℕ) (jobs : List Job) (results : List (Driven Outcome)) (told : List Told) → AreDriven forms start jobs results told
-      → (k : ℕ) (job : Job) (end : Outcome) → slice_get jobs k ≡ Some job → slice_get results k ≡ Some (Done end)
-      → (state_of forms job (trace_of (start + k) told) ≡ Over end) ⊎ (end ≡ outcome.OutOfMemory)
-  ended_by_own start [] [] told driven k job end at end_at = absurd (none-some job at)
-  ended_by_own start (j ∷ jobs) [] told driven k job end at end_at = absurd driven
-  ended_by_own start [] (o ∷ results) told driven k job end at end_at = absurd driven
-  ended_by_own start (j ∷ jobs) (o ∷ results) told (own, rest, parts, by_it, is, more) zero job end at end_at =
-      elim (subst (ComesOut forms j (trace_of start own)) (same_Some o (Done end) end_at) is.ends) [
-        | inl over ↦ inl (ap (λ i. state_of forms i (trace_of (start + zero) told)) (sym (same_Some j job at))
-            ∙ ap (state_of forms j) (ap (λ n. trace_of n told) (omega arith) ∙ ap (trace_of start) parts ∙ trace_is_own forms start jobs results own rest more)
-            ∙ over)
-        | inr none ↦ inr none
-      ]
-  ended_by_own start (j ∷ jobs) (o ∷ results) told (own, rest, parts, by_it, is, more) (suc k) job end at end_at =
-      elim (ended_by_own (start + 1) jobs results rest more k job end at end_at) [
-        | inl over ↦ inl (ap (state_of forms job) (ap (trace_of (start + suc k)) parts ∙ trace_of-append (start + suc k) own rest
-            ∙ ap (λ t. t ++ trace_of (start + suc k) rest) (none_by start (start + suc k) own by_it (λ same. omega arith)) ∙ ap (λ n. trace_of n rest) (omega arith)) ∙ over)
-        | inr none ↦ inr none
+      -- and after it
+      next : (number : ℕ) → e.job ≡ Some number → (k : ℕ) (j : Job) → slice_get jobs k ≡ Some j → AskedFrom forms j (state_of forms j (trace_of k (seen ++ e ∷ []))) (trace_of k told)
+      next number mine k j j_at = elim (cases_eq number k) [
+        | inl same ↦
+            let by_it = mine ∙ ap Some same in
+            subst (λ s. AskedFrom forms j s (trace_of k told)) (sym (state_of-own forms j k seen e by_it)) (own k j by_it j_at).1
+        | inr apart ↦
+            let others : e.job ≡ Some k → ⊥ = λ by_it. apart (same_Some number k (sym mine ∙ by_it)) in
+            subst (λ s. AskedFrom forms j s (trace_of k told)) (sym (state_of-other forms j k seen e others))
+            (subst (λ o. AskedFrom forms j (state_of forms j (trace_of k seen)) (cons_option o (trace_of k told))) (exchange_of_other k e others) (asked k j j_at))
       ]
 
 -- ---- the run
 
-module _ {F : Type 0} (forms : Forms F) (spelled : Spelled) (tracks : Tracking F) (laws : FormsLaws forms spelled tracks) (jobs : List Job) (h : History) (m : Held) (told : List Told) (results : List (Driven Outcome))
-    (begins : Kept forms spelled tracks h jobs [] [] m) (replied : Replied m told) (short : AreShort told) (driven : AreDriven forms 0 jobs results told) where
+module _ {F : Type 0} (forms : Forms F) (spelled : Spelled) (tracks : Tracking F) (laws : FormsLaws forms spelled tracks) (lanes : ℕ → ℕ) (jobs : List Job) (h : History) (m : Held) (told : List Told) (results : List (Driven Outcome))
+    (begins : Kept forms spelled tracks h jobs [] [] m) (replied : Replied m told) (suit : All Suits told) (owned : All IsOwned told) (within : All (IsWithin jobs) told) (in_turn : InTurn lanes told) (driven : AreDriven forms jobs results told) where
   -- each of the calls may come
   may : AreAllowed forms jobs [] [] told
-  may = driven_allowed forms jobs 0 jobs results [] told (λ k job at. ap (slice_get jobs) (omega arith) ∙ at) (λ other above. refl) short driven
+  may = driven_allowed forms jobs [] told owned within (short_from_suits told suit) asked
+    where
+      asked : (k : ℕ) (job : Job) → slice_get jobs k ≡ Some job → AskedFrom forms job (begun job.command) (trace_of k told)
+      asked k job at =
+          let there = item_at jobs results k (sym driven.one_each) (slice_get_within jobs k job at) in
+          (driven.driven k job there.0 at there.1).asked
 
   -- each first part of the calls leaves objects that stand for its history
-  prefix_stands : (front back : List Told) → told ≡ front ++ back → Stands spelled (held_after m (entries_of (only_lane 0) front)) (history_told jobs h front)
+  prefix_stands : (front back : List Told) → told ≡ front ++ back → Stands spelled (held_after m (entries_of (lane_by lanes) front)) (history_told jobs h front)
   prefix_stands front back parts =
-      subst (λ n. Stands spelled n (history_told jobs h front)) (journal_held (only_lane 0) m front)
+      subst (λ n. Stands spelled n (history_told jobs h front)) (journal_held (lane_by lanes) m front)
       (every_prefix forms spelled tracks laws h jobs [] [] m told front back begins may replied parts).stands
+
+  -- each first part of the journal leaves objects that stand for its history
+  journal_stands : (front back : List Entry) → entries_of (lane_by lanes) told ≡ front ++ back → Stands spelled (held_after m front) (history_of h m jobs front)
+  journal_stands front back parts =
+      let (a, b, whole, same) = front_told (lane_by lanes) told front back parts in
+      subst (λ es. Stands spelled (held_after m es) (history_of h m jobs es)) same
+      (subst (Stands spelled (held_after m (entries_of (lane_by lanes) a)))
+      (front_history forms spelled tracks laws jobs h m told (lane_by lanes) begins may replied (lanes_turn lanes told owned in_turn) a b whole) (prefix_stands a b whole))
 
   -- what each end tells of the history is true
   true_end : (number : ℕ) (job : Job) (end : Outcome) → slice_get jobs number ≡ Some job → slice_get results number ≡ Some (Done end) → IsTrueEnd jobs h told number job end
   true_end number job end at end_at =
       let kept = all_kept forms spelled tracks laws h jobs [] [] m told begins may replied in
-      elim (ended_by_own forms 0 jobs results told driven number job end at end_at) [
-        | inl over ↦ end_is_true forms spelled tracks h jobs [] told (held_told m told) kept number job end at (Contains-nil number) (ap (λ n. state_of forms job (trace_of n told)) (omega arith) ∙ over)
-        | inr none ↦ subst (IsTrueEnd jobs h told number job) (sym none) tt
+      elim (driven.driven number job (Done end) at end_at).ends [
+        | inl over ↦ end_is_true forms spelled tracks h jobs [] told (held_told m told) kept number job end at (Contains-nil number) over
+        | inr none ↦ subst (IsTrueEnd jobs h told number job) (sym none.0) tt
       ]
 
-  -- jobs that are driven one after the other, from where what is kept holds, make a true run
-  pub jobs_true_run : IsTrueRun spelled jobs h m told results
-  jobs_true_run = record { stands = prefix_stands; answers = true_end }
+  -- jobs that are driven, from where what is kept holds, make a true run
+  pub jobs_true_run : IsTrueRun spelled lanes jobs h m told results
+  jobs_true_run = record { stands = prefix_stands; journal = journal_stands; answers = true_end }
 
 -- ---- the start
 
@@ -219,21 +201,21 @@ spawn_all forms spelled tracks past m jobs (job ∷ more) kept fit apart fresh =
           absurd (omega arith);
     }
 
--- the jobs of a lane that are driven one after the other, over objects that stand for a history which the seed is fresh over, make a true run
+-- the jobs of a lane that are driven, over objects that stand for a history which the seed is fresh over, make a true run
 pub true_run : {F : Type 0} (forms : Forms F) (spelled : Spelled) (tracks : Tracking F) → FormsLaws forms spelled tracks
-    → (seed : ℕ) (lines : List Line) (h : History) (m : Held) (told : List Told) (results : List (Driven Outcome))
-    → Stands spelled m h → IsFreshSeed m h seed → seed < 2 ^ 64 → length lines < 2 ^ 32 → All IsFitLine lines
-    → Replied m told → All Suits told → AreDriven forms 0 (jobs_of seed lines) results told → IsTrueRun spelled (jobs_of seed lines) h m told results
-true_run forms spelled tracks laws seed lines h m told results stands fresh seed_fits few fit replied suit driven =
-    jobs_true_run forms spelled tracks laws (jobs_of seed lines) h m told results begins replied (short_from_suits told suit) driven
+    → (seed lane : ℕ) (lines : List Line) (lanes : ℕ → ℕ) (jobs : List Job) (h : History) (m : Held) (told : List Told) (results : List (Driven Outcome))
+    → AreJobsOf seed lane lines jobs → Stands spelled m h → IsFreshSeed m h seed → seed < 2 ^ 64 → lane < 2 ^ 32 → length lines < 2 ^ 32 → All IsFitLine lines
+    → Replied m told → All Suits told → All IsOwned told → All (IsWithin jobs) told → InTurn lanes told → AreDriven forms jobs results told → IsTrueRun spelled lanes jobs h m told results
+true_run forms spelled tracks laws seed lane lines lanes jobs h m told results are stands fresh seed_fits lane_fits few fit replied suit owned within in_turn driven =
+    jobs_true_run forms spelled tracks laws lanes jobs h m told results begins replied suit owned within in_turn driven
   where
-    fresh_job : (job : Job) → Contains (jobs_of seed lines) job → IsCarried m h job.id → ⊥
+    fresh_job : (job : Job) → Contains jobs job → IsCarried m h job.id → ⊥
     fresh_job job at carried =
-        let (number, is) = slice_get-Contains (jobs_of seed lines) job at in
-        fresh job.id (id_has_seed seed lines number job few is) carried
+        let (number, is) = slice_get-Contains jobs job at in
+        fresh job.id (id_has_seed seed lane lines jobs are lane_fits few number job is) carried
 
     -- what is kept before the first call of the jobs
-    begins : Kept forms spelled tracks h (jobs_of seed lines) [] [] m
+    begins : Kept forms spelled tracks h jobs [] [] m
     begins =
-        spawn_all forms spelled tracks h m [] (jobs_of seed lines) (starts_kept forms spelled tracks h m stands) (jobs_fit seed 0 1 lines seed_fits (omega arith) (omega arith) fit)
-        (ids_apart seed lines) fresh_job
+        spawn_all forms spelled tracks h m [] jobs (starts_kept forms spelled tracks h m stands) (jobs_fit seed lane lines jobs are seed_fits lane_fits few fit)
+        (ids_apart seed lane lines jobs are) fresh_job

@@ -1,6 +1,18 @@
 -- The definitions on worked rows: each row computes, so that a reader can see what a definition says.
-use Rattle.std.proofs.Common.{Ok, Err, ◌≡◌, ℕ, ℤ, ◌+◌, ◌*◌, ◌^◌, true, false, List, [], ◌∷◌, ◌++◌, Option, Some, None, refl}
+use Rattle.std.proofs.Common.{Ok, Err, inl, inr, ap, ◌∙◌, arith, ◌≡◌, ℕ, ℤ, ◌+◌, ◌*◌, ◌^◌, true, false, List, [], ◌∷◌, ◌++◌, Option, Some, None, refl}
 use Rattle.std.specs.Prelude.{pos, map}
+use Rattle.std.proofs.lemmas.Option.{same_Some}
+use Rattle.ts_base.specs.Held.{Held}
+use Rattle.ts_schema.specs.Evolutions.{schema_at}
+use Rattle.ts_store.specs.declared.fate.Fate.{Fate}
+use Rattle.ts_store.specs.declared.journal.Entry.{Entry}
+use Rattle.ts_base.specs.declared.names.Prefix.TheVariants.{Schemas}
+use Rattle.ts_store.specs.Calls.{names_under}
+use Rattle.ts_store.specs.Journals.{entry}
+use Rattle.ts_model.specs.Forms.{Forms}
+use Rattle.ts_model.proofs.ListLemmas.{Contains-here, Contains-only}
+use Rattle.ts_law.specs.Histories.{found_by, deed_entered, history_of}
+use Rattle.ts_law.specs.Rows.{Found, IsNear, IsLookOf}
 use Rattle.ts_base.specs.declared.heads.Cell.{Cell}
 use Rattle.ts_base.specs.declared.heads.Stop.TheVariants.{Never}
 use Rattle.ts_base.specs.declared.values.Val.{Val}
@@ -35,7 +47,7 @@ use Rattle.ts_cond.specs.Tests.{Condition}
 use Rattle.ts_cond.specs.Tests as tree
 use Rattle.ts_domain.specs.declared.orders.Layout.TheVariants as layout
 use Rattle.ts_model.specs.Commands.{laid}
-use Rattle.ts_model.specs.States.{commit_of, list_schemas}
+use Rattle.ts_model.specs.States.{Exchange, commit_of, get_schema, get_frame, list_schemas, schemas_in}
 use Rattle.ts_model.specs.Told.{Told, history_told}
 use Rattle.ts_law.specs.Fresh.{jobs_of}
 
@@ -355,6 +367,74 @@ told_commit r = record { job = Some 0; call = call.Put (commit_of a_write) []; f
 write_is_deed : history_told (a_write ∷ []) (with_deeds []) (told_listing ∷ told_commit reply.Made ∷ []) ≡ with_deeds (wrote 5 9 first (pos 3) (Int (pos 1) ∷ []) ∷ [])
 write_is_deed = refl
 
+-- the journal's entry of its listing of the schemas, in a lane
+abbrev listing_in : ℕ → Entry
+listing_in lane = entry lane list_schemas fate.Done
+
+-- and that of the put of its `.wrt`, in the lane 0
+abbrev commit_entry : Fate → Entry
+commit_entry f = entry 0 (call.Put (commit_of a_write) []) f
+
+-- a lane found the schemas that were held at its listing
+lane_finds : (m : Held) → found_by m 0 None (listing_in 0 ∷ []) ≡ Some (schemas_in (names_under Schemas m))
+lane_finds m = refl
+
+-- a listing of another lane tells it nothing
+other_lane_finds : (m : Held) → found_by m 0 None (listing_in 1 ∷ []) ≡ None
+other_lane_finds m = refl
+
+-- nor does one that failed
+failed_listing_finds : (m : Held) → found_by m 0 None (entry 0 list_schemas fate.FailedSkipped ∷ []) ≡ None
+failed_listing_finds m = refl
+
+-- where it found that schema, the put of the `.wrt` is the same deed, by the identifier that its name carries
+entry_is_deed : deed_entered (a_write ∷ []) (with_deeds []) (Some (first.key ∷ [])) (call.Put (commit_of a_write) []) ≡ Some (wrote 5 9 first (pos 3) (Int (pos 1) ∷ []))
+entry_is_deed = refl
+
+-- where it found none it is no deed
+unfound_is_none : deed_entered (a_write ∷ []) (with_deeds []) None (call.Put (commit_of a_write) []) ≡ None
+unfound_is_none = refl
+
+-- nor is a put under an identifier that no job has
+stray_is_none : deed_entered (a_write ∷ []) (with_deeds []) (Some (first.key ∷ [])) (call.Put (commit_of (record a_write { id = 8 })) []) ≡ None
+stray_is_none = refl
+
+-- a put that took no effect appends nothing
+skipped_put_tells_not : (m : Held) → history_of (with_deeds []) m (a_write ∷ []) (listing_in 0 ∷ commit_entry fate.FailedSkipped ∷ []) ≡ with_deeds []
+skipped_put_tells_not m = refl
+
 -- the identifiers of a script's commands: the seed, the lane 0, and the number of the command from 1
 ids : map (λ job. job.id) (jobs_of 7 (record { command = Read 0 5 all_of_it; at = 1 } ∷ record { command = Read 0 9 all_of_it; at = 9 } ∷ [])) ≡ (7 * 2 ^ 64 + 1) ∷ (7 * 2 ^ 64 + 2) ∷ []
 ids = refl
+
+-- ---- what a job may look at
+
+-- what the write was told of the schemas
+abbrev told_schemas : List Exchange
+told_schemas = record { call = list_schemas; reply = reply.Names (name.Schema first.key ∷ []) } ∷ []
+
+-- it may get the schema there
+write_looks : {F : Type 0} (forms : Forms F) (found : Found) → IsLookOf forms a_write found told_schemas (get_schema first.key)
+write_looks forms found = inl (first.key, record { names = name.Schema first.key ∷ []; listed = Contains-here _ []; newest = refl }, refl)
+
+-- but not another schema
+write_looks_not : {F : Type 0} (forms : Forms F) (found : Found) → IsLookOf forms a_write found told_schemas (get_schema second.key) → ⊥
+write_looks_not forms found (inl (k, is, same)) =
+    let one : reply.Names (name.Schema first.key ∷ []) ≡ reply.Names is.names = ap (λ x. x.reply) (Contains-only _ _ is.listed) in
+    let names : name.Schema first.key ∷ [] ≡ is.names = cc in
+    let key : k ≡ second.key = cc in
+    let there : Some first.key ≡ Some k = ap (λ ns. schema_at (schemas_in ns) 5) names ∙ is.newest in
+    let apart : 1 ≡ 3 = ap (λ q. q.t) (same_Some first.key k there ∙ key) in
+    absurd (omega (arith, apart))
+write_looks_not forms found (inr (s, is, got, same)) = cc
+
+-- nor the frame before it has that schema
+write_looks_not_yet : {F : Type 0} (forms : Forms F) (found : Found) → IsLookOf forms a_write found told_schemas get_frame → ⊥
+write_looks_not_yet forms found (inl (k, is, same)) = cc
+write_looks_not_yet forms found (inr (s, is, (bytes, got, spells), same)) =
+    let one : reply.Names (name.Schema first.key ∷ []) ≡ reply.Bytes bytes = ap (λ x. x.reply) (Contains-only _ _ got) in
+    cc
+
+-- a fragment whose span lies behind the interval is not near
+far_is_not_near : (trace : List Exchange) → IsNear trace 0 5 (record { t1 = 6; t2 = 7; id = 9; v = 1 }) → ⊥
+far_is_not_near trace (names, told, among, in_time) = cc

@@ -1,5 +1,5 @@
 -- Identifiers that nothing carries, and those of the jobs of a run.
-use Rattle.std.specs.Prelude.{◌≡◌, ℕ, ◌+◌, ◌*◌, ◌/◌, ◌^◌, List, [], ◌∷◌, Option, Some, None, slice_get, IsTrue, Contains, ◌⊎◌}
+use Rattle.std.specs.Prelude.{◌≡◌, ℕ, ◌+◌, ◌*◌, ◌/◌, ◌^◌, List, [], ◌∷◌, Option, Some, None, length, slice_get, IsTrue, Contains, ◌⊎◌}
 use Rattle.ts_base.specs.declared.keys.Key.{Key}
 use Rattle.ts_base.specs.declared.names.Name.{Name}
 use Rattle.ts_model.specs.declared.commands.Job.{Job}
@@ -38,6 +38,18 @@ id_of seed lane number = seed * 2 ^ 64 + lane * 2 ^ 32 + number
 -- the job of a line, with an identifier; it is stopped nowhere
 abbrev pub job_from : ℕ → Line → Job
 job_from id line = record { command = line.command; at = line.at; id = id; stop = Never }
+
+-- a job is that of a line, with an identifier: it has the line's command and stamp, and is stopped nowhere
+pub record IsJobOf (id : ℕ) (line : Line) (job : Job) : Type 0 where
+  pub id_is : job.id ≡ id
+  pub command : job.command ≡ line.command
+  pub stamp : job.at ≡ line.at
+  pub stop : job.stop ≡ Never
+
+-- the jobs are those of the lines of a lane, whose commands are numbered from 1
+pub record AreJobsOf (seed lane : ℕ) (lines : List Line) (jobs : List Job) : Type 0 where
+  pub one_each : length jobs ≡ length lines
+  pub each : (i : ℕ) (line : Line) (job : Job) → slice_get lines i ≡ Some line → slice_get jobs i ≡ Some job → IsJobOf (id_of seed lane (1 + i)) line job
 
 -- the jobs of the lines of a lane, whose commands are numbered from 1
 abbrev pub jobs_from : ℕ → ℕ → ℕ → List Line → List Job

@@ -1,9 +1,11 @@
 -- What every call of a job keeps: the objects stand for the history, and what each job found so far is true of both.
-use Rattle.std.specs.Prelude.{◌≡◌, ℕ, ℤ, ◌<◌, ◌≤◌, true, List, [], ◌∷◌, ◌++◌, Some, None, length, slice_get, Ok, IsSome, All, Contains, ⊤, take, map as list_map}
+use Rattle.std.specs.Prelude.{◌≡◌, ℕ, ℤ, ◌<◌, ◌≤◌, true, false, List, [], ◌∷◌, ◌++◌, Some, None, length, slice_get, Ok, IsSome, All, Contains, ⊤, take, map as list_map}
 use Rattle.ts_base.specs.declared.keys.Key.{Key}
 use Rattle.ts_base.specs.declared.keys.FragKey.{FragKey}
 use Rattle.ts_base.specs.declared.names.Name.{Name}
 use Rattle.ts_base.specs.declared.heads.Version.{Version}
+use Rattle.ts_base.specs.declared.heads.Head.{Head}
+use Rattle.ts_base.specs.declared.heads.Piece.{Piece}
 use Rattle.ts_base.specs.declared.heads.Cell.{Cell}
 use Rattle.ts_store.specs.declared.call.Call.{Call}
 use Rattle.ts_model.specs.declared.commands.Command.{Command}
@@ -28,7 +30,6 @@ use Rattle.ts_schema.specs.Parts.{IsShort}
 use Rattle.ts_model.specs.declared.commands.Command.TheVariants.{Create, Evolve, Write, Read, Delete}
 use Rattle.ts_model.specs.declared.states.State.TheVariants.{PutsFrame, ComparesFrame, ListsDeclared, Puts, ListsCommits, ListsSchemas, GetsSchema, GetsFrame, GetsHeads, GetsSchemas, GetsDeletes, Fetches, Over}
 use Rattle.ts_base.specs.declared.names.Prefix.TheVariants.{Commits, Schemas}
-use Rattle.ts_model.specs.Pieces.{version_at, version_of}
 use Rattle.ts_model.specs.Told.{Told, trace_of, IsShortCall, schemas_found, history_told}
 use Rattle.ts_law.specs.Fresh.{id_in}
 use Rattle.ts_cond.specs.declared.query.Query.{Query}
@@ -36,10 +37,13 @@ use Rattle.ts_cond.specs.Tests.{Condition}
 use Rattle.ts_domain.specs.declared.boxes.SubBox.{SubBox}
 use Rattle.ts_domain.specs.Boxes.{is_in_box}
 use Rattle.ts_model.specs.Queries.{ready_in, erasing_in}
-use Rattle.ts_model.specs.States.{meets, delete_object_of, schema_object_of, write_objects, keys_named, want_of, asks, state_of}
+use Rattle.ts_model.specs.Driven.{MayAsk}
+use Rattle.ts_model.specs.States.{delete_object_of, schema_object_of, write_objects, keys_named, want_of, state_of}
 use Rattle.ts_model.specs.Forms.{Forms, Spelled, Tracking}
 use Rattle.ts_model.specs.Jobs.{key_of, frag_of_job, AreFit, AreApart, looked_at, job_with}
-use Rattle.ts_law.specs.Stands.{HoldsOne, Stands}
+use Rattle.ts_law.specs.Stands.{HoldsIn, WentInto, Stands}
+use Rattle.ts_law.specs.Origins.{last_version, newest_at, wrote_in}
+use Rattle.ts_commit.specs.Selections.{is_usable}
 use Rattle.ts_law.specs.Ends.{ListedAt, IsUndone, IsTrueEnd}
 use Rattle.ts_model.specs.Deeds.{History, frame_in, writes, erases, schema_with, schema_there}
 use Rattle.ts_model.specs.Commands.{frame_made, create_refusal, laid}
@@ -63,13 +67,17 @@ pub record Works (past : History) (jobs : List Job) (seen : List Told) (number :
   pub at : schema_at found (looked_at job) ≡ Some there.key
   pub declared : schema_with (history_told jobs past seen) there.key ≡ Some there
 
--- what a read listed: each fragment holds one write of the history at the listing and meets the interval, each delete is one of that history and stamped in the interval, and each write and each delete in the interval has its fragment or its name among them
+-- what a read listed: the fragments and the deletes that it looks into
 pub record Near (spelled : Spelled) (past : History) (jobs : List Job) (seen : List Told) (m : Held) (number from to : ℕ) (near deletes : List FragKey) : Type 0 where
   pub commits : ListedAt seen number Commits
-  pub whole : (f : FragKey) → Contains near f → HoldsOne spelled (history_told jobs past commits.before) m f
-  pub in_time : (f : FragKey) → Contains near f → meets from to f ≡ true
-  pub covered : (w : Written) → Contains (writes (history_told jobs past commits.before)) w → is_within from to w.key ≡ true → Contains near (frag_of w.key)
+  -- each fragment holds writes of the history at the listing, and the read can use it
+  pub whole : (f : FragKey) → Contains near f → (p : Piece) × HoldsIn spelled (history_told jobs past commits.before) m f p × (is_usable from to p.head ≡ true)
+  -- each write in the interval went into one of them
+  pub covered : (w : Written) → Contains (writes (history_told jobs past commits.before)) w → is_within from to w.key ≡ true
+      → (f : FragKey) × Contains near f × WentInto spelled (history_told jobs past commits.before) m f w.key
+  -- each delete is one of that history, and stamped in the interval
   pub erased : (f : FragKey) → Contains deletes f → (e : Erasure) × Contains (erases (history_told jobs past commits.before)) e × (frag_of e.key ≡ f) × (is_within from to e.key ≡ true)
+  -- each delete of that history in the interval is among them
   pub erasing : (e : Erasure) → Contains (erases (history_told jobs past commits.before)) e → is_within from to e.key ≡ true → Contains deletes (frag_of e.key)
 
 -- what a job listed before the schemas: a read the commits, another job nothing
@@ -99,27 +107,35 @@ pub record ReadsIn (spelled : Spelled) (past : History) (jobs : List Job) (seen 
   pub framed : frame_in (history_told jobs past ((at.works).schemas).before) ≡ Some r.frame
   pub is_ready : ready_in r.frame (r.there).attrs query ≡ Ok r.ready
 
--- an open fragment: its head is that of the piece that its parts spell, and its object is that of the part with the head
-pub record IsOpen {F : Type 0} (forms : Forms F) (spelled : Spelled) (g : History) (m : Held) (frame : Frame) (o : Opened) : Type 0 where
-  pub one : HoldsOne spelled g m o.frag
-  pub same_frame : one.frame ≡ frame
-  pub head : o.head ≡ (one.piece).head
-  pub object : (one.spells).look (forms.head_part frame) ≡ Some o.object
+-- an open fragment, which a read of the interval can use: its head is that of its piece, and its object is that of the part with the head
+pub record IsOpen {F : Type 0} (forms : Forms F) (spelled : Spelled) (g : History) (m : Held) (frame : Frame) (from to : ℕ) (o : Opened) : Type 0 where
+  pub piece : Piece
+  pub holds : HoldsIn spelled g m o.frag piece
+  pub same_frame : holds.frame ≡ frame
+  pub usable : is_usable from to piece.head ≡ true
+  pub head : o.head ≡ piece.head
+  pub object : (holds.spells).look (forms.head_part frame) ≡ Some o.object
 
 -- the first fragments of a read are open
 pub record AreOpen {F : Type 0} (forms : Forms F) (spelled : Spelled) (g : History) (m : Held) (r : Reading) (opened : List Opened) : Type 0 where
   pub frags : list_map (λ o. o.frag) opened ≡ take (length opened) r.near
-  pub each : (o : Opened) → Contains opened o → IsOpen forms spelled g m r.frame o
+  pub each : (o : Opened) → Contains opened o → IsOpen forms spelled g m r.frame r.from r.to o
 
 -- the further schemas of a read are those of these keys, as far as it got them, and each is a deed
 pub record AreSchemas (h : History) (keys : List Key) (schemas : List Schema) : Type 0 where
   pub keys_are : list_map (λ s. s.key) schemas ≡ take (length schemas) keys
   pub each : (s : Schema) → Contains schemas s → schema_with h s.key ≡ Some s
 
--- of the writes whose fragments were fetched, and of no others, the versions in the interval and in the box were got
-pub record AreGot (g : History) (from to : ℕ) (sub : SubBox) (fetched : List FragKey) (got : List Version) : Type 0 where
-  pub of_each : (w : Written) → Contains (writes g) w → Contains fetched (frag_of w.key) → is_within from to w.key ≡ true → (c : List ℤ) → is_in_box sub c ≡ true → version_at got w.key c ≡ version_of w c
-  pub of_others : (k : Key) (c : List ℤ) (v : Version) → version_at got k c ≡ Some v → (is_in_box sub c ≡ true) × ((w : Written) × Contains (writes g) w × (w.key ≡ k) × Contains fetched (frag_of k) × (is_within from to k ≡ true))
+-- what is wanted of the fragments with these heads was got
+pub record AreGot (g : History) (from to : ℕ) (sub : SubBox) (heads : List Head) (got : List Version) : Type 0 where
+  -- at each coordinate of the box the newest version is that of the last write in the interval that went into one of them
+  pub inside : (c : List ℤ) → is_in_box sub c ≡ true → newest_at got c ≡ last_version (wrote_in g from to heads) c
+  -- elsewhere there is none
+  pub outside : (c : List ℤ) → is_in_box sub c ≡ false → newest_at got c ≡ None
+
+-- the heads of open fragments
+abbrev pub heads_of : List Opened → List Head
+heads_of opened = list_map (λ o. o.head) opened
 
 -- the deletes that a read got are those under the first of these names, and each is a deed
 pub record AreErasures (h : History) (deletes : List FragKey) (erased : List Erasure) : Type 0 where
@@ -147,13 +163,15 @@ pub record Erasing {F : Type 0} (forms : Forms F) (spelled : Spelled) (past : Hi
 pub record Fetching {F : Type 0} (forms : Forms F) (spelled : Spelled) (past : History) (jobs : List Job) (seen : List Told) (m : Held) (number : ℕ) (job : Job) (r : Reading) (opened : List Opened) (schemas : List Schema) (next : ℕ) (got : List Version) : Type 0 where
   pub erasing : Erasing forms spelled past jobs seen m number job r opened schemas
   pub all_deletes : length r.erased ≡ length r.deletes
-  pub found : AreGot (history_told jobs past ((((((erasing.gathers).opens).reads).at).listed).commits).before) r.from r.to (r.ready).sub (take next r.near) got
+  pub found : AreGot (history_told jobs past ((((((erasing.gathers).opens).reads).at).listed).commits).before) r.from r.to (r.ready).sub (heads_of (take next opened)) got
 
--- the fetch of a fragment has come so far, on the parts that its write put
+-- the fetch of a fragment, which the read can use, has come so far on its parts
 pub record OnWay {F : Type 0} (spelled : Spelled) (tracks : Tracking F) (g : History) (m : Held) (r : Reading) (frag : FragKey) (fetch : F) (c : Call) : Type 0 where
-  pub one : HoldsOne spelled g m frag
-  pub same_frame : one.frame ≡ r.frame
-  pub way : tracks r.frame one.schema one.piece (one.spells).look (want_of r (one.schema).attrs) fetch c
+  pub piece : Piece
+  pub holds : HoldsIn spelled g m frag piece
+  pub same_frame : holds.frame ≡ r.frame
+  pub usable : is_usable r.from r.to piece.head ≡ true
+  pub way : tracks r.frame holds.schema piece (holds.spells).look (want_of r (holds.schema).attrs) fetch c
 
 -- ---- what a job puts
 
@@ -227,14 +245,14 @@ pub record Kept {F : Type 0} (forms : Forms F) (spelled : Spelled) (tracks : Tra
 
 -- ---- which calls may come
 
--- the call is the next one of a job that was not dropped
+-- the call is one that a job may make which was not dropped
 pub record IsAllowed {F : Type 0} (forms : Forms F) (jobs : List Job) (dead : List ℕ) (seen : List Told) (e : Told) : Type 0 where
   pub number : ℕ
   pub job : Job
   pub own : e.job ≡ Some number
   pub is_job : slice_get jobs number ≡ Some job
   pub alive : Contains dead number → ⊥
-  pub asked : asks forms job (state_of forms job (trace_of number seen)) ≡ Some e.call
+  pub asked : MayAsk forms job (state_of forms job (trace_of number seen)) e.call
   pub short : IsShortCall e.call
 
 -- each of these calls may come after those before it

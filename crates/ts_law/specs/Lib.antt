@@ -1,7 +1,11 @@
+pub mod Origins
 pub mod Stands
 pub mod Rows
 pub mod Fresh
+pub mod Lanes
+pub mod Histories
 pub mod Ends
 pub mod Runs
+pub mod Doing
 pub mod Kept
 pub mod Steps

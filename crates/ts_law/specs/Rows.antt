@@ -1,5 +1,5 @@
--- The row of each job: the puts and listings that it makes, in order, and how it may end.
-use Rattle.std.specs.Prelude.{◌≡◌, ℕ, Bool, true, false, cond, List, [], ◌∷◌, ◌++◌, Option, Some, None, option_map, length, nat_lt, Result, Ok, Err, IsTrue, All, Contains, ⊤, ◌⊎◌, map as list_map}
+-- The row of each job: the puts and listings that it makes, in order, what it may look at between them, and how it may end.
+use Rattle.std.specs.Prelude.{◌≡◌, ◌≢◌, ℕ, Bool, true, false, cond, List, [], ◌∷◌, ◌++◌, Option, Some, None, option_map, length, nat_lt, Result, Ok, Err, IsTrue, All, Contains, ⊤, ◌⊎◌, map as list_map}
 use Rattle.ts_base.specs.declared.keys.Key.{Key}
 use Rattle.ts_base.specs.declared.keys.FragKey.{FragKey}
 use Rattle.ts_base.specs.declared.names.Name.{Name}
@@ -26,7 +26,7 @@ use Rattle.ts_schema.specs.FrameTexts.{frame_of}
 use Rattle.ts_schema.specs.SchemaTexts.{schema_of}
 use Rattle.ts_model.specs.declared.commands.Command.TheVariants.{Create, Evolve, Write, Read, Delete}
 use Rattle.ts_model.specs.Stops.{cuts, Uncut}
-use Rattle.ts_model.specs.States.{schemas_in, place_of, get_all, put_of, made_by, frame_put, schema_object_of, write_objects, is_own_frame, get_frame, list_schemas, list_commits, delete_object_of, wanted, Exchange}
+use Rattle.ts_model.specs.States.{schemas_in, place_of, get_all, put_of, made_by, frame_put, schema_object_of, write_objects, is_own_frame, get_frame, list_schemas, list_commits, get_schema, get_delete, committed_in, deletes_in, meets, delete_object_of, wanted, Exchange}
 use Rattle.ts_model.specs.Forms.{Forms, Asks, Breaks, is_look}
 use Rattle.ts_model.specs.Jobs.{key_of, frag_of_job, refused_before, looked_at}
 use Rattle.ts_model.specs.Commands.{laid}
@@ -100,11 +100,15 @@ SaysThere found command c r = ⊤
 abbrev pub GotSchema : List Exchange → Schema → Type 0
 GotSchema trace s = (bytes : List ℕ) × Contains trace (record { call = get_all (name.Schema s.key); reply = reply.Bytes bytes }) × (schema_of bytes ≡ Ok s.attrs)
 
--- a job got what it found: the schema there is that of its listing of the schemas, and it and the frame are spelled by the bytes that the job was told
-pub record IsGot (job : Job) (found : Found) (trace : List Exchange) : Type 0 where
+-- of the schemas that a job listed the one with the key holds where the job looks
+pub record IsKeyThere (job : Job) (trace : List Exchange) (k : Key) : Type 0 where
   pub names : List Name
   pub listed : Contains trace (record { call = list_schemas; reply = reply.Names names })
-  pub newest : schema_at (schemas_in names) (looked_at job) ≡ Some (found.there).key
+  pub newest : schema_at (schemas_in names) (looked_at job) ≡ Some k
+
+-- a job got what it found: the schema there is that of its listing of the schemas, and it and the frame are spelled by the bytes that the job was told
+pub record IsGot (job : Job) (found : Found) (trace : List Exchange) : Type 0 where
+  pub key : IsKeyThere job trace (found.there).key
   pub schema : GotSchema trace found.there
   pub frame_bytes : List ℕ
   pub frame_got : Contains trace (record { call = get_frame; reply = reply.Bytes frame_bytes })
@@ -114,46 +118,7 @@ pub record IsGot (job : Job) (found : Found) (trace : List Exchange) : Type 0 wh
 abbrev pub AreFound : Job → Found → List Exchange → Type 0
 AreFound job found trace = All (λ x. SaysThere found job.command x.call x.reply) trace
 
--- ---- going along a row
-
--- the call may come where `row` is left of a row, and leaves `rest` of it: it is a get or a size, which may stand between the calls of a row, or the row's next call
-abbrev pub IsNext : List Call → Call → List Call → Type 0
-IsNext row c rest = (IsTrue (is_look c) × (row ≡ rest)) ⊎ (row ≡ c ∷ rest)
-
--- the reply is what a call is asked for: a get or a size may be told bytes or a length; a create goes on where its frame was there already
-abbrev pub lets_on : Call → Reply → Bool
-lets_on (call.Put name.Domain bytes) reply.Taken = true
-lets_on (call.Put n bytes) reply.Made = true
-lets_on (call.List prefix) (reply.Names names) = true
-lets_on (call.Get n from len) (reply.Bytes bytes) = true
-lets_on (call.Get n from len) (reply.Length size) = true
-lets_on (call.Size n) (reply.Bytes bytes) = true
-lets_on (call.Size n) (reply.Length len) = true
-lets_on c r = false
-
--- the calls went along the row, each reply let the job go on, and `left` is left of the row
-abbrev pub Along : List Call → List Exchange → List Call → Type 0
-Along row [] left = row ≡ left
-Along row (x ∷ xs) left = IsTrue (lets_on x.call x.reply) × ((rest : List Call) × IsNext row x.call rest × Along rest xs left)
-
--- the calls went along the row up to the last one
-pub record EndsAt (row : List Call) (trace : List Exchange) (last : Exchange) : Type 0 where
-  pub before : List Exchange
-  pub left : List Call
-  pub rest : List Call
-  pub parts : trace ≡ before ++ last ∷ []
-  pub along : Along row before left
-  pub next : IsNext left last.call rest
-
--- ---- refusals
-
--- why a job is refused where it found this
-abbrev pub refused_in : Found → Command → Option Refusal
-refused_in found (Evolve change) = option_map refusal.SchemaBad (evolution_fault (found.frame).domain (found.there).attrs change)
-refused_in found (Write w) = result_err (laid found.frame (found.there).attrs w)
-refused_in found (Read from to query) = result_err (ready_in found.frame (found.there).attrs query)
-refused_in found (Delete text) = result_err (erasing_in found.frame (found.there).attrs text)
-refused_in found _ = None
+-- ---- the fetches of a read
 
 -- what a read wants of a fragment whose attributes are those of a schema, in the array that it found
 abbrev pub wanted_in : Found → ℕ → ℕ → Query → Schema → Want
@@ -188,6 +153,92 @@ pub record IsUnderWay {F : Type 0} (forms : Forms F) (job : Job) (found : Found)
   pub begins : forms.steps first reply.Start ≡ Asks begun asked
   pub replies : List Reply
   pub fetched : IsFetched forms trace begun asked replies fetch c
+
+-- ---- which objects a job may look at
+
+-- of the names of a kind that a read listed with the commits one whose span meets the interval
+abbrev pub IsListedIn : (List Name → List FragKey) → List Exchange → ℕ → ℕ → FragKey → Type 0
+IsListedIn kind trace from to f = (names : List Name) × Contains trace (record { call = list_commits; reply = reply.Names names }) × Contains (kind names) f × (meets from to f ≡ true)
+
+-- a fragment is near: its `.wrt` was listed, and its span meets the interval
+abbrev pub IsNear : List Exchange → ℕ → ℕ → FragKey → Type 0
+IsNear trace from to f = IsListedIn committed_in trace from to f
+
+-- a read got the head of a fragment in an array of the frame that it found
+abbrev pub GotHead : {F : Type 0} → Forms F → Found → List Exchange → FragKey → Head → Type 0
+GotHead forms found trace f head =
+    (object : List ℕ) × Contains trace (record { call = get_all (name.Part f (forms.head_part found.frame)); reply = reply.Bytes object }) × (forms.head found.frame f object ≡ Ok head)
+
+-- a job that works in a schema gets the one that holds where it looks, of those that it listed, and once it has that one the frame
+abbrev pub LooksThere : Job → List Exchange → Call → Type 0
+LooksThere job trace c = ((k : Key) × IsKeyThere job trace k × (c ≡ get_schema k)) ⊎ ((s : Schema) × IsKeyThere job trace s.key × GotSchema trace s × (c ≡ get_frame))
+
+-- what a read looks at in the array that it found: each is a get of a whole object, but for the calls for which a fetch asks
+pub data LooksInside {F : Type 0} (forms : Forms F) (job : Job) (found : Found) (trace : List Exchange) (from to : ℕ) (c : Call) : Type 0 where
+  -- the part that has the head of a near fragment
+  AtHead : (f : FragKey) → IsNear trace from to f → c ≡ get_all (name.Part f (forms.head_part found.frame)) → LooksInside forms job found trace from to c
+  -- a further schema: one that is named by a head which the read got, and is not the schema there
+  AtSchema : (f : FragKey) (head : Head) → GotHead forms found trace f head → head.schema ≢ (found.there).key → c ≡ get_schema head.schema → LooksInside forms job found trace from to c
+  -- a delete that was listed and is stamped in the interval
+  AtDelete : (f : FragKey) → IsListedIn deletes_in trace from to f → c ≡ get_delete f → LooksInside forms job found trace from to c
+  -- a get or a size for which the fetch of a near fragment asks, which the read began on what it got
+  InFetch : (f : FragKey) (fetch : F) → IsNear trace from to f → IsUnderWay forms job found trace f fetch c → IsTrue (is_look c) → LooksInside forms job found trace from to c
+
+-- the call looks at an object that the job's command reads, by what the job was told before; but for the calls of fetches it gets the whole object
+abbrev pub IsLookBy : {F : Type 0} → Forms F → Job → Found → List Exchange → Command → Call → Type 0
+IsLookBy forms job found trace (Create f) c = Contains trace (record { call = frame_put f; reply = reply.Taken }) × (c ≡ get_frame)
+IsLookBy forms job found trace (Evolve change) c = LooksThere job trace c
+IsLookBy forms job found trace (Write w) c = LooksThere job trace c
+IsLookBy forms job found trace (Read from to query) c = LooksThere job trace c ⊎ (IsGot job found trace × LooksInside forms job found trace from to c)
+IsLookBy forms job found trace (Delete text) c = LooksThere job trace c
+
+abbrev pub IsLookOf : {F : Type 0} → Forms F → Job → Found → List Exchange → Call → Type 0
+IsLookOf forms job found trace c = IsLookBy forms job found trace job.command c
+
+-- ---- going along a row
+
+-- which calls a job may make between those of its row, after these calls of its own
+abbrev pub Looks : Type 1
+Looks = List Exchange → Call → Type 0
+
+-- the call may come after these calls where `row` is left of a row, and leaves `rest` of it: it is a look, which may stand between the calls of a row, or the row's next call
+abbrev pub IsNext : Looks → List Exchange → List Call → Call → List Call → Type 0
+IsNext looks trace row c rest = (looks trace c × (row ≡ rest)) ⊎ (row ≡ c ∷ rest)
+
+-- the reply is what a call is asked for: a get or a size may be told bytes or a length; a create goes on where its frame was there already
+abbrev pub lets_on : Call → Reply → Bool
+lets_on (call.Put name.Domain bytes) reply.Taken = true
+lets_on (call.Put n bytes) reply.Made = true
+lets_on (call.List prefix) (reply.Names names) = true
+lets_on (call.Get n from len) (reply.Bytes bytes) = true
+lets_on (call.Get n from len) (reply.Length size) = true
+lets_on (call.Size n) (reply.Bytes bytes) = true
+lets_on (call.Size n) (reply.Length len) = true
+lets_on c r = false
+
+-- after those before, the calls went along the row, each reply let the job go on, and `left` is left of the row
+abbrev pub Along : Looks → List Exchange → List Call → List Exchange → List Call → Type 0
+Along looks before row [] left = row ≡ left
+Along looks before row (x ∷ xs) left = IsTrue (lets_on x.call x.reply) × ((rest : List Call) × IsNext looks before row x.call rest × Along looks (before ++ x ∷ []) rest xs left)
+
+-- after those before, the calls went along the row up to the last one
+pub record EndsAt (looks : Looks) (before : List Exchange) (row : List Call) (trace : List Exchange) (last : Exchange) : Type 0 where
+  pub front : List Exchange
+  pub left : List Call
+  pub rest : List Call
+  pub parts : trace ≡ front ++ last ∷ []
+  pub along : Along looks before row front left
+  pub next : IsNext looks (before ++ front) left last.call rest
+
+-- ---- refusals
+
+-- why a job is refused where it found this
+abbrev pub refused_in : Found → Command → Option Refusal
+refused_in found (Evolve change) = option_map refusal.SchemaBad (evolution_fault (found.frame).domain (found.there).attrs change)
+refused_in found (Write w) = result_err (laid found.frame (found.there).attrs w)
+refused_in found (Read from to query) = result_err (ready_in found.frame (found.there).attrs query)
+refused_in found (Delete text) = result_err (erasing_in found.frame (found.there).attrs text)
+refused_in found _ = None
 
 -- a part of a fragment breaks its layout at an offset: where a read opens the fragment, where the fetch begins, or by the last reply, which the fetch waited for
 abbrev pub BreaksPart : {F : Type 0} → Forms F → Job → Found → List Exchange → Exchange → FragKey → Part → ℕ → Type 0
@@ -229,13 +280,13 @@ IsCause forms job found trace last r = IsGot job found trace × (refused_in foun
 
 -- how the calls may end where `row` is a job's row: well, at the end of the row; refused; or out of memory, which may come anywhere
 abbrev pub EndsAlong : {F : Type 0} → Forms F → Job → Found → List Call → List Exchange → Outcome → Type 0
-EndsAlong forms job found row trace (outcome.Refused r) = (last : Exchange) × EndsAt row trace last × IsCause forms job found trace last r
-EndsAlong forms job found row trace outcome.OutOfMemory = ((left : List Call) × Along row trace left) ⊎ ((last : Exchange) × EndsAt row trace last)
-EndsAlong forms job found row trace outcome.Created = Along row trace [] × ((f : FrameIn) × (job.command ≡ Create f))
-EndsAlong forms job found row trace (outcome.Evolved k) = Along row trace [] × ((change : Evolution) × (job.command ≡ Evolve change)) × (k ≡ key_of job) × IsGot job found trace × (refused_in found job.command ≡ None)
-EndsAlong forms job found row trace (outcome.Written f) = Along row trace [] × ((w : WriteIn) × (job.command ≡ Write w)) × (f ≡ frag_of_job job) × IsGot job found trace × (refused_in found job.command ≡ None)
-EndsAlong forms job found row trace (outcome.Deleted f) = Along row trace [] × ((text : List ℕ) × (job.command ≡ Delete text)) × (f ≡ frag_of_job job) × IsGot job found trace × (refused_in found job.command ≡ None)
-EndsAlong forms job found row trace (outcome.Read answer) = Along row trace [] × ((from : ℕ) × (to : ℕ) × (query : Query) × (job.command ≡ Read from to query)) × IsGot job found trace × (refused_in found job.command ≡ None)
+EndsAlong forms job found row trace (outcome.Refused r) = (last : Exchange) × EndsAt (IsLookOf forms job found) [] row trace last × IsCause forms job found trace last r
+EndsAlong forms job found row trace outcome.OutOfMemory = ((left : List Call) × Along (IsLookOf forms job found) [] row trace left) ⊎ ((last : Exchange) × EndsAt (IsLookOf forms job found) [] row trace last)
+EndsAlong forms job found row trace outcome.Created = Along (IsLookOf forms job found) [] row trace [] × ((f : FrameIn) × (job.command ≡ Create f))
+EndsAlong forms job found row trace (outcome.Evolved k) = Along (IsLookOf forms job found) [] row trace [] × ((change : Evolution) × (job.command ≡ Evolve change)) × (k ≡ key_of job) × IsGot job found trace × (refused_in found job.command ≡ None)
+EndsAlong forms job found row trace (outcome.Written f) = Along (IsLookOf forms job found) [] row trace [] × ((w : WriteIn) × (job.command ≡ Write w)) × (f ≡ frag_of_job job) × IsGot job found trace × (refused_in found job.command ≡ None)
+EndsAlong forms job found row trace (outcome.Deleted f) = Along (IsLookOf forms job found) [] row trace [] × ((text : List ℕ) × (job.command ≡ Delete text)) × (f ≡ frag_of_job job) × IsGot job found trace × (refused_in found job.command ≡ None)
+EndsAlong forms job found row trace (outcome.Read answer) = Along (IsLookOf forms job found) [] row trace [] × ((from : ℕ) × (to : ℕ) × (query : Query) × (job.command ≡ Read from to query)) × IsGot job found trace × (refused_in found job.command ≡ None)
 
 -- how a job may end: one that is refused before its first call makes none
 abbrev pub MayEndAs : {F : Type 0} → Forms F → Job → Found → List Exchange → Outcome → Option Refusal → Type 0
@@ -246,10 +297,10 @@ MayEndAs forms job found trace end (Some r) = (trace ≡ []) × ((end ≡ outcom
 pub record IsCutOff {F : Type 0} (forms : Forms F) (job : Job) (found : Found) (trace : List Exchange) : Type 0 where
   pub begins : refused_before job.command ≡ None
   pub left : List Call
-  pub along : Along (row_of forms job found) trace left
+  pub along : Along (IsLookOf forms job found) [] (row_of forms job found) trace left
   pub unmade : Call
   pub rest : List Call
-  pub next : IsNext left unmade rest
+  pub next : IsNext (IsLookOf forms job found) trace left unmade rest
   pub cut : cuts job.stop (length trace) unmade ≡ true
 
 -- how a job may come out: with an end, or cut off by its stop

@@ -1,5 +1,5 @@
--- Runs: what the jobs of one lane did, one after the other.
-use Rattle.std.specs.Prelude.{◌≡◌, ℕ, ◌+◌, List, [], ◌∷◌, ◌++◌, Option, Some, slice_get, IfSome, All}
+-- Runs: what the jobs of some lanes did, those of a lane one after the other.
+use Rattle.std.specs.Prelude.{◌≡◌, ℕ, List, ◌++◌, Option, Some, length, slice_get, IfSome, All, map as list_map}
 use Rattle.ts_store.specs.declared.journal.Entry.{Entry}
 use Rattle.ts_model.specs.declared.commands.Job.{Job}
 use Rattle.ts_model.specs.declared.answers.Outcome.{Outcome}
@@ -7,47 +7,63 @@ use Rattle.ts_model.specs.declared.answers.Driven.{Driven}
 use Rattle.ts_base.specs.Held.{Held}
 use Rattle.ts_store.specs.Journals.{held_after}
 use Rattle.ts_model.specs.declared.answers.Driven.TheVariants.{Done}
-use Rattle.ts_model.specs.Driven.{AreDriven}
-use Rattle.ts_model.specs.Told.{Told, trace_of, Suits, Replied, only_lane, entries_of, history_told}
+use Rattle.ts_model.specs.Driven.{IsDriven}
+use Rattle.ts_model.specs.States.{Exchange}
+use Rattle.ts_model.specs.Told.{Told, trace_of, Suits, Replied, entries_of, history_told}
 use Rattle.ts_law.specs.Fresh.{IsFreshSeed}
+use Rattle.ts_law.specs.Lanes.{lane_by, IsOwned, AreInLanes}
+use Rattle.ts_law.specs.Histories.{history_of}
 use Rattle.ts_model.specs.Forms.{Forms, Spelled}
 use Rattle.ts_law.specs.Stands.{Stands}
 use Rattle.ts_law.specs.Ends.{IsTrueEnd}
 use Rattle.ts_model.specs.Deeds.{History}
 use Rattle.ts_law.specs.Rows.{IsSegment}
 
--- the calls are those of the jobs from number `number` on, job after job, and each job has its row and its end, or its stop
-abbrev pub AreSegments : {F : Type 0} → Forms F → ℕ → List Job → List (Driven Outcome) → List Told → Type 0
-AreSegments forms number [] [] told = told ≡ []
-AreSegments forms number (job ∷ jobs) (result ∷ results) told =
-    (own : List Told) × (rest : List Told) × (told ≡ own ++ rest) × All (λ e. e.job ≡ Some number) own
-    × IsSegment forms job (trace_of number own) result × AreSegments forms (number + 1) jobs results rest
-AreSegments forms number _ _ told = ⊥
+-- the calls with their replies, whoever made them
+abbrev pub exchanges : List Told → List Exchange
+exchanges told = list_map (λ e. record { call = e.call; reply = e.reply }) told
 
--- each first part of what was told leaves objects that stand for its history, and what each end tells of the history is true; a job that was stopped has no end
-pub record IsTrueRun (spelled : Spelled) (jobs : List Job) (h : History) (m : Held) (told : List Told) (results : List (Driven Outcome)) : Type 0 where
-  pub stands : (front back : List Told) → told ≡ front ++ back → Stands spelled (held_after m (entries_of (only_lane 0) front)) (history_told jobs h front)
+-- each job was driven by its own calls, to its end or to its stop
+pub record AreDriven {F : Type 0} (forms : Forms F) (jobs : List Job) (results : List (Driven Outcome)) (told : List Told) : Type 0 where
+  pub one_each : length results ≡ length jobs
+  pub driven : (number : ℕ) (job : Job) (result : Driven Outcome) → slice_get jobs number ≡ Some job → slice_get results number ≡ Some result → IsDriven forms job (trace_of number told) result
+
+-- each job made the calls of its row, and ended by them, or where it was stopped
+abbrev pub AreSegments : {F : Type 0} → Forms F → List Job → List (Driven Outcome) → List Told → Type 0
+AreSegments forms jobs results told =
+    (number : ℕ) (job : Job) (result : Driven Outcome) → slice_get jobs number ≡ Some job → slice_get results number ≡ Some result → IsSegment forms job (trace_of number told) result
+
+-- each first part of what was told leaves objects that stand for its history, and so does each first part of the journal; what each end tells of the history is true; a job that was stopped has no end
+pub record IsTrueRun (spelled : Spelled) (lanes : ℕ → ℕ) (jobs : List Job) (h : History) (m : Held) (told : List Told) (results : List (Driven Outcome)) : Type 0 where
+  pub stands : (front back : List Told) → told ≡ front ++ back → Stands spelled (held_after m (entries_of (lane_by lanes) front)) (history_told jobs h front)
+  pub journal : (front back : List Entry) → entries_of (lane_by lanes) told ≡ front ++ back → Stands spelled (held_after m front) (history_of h m jobs front)
   pub answers : (number : ℕ) (job : Job) (end : Outcome) → slice_get jobs number ≡ Some job → slice_get results number ≡ Some (Done end) → IsTrueEnd jobs h told number job end
 
 -- what a run is over a store that held m
-pub record IsRunOver (spelled : Spelled) (seed : ℕ) (jobs : List Job) (m : Held) (later : Option Held) (journal : List Entry) (told : List Told) (results : List (Driven Outcome)) : Type 0 where
+pub record IsRunOver (spelled : Spelled) (seed : ℕ) (lanes : ℕ → ℕ) (jobs : List Job) (m : Held) (later : Option Held) (journal : List Entry) (told : List Told) (results : List (Driven Outcome)) : Type 0 where
   -- each call is replied to as by a store of one thread
   pub replied : Replied m told
   -- the store now holds what the journal leaves
   pub held : later ≡ Some (held_after m journal)
   -- where the objects stand for a history that the seed is fresh over, the run is true of it
-  pub true_run : (h : History) → Stands spelled m h → IsFreshSeed m h seed → IsTrueRun spelled jobs h m told results
+  pub true_run : (h : History) → Stands spelled m h → IsFreshSeed m h seed → IsTrueRun spelled lanes jobs h m told results
 
--- the jobs ran one after the other over a store, made the entries of the journal, and came out so
-pub record IsRun {F : Type 0} (forms : Forms F) (spelled : Spelled) (seed : ℕ) (jobs : List Job) (held later : Option Held) (journal : List Entry) (results : List (Driven Outcome)) : Type 0 where
+-- the jobs ran in these lanes over a store, made the entries of the journal, and came out so; `held` is what a store holds, where it tells that, and `made` says that just these calls were made of it
+pub record IsRun {F S : Type 0} (forms : Forms F) (spelled : Spelled) (held : S → Option Held) (made : S → List Exchange → S → Type 0) (seed : ℕ) (lanes : ℕ → ℕ) (jobs : List Job) (store later : S) (journal : List Entry) (results : List (Driven Outcome)) : Type 0 where
   pub told : List Told
-  -- the journal has the calls, but for those that found no memory
-  pub entries : entries_of (only_lane 0) told ≡ journal
+  -- each call is one that a job made
+  pub owned : All IsOwned told
+  -- just these calls were made of the store
+  pub calls : made store (exchanges told) later
+  -- the journal has them, but for those that found no memory
+  pub entries : entries_of (lane_by lanes) told ≡ journal
   -- each reply suits its call: it tells of a failure just where the journal does
   pub suit : All Suits told
-  -- each job makes just the calls that its automaton asks, and comes out by their replies
-  pub driven : AreDriven forms 0 jobs results told
+  -- each job makes just calls that it may make, and those of a lane come one after the other
+  pub in_lanes : AreInLanes forms lanes jobs told
+  -- each comes out by the replies to its calls
+  pub driven : AreDriven forms jobs results told
   -- each job makes the calls of its row, and ends by them, or where it is stopped
-  pub segments : AreSegments forms 0 jobs results told
+  pub segments : AreSegments forms jobs results told
   -- over a store that told what it held
-  pub over : IfSome held (λ m. IsRunOver spelled seed jobs m later journal told results)
+  pub over : IfSome (held store) (λ m. IsRunOver spelled seed lanes jobs m (held later) journal told results)

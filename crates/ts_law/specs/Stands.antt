@@ -1,5 +1,5 @@
 -- A map of objects stands for a history.
-use Rattle.std.specs.Prelude.{◌≡◌, ℕ, List, Some, option_map, IsTrue, Contains}
+use Rattle.std.specs.Prelude.{◌≡◌, ℕ, true, List, Some, option_map, IsTrue, Contains}
 use Rattle.ts_base.specs.declared.keys.Key.{Key}
 use Rattle.ts_base.specs.declared.keys.FragKey.{FragKey}
 use Rattle.ts_base.specs.declared.names.Part.{Part}
@@ -7,14 +7,14 @@ use Rattle.ts_base.specs.declared.heads.Piece.{Piece}
 use Rattle.ts_model.specs.declared.deeds.Written.{Written}
 use Rattle.ts_schema.specs.declared.frames.Frame.{Frame}
 use Rattle.ts_schema.specs.declared.schemas.Schema.{Schema}
-use Rattle.ts_base.specs.Keys.{frag_of}
+use Rattle.ts_commit.specs.Selections.{has_origin}
 use Rattle.ts_base.specs.Held.{Held}
 use Rattle.ts_base.specs.declared.names.CommitKind.TheVariants.{Del}
 use Rattle.ts_base.specs.Names.{wrt_of}
 use Rattle.ts_schema.specs.FrameTexts.{frame_object}
 use Rattle.ts_schema.specs.SchemaTexts.{schema_object}
 use Rattle.ts_schema.specs.Parts.{Look, IsShort}
-use Rattle.ts_model.specs.Pieces.{HoldsWrite}
+use Rattle.ts_law.specs.Origins.{HoldsWrites, IsReadable}
 use Rattle.ts_model.specs.Forms.{Spelled}
 use Rattle.ts_cond.specs.CondTexts.{cond_object}
 use Rattle.ts_model.specs.Deeds.{History, frame_in, writes, schema_with, erase_of, IsHistory}
@@ -33,17 +33,21 @@ pub record Spells (spelled : Spelled) (m : Held) (frame : Frame) (s : Schema) (f
   pub short : (part : Part) (bytes : List ℕ) → look part ≡ Some bytes → IsShort bytes
   pub named : p.head.frag ≡ f
 
--- the fragment holds one write of the history
-pub record HoldsOne (spelled : Spelled) (h : History) (m : Held) (f : FragKey) : Type 0 where
-  pub write : Written
-  pub written : Contains (writes h) write
+-- the parts of the fragment spell the piece, and it holds writes of the history
+pub record HoldsIn (spelled : Spelled) (h : History) (m : Held) (f : FragKey) (p : Piece) : Type 0 where
   pub frame : Frame
   pub framed : frame_in h ≡ Some frame
+  pub dense : p.head.dense ≡ frame.dense
   pub schema : Schema
-  pub declared : schema_with h write.schema ≡ Some schema
+  pub declared : schema_with h p.head.schema ≡ Some schema
+  pub spells : Spells spelled m frame schema f p
+  pub holds : HoldsWrites h p
+
+-- the write of the key went into the fragment
+pub record WentInto (spelled : Spelled) (h : History) (m : Held) (f : FragKey) (k : Key) : Type 0 where
   pub piece : Piece
-  pub spells : Spells spelled m frame schema f piece
-  pub holds : HoldsWrite write piece
+  pub holds : HoldsIn spelled h m f piece
+  pub origin : has_origin k piece.head ≡ true
 
 -- the map stands for the history
 pub record Stands (spelled : Spelled) (m : Held) (h : History) : Type 0 where
@@ -58,7 +62,7 @@ pub record Stands (spelled : Spelled) (m : Held) (h : History) : Type 0 where
   pub short_frame : (bytes : List ℕ) → map.get m name.Domain ≡ Some bytes → IsShort bytes
   pub short_schemas : (k : Key) (bytes : List ℕ) → map.get m (name.Schema k) ≡ Some bytes → IsShort bytes
   pub short_deletes : (f : FragKey) (bytes : List ℕ) → map.get m (name.Commit f Del) ≡ Some bytes → IsShort bytes
-  -- each committed fragment holds one write of the history
-  pub whole : (f : FragKey) → IsCommitted m f → HoldsOne spelled h m f
-  -- the fragment of each write is committed
-  pub covered : (w : Written) → Contains (writes h) w → IsCommitted m (frag_of w.key)
+  -- the parts of a committed fragment spell a piece, which holds what its origins wrote; a read can use it wherever it meets its span
+  pub whole : (f : FragKey) → IsCommitted m f → (p : Piece) × HoldsIn spelled h m f p × IsReadable p.head
+  -- each write went into a committed fragment
+  pub covered : (w : Written) → Contains (writes h) w → (f : FragKey) × IsCommitted m f × WentInto spelled h m f w.key

@@ -8,7 +8,7 @@ use Rattle.ts_base.specs.Held.{Held}
 use Rattle.ts_law.specs.Kept.{Claims}
 use Rattle.ts_model.specs.Told.{Told, after_told, IsShortCall, IsReplied, history_told}
 use Rattle.ts_law.specs.Fresh.{id_in}
-use Rattle.ts_model.specs.States.{asks, goes}
+use Rattle.ts_model.specs.States.{asks, goes_on}
 use Rattle.ts_model.specs.Forms.{Forms, Spelled, Tracking}
 use Rattle.ts_model.specs.Jobs.{IsFit, AreApart}
 use Rattle.ts_law.specs.Stands.{Stands}
@@ -32,7 +32,7 @@ pub record Leads (spelled : Spelled) (past : History) (jobs : List Job) (seen : 
 -- and the claims of the job itself are those of where it comes
 pub record Advances {F : Type 0} (forms : Forms F) (spelled : Spelled) (tracks : Tracking F) (past : History) (jobs : List Job) (seen : List Told) (e : Told) (m : Held) (number : ℕ) (job : Job) (s : State F) : Type 0 where
   pub leads : Leads spelled past jobs seen e m job.id
-  pub own : Claims forms spelled tracks past jobs (seen ++ e ∷ []) (after_told m e) number job (goes forms job s e.reply)
+  pub own : Claims forms spelled tracks past jobs (seen ++ e ∷ []) (after_told m e) number job (goes_on forms job s (record { call = e.call; reply = e.reply }))
 
 -- a call of a job that comes after these, in a state whose claims hold
 pub record Comes {F : Type 0} (forms : Forms F) (spelled : Spelled) (tracks : Tracking F) (past : History) (jobs : List Job) (seen : List Told) (e : Told) (m : Held) (number : ℕ) (job : Job) (s : State F) : Type 0 where

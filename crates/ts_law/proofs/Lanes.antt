@@ -1,0 +1,122 @@
+-- The calls of jobs that come one after the other in a lane.
+use Rattle.std.proofs.Common.{◌≡◌, ℕ, cond, inl, inr, List, [], ◌∷◌, ◌++◌, Option, Some, None, refl, sym, ◌∙◌, ap, subst, arith}
+use Rattle.std.specs.Prelude.{All, Contains, slice_get}
+use Rattle.std.specs.List.{cons_option}
+use Rattle.std.proofs.lemmas.Bool.{cases_eq}
+use Rattle.std.proofs.lemmas.List.{length_push}
+use Rattle.std.proofs.lemmas.Option.{same_Some, none-some, slice_get_within}
+use Rattle.std.proofs.lemmas.List.Elements.{All-nil, All-cons, All-head, All-tail, All-append, All-push, All-weaker}
+use Rattle.ts_store.specs.declared.journal.Entry.{Entry}
+use Rattle.ts_store.specs.Calls.{is_no_memory}
+use Rattle.ts_model.specs.declared.commands.Job.{Job}
+use Rattle.ts_model.specs.Driven.{MayAsk, AskedFrom}
+use Rattle.ts_model.specs.Forms.{Forms}
+use Rattle.ts_model.specs.States.{Exchange, begun, state_of}
+use Rattle.ts_model.specs.Told.{Told, trace_of, only_lane, entry_of, entries_of}
+use Rattle.ts_model.proofs.Asked.{asked-push}
+use Rattle.ts_model.proofs.ListLemmas.{Contains-here, Contains-there, slice_get_push}
+use Rattle.ts_model.proofs.Traces.{exchange_of_own, exchange_of_other, trace_of-own, trace_of-other}
+use Rattle.ts_law.specs.Lanes.{lane_by, one_lane, own_lane, IsBefore, IsWithin, InTurn, AreInLanes}
+use Rattle.ts_law.specs.Runs.{exchanges}
+
+-- the calls are made by the job with a number
+abbrev pub AreBy : ℕ → List Told → Type 0
+AreBy number own = All (λ e. e.job ≡ Some number) own
+
+-- ---- traces
+
+-- a job that made none of these calls has no trace of them
+pub none_made : (number : ℕ) (told : List Told) → All (λ e. e.job ≡ Some number → ⊥) told → trace_of number told ≡ []
+none_made number [] none = refl
+none_made number (e ∷ told) none =
+    ap (λ o. cons_option o (trace_of number told)) (exchange_of_other number e (All-head (λ x. x.job ≡ Some number → ⊥) e told none))
+    ∙ none_made number told (All-tail (λ x. x.job ≡ Some number → ⊥) e told none)
+
+-- another job made none of these calls
+pub none_by : (number other : ℕ) (own : List Told) → AreBy number own → (number ≡ other → ⊥) → trace_of other own ≡ []
+none_by number other own by_it apart =
+    none_made other own (All-weaker (λ e. e.job ≡ Some number) (λ e. e.job ≡ Some other → ⊥) (λ e mine others. apart (same_Some number other (sym mine ∙ others))) own by_it)
+
+-- the trace of a job in its own calls has all of them
+pub own_exchanges : (number : ℕ) (own : List Told) → AreBy number own → exchanges own ≡ trace_of number own
+own_exchanges number [] by_it = refl
+own_exchanges number (e ∷ own) by_it =
+    ap (λ xs. record { call = e.call; reply = e.reply } ∷ xs) (own_exchanges number own (All-tail (λ x. x.job ≡ Some number) e own by_it))
+    ∙ sym (ap (λ o. cons_option o (trace_of number own)) (exchange_of_own number e (All-head (λ x. x.job ≡ Some number) e own by_it)))
+
+-- the entries of a job's calls, in its lane
+pub own_entries : (number lane : ℕ) (own : List Told) → AreBy number own → entries_of (only_lane lane) own ≡ entries_of (lane_by (one_lane lane)) own
+own_entries number lane [] by_it = refl
+own_entries number lane (e ∷ own) by_it =
+    let entry_in : Option ℕ → Option Entry = λ j. cond (is_no_memory e.reply) None (Some (record { lane = lane_by (one_lane lane) j; call = e.call; fate = e.fate })) in
+    ap (λ o. cons_option o (entries_of (only_lane lane) own)) (ap entry_in (sym (All-head (λ x. x.job ≡ Some number) e own by_it)))
+    ∙ ap (λ es. cons_option (entry_of (lane_by (one_lane lane)) e) es) (own_entries number lane own (All-tail (λ x. x.job ≡ Some number) e own by_it))
+
+-- ---- turns
+
+-- calls that come in turn after calls that do
+pub in_turn-append : (lanes : ℕ → ℕ) (a b : List Told) → InTurn lanes a → InTurn lanes b → ((d : Told) → Contains a d → All (IsBefore lanes d) b) → InTurn lanes (a ++ b)
+in_turn-append lanes [] b front back pairs = back
+in_turn-append lanes (e ∷ a) b front back pairs =
+    (All-append (IsBefore lanes e) a b front.0 (pairs e (Contains-here e a)), in_turn-append lanes a b front.1 back (λ d at. pairs d (Contains-there e a d at)))
+
+-- a job's calls come in turn
+pub own_in_turn : (lanes : ℕ → ℕ) (number : ℕ) (own : List Told) → AreBy number own → InTurn lanes own
+own_in_turn lanes number [] by_it = tt
+own_in_turn lanes number (e ∷ own) by_it =
+    let mine = All-head (λ x. x.job ≡ Some number) e own by_it in
+    let rest = All-tail (λ x. x.job ≡ Some number) e own by_it in (
+      All-weaker (λ x. x.job ≡ Some number) (IsBefore lanes e)
+          (λ d by_same i j ei dj same. let a = same_Some number i (sym mine ∙ ei) in let b = same_Some number j (sym by_same ∙ dj) in omega arith) own rest,
+      own_in_turn lanes number own rest,
+    )
+
+-- where each job has its own lane, calls come in turn in whatever order
+pub apart_in_turn : (told : List Told) → InTurn own_lane told
+apart_in_turn [] = tt
+apart_in_turn (e ∷ told) = (before told, apart_in_turn told)
+  where
+    before : (rest : List Told) → All (IsBefore own_lane e) rest
+    before [] = All-nil (IsBefore own_lane e)
+    before (d ∷ rest) = All-cons (IsBefore own_lane e) d rest (λ i j ei dj same. omega arith) (before rest)
+
+-- ---- jobs that each have their own lane
+
+module _ {F : Type 0} (forms : Forms F) where
+  -- no call was made yet, and there is no job
+  pub no_lanes : AreInLanes forms own_lane [] []
+  no_lanes = record { within = All-nil (IsWithin []); asked = λ number job at. absurd (none-some job at); in_turn = tt }
+
+  -- a job makes one more call, which it may make where those before have led it
+  pub one_more_call : (jobs : List Job) (told : List Told) (e : Told) (number : ℕ) (job : Job) → AreInLanes forms own_lane jobs told → e.job ≡ Some number → slice_get jobs number ≡ Some job
+      → MayAsk forms job (state_of forms job (trace_of number told)) e.call → AreInLanes forms own_lane jobs (told ++ e ∷ [])
+  one_more_call jobs told e number job lanes own at asked_it = record {
+    within = All-push (IsWithin jobs) told e lanes.within (λ n by_it. let same = same_Some number n (sym own ∙ by_it) in let less = slice_get_within jobs number job at in omega (arith, same, less));
+    asked = λ k j j_at. elim (cases_eq number k) [
+      | inl same ↦
+          let by_it = own ∙ ap Some same in
+          let same_job : job ≡ j = same_Some job j (sym at ∙ ap (slice_get jobs) same ∙ j_at) in
+          let P : ℕ → Job → Type 0 = λ n i. MayAsk forms i (state_of forms i (trace_of n told)) e.call in
+          let Q : List Exchange → Type 0 = λ t. AskedFrom forms j (begun j.command) t in
+          subst Q (sym (trace_of-own k told e by_it))
+          (asked-push forms j (begun j.command) (trace_of k told) (record { call = e.call; reply = e.reply }) (lanes.asked k j j_at) (subst (λ i. P k i) same_job (subst (λ n. P n job) same asked_it)))
+      | inr apart ↦
+          let Q : List Exchange → Type 0 = λ t. AskedFrom forms j (begun j.command) t in
+          subst Q (sym (trace_of-other k told e (λ by_it. apart (same_Some number k (sym own ∙ by_it))))) (lanes.asked k j j_at)
+    ];
+    in_turn = apart_in_turn (told ++ e ∷ []);
+  }
+
+  -- one job more, which has made no call
+  pub one_more_job : (jobs : List Job) (told : List Told) (job : Job) → AreInLanes forms own_lane jobs told → AreInLanes forms own_lane (jobs ++ job ∷ []) told
+  one_more_job jobs told job lanes = record {
+    within = All-weaker (IsWithin jobs) (IsWithin (jobs ++ job ∷ [])) (λ e below n by_it. let less = below n by_it in let more = length_push jobs job in omega (arith, less, more)) told lanes.within;
+    asked = λ k j j_at. elim (slice_get_push jobs job k j j_at) [
+      | inl before ↦ lanes.asked k j before
+      | inr last ↦
+          let none : trace_of k told ≡ [] = none_made k told (All-weaker (IsWithin jobs) (λ e. e.job ≡ Some k → ⊥) (λ e below by_it. let less = below k by_it in omega (arith, less, last.0)) told lanes.within) in
+          let Q : List Exchange → Type 0 = λ t. AskedFrom forms j (begun j.command) t in
+          subst Q (sym none) tt
+    ];
+    in_turn = lanes.in_turn;
+  }
