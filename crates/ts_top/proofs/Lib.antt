@@ -3,3 +3,4 @@ pub mod Texts
 pub mod Whole
 pub mod Recorded
 pub mod Exact
+pub mod Promises

@@ -1,5 +1,5 @@
 -- A job that was driven over a store which enters its calls.
-use Rattle.std.proofs.Common.{◌≡◌, ℕ, List, [], ◌∷◌, Option, refl, sym, ◌∙◌, ap, subst}
+use Rattle.std.proofs.Common.{◌≡◌, ℕ, List, [], ◌∷◌, ◌++◌, Option, refl, sym, ◌∙◌, ap, subst}
 use Rattle.ts_base.specs.Held.{Held}
 use Rattle.ts_store.specs.declared.call.Call.{Call}
 use Rattle.ts_store.specs.declared.call.Reply.{Reply}
@@ -11,15 +11,21 @@ use Rattle.ts_model.specs.Forms.{Forms}
 use Rattle.ts_model.specs.declared.answers.Driven.{Driven}
 use Rattle.ts_model.specs.declared.answers.Outcome.{Outcome}
 use Rattle.ts_model.specs.States.{Exchange}
-use Rattle.ts_model.specs.Driving.{Ran}
-use Rattle.ts_model.proofs.Driving.{Makes, ran-driven}
+use Rattle.ts_model.proofs.Driving.{Makes}
+use Rattle.ts_law.specs.Doing.{RanOver}
+use Rattle.ts_law.proofs.Doing.{ran-told}
 use Rattle.ts_actor.specs.Drives.{Leads, AreAsked, EndsAs, Drove}
-use Rattle.ts_actor.proofs.Below.{CalledAbove}
+use Rattle.ts_actor.proofs.Below.{CalledAbove, leads_below}
 use Rattle.ts_actor.proofs.JobRuns.{job_ends, asked_by, comes_out}
 use Rattle.ts_world.specs.declared.actors.AnyActor.{AnyActor}
 use Rattle.ts_world.specs.Actors.{job_of, Follows}
 use Rattle.ts_world.proofs.Laws.{asks_it}
-use Rattle.ts_top.specs.Runners.{KeepsCount}
+use Rattle.ts_top.specs.Runners.{JustMade, KeepsCount}
+
+-- calls that were made after others
+pub leads-append : {S : Type 0} (call : S → Exchange → S → Type 0) (a b c : S) (xs ys : List Exchange) → Leads call a xs b → Leads call b ys c → Leads call a (xs ++ ys) c
+leads-append {S} call a b c [] ys is more = let P : S → Type 0 = λ s. Leads call s ys c in subst P is more
+leads-append call a b c (x ∷ xs) ys (between, made, rest) more = (between, made, leads-append call between b c xs ys rest more)
 
 module _ {S : Type 0} (held : S → Option Held) (told : S → Fate) (faults asked : S → ℕ) (notes : S → Call → Reply → S → Type 0) where
   -- a call of a store that enters it
@@ -44,15 +50,18 @@ module _ {S : Type 0} (held : S → Option Held) (told : S → Fate) (faults ask
       record { fate = b.book.last; fits = called.fits; short = called.short; answers = called.answers; enters = subst P is called.noted.enters }
 
   module _ {W F : Type 0} (forms : Forms F) where
-    -- an actor that was driven is its job that ran
+    -- an actor that was driven is its job that ran, and just its calls were made of the store below
     pub recorder_ran : (number : ℕ) (job : Job) (first last : AnyActor W F) (before after_ : Recorder S) (result : Driven Outcome) → job_of first ≡ job → job_of last ≡ job
         → Drove job_of (Follows forms) (job_ends forms) RecorderCalled first last before after_ job.stop result
-        → Ran forms number before.book.lane job (held before.store) (held after_.store) before.book.journal after_.book.journal result
+        → RanOver forms held (JustMade held told faults notes) number before.book.lane job before.store after_.store before.book.journal after_.book.journal result
     recorder_ran number job first last before after_ result first_is last_is drove =
         let Q : Job → Type 0 = λ j. AreAsked (job_of {P = W} {F = F}) (Follows {P = W} forms) j [] drove.trace in
         let P : Job → Type 0 = λ j. EndsAs (job_ends forms j) (Follows forms last) job.stop drove.trace result in
-        ran-driven forms (λ (r : Recorder S). held r.store) (λ (r : Recorder S). r.book.journal) (LeadsIn before.book.lane) number before.book.lane job
+        let M : List Exchange → Type 0 = λ xs. JustMade held told faults notes before.store xs after_.store in
+        let (ran, same) =
+        ran-told forms (λ (r : Recorder S). held r.store) (λ (r : Recorder S). r.book.journal) (LeadsIn before.book.lane) number before.book.lane job
         (λ a b way. way.1)
         (λ a b x xs way. (way.1.0, makes before.book.lane a way.1.0 x way.0 way.1.1, (way.1.1.noted.lane ∙ way.0, way.1.2)))
         drove.trace before after_ result (refl, drove.calls) (asked_by {A = AnyActor W F} forms job_of (Follows forms) (asks_it forms) job [] drove.trace (subst Q first_is drove.asked)) drove.uncut
-        (comes_out {A = AnyActor W F} forms job_of (Follows forms) (asks_it forms) job last drove.trace result last_is (subst P first_is drove.end))
+        (comes_out {A = AnyActor W F} forms job_of (Follows forms) (asks_it forms) job last drove.trace result last_is (subst P first_is drove.end)) in
+        record { ran = ran; made_of = subst M (sym same) (leads_below held told faults asked notes before after_ drove.trace drove.calls) }

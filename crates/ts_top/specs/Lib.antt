@@ -7,3 +7,4 @@ pub mod Script
 pub mod Words
 pub mod Values
 pub mod Seen
+pub mod Promise

@@ -1,10 +1,9 @@
 //! Doing jobs one after the other over a store that enters their calls in a journal.
 ghost use Rattle.std.specs.Prelude.{◌≡◌, ◌≤◌, ℕ, All, length, IfOk, OnErr};
-ghost use Rattle.ts_model.specs.Driving.{Ran, AllRan};
+ghost use Rattle.ts_law.specs.Doing.{RanOver, AllRan};
 ghost use Rattle.ts_law.specs.Fresh.{id_of, job_from, jobs_of};
 ghost use Rattle.ts_model.specs.Jobs.{IsFit, IsFitLine};
-ghost use Rattle.ts_actor.specs.PlainForms.{plain_forms};
-ghost use Rattle.ts_top.specs.Runners.{KeepsCount};
+ghost use Rattle.ts_top.specs.Runners.{JustMade, KeepsCount, run_forms};
 
 use std::alloc::Global;
 use std::thread::Threads;
@@ -22,7 +21,7 @@ pub(crate) fn run_job<R: Threads + Sync, S: Store>(
     job: Job,
 ) -> Driven<Outcome>
     requires { IsFit job }
-    ensures ran { (number : ℕ) → Ran plain_forms number recorder.old.book.lane job (S.held recorder.old.store) (S.held recorder.new.store) recorder.old.book.journal recorder.new.book.journal result }
+    ensures ran { (number : ℕ) → RanOver run_forms S.held (JustMade S.held S.last S.faults S.notes) number recorder.old.book.lane job recorder.old.store recorder.new.store recorder.old.book.journal recorder.new.book.journal result }
     ensures lane { recorder.new.book.lane ≡ recorder.old.book.lane }
     ensures counted { KeepsCount (S.faults recorder.old.store) (S.faults recorder.new.store) recorder.old.book.journal recorder.new.book.journal }
 {
@@ -43,7 +42,7 @@ pub(crate) fn run_lines<R: Threads + Sync, S: Store>(
 ) -> Result<Vec<Driven<Outcome>>, OutOfMemory>
     requires few { length lines.now ≤ 4096 }
     requires fit { All IsFitLine lines.now }
-    ensures ran { IfOk result (λ results. AllRan plain_forms recorder.old.book.lane (jobs_of seed lines.now) (S.held recorder.old.store) (S.held recorder.new.store) recorder.old.book.journal recorder.new.book.journal results.items) }
+    ensures ran { IfOk result (λ results. AllRan run_forms S.held (JustMade S.held S.last S.faults S.notes) recorder.old.book.lane (jobs_of seed lines.now) recorder.old.store recorder.new.store recorder.old.book.journal recorder.new.book.journal results.items) }
     ensures count { IfOk result (λ results. length results.items ≡ length lines.now) }
     ensures counted { KeepsCount (S.faults recorder.old.store) (S.faults recorder.new.store) recorder.old.book.journal recorder.new.book.journal }
     ensures short { OnErr result (recorder.new ≡ recorder.old) }
@@ -68,7 +67,7 @@ fn run_line<R: Threads + Sync, S: Store>(
 ) -> Driven<Outcome>
     requires few { number ≤ 4096 }
     requires fit { IsFitLine line.now }
-    ensures ran { (n : ℕ) → Ran plain_forms n recorder.old.book.lane (job_from (id_of seed 0 number) line.now) (S.held recorder.old.store) (S.held recorder.new.store) recorder.old.book.journal recorder.new.book.journal result }
+    ensures ran { (n : ℕ) → RanOver run_forms S.held (JustMade S.held S.last S.faults S.notes) n recorder.old.book.lane (job_from (id_of seed 0 number) line.now) recorder.old.store recorder.new.store recorder.old.book.journal recorder.new.book.journal result }
     ensures lane { recorder.new.book.lane ≡ recorder.old.book.lane }
     ensures counted { KeepsCount (S.faults recorder.old.store) (S.faults recorder.new.store) recorder.old.book.journal recorder.new.book.journal }
 {

@@ -1,17 +1,19 @@
 //! The top call: from words and a script to printed text and a status.
-ghost use Rattle.std.specs.Prelude.{◌≡◌, ◌⊎◌, ◌↔◌, ◌+◌, ◌≤◌, ℕ, List, [], false, true, map, length, Err, IfOk, IfErr, IsSomeAnd};
+ghost use Rattle.std.specs.Prelude.{◌≡◌, ◌⊎◌, ◌↔◌, ◌+◌, ◌≤◌, ℕ, List, [], length, Err, Some, None, IfOk, IfErr, IsSomeAnd};
 ghost use Rattle.ts_store.specs.Counts.{capped, Rose};
 ghost use Rattle.ts_store.specs.Journals.{failures};
-ghost use Rattle.ts_top.specs.Words.{job};
+ghost use Rattle.ts_top.specs.Words.{asked, spelled};
+ghost use Rattle.ts_top.specs.Runners.{JustMade};
 ghost use Rattle.ts_top.specs.Script.{Bad, NotBuilt, AreLimited, script_of};
 ghost use Rattle.ts_top.specs.Ends.{ends_text};
-ghost use Rattle.ts_top.specs.Seen.{Stream, HasReason, IsRead, Means, Plays, Prints, PrintsEnds, IsRunOf, status_of, stop_text};
+ghost use Rattle.ts_top.specs.Promise.{Promised};
+ghost use Rattle.ts_top.specs.Seen.{Stream, stream, HasReason, IsRead, Means, Plays, Prints, PrintsEnds, IsRunOf, status_of, stop_text};
 
 use crate::ends::print_ends;
 use crate::notices::{bad_script_notice, not_built_notice, usage_notice};
 use crate::runner::run_lines;
 use crate::script::{ScriptFault, read_script};
-use crate::words::is_job;
+use crate::words::{Asked, read_words};
 use std::alloc::Global;
 use std::thread::Threads;
 use ts_model::{Driven, Line, LineList, Outcome};
@@ -22,9 +24,9 @@ mod tests;
 
 /// What a run leaves: its status, the store, and every call that was made of it, in order.
 pub struct Ran<S> {
-    /// 0: the commands were done and their ends printed. 2: the words are no job. 3: a line of the
-    /// script is bad. 4: the input could not be read. 5: the text could not be written. 7: out of
-    /// memory. 8: a line of the script names a command that is not built yet.
+    /// 0: the commands were done and their ends printed. 2: the words ask for nothing that can be
+    /// done. 3: a line of the script is bad. 4: the input could not be read. 5: the text could not be
+    /// written. 7: out of memory. 8: a line of the script names a command that is not built yet.
     pub status: u8,
     /// The store that was handed over.
     pub store: S,
@@ -35,7 +37,7 @@ pub struct Ran<S> {
 /// Why a run stops before its first command.
 #[derive(Clone, Copy, Debug, PartialEq, Eq)]
 pub(crate) enum Stop {
-    /// The words are no job.
+    /// The words ask for nothing that can be done.
     Usage,
     /// The line of the script with this number, counted from 1, is bad.
     BadScript(u64),
@@ -65,7 +67,7 @@ impl Stop {
 
 // Prints why a run stopped. Where the sink fails a front of the line was appended.
 fn print_stop<O: Sink>(out: &mut O, stop: Stop)
-    ensures { Prints (record { old = O.contents out.old; new = O.contents out.new; before = O.faults out.old; now = O.faults out.new }) (stop_text stop) }
+    ensures { Prints (stream O.contents O.faults out.old out.new) (stop_text stop) }
 {
     match stop {
         Stop::Usage => print_line(out, usage_notice().as_str().as_bytes()),
@@ -78,20 +80,20 @@ fn print_stop<O: Sink>(out: &mut O, stop: Stop)
 
 // Appends a text to a sink, or a front of it where the sink fails.
 fn print_line<O: Sink>(out: &mut O, text: &[u8])
-    ensures { Prints (record { old = O.contents out.old; new = O.contents out.new; before = O.faults out.old; now = O.faults out.new }) text.now }
+    ensures { Prints (stream O.contents O.faults out.old out.new) text.now }
 {
     let _ = write_all(out, text);
 }
 
 // Reads the words, and the script that they ask for.
 fn prepare<I: Source>(alloc: Global, words: &[&str], input: &mut I) -> Result<LineList, Stop>
-    ensures read { IfOk result (IsRead (map (λ word. word.now) words.entry.now) (record { old = I.left input.old; new = I.left input.new; before = I.faults input.old; now = I.faults input.new })) }
+    ensures read { IfOk result (IsRead (spelled words.entry.now) (stream I.left I.faults input.old input.new)) }
     ensures limited { IfOk result AreLimited }
-    ensures reason { IfErr result (HasReason (map (λ word. word.now) words.entry.now) (record { old = I.left input.old; new = I.left input.new; before = I.faults input.old; now = I.faults input.new })) }
+    ensures reason { IfErr result (HasReason (spelled words.entry.now) (stream I.left I.faults input.old input.new)) }
 {
-    if !is_job(words) {
+    let Some(Asked::Play) = read_words(words) else {
         return Err(Stop::Usage);
-    }
+    };
     let bytes = match read_input(alloc, input) {
         Ok(bytes) => bytes,
         Err(InputFault::Failed) => return Err(Stop::ReadFault),
@@ -110,7 +112,7 @@ fn prepare<I: Source>(alloc: Global, words: &[&str], input: &mut I) -> Result<Li
 fn print_all<O: Sink>(alloc: Global, out: &mut O, lines: &[Line], results: &[Driven<Outcome>]) -> u8
     requires few { length lines.now ≤ 4096 }
     requires count { length lines.now ≡ length results.now }
-    ensures { PrintsEnds (record { old = O.contents out.old; new = O.contents out.new; before = O.faults out.old; now = O.faults out.new }) (ends_text lines.now results.now) result }
+    ensures { PrintsEnds (stream O.contents O.faults out.old out.new) (ends_text lines.now results.now) result }
 {
     let Ok(text) = print_ends(alloc, lines, results) else {
         return 7;
@@ -131,7 +133,7 @@ fn play<R: Threads + Sync, S: Store, O: Sink>(
     lines: &[Line],
 ) -> Ran<S>
     requires { AreLimited lines.now }
-    ensures plays { (words : List (List ℕ)) (input : Stream) → Plays (record { words = words; seed = seed; input = input; out = record { old = O.contents out.old; new = O.contents out.new; before = O.faults out.old; now = O.faults out.new }; held = S.held store; later = S.held result.store; status = result.status; journal = result.journal }) lines.now }
+    ensures plays { (words : List (List ℕ)) (input : Stream) → Plays S.held (JustMade S.held S.last S.faults S.notes) (record { words = words; seed = seed; input = input; out = stream O.contents O.faults out.old out.new; store = store; later = result.store; status = result.status; journal = result.journal }) lines.now }
     ensures known { (result.status ≡ 0) ⊎ (result.status ≡ 5) ⊎ (result.status ≡ 7) }
     ensures counted { capped (S.faults store + failures result.journal) ≤ S.faults result.store }
 {
@@ -155,8 +157,26 @@ fn left_by<S: Store>(recorder: Recorder<S>, status: u8) -> Ran<S>
     }
 }
 
-// The run, with all that is seen of it.
-fn run_seen<R: Threads + Sync, S: Store, I: Source, O: Sink>(
+/// Reads the words, reads the script where they ask for one, does its commands one after the other,
+/// and prints how each ended.
+///
+/// The words ask for something exactly where they are the one word `play`. Everything that is
+/// printed goes to `out`. `seed` stands in the upper 64 bits of each identifier that the run makes:
+/// over a store that holds something it has to be one that no identifier there has, for what is said
+/// of answers.
+///
+/// `Ran::status` says how the run ended. The clause `promise` says what that means, over a store that
+/// told what it held, where that stands for a history and no identifier there has the seed. The commands
+/// are done one after the other. Each appends deeds of its own, and its end tells the truth of the
+/// history before and after it. What was printed is the text of these ends.
+///
+/// So a read shows of each cell the last write, in the order of timestamp and identifier, among those
+/// stamped in its interval, of the writes committed when the read lists them, unless a later delete
+/// stamped there matches it, through the schema that holds at the end of the interval.
+///
+/// The clause `run` says of every command which calls it made and how it ended, and that no other calls
+/// were made of the store.
+pub fn run<R: Threads + Sync, S: Store, I: Source, O: Sink>(
     rt: &R,
     alloc: Global,
     words: &[&str],
@@ -165,18 +185,45 @@ fn run_seen<R: Threads + Sync, S: Store, I: Source, O: Sink>(
     input: &mut I,
     out: &mut O,
 ) -> Ran<S>
-    ensures run { IsRunOf (record {
-      words = map (λ word. word.now) words.entry.now;
+    ensures run { IsRunOf S.held (JustMade S.held S.last S.faults S.notes) (record {
+      words = spelled words.entry.now;
       seed = seed;
-      input = record { old = I.left input.old; new = I.left input.new; before = I.faults input.old; now = I.faults input.new };
-      out = record { old = O.contents out.old; new = O.contents out.new; before = O.faults out.old; now = O.faults out.new };
-      held = S.held store;
-      later = S.held result.store;
+      input = stream I.left I.faults input.old input.new;
+      out = stream O.contents O.faults out.old out.new;
+      store = store;
+      later = result.store;
       status = result.status;
       journal = result.journal;
     }) }
-    ensures untouched { (result.status ≡ 2) ⊎ (result.status ≡ 3) ⊎ (result.status ≡ 4) ⊎ (result.status ≡ 8) → result.store ≡ store }
+
+    // What it means, in words of the history.
+    ensures promise { Promised S.held (record {
+      words = spelled words.entry.now;
+      seed = seed;
+      input = stream I.left I.faults input.old input.new;
+      out = stream O.contents O.faults out.old out.new;
+      store = store;
+      later = result.store;
+      status = result.status;
+      journal = result.journal;
+    }) }
+
+    // Each call of the journal that failed was counted by the store.
     ensures counted { capped (S.faults store + failures result.journal) ≤ S.faults result.store }
+
+    // Each status, with where it comes.
+    ensures usage { (result.status ≡ 2) ↔ (asked (spelled words.entry.now) ≡ None) }
+    ensures bad_script { result.status ≡ 3 → (n : ℕ) × Means (I.left input.old) (Err (Bad n)) }
+    ensures bad_script_there { asked (spelled words.entry.now) ≡ Some Asked.Play → (n : ℕ) → IsSomeAnd (I.left input.old) (λ all. script_of all ≡ Err (Bad n))
+        → (result.status ≡ 3) ⊎ (result.status ≡ 4) ⊎ (result.status ≡ 7) }
+    ensures not_built { result.status ≡ 8 → (n : ℕ) × Means (I.left input.old) (Err (NotBuilt n)) }
+    ensures not_built_there { asked (spelled words.entry.now) ≡ Some Asked.Play → (n : ℕ) → IsSomeAnd (I.left input.old) (λ all. script_of all ≡ Err (NotBuilt n))
+        → (result.status ≡ 8) ⊎ (result.status ≡ 4) ⊎ (result.status ≡ 7) }
+    ensures read_fault { result.status ≡ 4 → Rose (I.faults input.old) (I.faults input.new) }
+    ensures write_fault { result.status ≡ 5 → Rose (O.faults out.old) (O.faults out.new) }
+
+    // Without a command no call is made of the store.
+    ensures untouched { (result.status ≡ 2) ⊎ (result.status ≡ 3) ⊎ (result.status ≡ 4) ⊎ (result.status ≡ 8) → (result.journal ≡ []) × (result.store ≡ store) }
 {
     match prepare(alloc, words, input) {
         Ok(lines) => play(rt, alloc, seed, store, out, lines.as_slice()),
@@ -189,56 +236,4 @@ fn run_seen<R: Threads + Sync, S: Store, I: Source, O: Sink>(
             }
         }
     }
-}
-
-/// Reads the words, reads the script where they ask for one, does its commands one after the other,
-/// and prints how each ended.
-///
-/// The words are a job exactly where they are the one word `play`. Everything that is printed goes
-/// to `out`. `seed` stands in the upper 64 bits of each identifier that the run makes: over a store
-/// that holds something it has to be one that no identifier there has, for what is said of answers.
-///
-/// `Ran::status` says how the run ended. The clause `run` says of every command which calls it made
-/// and how it ended. Where the store tells what it holds, what it held stands for a history and no
-/// identifier there has the seed, it says too that a read shows of each cell the last write, in the
-/// order of timestamp and identifier, among those stamped in its interval, through the schema that
-/// holds at the end of the interval.
-pub fn run<R: Threads + Sync, S: Store, I: Source, O: Sink>(
-    rt: &R,
-    alloc: Global,
-    words: &[&str],
-    seed: u64,
-    store: S,
-    input: &mut I,
-    out: &mut O,
-) -> Ran<S>
-    ensures run { IsRunOf (record {
-      words = map (λ word. word.now) words.entry.now;
-      seed = seed;
-      input = record { old = I.left input.old; new = I.left input.new; before = I.faults input.old; now = I.faults input.new };
-      out = record { old = O.contents out.old; new = O.contents out.new; before = O.faults out.old; now = O.faults out.new };
-      held = S.held store;
-      later = S.held result.store;
-      status = result.status;
-      journal = result.journal;
-    }) }
-
-    // Each call of the journal that failed was counted by the store.
-    ensures counted { capped (S.faults store + failures result.journal) ≤ S.faults result.store }
-
-    // Each status, with where it comes.
-    ensures usage { (result.status ≡ 2) ↔ (job (map (λ word. word.now) words.entry.now) ≡ false) }
-    ensures bad_script { result.status ≡ 3 → (n : ℕ) × Means (I.left input.old) (Err (Bad n)) }
-    ensures bad_script_there { job (map (λ word. word.now) words.entry.now) ≡ true → (n : ℕ) → IsSomeAnd (I.left input.old) (λ all. script_of all ≡ Err (Bad n))
-        → (result.status ≡ 3) ⊎ (result.status ≡ 4) ⊎ (result.status ≡ 7) }
-    ensures not_built { result.status ≡ 8 → (n : ℕ) × Means (I.left input.old) (Err (NotBuilt n)) }
-    ensures not_built_there { job (map (λ word. word.now) words.entry.now) ≡ true → (n : ℕ) → IsSomeAnd (I.left input.old) (λ all. script_of all ≡ Err (NotBuilt n))
-        → (result.status ≡ 8) ⊎ (result.status ≡ 4) ⊎ (result.status ≡ 7) }
-    ensures read_fault { result.status ≡ 4 → Rose (I.faults input.old) (I.faults input.new) }
-    ensures write_fault { result.status ≡ 5 → Rose (O.faults out.old) (O.faults out.new) }
-
-    // Without a command no call is made of the store.
-    ensures untouched { (result.status ≡ 2) ⊎ (result.status ≡ 3) ⊎ (result.status ≡ 4) ⊎ (result.status ≡ 8) → (result.journal ≡ []) × (result.store ≡ store) }
-{
-    run_seen(rt, alloc, words, seed, store, input, out)
 }

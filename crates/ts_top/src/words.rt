@@ -1,30 +1,37 @@
 //! The words of a command line: what they ask for.
-ghost use Rattle.std.specs.Prelude.{◌≡◌, map};
-ghost use Rattle.ts_top.specs.Words.{job};
+ghost use Rattle.std.specs.Prelude.{◌≡◌};
+ghost use Rattle.ts_top.specs.Words.{asked, spelled};
 
-/// Whether the words ask for something that can be done: the one word `play`, which runs a
+/// What words can ask for.
+#[derive(Clone, Copy, Debug, PartialEq, Eq)]
+pub(crate) enum Asked {
+    /// To do the commands of a script.
+    Play,
+}
+
+/// What the words ask for, if it is something that can be done: the one word `play` asks for a
 /// script.
-pub(crate) fn is_job(words: &[&str]) -> bool
-    ensures { result ≡ job (map (λ word. word.now) words.entry.now) }
+pub(crate) fn read_words(words: &[&str]) -> Option<Asked>
+    ensures { result ≡ asked (spelled words.entry.now) }
 {
     match words {
-        [word] => *word == "play",
-        _ => false,
+        [word] if *word == "play" => Some(Asked::Play),
+        _ => None,
     }
 }
 
 #[cfg(test)]
 mod tests {
-    use super::is_job;
+    use super::{Asked, read_words};
 
     #[test]
-    fn play_alone_is_a_job(rt: HostRuntime) {
-        assert!(rt; is_job(&["play"]));
-        assert!(rt; !is_job(&[]));
+    fn play_alone_asks_for_a_script(rt: HostRuntime) {
+        assert!(rt; read_words(&["play"]) == Some(Asked::Play));
+        assert!(rt; read_words(&[]).is_none());
         for word in &["", "Play", "play ", "pla", "playy", "gen", "--help"] {
-            assert!(rt; !is_job(&[*word]), "{word}");
-            assert!(rt; !is_job(&["play", *word]), "{word}");
-            assert!(rt; !is_job(&[*word, "play"]), "{word}");
+            assert!(rt; read_words(&[*word]).is_none(), "{word}");
+            assert!(rt; read_words(&["play", *word]).is_none(), "{word}");
+            assert!(rt; read_words(&[*word, "play"]).is_none(), "{word}");
         }
     }
 }

@@ -1,11 +1,11 @@
 -- Each event keeps what a world keeps.
 use Rattle.std.proofs.Common.{◌≡◌, ℕ, ◌<◌, Bool, false, cond, inl, inr, List, [], ◌∷◌, ◌++◌, Option, Some, None, length, map, set, refl, sym, ◌∙◌, ap, subst, arith}
-use Rattle.std.specs.Prelude.{All, slice_get, option_map}
+use Rattle.std.specs.Prelude.{slice_get, option_map}
 use Rattle.std.specs.List.{cons_option}
-use Rattle.std.proofs.lemmas.Bool.{cases_eq, ne_eqb}
+use Rattle.std.proofs.lemmas.Bool.{cases_eq}
 use Rattle.std.proofs.lemmas.Option.{same_Some, none-some, slice_get_within, slice_get-map}
 use Rattle.std.proofs.lemmas.List.{length-set, length-map, length_push}
-use Rattle.std.proofs.lemmas.List.Elements.{All-head, All-tail, filter_map-append}
+use Rattle.std.proofs.lemmas.List.Elements.{All-weaker, filter_map-append}
 use Rattle.ts_base.specs.declared.heads.Stop.TheVariants.{Never}
 use Rattle.ts_base.specs.Held.{Held}
 use Rattle.ts_store.specs.declared.call.Call.{Call}
@@ -15,17 +15,18 @@ use Rattle.ts_store.specs.Journals.{entry}
 use Rattle.ts_model.specs.declared.commands.Job.{Job}
 use Rattle.ts_model.specs.Deeds.{History}
 use Rattle.ts_model.specs.Jobs.{IsFit}
-use Rattle.ts_model.specs.States.{Exchange, asks, begun, state_from, state_of}
+use Rattle.ts_model.specs.States.{Exchange, begun, state_from, state_of}
 use Rattle.ts_law.specs.Stands.{Stands}
 use Rattle.ts_law.specs.Fresh.{IsNewId}
-use Rattle.ts_model.specs.Told.{Told, IsShortCall, is_by, trace_of, entry_of, entries_of, after_told, IsReplied}
-use Rattle.ts_model.specs.Driven.{AskedFrom}
-use Rattle.ts_law.specs.Kept.{IsOfJobs, Kept}
+use Rattle.ts_law.specs.Lanes.{IsWithin}
+use Rattle.ts_model.specs.Told.{Told, IsShortCall, trace_of, entry_of, entries_of, after_told, IsReplied}
+use Rattle.ts_model.specs.Driven.{MayAsk}
+use Rattle.ts_law.specs.Kept.{Kept}
 use Rattle.ts_model.proofs.ListLemmas.{Contains-nil, slice_get_push}
 use Rattle.ts_model.proofs.Traces.{trace_of-own, trace_of-other}
-use Rattle.ts_model.proofs.Asked.{asked-push}
 use Rattle.ts_model.specs.Forms.{Forms, FormsLaws, Spelled, Tracking}
 use Rattle.ts_law.proofs.KeptLaws.{step_kept}
+use Rattle.ts_law.proofs.Lanes.{none_made, no_lanes, one_more_call, one_more_job}
 use Rattle.ts_law.proofs.Spawns.{spawn_kept, starts_kept}
 use Rattle.ts_actor.specs.Traces.{asking}
 use Rattle.ts_actor.proofs.MachineLaws.{asks_next}
@@ -39,10 +40,11 @@ use Rattle.ts_world.specs.declared.slots.Slot.TheVariants as slot
 use Rattle.ts_world.specs.Actors.{job_of, Follows}
 use Rattle.ts_world.specs.Views.{lane_of}
 use Rattle.ts_world.specs.Slots.{IsRunning, IsSlot, IsActor, IsKept, dropped_slot}
-use Rattle.ts_world.proofs.Lists.{get_changed, get_unchanged, item_at}
+use Rattle.ts_law.proofs.Lists.{item_at}
+use Rattle.ts_world.proofs.Lists.{get_changed, get_unchanged}
 
--- the call that an actor waits for is the one that its job asks where the calls before it have led
-pub asks_it : {P F : Type 0} (forms : Forms F) (a : AnyActor P F) (past : List Exchange) (c : Call) → Follows forms a (asking past c) → asks forms (job_of a) (state_from forms (job_of a) (begun (job_of a).command) past) ≡ Some c
+-- the call that an actor waits for is one that its job may make where the calls before it have led
+pub asks_it : {P F : Type 0} (forms : Forms F) (a : AnyActor P F) (past : List Exchange) (c : Call) → Follows forms a (asking past c) → MayAsk forms (job_of a) (state_from forms (job_of a) (begun (job_of a).command) past) c
 asks_it forms (Creator a) past c follows = asks_next forms IsCreateJob IsCreateState a.machine.job a.machine.phase past c follows
 asks_it forms (Evolver a) past c follows = asks_next forms IsEvolveJob (λ job s. IsLaterState s) a.machine.job a.machine.phase past c follows
 asks_it forms (Writer a) past c follows = asks_next forms IsWriteJob (λ job s. IsLaterState s) a.machine.job a.machine.phase past c follows
@@ -58,10 +60,10 @@ module _ {P F : Type 0} (forms : Forms F) (spelled : Spelled) (tracks : Tracking
   pub running_at : (number : ℕ) (r : Running P F) (job : Job) → slice_get slots number ≡ Some (slot.Runs r) → slice_get jobs number ≡ Some job → IsRunning forms job (trace_of number told) r
   running_at number r job at of = (is.actors number job (slot.Runs r) of at).slot_is
 
-  pub running_asks : (number : ℕ) (r : Running P F) (job : Job) → slice_get slots number ≡ Some (slot.Runs r) → slice_get jobs number ≡ Some job → asks forms job (state_of forms job (trace_of number told)) ≡ Some r.asked
+  pub running_asks : (number : ℕ) (r : Running P F) (job : Job) → slice_get slots number ≡ Some (slot.Runs r) → slice_get jobs number ≡ Some job → MayAsk forms job (state_of forms job (trace_of number told)) r.asked
   running_asks number r job at of =
       let runs = running_at number r job at of in
-      subst (λ (j : Job). asks forms j (state_of forms j (trace_of number told)) ≡ Some r.asked) runs.task (asks_it forms r.actor (trace_of number told) r.asked runs.follows)
+      subst (λ (j : Job). MayAsk forms j (state_of forms j (trace_of number told)) r.asked) runs.task (asks_it forms r.actor (trace_of number told) r.asked runs.follows)
 
   -- ---- one call
 
@@ -70,8 +72,8 @@ module _ {P F : Type 0} (forms : Forms F) (spelled : Spelled) (tracks : Tracking
     abbrev last : Exchange
     last = record { call = e.call; reply = e.reply }
 
-    asked_now : asks forms job (state_of forms job (trace_of number told)) ≡ Some e.call
-    asked_now = running_asks number r job at of ∙ ap Some (sym calls)
+    asked_now : MayAsk forms job (state_of forms job (trace_of number told)) e.call
+    asked_now = subst (MayAsk forms job (state_of forms job (trace_of number told))) (sym calls) (running_asks number r job at of)
 
     kept_now : FormsLaws forms spelled tracks → Kept forms spelled tracks past jobs [] (told ++ e ∷ []) (after_told held e)
     kept_now laws = step_kept forms spelled tracks laws past jobs [] told held e is.kept (record { number = number; job = job; own = own; is_job = of; alive = Contains-nil number; asked = asked_now; short = short }) replied
@@ -87,27 +89,19 @@ module _ {P F : Type 0} (forms : Forms F) (spelled : Spelled) (tracks : Tracking
     own_actor : (s : Slot P F) → IsSlot forms job (trace_of number told ++ last ∷ []) s → IsActor forms (told ++ e ∷ []) number job s
     own_actor s slot_is =
         let before = is.actors number job (slot.Runs r) of at in
-        let trace = trace_of-own number told e own in
-        record {
-          free = before.free;
-          asked = subst (λ (t : List Exchange). AskedFrom forms job (begun job.command) t) (sym trace) (asked-push forms job (begun job.command) (trace_of number told) last before.asked asked_now);
-          slot_is = subst (λ (t : List Exchange). IsSlot forms job t s) (sym trace) slot_is;
-        }
+        record { free = before.free; slot_is = subst (λ (t : List Exchange). IsSlot forms job t s) (sym (trace_of-own number told e own)) slot_is }
 
     other_actor : (k : ℕ) (j : Job) (s : Slot P F) → (number ≡ k → ⊥) → IsActor forms told k j s → IsActor forms (told ++ e ∷ []) k j s
     other_actor k j s apart before =
         let trace = trace_of-other k told e (λ mine. apart (same_Some number k (sym own ∙ mine))) in
-        record {
-          free = before.free;
-          asked = subst (λ (t : List Exchange). AskedFrom forms j (begun j.command) t) (sym trace) before.asked;
-          slot_is = subst (λ (t : List Exchange). IsSlot forms j t s) (sym trace) before.slot_is;
-        }
+        record { free = before.free; slot_is = subst (λ (t : List Exchange). IsSlot forms j t s) (sym trace) before.slot_is }
 
     -- a running actor that makes its call leaves a world that keeps the same
     pub called_kept : FormsLaws forms spelled tracks → (s : Slot P F) → IsSlot forms job (trace_of number told ++ last ∷ []) s → IsKept forms spelled tracks past jobs (told ++ e ∷ []) (after_told held e) (journal ++ entry number e.call e.fate ∷ []) (set slots number s)
     called_kept laws s slot_is = record {
       kept = kept_now laws;
       entries = ap (λ es. es ++ entry number e.call e.fate ∷ []) is.entries ∙ sym entered;
+      in_lanes = one_more_call forms jobs told e number job is.in_lanes own of asked_now;
       one_each = length-set slots number s ∙ is.one_each;
       actors = λ k j t j_at t_at. elim (cases_eq number k) [
         | inl same ↦
@@ -120,29 +114,20 @@ module _ {P F : Type 0} (forms : Forms F) (spelled : Spelled) (tracks : Tracking
 
   -- ---- one actor more
 
-  -- a number that no job has made no call
-  no_calls : (number : ℕ) (seen : List Told) → length jobs ≡ number → All (IsOfJobs jobs) seen → trace_of number seen ≡ []
-  no_calls number [] end known = refl
-  no_calls number (e ∷ seen) end known =
-      rw (by_none e.job (All-head (IsOfJobs jobs) e seen known).numbered) (no_calls number seen end (All-tail (IsOfJobs jobs) e seen known))
-    where
-      by_none : (o : Option ℕ) → ((n : ℕ) → o ≡ Some n → n < length jobs) → is_by number o ≡ false
-      by_none None below = refl
-      by_none (Some n) below = ne_eqb n number (λ same. let less = below n refl in omega (arith, less, same, end))
+  -- the job that comes has made no call
+  no_calls : (number : ℕ) → length jobs ≡ number → trace_of number told ≡ []
+  no_calls number end = none_made number told (All-weaker (IsWithin jobs) (λ e. e.job ≡ Some number → ⊥) (λ e below by_it. let less = below number by_it in omega (arith, less, end)) told is.in_lanes.within)
 
   new_actor : (job j : Job) (s t : Slot P F) (k : ℕ) → job.stop ≡ Never → IsSlot forms job [] s → length jobs ≡ k → job ≡ j → s ≡ t → IsActor forms told k j t
   new_actor job j s t k free slot_is end same_job same_slot =
-      let none = no_calls k told end is.kept.known in
-      subst (λ (i : Job). IsActor forms told k i t) same_job (subst (λ (i : Slot P F). IsActor forms told k job i) same_slot (record {
-        free = free;
-        asked = subst (λ (x : List Exchange). AskedFrom forms job (begun job.command) x) (sym none) tt;
-        slot_is = subst (λ (x : List Exchange). IsSlot forms job x s) (sym none) slot_is;
-      }))
+      subst (λ (i : Job). IsActor forms told k i t) same_job (subst (λ (i : Slot P F). IsActor forms told k job i) same_slot
+      (record { free = free; slot_is = subst (λ (x : List Exchange). IsSlot forms job x s) (sym (no_calls k end)) slot_is }))
 
   pub spawned_kept : (job : Job) (s : Slot P F) → IsNewId held past jobs job.id → IsFit job → job.stop ≡ Never → IsSlot forms job [] s → IsKept forms spelled tracks past (jobs ++ job ∷ []) told held journal (slots ++ s ∷ [])
   spawned_kept job s new fit free slot_is = record {
     kept = spawn_kept forms spelled tracks past jobs [] told held job is.kept fit new;
     entries = is.entries;
+    in_lanes = one_more_job forms jobs told job is.in_lanes;
     one_each = let a = length_push slots s in let b = length_push jobs job in omega (arith, a, b, is.one_each);
     actors = λ k j t j_at t_at. elim (slice_get_push slots s k t t_at) [
       | inl t_before ↦ elim (slice_get_push jobs job k j j_at) [
@@ -167,12 +152,13 @@ module _ {P F : Type 0} (forms : Forms F) (spelled : Spelled) (tracks : Tracking
   after_restart k j t None at j_at now = absurd (none-some t now)
   after_restart k j t (Some s) at j_at now =
       let before = is.actors k j s j_at at in
-      subst (λ (i : Slot P F). IsActor forms told k j i) (same_Some (dropped_slot s) t now) (record { free = before.free; asked = before.asked; slot_is = dropped_is j (trace_of k told) s before.slot_is })
+      subst (λ (i : Slot P F). IsActor forms told k j i) (same_Some (dropped_slot s) t now) (record { free = before.free; slot_is = dropped_is j (trace_of k told) s before.slot_is })
 
   pub restarted_kept : IsKept forms spelled tracks past jobs told held journal (map dropped_slot slots)
   restarted_kept = record {
     kept = is.kept;
     entries = is.entries;
+    in_lanes = is.in_lanes;
     one_each = length-map slots dropped_slot ∙ is.one_each;
     actors = λ k j t j_at t_at. after_restart k j t (slice_get slots k) refl j_at (sym (slice_get-map dropped_slot slots k) ∙ t_at);
   }
@@ -182,6 +168,7 @@ pub first_kept : {P F : Type 0} (forms : Forms F) (spelled : Spelled) (tracks : 
 first_kept forms spelled tracks past m stands = record {
   kept = starts_kept forms spelled tracks past m stands;
   entries = refl;
+  in_lanes = no_lanes forms;
   one_each = refl;
   actors = λ number job s at there. absurd (none-some job at);
 }

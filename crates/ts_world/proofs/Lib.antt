@@ -5,3 +5,4 @@ pub mod Views
 pub mod Calls
 pub mod Sounds
 pub mod Began
+pub mod Alone

@@ -1,7 +1,7 @@
 -- Lists of which one item is changed.
-use Rattle.std.proofs.Common.{◌≡◌, ℕ, zero, suc, ◌<◌, inl, inr, List, [], ◌∷◌, ◌++◌, Some, length, map, take, drop, set, refl, sym, ap, arith}
+use Rattle.std.proofs.Common.{◌≡◌, ℕ, zero, suc, ◌<◌, List, [], ◌∷◌, ◌++◌, Some, length, map, take, drop, set, refl, sym, ap, arith}
 use Rattle.std.specs.Prelude.{slice_get}
-use Rattle.std.proofs.lemmas.Option.{same_Some, none-some, slice_get_cases}
+use Rattle.std.proofs.lemmas.Option.{same_Some, none-some}
 
 module _ {X : Type 0} where
   -- an item that is changed twice
@@ -22,13 +22,6 @@ module _ {X : Type 0} where
   get_unchanged (z ∷ xs) zero (suc k) y apart = refl
   get_unchanged (z ∷ xs) (suc i) zero y apart = refl
   get_unchanged (z ∷ xs) (suc i) (suc k) y apart = get_unchanged xs i k y (λ same. apart (ap suc same))
-
-  -- an item of one list has one at its place in a list as long
-  pub item_at : {Y : Type 0} (xs : List X) (ys : List Y) (i : ℕ) → length xs ≡ length ys → i < length xs → (y : Y) × (slice_get ys i ≡ Some y)
-  item_at xs ys i same within = elim (slice_get_cases ys i).1 [
-    | inl there ↦ (there.0, there.2)
-    | inr past ↦ absurd (omega (arith, past.0, same, within))
-  ]
 
   -- the items before a place are changed by f, and now the one there is, too
   pub changed_up_to : (f : X → X) (xs : List X) (i : ℕ) (x : X) → slice_get xs i ≡ Some x → set (map f (take i xs) ++ drop i xs) i (f x) ≡ map f (take (suc i) xs) ++ drop (suc i) xs

@@ -2,7 +2,6 @@
 use Rattle.std.proofs.Common.{◌≡◌, ℕ, ◌+◌, inl, inr, List, [], ◌∷◌, Some, refl, sym, ◌∙◌, subst}
 use Rattle.std.specs.Prelude.{slice_get}
 use Rattle.std.proofs.lemmas.List.{length-map}
-use Rattle.std.proofs.lemmas.Option.{slice_get_within}
 use Rattle.ts_base.specs.declared.heads.Stop.{Stop}
 use Rattle.ts_base.specs.declared.heads.Stop.TheVariants.{Never}
 use Rattle.ts_base.specs.Held.{Held}
@@ -26,7 +25,6 @@ use Rattle.ts_world.specs.declared.slots.Slot.TheVariants as slot
 use Rattle.ts_world.specs.Views.{WorldView, Ended}
 use Rattle.ts_world.specs.Slots.{standing_of, standings, IsKept}
 use Rattle.ts_world.specs.Clauses.{EndsTruly, IsSound}
-use Rattle.ts_world.proofs.Lists.{item_at}
 use Rattle.ts_world.proofs.Views.{up_at, ended_at}
 use Rattle.ts_world.proofs.Laws.{running_asks}
 
@@ -44,12 +42,12 @@ module _ {P F : Type 0} (forms : Forms F) (spelled : Spelled) (tracks : Tracking
 
   true_end : (number : ℕ) (job : Job) (end : Outcome) → slice_get jobs number ≡ Some job → EndsFrom forms job (begun job.command) (trace_of number told) end → IsTrueEnd jobs past told number job end
   true_end number job end at (inl over) = end_is_true forms spelled tracks past jobs [] told held is.kept number job end at (Contains-nil number) over
-  true_end number job end at (inr none) = subst (IsTrueEnd jobs past told number job) (sym none) tt
+  true_end number job end at (inr none) = subst (IsTrueEnd jobs past told number job) (sym none.0) tt
 
   ends_truly : (number : ℕ) (job : Job) (end : Outcome) → slice_get jobs number ≡ Some job → slice_get (standings slots) number ≡ Some (Ended end) → EndsTruly forms seen number job end
   ends_truly number job end at stands =
       let actor = is.actors number job (slot.Ended end) at (ended_at slots number end stands) in
-      let driven : IsDriven forms job (trace_of number told) (Done end) = record { asked = actor.asked; uncut = never_cut job.stop 0 (trace_of number told) actor.free; ends = actor.slot_is } in
+      let driven : IsDriven forms job (trace_of number told) (Done end) = record { asked = is.in_lanes.asked number job at; uncut = never_cut job.stop 0 (trace_of number told) actor.free; ends = actor.slot_is } in
       record {
         driven = driven;
         segment = segment_of forms looks job (trace_of number told) (Done end) driven;
@@ -62,7 +60,7 @@ module _ {P F : Type 0} (forms : Forms F) (spelled : Spelled) (tracks : Tracking
     entries = is.entries;
     apart = is.kept.apart;
     one_each = length-map slots standing_of ∙ is.one_each;
-    asked = λ number job at. let there = item_at jobs slots number (sym is.one_each) (slice_get_within jobs number job at) in (is.actors number job there.0 at there.1).asked;
+    in_lanes = is.in_lanes;
     runs = λ number job at stands. let up = up_at slots number stands in (up.0.asked, running_asks forms spelled tracks past jobs told held journal slots is number up.0 job up.1 at);
     ends = ends_truly;
   }

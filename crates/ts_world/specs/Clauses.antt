@@ -20,12 +20,13 @@ use Rattle.ts_model.specs.Commands.{fits}
 use Rattle.ts_model.specs.Forms.{Forms, Spelled}
 use Rattle.ts_model.specs.Jobs.{AreApart}
 use Rattle.ts_law.specs.Stands.{Stands}
-use Rattle.ts_model.specs.States.{begun, asks, state_of}
+use Rattle.ts_model.specs.States.{state_of}
 use Rattle.ts_law.specs.Fresh.{id_in}
+use Rattle.ts_law.specs.Lanes.{own_lane, AreInLanes}
 use Rattle.ts_model.specs.Told.{trace_of, entries_of, IsReplied, Replied, after_told, held_told, history_told}
 use Rattle.ts_law.specs.Ends.{IsTrueEnd}
 use Rattle.ts_law.specs.Rows.{IsSegment}
-use Rattle.ts_model.specs.Driven.{AskedFrom, IsDriven}
+use Rattle.ts_model.specs.Driven.{MayAsk, IsDriven}
 use Rattle.ts_world.specs.declared.events.Event.{Event}
 use Rattle.ts_world.specs.declared.events.Event.TheVariants.{Spawn, Step, Stop, Restart}
 use Rattle.ts_world.specs.declared.events.WorldFault.{WorldFault}
@@ -34,7 +35,7 @@ use Rattle.ts_world.specs.Views.{Standing, Runs, Ended, Dropped, WorldView, drop
 
 -- ---- at any time
 
--- the end of an actor: its job made the calls that it asks and ended by them, they go along the job's row, and what the end tells of the history is true
+-- the end of an actor: its job made calls that it may make and ended by them, they go along the job's row, and what the end tells of the history is true
 pub record EndsTruly {F : Type 0} (forms : Forms F) (w : WorldView) (number : ℕ) (job : Job) (end : Outcome) : Type 0 where
   pub driven : IsDriven forms job (trace_of number w.told) (Done end)
   pub segment : IsSegment forms job (trace_of number w.told) (Done end)
@@ -50,10 +51,10 @@ pub record IsSound {F : Type 0} (forms : Forms F) (spelled : Spelled) (w : World
   pub apart : AreApart w.jobs
   -- each job has its actor
   pub one_each : length w.actors ≡ length w.jobs
-  -- an actor makes the calls that its job asks, whatever became of it
-  pub asked : (number : ℕ) (job : Job) → slice_get w.jobs number ≡ Some job → AskedFrom forms job (begun job.command) (trace_of number w.told)
+  -- each actor makes calls that its job may make, whatever became of it, in a lane of its own
+  pub in_lanes : AreInLanes forms own_lane w.jobs w.told
   -- an actor that runs has one more call to make
-  pub runs : (number : ℕ) (job : Job) → slice_get w.jobs number ≡ Some job → slice_get w.actors number ≡ Some Runs → (c : Call) × (asks forms job (state_of forms job (trace_of number w.told)) ≡ Some c)
+  pub runs : (number : ℕ) (job : Job) → slice_get w.jobs number ≡ Some job → slice_get w.actors number ≡ Some Runs → (c : Call) × MayAsk forms job (state_of forms job (trace_of number w.told)) c
   -- an actor that ended did so by its own calls, and told the truth
   pub ends : (number : ℕ) (job : Job) (end : Outcome) → slice_get w.jobs number ≡ Some job → slice_get w.actors number ≡ Some (Ended end) → EndsTruly forms w number job end
 
@@ -94,13 +95,13 @@ pub record Spawned (job : Job) (w later : WorldView) : Type 0 where
   pub up : standing ≢ Dropped
   pub is : later ≡ record w { jobs = w.jobs ++ job ∷ []; actors = w.actors ++ standing ∷ [] }
 
--- a running actor made the call that its job asks, with this fate: one call more was told and entered in the lane of the actor, and nothing else changed but where this actor stands
+-- a running actor made a call that its job may make, with this fate: one call more was told and entered in the lane of the actor, and nothing else changed but where this actor stands
 pub record Called {F : Type 0} (forms : Forms F) (number : ℕ) (fate : Fate) (may : Standing → Type 0) (w later : WorldView) : Type 0 where
   pub job : Job
   pub is_job : slice_get w.jobs number ≡ Some job
   pub ran : slice_get w.actors number ≡ Some Runs
   pub call : Call
-  pub asked : asks forms job (state_of forms job (trace_of number w.told)) ≡ Some call
+  pub asked : MayAsk forms job (state_of forms job (trace_of number w.told)) call
   pub reply : Reply
   pub memory : is_no_memory reply ≡ false
   pub changed : Bool

@@ -19,7 +19,8 @@ use Rattle.ts_model.specs.States.{Exchange, begun}
 use Rattle.ts_model.specs.Told.{Told, IsShortCall, trace_of, entries_of, changes}
 use Rattle.ts_model.specs.Forms.{Forms, Spelled, Tracking}
 use Rattle.ts_law.specs.Fresh.{id_in}
-use Rattle.ts_model.specs.Driven.{AskedFrom, EndsFrom}
+use Rattle.ts_law.specs.Lanes.{own_lane, AreInLanes}
+use Rattle.ts_model.specs.Driven.{EndsFrom}
 use Rattle.ts_law.specs.Kept.{Kept}
 use Rattle.ts_actor.specs.Traces.{asking}
 use Rattle.ts_world.specs.declared.events.WorldFault.{WorldFault}
@@ -52,16 +53,16 @@ IsSlot forms job trace (slot.Runs r) = IsRunning forms job trace r
 IsSlot forms job trace (slot.Ended end) = EndsFrom forms job (begun job.command) trace end
 IsSlot forms job trace slot.Dropped = ⊤
 
--- what is kept of the actor with a number: its job has no stop of its own, it made the calls that its job asks, and its slot is one after these
+-- what is kept of the actor with a number: its job has no stop of its own, and its slot is one after the calls that it made
 pub record IsActor {P F : Type 0} (forms : Forms F) (told : List Told) (number : ℕ) (job : Job) (s : Slot P F) : Type 0 where
   pub free : job.stop ≡ Never
-  pub asked : AskedFrom forms job (begun job.command) (trace_of number told)
   pub slot_is : IsSlot forms job (trace_of number told) s
 
--- what a world keeps: what every call keeps, the journal of the calls, and its actors
+-- what a world keeps: what every call keeps, the journal of the calls, whose they are, and its actors
 pub record IsKept {P F : Type 0} (forms : Forms F) (spelled : Spelled) (tracks : Tracking F) (past : History) (jobs : List Job) (told : List Told) (held : Held) (journal : List Entry) (slots : List (Slot P F)) : Type 0 where
   pub kept : Kept forms spelled tracks past jobs [] told held
   pub entries : journal ≡ entries_of lane_of told
+  pub in_lanes : AreInLanes forms own_lane jobs told
   pub one_each : length slots ≡ length jobs
   pub actors : (number : ℕ) (job : Job) (s : Slot P F) → slice_get jobs number ≡ Some job → slice_get slots number ≡ Some s → IsActor forms told number job s
 

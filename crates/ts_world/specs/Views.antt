@@ -8,6 +8,7 @@ use Rattle.ts_model.specs.declared.commands.Job.{Job}
 use Rattle.ts_model.specs.declared.answers.Outcome.{Outcome}
 use Rattle.ts_model.specs.Deeds.{History}
 use Rattle.ts_model.specs.Told.{Told}
+use Rattle.ts_law.specs.Lanes.{lane_by, own_lane}
 
 -- where an actor stands: it runs, it ended, or it was dropped
 pub data Standing : Type 0 where
@@ -38,10 +39,9 @@ abbrev pub dropped : Standing → Standing
 dropped Runs = Dropped
 dropped s = s
 
--- each actor has the lane of its number
+-- each actor has the lane of its number, and a call of nobody one that no actor has
 abbrev pub lane_of : Option ℕ → ℕ
-lane_of (Some number) = number
-lane_of None = 0
+lane_of by = lane_by own_lane by
 
 -- a reply with names or bytes, which changes nothing
 abbrev pub HasList : Reply → Type 0

@@ -1,27 +1,62 @@
--- Each status is told by what is seen of the run.
+-- A run stops before its first command, or it does the commands of its script; each status is told by what is seen of it.
+use Rattle.std.proofs.Common.{◌+◌, ◌≤◌, arith, refl, sym, subst, List}
+use Rattle.ts_store.specs.declared.journal.Entry.{Entry}
+use Rattle.ts_store.specs.Counts.{capped}
+use Rattle.ts_store.specs.Journals.{failures}
+use Rattle.ts_model.specs.declared.commands.Line.{Line}
+use Rattle.ts_top.specs.Runners.{JustMade}
+use Rattle.ts_top.specs.Seen.{Seen, Stream, stream, Plays, Stopped, IsRunOf, stopped, played}
+use Rattle.ts_top.specs.Words.{spelled}
+use Rattle.ts_top.proofs.Promises.{promise_stopped, promise_played}
 use Rattle.ts_top.proofs.Exact.{usage, bad_script, bad_script_there, not_built, not_built_there, read_fault, write_fault, untouched}
 use Rattle.ts_top.proofs.top.run.Goals as goal
 
-pub returns-clause-usage : goal.returns-clause-usage
-returns-clause-usage g c = usage _ c.run_seen.ensures.run
+pub returns-in-Ok : goal.returns-in-Ok
+returns-in-Ok g c =
+    let held = g.S.Store.held in
+    let made = JustMade held g.S.Store.last g.S.Store.faults g.S.Store.notes in
+    let words = spelled c.args.words.now in
+    let input : Stream = stream g.I.Source.left g.I.Source.faults c.args.input.now c.prepare.new.input in
+    let out : Stream = stream g.O.Sink.contents g.O.Sink.faults c.args.out.now c.play.new.out in
+    let seen : Seen g.row.S.Denot = record { words = words; seed = c.args.seed; input = input; out = out; store = c.args.store; later = c.play.result.store; status = c.play.result.status; journal = c.play.result.journal } in
+    let P : List Line → Type 0 = λ lines. Plays held made seen lines in
+    let plays = subst P c.as_slice.ensures (c.play.ensures.plays words input) in
+    let is : IsRunOf held made seen = played c.in-Ok.lines (record { read = c.in-Ok.ensures.read; plays = plays }) in
+    record {
+      run = is;
+      promise = promise_played held made seen c.in-Ok.lines (omega arith) c.in-Ok.ensures.limited c.in-Ok.ensures.read.means plays;
+      counted = c.play.ensures.counted;
+      usage = usage held made seen is;
+      bad_script = bad_script held made seen is;
+      bad_script_there = bad_script_there held made seen is;
+      not_built = not_built held made seen is;
+      not_built_there = not_built_there held made seen is;
+      read_fault = read_fault held made seen is;
+      write_fault = write_fault held made seen is;
+      untouched = untouched held made seen is;
+    }
 
-pub returns-clause-bad_script : goal.returns-clause-bad_script
-returns-clause-bad_script g c = bad_script _ c.run_seen.ensures.run
-
-pub returns-clause-bad_script_there : goal.returns-clause-bad_script_there
-returns-clause-bad_script_there g c = bad_script_there _ c.run_seen.ensures.run
-
-pub returns-clause-not_built : goal.returns-clause-not_built
-returns-clause-not_built g c = not_built _ c.run_seen.ensures.run
-
-pub returns-clause-not_built_there : goal.returns-clause-not_built_there
-returns-clause-not_built_there g c = not_built_there _ c.run_seen.ensures.run
-
-pub returns-clause-read_fault : goal.returns-clause-read_fault
-returns-clause-read_fault g c = read_fault _ c.run_seen.ensures.run
-
-pub returns-clause-write_fault : goal.returns-clause-write_fault
-returns-clause-write_fault g c = write_fault _ c.run_seen.ensures.run
-
-pub returns-clause-untouched : goal.returns-clause-untouched
-returns-clause-untouched g c = λ e. ((untouched _ c.run_seen.ensures.run e).0, c.run_seen.ensures.untouched e)
+pub returns-in-Err : goal.returns-in-Err
+returns-in-Err g c =
+    let held = g.S.Store.held in
+    let made = JustMade held g.S.Store.last g.S.Store.faults g.S.Store.notes in
+    let words = spelled c.args.words.now in
+    let input : Stream = stream g.I.Source.left g.I.Source.faults c.args.input.now c.prepare.new.input in
+    let out : Stream = stream g.O.Sink.contents g.O.Sink.faults c.args.out.now c.print_stop.new.out in
+    let seen : Seen g.row.S.Denot = record { words = words; seed = c.args.seed; input = input; out = out; store = c.args.store; later = c.args.store; status = c.status.result; journal = c.new.result } in
+    let C : List Entry → Type 0 = λ es. capped (g.S.Store.faults c.args.store + failures es) ≤ g.S.Store.faults c.args.store in
+    let halt : Stopped seen c.in-Err.stop = record { reason = c.in-Err.ensures.reason; status = c.status.ensures; printed = c.print_stop.ensures; journal = c.new.ensures; untouched = refl } in
+    let is : IsRunOf held made seen = stopped c.in-Err.stop halt in
+    record {
+      run = is;
+      promise = promise_stopped held made seen c.in-Err.stop halt;
+      counted = subst C (sym c.new.ensures) (omega arith);
+      usage = usage held made seen is;
+      bad_script = bad_script held made seen is;
+      bad_script_there = bad_script_there held made seen is;
+      not_built = not_built held made seen is;
+      not_built_there = not_built_there held made seen is;
+      read_fault = read_fault held made seen is;
+      write_fault = write_fault held made seen is;
+      untouched = untouched held made seen is;
+    }
