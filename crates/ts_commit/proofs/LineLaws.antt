@@ -1,5 +1,5 @@
 -- Lines are read exactly, and so is the object of a `.vac`.
-use Rattle.std.proofs.Common.{◌≡◌, ℕ, zero, suc, ◌+◌, ◌-◌, ◌<◌, ◌≤◌, ◌^◌, ◌==◌, Bool, true, false, ◌&&◌, cond, nat_eq, nat_lt, List, [], ◌∷◌, ◌++◌, length, length-append, take, drop, slice_index, get_or, Option, Some, None, Result, Ok, Err, IfOk, max, refl, sym, ap, ◌∙◌, subst, arith, append_assoc}
+use Rattle.std.proofs.Common.{◌≡◌, ℕ, suc, ◌+◌, ◌<◌, ◌≤◌, ◌^◌, Bool, true, false, cond, nat_lt, List, [], ◌∷◌, ◌++◌, length, length-append, take, drop, get_or, Option, Some, None, Result, Ok, Err, IfOk, max, refl, sym, ap, ◌∙◌, subst, arith, append_assoc}
 use Rattle.std.specs.Prelude.{filter}
 use Rattle.std.specs.List.{flat_map, position, position_or_len}
 use Rattle.std.proofs.lemmas.Bool.{eqb-true, lt-ltb}
@@ -9,7 +9,6 @@ use Rattle.std.proofs.lemmas.List.Elements.{filter-append}
 use Rattle.std.proofs.lemmas.List.Sums.{length-filter}
 use Rattle.std.proofs.lemmas.List.Quantifiers.{position-Some}
 use Rattle.ts_base.specs.declared.keys.FragKey.{FragKey}
-use Rattle.ts_base.specs.Names.{IsSpelledFrag}
 use Rattle.ts_base.specs.Spelling.{frag_text, FitsFrag}
 use Rattle.ts_base.proofs.Cuts.{Lacks}
 use Rattle.ts_base.proofs.Reading.{lacks_frag}
@@ -20,8 +19,8 @@ use Rattle.ts_wire.specs.Envelope.{wrapped, unwrapped, object_at, IsCut}
 use Rattle.ts_wire.specs.Place.{Place, Read, place, ◌>>=◌, items_at, whole}
 use Rattle.ts_wire.specs.Reading.{DecodesOr, IsRead, IsDamagedAt}
 use Rattle.ts_wire.proofs.Laws.{IsBytes-drop, items_exact, AreInTurn, not_both, same_ok}
-use Rattle.ts_wire.proofs.Objects.{decoded_found, decoded_only, decoded_cut, unwrapped_only, unwrapped_cut, length-wrapped}
-use Rattle.ts_commit.specs.Vacs.{line_bytes, vac_object, follows, FitsName, AreNames, IsFragText, frag_in, is_feed, behind_of, named_at, line_to, line_at, lines_in, names_of}
+use Rattle.ts_wire.proofs.Objects.{decoded_found, decoded_only, decoded_cut, unwrapped_only, length-wrapped}
+use Rattle.ts_commit.specs.Vacs.{line_bytes, vac_object, follows, FitsName, AreNames, frag_in, is_feed, behind_of, named_at, line_to, line_at, lines_in, names_of}
 use Rattle.ts_commit.proofs.FragTexts.{frag_in-only, frag_in-found}
 
 -- ---- where a line ends

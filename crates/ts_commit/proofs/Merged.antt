@@ -1,5 +1,5 @@
 -- The name of a `.vac` with a text in it tells which fragment the text spells.
-use Rattle.std.proofs.Common.{◌≡◌, List, ℕ, ◌++◌, codes, Option, Some, None, IfSome, refl, sym, ap, ◌∙◌}
+use Rattle.std.proofs.Common.{◌≡◌, List, ℕ, ◌++◌, codes, Option, Some, None, IfSome, refl, sym, ap}
 use Rattle.ts_base.specs.declared.keys.FragKey.{FragKey}
 use Rattle.ts_base.specs.declared.names.CommitKind.TheVariants as kind
 use Rattle.ts_base.specs.declared.names.Name.{Name}

@@ -1,5 +1,5 @@
 -- What is loaded and what is clipped, by any tests that tell what is named and what is kept.
-use Rattle.std.proofs.Common.{◌≡◌, ℕ, Bool, true, false, ◌&&◌, not, List, [], ◌∷◌, map, refl, sym, ap, ◌∙◌}
+use Rattle.std.proofs.Common.{◌≡◌, ℕ, Bool, true, false, ◌&&◌, not, List, [], ◌∷◌, map, refl, ap, ◌∙◌}
 use Rattle.std.specs.Prelude.{filter, cond}
 use Rattle.std.specs.List.{list_any}
 use Rattle.ts_base.specs.Keys.{is_within}

@@ -1,21 +1,23 @@
 -- Keys that are put into a list in order: which are in it.
-use Rattle.std.proofs.Common.{◌≡◌, ℕ, ◌+◌, ◌<◌, length, take, get_or, Bool, true, false, ◌&&◌, ◌||◌, not, List, [], ◌∷◌, ◌++◌, Option, refl, sym, ap, ◌∙◌, zero, suc, arith}
+use Rattle.std.proofs.Common.{◌≡◌, ℕ, ◌+◌, ◌<◌, length, take, get_or, Bool, true, false, ◌&&◌, ◌||◌, not, List, [], ◌∷◌, ◌++◌, Result, Ok, Err, IfOk, map, refl, sym, ap, ◌∙◌, zero, suc, arith}
 use Rattle.std.specs.Prelude.{filter, cond}
 use Rattle.std.specs.BTreeSet.{insert_key}
 use Rattle.std.specs.Cmp.{IsTotalOrder}
-use Rattle.std.specs.List.{list_any, fold, flat_map}
+use Rattle.std.specs.List.{list_all, list_any, fold, flat_map}
 use Rattle.std.specs.Ordering.{eq_by_cmp, is_eq, match_ordering, ordering_reverse}
 use Rattle.std.specs.declared.cmp.Ordering.{Ordering}
 use Rattle.std.specs.declared.cmp.Ordering.TheVariants.{Less, Equal, Greater}
-use Rattle.std.proofs.lemmas.List.Folds.{list_any-append, list_any_more}
-use Rattle.std.proofs.lemmas.List.Sums.{fold_more}
+use Rattle.std.proofs.lemmas.List.{map-append}
+use Rattle.std.proofs.lemmas.List.Folds.{list_all-append, list_all-map, list_any-append, list_any_more}
+use Rattle.std.proofs.lemmas.List.Sums.{fold-append, fold_more}
 use Rattle.ts_base.specs.Exact.{frag_total, key_total}
 use Rattle.ts_base.specs.Keys.{key_eq, key_cmp, frag_cmp, frag_eq}
 use Rattle.ts_base.specs.declared.keys.FragKey.{FragKey}
 use Rattle.ts_base.specs.declared.keys.Key.{Key}
 use Rattle.ts_base.specs.declared.heads.Head.{Head}
 use Rattle.ts_commit.specs.declared.vacs.VacOf.{VacOf}
-use Rattle.ts_commit.specs.Selections.{is_among, is_merged, with_names, in_order, removal_set, is_head_of, is_named}
+use Rattle.ts_commit.specs.Asked.{DoCount}
+use Rattle.ts_commit.specs.Selections.{is_among, is_merged, with_names, in_order, removal_set, names_merged, is_taken, is_head_of, is_named}
 
 -- ---- tests
 
@@ -95,6 +97,25 @@ among_named f (v ∷ vacs) = list_any-append (frag_eq f) v.names (flat_map (λ w
 pub among_removed : (f : FragKey) (vacs : List VacOf) → is_among f (removal_set vacs) ≡ is_merged vacs f
 among_removed f vacs = among_in_order f (flat_map (λ v. v.names) vacs) ∙ among_named f vacs
 
+-- the names of a consolidation are just its sources, and what the `.vac` objects of these name
+pub among_merged : (f : FragKey) (vacs : List VacOf) (sources : List FragKey) → is_among f (names_merged vacs sources) ≡ is_taken vacs sources f
+among_merged f vacs sources =
+    let own = λ (v : VacOf). is_among v.frag sources in
+    among_in_order f (sources ++ flat_map (λ v. v.names) (filter own vacs)) ∙ list_any-append (frag_eq f) sources (flat_map (λ v. v.names) (filter own vacs))
+    ∙ ap (λ b. is_among f sources || b) (among_named f (filter own vacs) ∙ any_filter own (λ v. is_among f v.names) vacs)
+
+-- the same of a list that was made so, by any test that tells the sources
+pub merged_from : {E : Type 0} (r : Result (List FragKey) E) (test : FragKey → Bool) (vacs : List VacOf) (sources own keys : List FragKey) → IfOk r (λ names. names ≡ keys)
+    → own ≡ with_names [] sources → keys ≡ with_names own (flat_map (λ v. v.names) (filter (λ v. test v.frag) vacs)) → ((f : FragKey) → test f ≡ is_among f sources)
+    → IfOk r (λ names. (f : FragKey) → is_among f names ≡ is_taken vacs sources f)
+merged_from (Ok names) test vacs sources own keys are same made tells =
+    let of = λ (l : List VacOf). flat_map (λ v. v.names) l in
+    let whole : keys ≡ names_merged vacs sources = made ∙ ap (λ l. with_names l (of (filter (λ v. test v.frag) vacs))) same
+    ∙ sym (fold-append (insert_key frag_cmp) [] sources (of (filter (λ v. test v.frag) vacs)))
+    ∙ ap (λ l. in_order (sources ++ of l)) (filter_same (λ v. test v.frag) (λ v. is_among v.frag sources) (λ v. tells v.frag) vacs) in
+    λ f. ap (is_among f) (are ∙ whole) ∙ among_merged f vacs sources
+merged_from (Err fault) test vacs sources own keys are same made tells = tt
+
 -- what the `.vac` objects of some fragments name, by any test that tells these fragments
 pub named_by : (test : FragKey → Bool) (heads : List Head) (vacs : List VacOf) → ((f : FragKey) → test f ≡ list_any (is_head_of f) heads)
     → (f : FragKey) → is_among f (with_names [] (flat_map (λ v. v.names) (filter (λ v. test v.frag) vacs))) ≡ is_named heads vacs f
@@ -149,3 +170,19 @@ any_at p (x ∷ xs) (suc i) d more is = true_or (p x) ∙ ap (λ b. p x || b) (a
     true_or : (b : Bool) → true ≡ (b || true)
     true_or true = refl
     true_or false = refl
+
+-- ---- heads
+
+-- a head is of its own kind
+pub own_kind : (dense : Bool) → cond dense dense (not dense) ≡ true
+own_kind true = refl
+own_kind false = refl
+
+-- the `.vac` of one committed fragment counts
+pub one_counts : (vacs : List VacOf) (f : FragKey) (committed : List FragKey) → map (λ v. v.frag) vacs ≡ f ∷ [] → is_among f committed ≡ true → DoCount committed vacs
+one_counts vacs f committed are is =
+    let each = λ (g : FragKey). is_among g committed in
+    sym (list_all-map each (λ v. v.frag) vacs) ∙ ap (list_all each) are ∙ ap (λ b. b && true) is
+
+-- a head more
+pub ruleset heads_more = (map-append, list_all-append)

@@ -1,5 +1,5 @@
 -- Worked rows: which fragments are usable, loaded, clipped, planned, merged and removed.
-use Rattle.std.proofs.Common.{◌≡◌, ℕ, ◌+◌, ℤ, pos, Bool, true, false, List, [], ◌∷◌, map, refl}
+use Rattle.std.proofs.Common.{◌≡◌, ℕ, pos, Bool, true, false, List, [], ◌∷◌, refl}
 use Rattle.ts_base.specs.declared.keys.Key.{Key}
 use Rattle.ts_base.specs.declared.keys.FragKey.{FragKey}
 use Rattle.ts_base.specs.declared.heads.Head.{Head}
@@ -7,7 +7,7 @@ use Rattle.ts_commit.specs.declared.vacs.VacOf.{VacOf}
 use Rattle.ts_commit.specs.declared.vacs.Limits.{Limits}
 use Rattle.ts_commit.specs.declared.vacs.Planned.TheVariants as planned
 use Rattle.ts_commit.specs.Selections.{is_usable, usable, loaded, clipped_names, removal_set, names_merged}
-use Rattle.ts_commit.specs.Plans.{eligible, plan_of}
+use Rattle.ts_commit.specs.Plans.{plan_of}
 
 abbrev key : ℕ → ℕ → Key
 key t id = record { t = t; id = id }

@@ -1,8 +1,7 @@
 -- What a consolidation takes.
-use Rattle.std.specs.Prelude.{ℕ, ℤ, ◌+◌, ◌*◌, ◌^◌, Bool, true, false, cond, not, ◌&&◌, List, [], ◌∷◌, ◌++◌, Option, Some, None, filter, length, nat_le, nat_lt, map as list_map}
+use Rattle.std.specs.Prelude.{ℕ, ℤ, ◌+◌, ◌*◌, ◌^◌, Bool, cond, not, ◌&&◌, List, [], ◌∷◌, ◌++◌, Option, Some, None, filter, length, nat_le, nat_lt, map as list_map}
 use Rattle.std.specs.List.{fold, sum_by}
 use Rattle.ts_base.specs.declared.keys.Key.{Key}
-use Rattle.ts_base.specs.declared.keys.FragKey.{FragKey}
 use Rattle.ts_base.specs.declared.heads.Head.{Head}
 use Rattle.ts_base.specs.Keys.{key_eq}
 use Rattle.ts_domain.specs.Bounds.{least_corner, greatest_corner, cells_between}

@@ -78,3 +78,7 @@ removal_set vacs = in_order (flat_map (λ v. v.names) vacs)
 -- the names of a consolidation's `.vac`: its sources, and what the `.vac` objects of these name
 abbrev pub names_merged : List VacOf → List FragKey → List FragKey
 names_merged vacs sources = in_order (sources ++ flat_map (λ v. v.names) (filter (λ v. is_among v.frag sources) vacs))
+
+-- the fragment is a source, or the `.vac` of a source names it
+abbrev pub is_taken : List VacOf → List FragKey → FragKey → Bool
+is_taken vacs sources f = is_among f sources || list_any (λ v. is_among v.frag sources && is_among f v.names) vacs

@@ -1,5 +1,5 @@
 -- The object of a `.vac`: how its names are spelled, and how they are read.
-use Rattle.std.specs.Prelude.{◌≡◌, ◌≤◌, ℕ, ◌+◌, ◌-◌, ◌^◌, ◌==◌, Bool, true, false, ◌&&◌, cond, nat_eq, nat_lt, nat_le, max, filter, List, [], ◌∷◌, ◌++◌, length, take, drop, slice_index_or, IsTrue, Option, Some, None, Result, Ok, Err}
+use Rattle.std.specs.Prelude.{◌≡◌, ◌≤◌, ℕ, ◌+◌, ◌-◌, ◌^◌, ◌==◌, Bool, true, ◌&&◌, cond, nat_eq, nat_lt, nat_le, max, filter, List, [], ◌∷◌, ◌++◌, length, take, drop, slice_index_or, Option, Some, None, Result, Ok, Err}
 use Rattle.std.specs.Cmp.Lexicographic.{pointwise}
 use Rattle.std.specs.Int.{from_be_bytes, w128}
 use Rattle.std.specs.List.{flat_map, before_first, after_first, position}

@@ -1,9 +1,12 @@
-//! What a listing of the commits says: which fragments a read loads, which a consolidation takes, and which a vacuum removes.
+//! What a listing of the commits says: which fragments a read loads, what a consolidation names, and
+//! which fragments a vacuum removes.
 #![tactic(auto)]
 
 mod lines;
 mod named;
 mod selection;
+#[cfg(test)]
+mod tests;
 mod vacs;
 
 pub use lines::{decode_vac, encode_vac};

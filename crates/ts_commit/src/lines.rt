@@ -12,7 +12,7 @@ ghost use Rattle.ts_commit.specs.Vacs.{line_bytes, vac_object, follows, AreNames
 use arrayvec::ArrayString;
 use std::alloc::Global;
 use ts_base::{ByteList, CommitKind, FragKey, FragList, Name, OutOfMemory};
-use ts_wire::{Cursor, Damaged, Kind, ReadFault, Scribe, unwrap_body, wrap};
+use ts_wire::{Cursor, Damaged, Kind, ReadFault, Scribe, unwrap_body};
 
 // The most bytes that the name of a fragment has: two timestamps of 20 digits, an identifier of 32,
 // a version of 3, and what stands between them.
@@ -26,7 +26,7 @@ pub fn encode_vac(alloc: Global, names: &FragList) -> Result<ByteList, OutOfMemo
 {
     let mut scribe = Scribe::new(alloc);
     write_lines(&mut scribe, names.as_slice())?;
-    wrap(alloc, Kind::Vac, scribe.take().as_slice())
+    scribe.into_object(Kind::Vac)
 }
 
 fn write_lines(scribe: &mut Scribe, names: &[FragKey]) -> Result<(), OutOfMemory>

@@ -5,7 +5,7 @@ ghost use Rattle.std.specs.List.{flat_map, list_any};
 ghost use Rattle.std.specs.List.Sorted.{IsStrictlySortedBy};
 ghost use Rattle.ts_base.specs.Keys.{frag_cmp};
 ghost use Rattle.ts_base.specs.declared.keys.FragKey.{FragKey};
-ghost use Rattle.ts_commit.specs.Selections.{with_names, is_among, is_merged, removal_set, names_merged};
+ghost use Rattle.ts_commit.specs.Selections.{with_names, is_among, is_merged, is_taken, removal_set, names_merged};
 
 use crate::vacs::{VacList, VacOf};
 use std::alloc::{AllocError, Global};
@@ -32,6 +32,7 @@ pub fn names_merged(
 ) -> Result<FragList, OutOfMemory>
     ensures set { IfOk result (λ names. names ≡ names_merged vacs.now sources.now) }
     ensures ascend { IfOk result (IsStrictlySortedBy frag_cmp) }
+    ensures named { IfOk result (λ names. (f : FragKey) → is_among f names ≡ is_taken vacs.now sources.now f) }
 {
     let own = set_of(alloc, sources.as_slice())?;
     let mut merged = set_of(alloc, sources.as_slice())?;

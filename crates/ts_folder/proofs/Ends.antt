@@ -1,17 +1,15 @@
 -- A call that ended as its work on files came out meets the clauses of a store that tells nothing.
 use Rattle.std.proofs.Common.{◌≡◌, ℕ, refl, sym, ap, ◌∙◌, ◌≤◌, subst, arith, List, Option, None, Some, Result, Ok, Err, false}
-use Rattle.ts_base.specs.Held.{Held}
-use Rattle.ts_store.specs.declared.call.Call.{Call}
 use Rattle.ts_store.specs.declared.call.Made.{Made}
 use Rattle.ts_store.specs.declared.call.Made.TheVariants as made
 use Rattle.ts_store.specs.declared.call.Reply.{Reply}
 use Rattle.ts_store.specs.declared.call.StoreError.{StoreError}
 use Rattle.ts_store.specs.Calls.{reply_to, made_reply, part_reply, length_reply}
-use Rattle.ts_store.specs.Stores.{Answers, HasCause}
+use Rattle.ts_store.specs.Stores.{HasCause}
 use Rattle.ts_folder.specs.declared.folder.Tally.{Tally}
 use Rattle.ts_folder.specs.declared.trouble.Trouble.{Trouble}
 use Rattle.ts_folder.specs.declared.trouble.Trouble.TheVariants as trouble
-use Rattle.ts_folder.specs.Notes.{Ended, Told, IsWithin, is_failed}
+use Rattle.ts_folder.specs.Notes.{Ended, is_failed}
 
 -- answers of a kind are never the reply Failed
 pub made_is_no_failure : (m : Made) → is_failed (made_reply m) ≡ false

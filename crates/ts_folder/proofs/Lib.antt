@@ -1,1 +1,4 @@
+pub mod Ascii
 pub mod Ends
+pub mod Kept
+pub mod Parts

@@ -1,9 +1,11 @@
 //! The names among the files of a folder.
-ghost use Rattle.std.specs.Prelude.{◌≡◌, ◌++◌, IfOk, IfSome, All};
+ghost use Rattle.std.specs.Prelude.{◌≡◌, ◌==◌, ◌++◌, IfOk, IfSome, OnOk, Some, All};
+ghost use Rattle.std.specs.List.{Contains, slice_split};
 ghost use Rattle.std.specs.List.Sorted.{IsStrictlySortedBy};
 ghost use Rattle.ts_base.specs.Names.{IsSpelled, name_cmp};
 ghost use Rattle.ts_base.specs.Spelling.{name_text, prefix_text};
-ghost use Rattle.ts_folder.specs.Listings.{IsListing, IsNameUnder};
+ghost use Rattle.ts_base.specs.declared.names.Name.{Name};
+ghost use Rattle.ts_folder.specs.Listings.{HasNameOf, IsFileOf, IsListing, IsNameUnder};
 
 use crate::paths::PathText;
 use crate::trouble::Trouble;
@@ -38,6 +40,9 @@ pub(crate) fn names_under<R: Files>(
 }
 
 /// Reads the listing of a folder to its end: names of files, each ended by a zero byte.
+///
+/// No name of a piece is lost ([`add_names`]). That the pieces are the whole listing, and that none
+/// cuts a file's name, is what the file system's reads do: no clause says it.
 fn read_names<D: Read>(alloc: Global, files: &mut D, prefix: Prefix) -> Result<Vec<Name>, Trouble>
     ensures { IfOk result (λ names. IsListing prefix names.items) }
 {
@@ -61,7 +66,7 @@ fn in_order(alloc: Global, names: &BTreeSet<Name>) -> Result<Vec<Name>, AllocErr
     names.iter().copied().collect(alloc)
 }
 
-/// Adds the names under a prefix that stand in a piece of a listing.
+/// Adds the names under a prefix that stand in a piece of a listing. None of them is lost.
 fn add_names(
     alloc: Global,
     names: &mut BTreeSet<Name>,
@@ -69,7 +74,9 @@ fn add_names(
     piece: &[u8],
 ) -> Result<(), AllocError>
     requires { All (IsNameUnder prefix) names.old.keys }
-    ensures { All (IsNameUnder prefix) names.new.keys }
+    ensures under { All (IsNameUnder prefix) names.new.keys }
+    ensures every { OnOk result (All (HasNameOf prefix names.new.keys) (slice_split (λ b. b == 0) piece.now)) }
+    ensures kept { OnOk result ((n : Name) → Contains names.old.keys n → Contains names.new.keys n) }
 {
     for file in piece.split(|byte| *byte == 0) {
         if let Some(name) = name_of(alloc, prefix, file)? {
@@ -83,7 +90,9 @@ fn add_names(
 fn add_name(names: &mut BTreeSet<Name>, prefix: Prefix, name: Name) -> Result<(), AllocError>
     requires name { IsNameUnder prefix name }
     requires names { All (IsNameUnder prefix) names.old.keys }
-    ensures { All (IsNameUnder prefix) names.new.keys }
+    ensures under { All (IsNameUnder prefix) names.new.keys }
+    ensures added { OnOk result (Contains names.new.keys name) }
+    ensures kept { (n : Name) → Contains names.old.keys n → Contains names.new.keys n }
 {
     names.insert(name)?;
     Ok(())
@@ -93,6 +102,7 @@ fn add_name(names: &mut BTreeSet<Name>, prefix: Prefix, name: Name) -> Result<()
 fn name_of(alloc: Global, prefix: Prefix, file: &[u8]) -> Result<Option<Name>, AllocError>
     ensures spells { IfOk result (λ found. IfSome found (λ name. name_text name ≡ prefix_text prefix ++ file.now)) }
     ensures under { IfOk result (λ found. IfSome found (IsNameUnder prefix)) }
+    ensures every { (n : Name) → IsFileOf prefix file.now n → IfOk result (λ found. found ≡ Some n) }
 {
     let Ok(file) = str::from_utf8(file) else {
         return Ok(None);

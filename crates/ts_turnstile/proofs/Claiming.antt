@@ -1,13 +1,12 @@
 -- The lanes of passes, through a split and a join.
-use Rattle.std.proofs.Common.{◌≡◌, ◌≢◌, ◌⊎◌, inl, inr, ⊎_elim, ℕ, ◌==◌, ◌||◌, Bool, true, false, List, [], ◌∷◌, ◌++◌, length, set, refl, sym, ap, ◌∙◌, subst}
-use Rattle.std.proofs.lemmas.List.{length-set}
+use Rattle.std.proofs.Common.{◌≡◌, ◌≢◌, ◌⊎◌, ⊎_elim, ℕ, ◌||◌, true, false, List, [], ◌∷◌, ◌++◌, length, set, refl, sym, ap, ◌∙◌, subst}
 use mathlib.Core.Logic.{dite}
 use native.Mathlib.Decide.{ℕ_discrete}
 use Rattle.atomic_table.proofs.Lists.{set_here, set_else, at_longer}
 use Rattle.ts_turnstile.specs.Lanes.{has}
 use Rattle.ts_turnstile.specs.Rule.{At, Claim, Claims}
 use Rattle.ts_turnstile.proofs.Items.{at_length, same_item, each_set, moved, each_added, added_here}
-use Rattle.ts_turnstile.proofs.Truths.{off, false_of, both_of, or_left, or_right, or_none, or_split, has_here, has_there, has_one, has_more, has_less}
+use Rattle.ts_turnstile.proofs.Truths.{off, false_of, both_of, or_left, or_right, or_split, has_here, has_there, has_one, has_more, has_less}
 
 module _ (all : List Claim) (h : Claims all) where
   -- a lane that was not split off the first pass stands in none

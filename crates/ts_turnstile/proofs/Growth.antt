@@ -1,13 +1,11 @@
 -- Journals that begin one another, and the calls of a lane in them.
-use Rattle.std.proofs.Common.{◌≡◌, ◌≢◌, ℕ, ◌+◌, ◌<◌, ◌≤◌, ◌==◌, Bool, true, false, List, [], ◌∷◌, ◌++◌, length, nat_lt, refl, sym, ap, ◌∙◌, subst, arith, append_assoc, append-nil, length-append, add-one, if◌then◌else◌, Option, Some, None, cond}
+use Rattle.std.proofs.Common.{◌≡◌, ℕ, ◌<◌, ◌≤◌, ◌==◌, Bool, true, false, List, [], ◌∷◌, ◌++◌, length, nat_lt, refl, sym, ap, ◌∙◌, arith, append_assoc, append-nil, length-append, add-one, if◌then◌else◌, Some, None, cond}
 use Rattle.ts_store.specs.declared.journal.Entry.{Entry}
 use Rattle.ts_store.specs.Journals.{calls_by, GrowsInto}
-use Rattle.ts_store.proofs.JournalLemmas.{calls_by-append, calls_by-same, calls_by-other}
+use Rattle.ts_store.proofs.JournalLemmas.{calls_by-append}
 use Rattle.std.proofs.lemmas.Bool.Decides.{nat_tests}
-use Rattle.ts_turnstile.specs.Lanes.{has, Hears}
 use Rattle.ts_turnstile.specs.Views.{longer}
 use Rattle.ts_turnstile.specs.Places.{place_in, place_or}
-use Rattle.ts_turnstile.proofs.Truths.{off}
 
 pub no_rest : (xs rest : List Entry) → xs ++ rest ≡ xs → rest ≡ []
 no_rest xs [] e = refl
@@ -18,12 +16,6 @@ begins_self xs = ([], sym (append-nil xs))
 
 pub begins_nil : (xs : List Entry) → GrowsInto [] xs
 begins_nil xs = (xs, refl)
-
-pub begins_on : (xs ys zs : List Entry) → GrowsInto xs ys → GrowsInto ys zs → GrowsInto xs zs
-begins_on xs ys zs a b = (a.0 ++ b.0, b.1 ∙ ap (λ l. l ++ b.0) a.1 ∙ append_assoc xs a.0 b.0)
-
-pub begins_more : (xs ys more : List Entry) → GrowsInto xs ys → GrowsInto xs (ys ++ more)
-begins_more xs ys more a = begins_on xs ys (ys ++ more) a (more, refl)
 
 -- where each begins the other they are the same
 pub begins_both : (xs ys : List Entry) → GrowsInto xs ys → GrowsInto ys xs → xs ≡ ys

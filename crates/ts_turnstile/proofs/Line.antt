@@ -1,9 +1,9 @@
 -- Tickets and turns, through each step.
-use Rattle.std.proofs.Common.{◌≡◌, ◌≢◌, ◌⊎◌, inl, inr, ⊎_elim, ℕ, zero, suc, ◌+◌, ◌-◌, ◌<◌, ◌≤◌, ◌^◌, Bool, true, false, Option, Some, None, List, [], ◌∷◌, ◌++◌, length, set, refl, sym, ap, ◌∙◌, subst, arith}
+use Rattle.std.proofs.Common.{◌≡◌, ◌≢◌, ℕ, ◌+◌, ◌<◌, ◌≤◌, ◌^◌, true, false, Some, None, List, [], ◌∷◌, ◌++◌, length, set, refl, sym, ap, ◌∙◌, arith}
 use mathlib.Core.Option as raw
 use mathlib.Core.Logic.{dite}
 use native.Mathlib.Decide.{ℕ_discrete}
-use Rattle.atomic_table.proofs.Lists.{set_here, set_else, at_longer}
+use Rattle.atomic_table.proofs.Lists.{set_here}
 use Rattle.ts_turnstile.specs.Rule.{At, Standing, Tickets}
 use Rattle.ts_turnstile.proofs.Items.{at_length, same_item, each_set, moved, each_added, longer_still}
 use Rattle.ts_turnstile.proofs.Truths.{off}

@@ -1,5 +1,5 @@
 -- The calls of the passes' lanes, through each step.
-use Rattle.std.proofs.Common.{◌≡◌, ◌≢◌, ◌⊎◌, inl, inr, ⊎_elim, ℕ, ◌==◌, ◌||◌, Bool, true, false, List, [], ◌∷◌, ◌++◌, length, set, refl, sym, ap, ◌∙◌, subst, ne_eqb}
+use Rattle.std.proofs.Common.{◌≡◌, ◌≢◌, ℕ, ◌||◌, true, false, List, [], ◌∷◌, ◌++◌, set, refl, sym, ap, ◌∙◌, subst, ne_eqb}
 use mathlib.Core.Logic.{dite}
 use native.Mathlib.Decide.{ℕ_discrete}
 use Rattle.atomic_table.proofs.Lists.{set_here, set_else, at_longer}
@@ -9,7 +9,7 @@ use Rattle.ts_store.proofs.JournalLemmas.{calls_by-other}
 use Rattle.ts_turnstile.specs.Lanes.{has}
 use Rattle.ts_turnstile.specs.Rule.{At, Share, Owned}
 use Rattle.ts_turnstile.proofs.Items.{at_length, same_item, each_set, unset, each_added}
-use Rattle.ts_turnstile.proofs.Truths.{off, false_of, both_of, or_left, or_right, or_none, or_split}
+use Rattle.ts_turnstile.proofs.Truths.{off, both_of, or_none}
 
 module _ (journal : List Entry) (all : List Share) (h : Owned journal all) where
   -- a pass has seen the whole journal

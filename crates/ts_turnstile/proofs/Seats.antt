@@ -1,9 +1,9 @@
 -- The steps as seats make them, and what follows for a whole call.
-use Rattle.std.proofs.Common.{◌≡◌, ◌≢◌, ℕ, ◌+◌, ◌-◌, ◌%◌, ◌<◌, ◌≤◌, ◌^◌, ◌==◌, Bool, true, false, Option, Some, None, MatchBool, IfSome, List, [], ◌∷◌, ◌++◌, length, refl, sym, ap, ◌∙◌, subst, eq-eqb, arith}
+use Rattle.std.proofs.Common.{◌≡◌, ℕ, ◌+◌, ◌%◌, ◌<◌, ◌≤◌, ◌^◌, ◌==◌, Bool, true, false, Option, Some, None, MatchBool, IfSome, List, [], ◌∷◌, ◌++◌, length, refl, sym, ap, ◌∙◌, subst, eq-eqb, arith}
 use mathlib.Core.Option as raw
 use lib.ListN.{get_elem?}
 use prog.Atomic.{either}
-use Rattle.atomic_table.specs.Table.{State, Me, Step, step, Allows, Final, Seen}
+use Rattle.atomic_table.specs.Table.{Me, Step, step, Allows, Final, Seen}
 use Rattle.ts_base.specs.Held.{Held}
 use Rattle.ts_store.specs.declared.fate.Fate.{Fate}
 use Rattle.ts_store.specs.declared.call.Call.{Call}
@@ -15,8 +15,8 @@ use Rattle.ts_turnstile.specs.declared.view.Opening.{Opening}
 use Rattle.ts_turnstile.specs.declared.view.View.{View}
 use Rattle.ts_turnstile.specs.Lanes.{has, Hears}
 use Rattle.ts_turnstile.specs.Places.{place_in, place_after}
-use Rattle.ts_turnstile.specs.Views.{view_in, lanes_of, lanes_if, with_ticket, in_turn}
-use Rattle.ts_turnstile.specs.Rule.{At, Replays, Orderly}
+use Rattle.ts_turnstile.specs.Views.{view_in, lanes_of, lanes_if, in_turn}
+use Rattle.ts_turnstile.specs.Rule.{Replays, Orderly}
 use Rattle.ts_turnstile.specs.Plays.{drew, looked, posted, served}
 use Rattle.ts_turnstile.proofs.Growth.{place_last, place_kept}
 use Rattle.ts_turnstile.proofs.Truths.{has_here}
@@ -102,14 +102,6 @@ module _ {S : Type 0} (held : S → Option Held) (faults : S → ℕ) where
       let one : all.0 ≡ home = ap (home_in home) (sym all.1 ∙ out) in
       let P : Closed S → Type 0 = λ h. (m'.0 ≡ in_turn m0.0 h.journal) × Replays held faults m0.0.opening h.journal h × Hears m0.0.seen (lanes_of m0.0) h.journal in
       subst P one (ap (λ (x : Me (Option (Closed S)) View). x.0) all.2, all.3, all.4)
-
-  -- what a post tells of the store that was put back
-  pub posted_back : (st : Step (Option (Closed S))) (m m' : Me (Option (Closed S)) View) (found : ℕ) (v : View) (home : Closed S) → m ≡ (v, (0, Some home) ∷ []) → posted st m found m' → m' ≡ (in_turn v home.journal, (0, Some home) ∷ [])
-  posted_back st m m' found v home same told =
-      let Told : Me (Option (Closed S)) View → Type 0 = λ x. posted st x found m' in
-      let at = subst Told same told in
-      let one : at.0 ≡ home = sym (ap (home_in home) at.1) in
-      at.2 ∙ ap (λ (h : Closed S). (in_turn v h.journal, (0, Some home) ∷ [])) one
 
   told_on : (P Q : Held → Type 0) (m : Option Held) → IfSome m P → ((h : Held) → P h → Q h) → IfSome m Q
   told_on P Q None p on = tt

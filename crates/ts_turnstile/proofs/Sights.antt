@@ -1,16 +1,16 @@
 -- What was seen, through each step.
-use Rattle.std.proofs.Common.{◌≡◌, ◌≢◌, ◌⊎◌, inl, inr, ⊎_elim, ℕ, zero, suc, ◌+◌, ◌<◌, ◌≤◌, Bool, true, false, List, [], ◌∷◌, ◌++◌, length, set, refl, sym, ap, ◌∙◌, subst, append_assoc}
+use Rattle.std.proofs.Common.{◌≡◌, ◌≢◌, ℕ, true, false, List, [], ◌∷◌, ◌++◌, set, sym, ap, ◌∙◌, subst, append_assoc}
 use mathlib.Core.Logic.{dite}
 use native.Mathlib.Decide.{ℕ_discrete}
-use Rattle.atomic_table.proofs.Lists.{set_here, set_else, at_longer}
+use Rattle.atomic_table.proofs.Lists.{set_here, set_else}
 use Rattle.ts_store.specs.declared.journal.Entry.{Entry}
-use Rattle.ts_store.specs.Journals.{calls_by, GrowsInto}
+use Rattle.ts_store.specs.Journals.{GrowsInto}
 use Rattle.ts_turnstile.specs.declared.view.Opening.{Opening}
-use Rattle.ts_turnstile.specs.Lanes.{has, Hears}
+use Rattle.ts_turnstile.specs.Lanes.{Hears}
 use Rattle.ts_turnstile.specs.Rule.{At, Sight, Seens}
 use Rattle.ts_turnstile.proofs.Items.{at_length, same_item, each_set, moved, each_added, longer_still}
 use Rattle.ts_turnstile.proofs.Truths.{off}
-use Rattle.ts_turnstile.proofs.Growth.{begins_self, begins_nil, begins_more, begins_both}
+use Rattle.ts_turnstile.proofs.Growth.{begins_self, begins_nil, begins_both}
 
 -- nothing was heard of no lane
 pub nothing_heard : (seen : List Entry) → Hears [] [] seen

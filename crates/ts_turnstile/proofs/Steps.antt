@@ -1,28 +1,27 @@
 -- Each atomic step keeps the rule, and tells what it is to tell.
-use Rattle.std.proofs.Common.{◌≡◌, ◌≢◌, ◌⊎◌, inl, inr, ⊎_elim, ℕ, zero, suc, ◌+◌, ◌-◌, ◌%◌, ◌<◌, ◌≤◌, ◌^◌, ◌==◌, ◌||◌, Bool, true, false, Option, Some, None, MatchBool, IfSome, List, [], ◌∷◌, ◌++◌, map, length, length-append, length-set, set, refl, sym, ap, ◌∙◌, subst, eq-eqb, ne_eqb, arith, slice_set, slice_index}
-use Rattle.std.proofs.lemmas.List.{map-set, map-append}
+use Rattle.std.proofs.Common.{◌≡◌, ◌≢◌, ⊎_elim, ℕ, zero, suc, ◌+◌, ◌%◌, ◌<◌, ◌≤◌, ◌^◌, ◌==◌, ◌||◌, Bool, true, false, Option, Some, None, MatchBool, IfSome, List, [], ◌∷◌, ◌++◌, map, length, length-append, length-set, set, refl, sym, ap, ◌∙◌, subst, eq-eqb, ne_eqb, arith, slice_set, slice_index}
+use Rattle.std.proofs.lemmas.List.{map-append}
 use mathlib.Core.Option as raw
 use mathlib.Core.Logic.{dite}
 use native.Mathlib.Decide.{ℕ_discrete}
 use lib.ListN.{get_elem?}
 use prog.Atomic.{either}
-use Rattle.atomic_table.specs.Table.{State, Me, Step, step, Act, Valid, stepped, carried_after, homes_after, Allows, Splits, Joins, opening, Final, Seen}
+use Rattle.atomic_table.specs.Table.{State, Me, step, Act, Valid, stepped, carried_after, Allows, Splits, Joins, opening, Final, Seen}
 use Rattle.atomic_table.specs.Table.Act.{keeps, takes, gives}
-use Rattle.atomic_table.proofs.Lists.{at_set, set_here, set_else, set_again, at_map, exchanged}
+use Rattle.atomic_table.proofs.Lists.{at_set, set_here, set_else, set_again, exchanged}
 use Rattle.ts_base.specs.Held.{Held}
 use Rattle.ts_store.specs.declared.journal.Entry.{Entry}
-use Rattle.ts_store.specs.Counts.{capped}
-use Rattle.ts_store.specs.Journals.{calls_by, held_after, failures, GrowsInto}
+use Rattle.ts_store.specs.Journals.{calls_by, GrowsInto}
 use Rattle.ts_turnstile.specs.declared.closed.Closed.{Closed}
 use Rattle.ts_turnstile.specs.declared.view.Opening.{Opening}
 use Rattle.ts_turnstile.specs.declared.view.View.{View}
 use Rattle.ts_turnstile.specs.Lanes.{has, Hears}
 use Rattle.ts_turnstile.specs.Views.{opening_of, first_view, spent_view, lanes_of, lanes_if, with_ticket, in_turn, naming, left_of, right_of, joined_view, longer}
 use Rattle.ts_turnstile.specs.Rule.{At, Replays, AtHome, Standing, standing_of, Tickets, Sight, sight_of, Seens, Share, share_of, Owned, Claim, claim_of, Claims, Orderly}
-use Rattle.ts_turnstile.specs.Plays.{drew, looked, Took, posted, served, named, heard}
-use Rattle.ts_turnstile.proofs.Items.{one_item, same_item, at_length, map_at, at_image, kept, changed}
+use Rattle.ts_turnstile.specs.Plays.{drew, looked, posted, served, named, heard}
+use Rattle.ts_turnstile.proofs.Items.{same_item, at_length, map_at, at_image, kept, changed}
 use Rattle.ts_turnstile.proofs.Truths.{off, false_of, both_of, or_split, has_append, has_here, has_one}
-use Rattle.ts_turnstile.proofs.Growth.{begins_nil, begins_self, begins_on, begins_both, longer_goes_on, longer_begins, between_same, none_before}
+use Rattle.ts_turnstile.proofs.Growth.{begins_nil, begins_self, longer_goes_on, longer_begins, between_same, none_before}
 use Rattle.ts_turnstile.proofs.Line.{drawn_next, at_home, turn_comes, turn_ends, idle_set, idle_added}
 use Rattle.ts_turnstile.proofs.Sights.{nothing_heard, seen_whole, seen_kept, seen_added, seen_joined}
 use Rattle.ts_turnstile.proofs.Owning.{owner_sees, owner_calls, owner_added, owner_joins}

@@ -1,11 +1,10 @@
 -- What a whole call tells of its pass.
-use Rattle.std.proofs.Common.{◌≡◌, ◌≢◌, ℕ, ◌==◌, Bool, true, false, Option, Some, None, IfSome, IsSome, List, [], ◌∷◌, ◌++◌, refl, sym, ap, ◌∙◌, subst}
+use Rattle.std.proofs.Common.{◌≡◌, ◌≢◌, ℕ, Bool, true, false, Option, Some, None, IfSome, IsSome, List, [], ◌∷◌, ◌++◌, refl, sym, ap, ◌∙◌, subst}
 use Rattle.ts_base.specs.Held.{Held}
 use Rattle.ts_store.specs.declared.fate.Fate.{Fate}
 use Rattle.ts_store.specs.declared.fate.Fate.TheVariants as fate
 use Rattle.ts_store.specs.declared.call.Call.{Call}
 use Rattle.ts_store.specs.declared.call.Reply.{Reply}
-use Rattle.ts_store.specs.declared.call.Reply.TheVariants as reply
 use Rattle.ts_store.specs.declared.journal.Entry.{Entry}
 use Rattle.ts_store.specs.Calls.{is_no_memory, reply_of}
 use Rattle.ts_store.specs.Journals.{entry, held_after, EntersIf}
@@ -13,7 +12,7 @@ use Rattle.ts_store.specs.Stores.{Answers, Steps}
 use Rattle.ts_turnstile.specs.declared.view.View.{View}
 use Rattle.ts_turnstile.specs.Lanes.{Hears}
 use Rattle.ts_turnstile.specs.Views.{lanes_of, saw}
-use Rattle.ts_turnstile.specs.Passes.{GoesOn, Entered, EnteredIf, Called}
+use Rattle.ts_turnstile.specs.Passes.{GoesOn, EnteredIf, Called}
 
 told_on : (P Q : Held → Type 0) (m : Option Held) → IfSome m P → ((h : Held) → P h → Q h) → IfSome m Q
 told_on P Q None p on = tt

@@ -1,5 +1,5 @@
 -- Which turnstile a pass belongs to, and how its seat stands on the way through a call.
-use Rattle.std.specs.Prelude.{◌≡◌, ℕ, Bool, true, false, Option, Some, None, List, [], ◌∷◌}
+use Rattle.std.specs.Prelude.{◌≡◌, ℕ, false, Option, Some, None, []}
 use Rattle.atomic_table.specs.Table.{Me}
 use Rattle.ts_turnstile.specs.declared.view.View.{View}
 use Rattle.ts_turnstile.specs.declared.closed.Closed.{Closed}

@@ -1,7 +1,7 @@
 -- What the steps of a turnstile tell of the one who makes them.
-use Rattle.std.specs.Prelude.{◌≡◌, ◌≢◌, ℕ, ◌==◌, true, false, MatchBool, Option, Some, None, List, [], ◌∷◌}
+use Rattle.std.specs.Prelude.{◌≡◌, ◌≢◌, ℕ, ◌==◌, true, false, MatchBool, Option, Some, None, [], ◌∷◌}
 use Rattle.ts_base.specs.Held.{Held}
-use Rattle.ts_store.specs.Journals.{calls_by, GrowsInto}
+use Rattle.ts_store.specs.Journals.{calls_by}
 use Rattle.atomic_table.specs.Table.{Step, Me}
 use Rattle.ts_turnstile.specs.declared.closed.Closed.{Closed}
 use Rattle.ts_turnstile.specs.declared.view.View.{View}

@@ -1,5 +1,5 @@
 -- What passes know, and how steps change it.
-use Rattle.std.specs.Prelude.{◌≡◌, ℕ, ◌<◌, Bool, true, false, Option, Some, None, List, [], ◌∷◌, ◌++◌, length, if◌then◌else◌, nat_lt}
+use Rattle.std.specs.Prelude.{ℕ, Bool, true, false, Option, None, List, [], ◌∷◌, ◌++◌, length, if◌then◌else◌, nat_lt}
 use Rattle.ts_base.specs.Held.{Held}
 use Rattle.ts_store.specs.declared.journal.Entry.{Entry}
 use Rattle.ts_turnstile.specs.declared.view.Opening.{Opening}

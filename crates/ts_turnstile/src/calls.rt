@@ -1,6 +1,6 @@
 //! Making calls: a ticket is drawn, its turn awaited, the call made and entered, and the next ticket
 //! served.
-ghost use Rattle.std.specs.Prelude.{◌≡◌, true, [], ◌∷◌, length, IfOk, IfErr, MatchBool, Option, List};
+ghost use Rattle.std.specs.Prelude.{◌≡◌, true, [], ◌∷◌, length, IfOk, IfErr, MatchBool, Option};
 ghost use Rattle.ts_store.specs.declared.journal.Entry.{Entry as An_entry};
 ghost use Rattle.ts_store.specs.Calls.{FitsCall, IsSpelledCall, IsSpelledReply};
 ghost use Rattle.ts_store.specs.Journals.{EntersIf};

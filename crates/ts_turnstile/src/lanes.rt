@@ -21,7 +21,7 @@ use ts_store::Store;
 impl<S: Store> Turnstile<S> {
     /// Splits a pass for another lane off the first one. The new pass has seen what the old one has.
     ///
-    /// It takes no memory today, and so answers Ok.
+    /// It takes no memory: the answer is always Ok.
     pub fn split(&self, _alloc: Global, pass: &mut Pass, lane: u32) -> Result<Pass, OutOfMemory>
         requires own { Belongs self.now pass.old }
         requires first { (pass_view pass.old).first ≡ true }

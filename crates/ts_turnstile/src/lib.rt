@@ -10,6 +10,8 @@ mod lanes;
 mod pass;
 mod plays;
 mod rule;
+#[cfg(test)]
+mod tests;
 mod turnstile;
 mod view;
 

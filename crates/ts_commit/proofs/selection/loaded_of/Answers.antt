@@ -1,5 +1,5 @@
 -- What is loaded so far, and one fragment more.
-use Rattle.std.proofs.Common.{◌≡◌, ◌++◌, ◌∷◌, [], ◌&&◌, not, map, take, sym, ap, ◌∙◌, arith}
+use Rattle.std.proofs.Common.{◌++◌, ◌∷◌, [], ◌&&◌, not, map, take, sym, ap, ◌∙◌, arith}
 use Rattle.std.specs.Prelude.{filter}
 use Rattle.std.specs.BTreeSet.{contains}
 use Rattle.std.proofs.lemmas.List.{take_all}

@@ -1,4 +1,4 @@
-use Rattle.std.proofs.Common.{◌≡◌, ℕ, MatchBool, Option, Some, None, List, [], ◌∷◌, length, ◌∙◌, sym, ap, subst, refl}
+use Rattle.std.proofs.Common.{◌≡◌, MatchBool, Option, Some, None, [], ◌∷◌, length, ◌∙◌, sym, ap, subst}
 use Rattle.atomic_table.specs.Table.{Me}
 use Rattle.ts_store.specs.Calls.{is_no_memory}
 use Rattle.ts_turnstile.specs.declared.closed.Closed.{Closed}

@@ -1,8 +1,7 @@
-use Rattle.std.proofs.Common.{◌≡◌, ℕ, true, false, Option, Some, None, List, [], ◌∙◌, sym, ap, subst}
+use Rattle.std.proofs.Common.{◌≡◌, Some, ◌∙◌, sym, ap, subst}
 use Rattle.ts_store.specs.Journals.{calls_by}
 use Rattle.ts_turnstile.specs.declared.closed.Closed.{Closed}
-use Rattle.ts_turnstile.specs.Lanes.{has}
-use Rattle.ts_turnstile.specs.Views.{opening_of, lanes_of}
+use Rattle.ts_turnstile.specs.Views.{opening_of}
 use Rattle.ts_turnstile.specs.Rule.{Replays}
 use Rattle.ts_turnstile.specs.Passes.{pass_view}
 use Rattle.ts_turnstile.proofs.Seats.{same_view, closed}

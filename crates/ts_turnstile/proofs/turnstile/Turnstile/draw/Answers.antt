@@ -1,4 +1,4 @@
-use Rattle.std.proofs.Common.{◌∙◌, ap, lit<, arith}
+use Rattle.std.proofs.Common.{◌∙◌, lit<, arith}
 use Rattle.ts_turnstile.specs.Views.{opening_of}
 use Rattle.ts_turnstile.proofs.Seats.{in_three, draws_from}
 use Rattle.ts_turnstile.proofs.turnstile.Turnstile.draw.Goals as goal

@@ -1,4 +1,4 @@
-use Rattle.std.proofs.Common.{◌≡◌, ℕ, ◌<◌, ◌^◌, ◌∙◌, sym, ap, subst, lit<}
+use Rattle.std.proofs.Common.{◌<◌, ◌^◌, ◌∙◌, subst, lit<}
 use Rattle.ts_store.specs.Journals.{EntersIf}
 use Rattle.ts_turnstile.specs.Views.{opening_of}
 use Rattle.ts_turnstile.proofs.Seats.{in_three, posts_from}

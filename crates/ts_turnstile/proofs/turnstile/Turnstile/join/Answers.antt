@@ -1,4 +1,4 @@
-use Rattle.std.proofs.Common.{◌≡◌, false, Option, List, ◌∙◌, sym, ap}
+use Rattle.std.proofs.Common.{◌≡◌, false, Option, ◌∙◌, sym, ap}
 use Rattle.atomic_table.specs.declared.badge.Badge.{Badge}
 use Rattle.atomic_table.specs.Table.{Me}
 use Rattle.ts_turnstile.specs.declared.closed.Closed.{Closed}

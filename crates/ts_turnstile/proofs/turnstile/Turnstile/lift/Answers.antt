@@ -1,4 +1,4 @@
-use Rattle.std.proofs.Common.{◌≡◌, ℕ, Option, Some, List, [], ◌∷◌, ◌∙◌, sym, ap, subst}
+use Rattle.std.proofs.Common.{Some, ◌∷◌, ◌∙◌, sym, ap}
 use Rattle.atomic_table.specs.Table.{rest}
 use Rattle.ts_turnstile.proofs.turnstile.Turnstile.lift.Goals as goal
 

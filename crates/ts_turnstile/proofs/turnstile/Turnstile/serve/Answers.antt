@@ -1,4 +1,4 @@
-use Rattle.std.proofs.Common.{◌∙◌, lit<}
+use Rattle.std.proofs.Common.{lit<}
 use Rattle.ts_turnstile.specs.Views.{opening_of}
 use Rattle.ts_turnstile.proofs.Seats.{in_three, serves_from}
 use Rattle.ts_turnstile.proofs.turnstile.Turnstile.serve.Goals as goal

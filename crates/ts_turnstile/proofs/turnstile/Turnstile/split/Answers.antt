@@ -1,4 +1,4 @@
-use Rattle.std.proofs.Common.{◌≡◌, Option, None, List, [], ◌∷◌, ◌∙◌, sym, ap, refl}
+use Rattle.std.proofs.Common.{Option, None, [], ◌∷◌, ◌∙◌, sym, ap, refl}
 use Rattle.atomic_table.specs.Table.{Me}
 use Rattle.ts_turnstile.specs.declared.closed.Closed.{Closed}
 use Rattle.ts_turnstile.specs.declared.view.View.{View}

@@ -1,4 +1,4 @@
-use Rattle.std.proofs.Common.{◌≡◌, ℕ, true, false, ◌∷◌, ◌∙◌, sym, ap, subst, lit<}
+use Rattle.std.proofs.Common.{◌≡◌, false, ◌∷◌, ◌∙◌, sym, ap, subst, lit<}
 use Rattle.atomic_table.specs.Table.{Splits}
 use Rattle.ts_turnstile.specs.declared.view.View.{View}
 use Rattle.ts_turnstile.specs.Lanes.{has}

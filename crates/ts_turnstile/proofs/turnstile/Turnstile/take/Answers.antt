@@ -2,7 +2,7 @@ use Rattle.std.proofs.Common.{◌∙◌, lit<}
 use mathlib.Core.Option as raw
 use Rattle.atomic_table.specs.Table.{step}
 use Rattle.ts_turnstile.specs.Views.{opening_of}
-use Rattle.ts_turnstile.proofs.Seats.{in_three, looks_from, taken, lifted}
+use Rattle.ts_turnstile.proofs.Seats.{in_three, looks_from, taken}
 use Rattle.ts_turnstile.proofs.turnstile.Turnstile.take.Goals as goal
 
 pub load-served-requires : goal.load-served-requires
