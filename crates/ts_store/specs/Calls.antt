@@ -81,18 +81,23 @@ abbrev pub reply_to : {X : Type 0} → (X → Reply) → Result X StoreError →
 reply_to told (Ok x) = told x
 reply_to told (Err e) = error_reply e
 
+-- the reply that the result of a put stands for
 abbrev pub put_reply : Result Made StoreError → Reply
 put_reply = reply_to made_reply
 
+-- the reply that the result of a remove stands for
 abbrev pub remove_reply : {X : Type 0} → Result X StoreError → Reply
 remove_reply = reply_to (λ _. reply.Removed)
 
+-- the reply that the result of a listing stands for
 abbrev pub list_reply : Result (List Name) StoreError → Reply
 list_reply = reply_to reply.Names
 
+-- the reply that the result of a get stands for
 abbrev pub get_reply : Result (Option (List ℕ)) StoreError → Reply
 get_reply = reply_to part_reply
 
+-- the reply that the result of a size stands for
 abbrev pub size_reply : Result (Option ℕ) StoreError → Reply
 size_reply = reply_to length_reply
 

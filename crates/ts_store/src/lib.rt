@@ -3,6 +3,7 @@
 #![tactic(auto)]
 
 mod call;
+mod clock;
 mod enter;
 mod fate;
 mod journal;
@@ -15,6 +16,7 @@ mod streams;
 mod tests;
 
 pub use call::{Call, Made, Reply, StoreError};
+pub use clock::{Clock, FixedClock};
 pub use enter::enter_call;
 pub use fate::{Fate, Fault, FaultList};
 pub use journal::{Entry, Journal};

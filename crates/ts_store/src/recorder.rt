@@ -46,6 +46,13 @@ impl<S: Store> Recorder<S> {
         Recorder { store, book }
     }
 
+    /// Enters the calls from now on under this lane.
+    pub fn go_to(&mut self, lane: u32)
+        ensures { self.new ≡ record self.old { book = record self.old.book { lane = lane } } }
+    {
+        self.book.lane = lane;
+    }
+
     /// The store below, and the journal.
     pub fn into_parts(self) -> (S, Journal)
         ensures { (result.0 ≡ self.store) × (result.1 ≡ self.book.journal) }
