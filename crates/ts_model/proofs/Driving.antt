@@ -11,17 +11,13 @@ use Rattle.ts_store.specs.Calls.{after, is_no_memory, FitsCall}
 use Rattle.ts_store.specs.Stores.{Steps, Answers}
 use Rattle.ts_store.specs.Journals.{Enters, EntersIf, entry}
 use Rattle.ts_model.specs.declared.commands.Job.{Job}
-use Rattle.ts_model.specs.declared.answers.Driven.{Driven}
-use Rattle.ts_model.specs.declared.answers.Outcome.{Outcome}
-use Rattle.ts_model.specs.declared.states.State.{State}
 use Rattle.ts_model.specs.States.{Exchange, begun, state_of}
-use Rattle.ts_model.specs.Stops.{Uncut}
-use Rattle.ts_model.specs.Forms.{Forms}
+use Rattle.ts_model.specs.Codecs.{Codec}
 use Rattle.ts_model.specs.Told.{Told, IsShortCall, Suits, IsReplied, Replied, after_told, held_told, changes, only_lane, entry_of, entries_of}
-use Rattle.ts_model.specs.Driven.{MayAsk, AskedFrom, ComesOut, IsDriven}
-use Rattle.ts_model.specs.Driving.{Leaves, RanTo, Ran}
+use Rattle.ts_model.specs.Driven.{MayAsk}
+use Rattle.ts_model.specs.Driving.{Leaves, RanTo}
 use Rattle.ts_model.proofs.Asked.{asked-push}
-use Rattle.ts_model.proofs.Traces.{held_told-append, trace_of-own, state_from-append}
+use Rattle.ts_model.proofs.Traces.{held_told-append, trace_of-own}
 
 -- one more call is replied to over what those before it left
 replied-push : (m : Held) (told : List Told) (e : Told) → Replied m told → IsReplied (held_told m told) e → Replied m (told ++ e ∷ [])
@@ -75,10 +71,10 @@ entered number lane now c fate r before after_ told journal b is q enters =
         some e = rw e refl
 
 -- a job that has made these calls makes one that it may make after them
-pub ran-step : {F : Type 0} (forms : Forms F) (number lane : ℕ) (job : Job) (held now later : Option Held) (before journal after_ : List Entry) (trace : List Exchange) (c : Call) (fate : Fate) (r : Reply)
-    → RanTo forms number lane job held now before journal trace → MayAsk forms job (state_of forms job trace) c → IsShortCall c → FitsCall c r → Answers now later fate c r → Enters journal after_ lane c fate r
-    → RanTo forms number lane job held later before after_ (trace ++ record { call = c; reply = r } ∷ [])
-ran-step forms number lane job held now later before journal after_ trace c fate r ran asks_it short fits answers enters =
+pub ran-step : {F : Type 0} (codec : Codec F) (number lane : ℕ) (job : Job) (held now later : Option Held) (before journal after_ : List Entry) (trace : List Exchange) (c : Call) (fate : Fate) (r : Reply)
+    → RanTo codec number lane job held now before journal trace → MayAsk codec job (state_of codec job trace) c → IsShortCall c → FitsCall c r → Answers now later fate c r → Enters journal after_ lane c fate r
+    → RanTo codec number lane job held later before after_ (trace ++ record { call = c; reply = r } ∷ [])
+ran-step codec number lane job held now later before journal after_ trace c fate r ran asks_it short fits answers enters =
     let e : Told = told_as number now c fate r in
     record {
       told = ran.told ++ e ∷ [];
@@ -89,12 +85,12 @@ ran-step forms number lane job held now later before journal after_ trace c fate
         over = over-push number held now later ran.told c fate r ran.calls.over answers.told;
       };
       same = trace_of-own number ran.told e refl ∙ ap (λ xs. xs ++ record { call = c; reply = r } ∷ []) ran.same;
-      asked = asked-push forms job (begun job.command) trace (record { call = c; reply = r }) ran.asked asks_it;
+      asked = asked-push codec job (begun job.command) trace (record { call = c; reply = r }) ran.asked asks_it;
     }
 
 -- a job that has made no call
-pub ran-none : {F : Type 0} (forms : Forms F) (number lane : ℕ) (job : Job) (held : Option Held) (journal : List Entry) → RanTo forms number lane job held held journal journal []
-ran-none forms number lane job held journal = record {
+pub ran-none : {F : Type 0} (codec : Codec F) (number lane : ℕ) (job : Job) (held : Option Held) (journal : List Entry) → RanTo codec number lane job held held journal journal []
+ran-none codec number lane job held journal = record {
   told = [];
   calls = record { own = All-nil (λ e. e.job ≡ Some number); suit = All-nil Suits; entries = sym (append-nil journal); over = over held };
   same = refl;
@@ -105,13 +101,6 @@ ran-none forms number lane job held journal = record {
     over None = tt
     over (Some m) = record { replied = tt; held = refl }
 
--- a job that comes out so by the calls that it has made, none of which its stop cut off
-pub ran-ends : {F : Type 0} (forms : Forms F) (number lane : ℕ) (job : Job) (held now : Option Held) (before after_ : List Entry) (trace : List Exchange) (result : Driven Outcome)
-    → RanTo forms number lane job held now before after_ trace → Uncut job.stop 0 trace → ComesOut forms job trace result → Ran forms number lane job held now before after_ result
-ran-ends forms number lane job held now before after_ trace result ran uncut ends =
-    let P : List Exchange → Type 0 = λ xs. IsDriven forms job xs result in
-    record { told = ran.told; calls = ran.calls; driven = subst P (sym ran.same) (record { asked = ran.asked; uncut = uncut; ends = ends }) }
-
 -- ---- a job that was driven over a store
 
 -- a call was made of a store and entered in its journal
@@ -121,29 +110,3 @@ pub record Makes (lane : ℕ) (now later : Option Held) (journal after_ : List E
   pub fits : FitsCall x.call x.reply
   pub answers : Answers now later fate x.call x.reply
   pub enters : Enters journal after_ lane x.call fate x.reply
-
--- stores that tell what they hold and the journal of their calls, and lists of calls that lead from one to another
-module _ {F : Type 0} (forms : Forms F) {S : Type 0} (held : S → Option Held) (journal : S → List Entry) (leads : S → List Exchange → S → Type 0) (number lane : ℕ) (job : Job)
-    (none : (a b : S) → leads a [] b → b ≡ a)
-    (one : (a b : S) (x : Exchange) (xs : List Exchange) → leads a (x ∷ xs) b → (between : S) × Makes lane (held a) (held between) (journal a) (journal between) x × leads between xs b) where
-  -- a job makes more calls than before
-  ran-more : (opening : Option Held) (before : List Entry) (past xs : List Exchange) (a b : S) → RanTo forms number lane job opening (held a) before (journal a) past
-      → AskedFrom forms job (state_of forms job past) xs → leads a xs b → RanTo forms number lane job opening (held b) before (journal b) (past ++ xs)
-  ran-more opening before past [] a b ran asked way =
-      let P : S → Type 0 = λ s. RanTo forms number lane job opening (held s) before (journal s) (past ++ []) in
-      let Q : List Exchange → Type 0 = λ t. RanTo forms number lane job opening (held a) before (journal a) t in
-      subst P (sym (none a b way)) (subst Q (sym (append-nil past)) ran)
-  ran-more opening before past (x ∷ xs) a b ran asked way =
-      let (between, makes, rest) = one a b x xs way in
-      let P : List Exchange → Type 0 = λ t. RanTo forms number lane job opening (held b) before (journal b) t in
-      let Q : State F → Type 0 = λ s. AskedFrom forms job s xs in
-      let more = ran-step forms number lane job opening (held a) (held between) before (journal a) (journal between) past x.call makes.fate x.reply ran asked.0 makes.short makes.fits makes.answers makes.enters in
-      subst P (append_assoc past (x ∷ []) xs)
-      (ran-more opening before (past ++ x ∷ []) xs between b more (subst Q (sym (state_from-append forms job (begun job.command) past (x ∷ []))) asked.1) rest)
-
-  -- a job that asked for each of these calls, none of which its stop cut off, and came out so by them
-  pub ran-driven : (trace : List Exchange) (a b : S) (result : Driven Outcome) → leads a trace b → AskedFrom forms job (begun job.command) trace → Uncut job.stop 0 trace → ComesOut forms job trace result
-      → Ran forms number lane job (held a) (held b) (journal a) (journal b) result
-  ran-driven trace a b result way asked uncut ends =
-      ran-ends forms number lane job (held a) (held b) (journal a) (journal b) trace result
-      (ran-more (held a) (journal a) [] trace a b (ran-none forms number lane job (held a) (journal a)) asked way) uncut ends

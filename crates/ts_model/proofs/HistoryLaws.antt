@@ -17,12 +17,12 @@ use Rattle.ts_base.specs.declared.keys.Key.{Key}
 use Rattle.ts_cond.specs.CondTexts.{IsCond}
 use Rattle.ts_model.proofs.KeyLemmas.{IsGreatest, frag_itself, frag_same, greatest-None, greatest-Some, key_itself, key_of_frag, key_same, same_from_both}
 use Rattle.ts_model.proofs.ListLemmas.{Contains-cons, Contains-filter, Contains-filter_map, Contains-here, Contains-nil, Contains-slice_get, filter-Contains, find-Some, find-append, find_member, or_else, slice_get-Contains}
-use Rattle.ts_model.specs.Deeds.{EraseFollows, Follow, History, IsHistory, IsKey, IsNewKey, MayFollow, SchemaFollows, WriteFollows, erase_in, erase_of, erases, frame_in, has_key, key_in, keys, schema_in, schema_there, schema_with, schemas, write_in, writes}
+use Rattle.ts_model.specs.Deeds.{DeletionFollows, Follow, History, IsHistory, IsKey, IsNewKey, MayFollow, SchemaFollows, WriteFollows, deletion_in, deletion_of, deletions, frame_in, has_key, key_in, keys, schema_in, schema_there, schema_with, schemas, write_in, writes}
 use Rattle.ts_model.specs.Jobs.{AreApart, job_with}
 use Rattle.ts_model.specs.declared.commands.Job.{Job}
 use Rattle.ts_model.specs.declared.deeds.Deed.{Deed}
 use Rattle.ts_model.specs.declared.deeds.Deed.TheVariants.{Declared, Erased, Framed, Wrote}
-use Rattle.ts_model.specs.declared.deeds.Erasure.{Erasure}
+use Rattle.ts_model.specs.declared.deeds.Deletion.{Deletion}
 use Rattle.ts_model.specs.declared.deeds.Written.{Written}
 use Rattle.ts_schema.specs.Evolutions.{schema_at}
 use Rattle.ts_schema.specs.FrameTexts.{IsFrame}
@@ -55,8 +55,8 @@ pub schemas-append : (h g : History) → schemas (h ++ g) ≡ schemas h ++ schem
 schemas-append h g = filter_map-append schema_in h g
 
 -- the deletes of two histories, one after the other
-pub erases-append : (h g : History) → erases (h ++ g) ≡ erases h ++ erases g
-erases-append h g = filter_map-append erase_in h g
+pub deletions-append : (h g : History) → deletions (h ++ g) ≡ deletions h ++ deletions g
+deletions-append h g = filter_map-append deletion_in h g
 
 -- a key that is new to more deeds is new to fewer
 pub new_to_fewer : (h g : History) (k : Key) → IsNewKey (h ++ g) k → IsNewKey h k
@@ -86,11 +86,11 @@ schema_keyed (Wrote w) s e = absurd (none-some s e)
 schema_keyed (Erased x) s e = absurd (none-some s e)
 
 -- a delete has the key of its deed
-erase_keyed : (d : Deed) (x : Erasure) → erase_in d ≡ Some x → key_in d ≡ Some x.key
-erase_keyed (Framed frame) x e = absurd (none-some x e)
-erase_keyed (Declared s) x e = absurd (none-some x e)
-erase_keyed (Wrote w) x e = absurd (none-some x e)
-erase_keyed (Erased y) x e = ap (λ u. Some u.key) (same_Some y x e)
+deletion_keyed : (d : Deed) (x : Deletion) → deletion_in d ≡ Some x → key_in d ≡ Some x.key
+deletion_keyed (Framed frame) x e = absurd (none-some x e)
+deletion_keyed (Declared s) x e = absurd (none-some x e)
+deletion_keyed (Wrote w) x e = absurd (none-some x e)
+deletion_keyed (Erased y) x e = ap (λ u. Some u.key) (same_Some y x e)
 
 -- a member is what may come first, or one of the rest
 cons_option-cases : {X : Type 0} (o : Option X) (xs : List X) (x : X) → Contains (cons_option o xs) x → (o ≡ Some x) ⊎ Contains xs x
@@ -147,8 +147,8 @@ pub one_schema : (h : History) (s t : Schema) → IsHistory h → Contains (sche
 one_schema h s t is at too same = one_of schema_in (λ s. s.key) schema_keyed [] h s t is at too same
 
 -- a history has one delete of a key
-pub one_erase : (h : History) (x y : Erasure) → IsHistory h → Contains (erases h) x → Contains (erases h) y → x.key ≡ y.key → x ≡ y
-one_erase h x y is at too same = one_of erase_in (λ x. x.key) erase_keyed [] h x y is at too same
+pub one_deletion : (h : History) (x y : Deletion) → IsHistory h → Contains (deletions h) x → Contains (deletions h) y → x.key ≡ y.key → x ≡ y
+one_deletion h x y is at too same = one_of deletion_in (λ x. x.key) deletion_keyed [] h x y is at too same
 
 -- ---- fronts and pushes
 
@@ -277,34 +277,34 @@ schema_facts h k s is with =
 -- ---- deletes
 
 -- the delete under a name is a deed, and has the name
-pub erase_of-is : (h : History) (f : FragKey) (x : Erasure) → erase_of h f ≡ Some x → Contains (erases h) x × (frag_of x.key ≡ f)
-erase_of-is h f x is =
-    let found = find-Some (λ y. frag_eq (frag_of y.key) f) (erases h) x is in
+pub deletion_of-is : (h : History) (f : FragKey) (x : Deletion) → deletion_of h f ≡ Some x → Contains (deletions h) x × (frag_of x.key ≡ f)
+deletion_of-is h f x is =
+    let found = find-Some (λ y. frag_eq (frag_of y.key) f) (deletions h) x is in
     (found.0, frag_same (frag_of x.key) f found.1)
 
 -- each delete of a history is the one under its name
-pub erase_of_name : (h : History) (x : Erasure) → IsHistory h → Contains (erases h) x → erase_of h (frag_of x.key) ≡ Some x
-erase_of_name h x is at =
-    let found = find_member (λ y. frag_eq (frag_of y.key) (frag_of x.key)) (erases h) x at (frag_itself (frag_of x.key)) in
-    let member = erase_of-is h (frag_of x.key) found.0 found.1 in
-    found.1 ∙ ap Some (one_erase h found.0 x is member.0 at (key_of_frag (found.0).key x.key member.1))
+pub deletion_of_name : (h : History) (x : Deletion) → IsHistory h → Contains (deletions h) x → deletion_of h (frag_of x.key) ≡ Some x
+deletion_of_name h x is at =
+    let found = find_member (λ y. frag_eq (frag_of y.key) (frag_of x.key)) (deletions h) x at (frag_itself (frag_of x.key)) in
+    let member = deletion_of-is h (frag_of x.key) found.0 found.1 in
+    found.1 ∙ ap Some (one_deletion h found.0 x is member.0 at (key_of_frag (found.0).key x.key member.1))
 
 -- the delete was committed after these deeds
-pub erase_follows : (h : History) (x : Erasure) → IsHistory h → Contains (erases h) x → (before : History) × (rest : History) × (h ≡ before ++ Erased x ∷ rest) × EraseFollows before x
-erase_follows h x is at = let on = placed erase_in (λ x. x.key) erase_keyed [] h x is at in from_deed on.0 on.1 on.2 on.3 on.4 on.5
+pub deletion_follows : (h : History) (x : Deletion) → IsHistory h → Contains (deletions h) x → (before : History) × (rest : History) × (h ≡ before ++ Erased x ∷ rest) × DeletionFollows before x
+deletion_follows h x is at = let on = placed deletion_in (λ x. x.key) deletion_keyed [] h x is at in from_deed on.0 on.1 on.2 on.3 on.4 on.5
   where
-    from_deed : (front : History) (d : Deed) (rest : History) → h ≡ front ++ d ∷ rest → erase_in d ≡ Some x → MayFollow front d
-        → (before : History) × (rest : History) × (h ≡ before ++ Erased x ∷ rest) × EraseFollows before x
+    from_deed : (front : History) (d : Deed) (rest : History) → h ≡ front ++ d ∷ rest → deletion_in d ≡ Some x → MayFollow front d
+        → (before : History) × (rest : History) × (h ≡ before ++ Erased x ∷ rest) × DeletionFollows before x
     from_deed front (Framed frame) rest parts is_it may = absurd (none-some x is_it)
     from_deed front (Declared t) rest parts is_it may = absurd (none-some x is_it)
     from_deed front (Wrote w) rest parts is_it may = absurd (none-some x is_it)
     from_deed front (Erased y) rest parts is_it may =
         let same = same_Some y x is_it in
-        (front, rest, parts ∙ ap (λ u. front ++ Erased u ∷ rest) same, subst (EraseFollows front) same may)
+        (front, rest, parts ∙ ap (λ u. front ++ Erased u ∷ rest) same, subst (DeletionFollows front) same may)
 
 -- the condition of a delete has an object, and its key has its widths
-pub erase_facts : (h : History) (x : Erasure) → IsHistory h → Contains (erases h) x → IsCond x.cond × IsKey x.key
-erase_facts h x is at = let follows = (erase_follows h x is at).3 in (follows.cond, follows.key)
+pub deletion_facts : (h : History) (x : Deletion) → IsHistory h → Contains (deletions h) x → IsCond x.cond × IsKey x.key
+deletion_facts h x is at = let follows = (deletion_follows h x is at).3 in (follows.cond, follows.key)
 
 -- ---- the schema there, by keys alone
 

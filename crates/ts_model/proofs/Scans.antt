@@ -159,6 +159,7 @@ referred seen later frame there a b query (outcome.Read answer) framed holds ask
       each = asked.3.each;
       rows = asked.3.same;
       types = asked.2;
+      whole = asked.4;
     }
 referred seen later frame there a b query (outcome.Refused r) framed holds asked = inr (frame, there, framed, holds, asked)
 referred seen later frame there a b query outcome.Created framed holds asked = absurd asked

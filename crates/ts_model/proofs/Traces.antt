@@ -10,7 +10,7 @@ use Rattle.ts_base.specs.Held.{Held}
 use Rattle.ts_base.specs.declared.keys.Key.{Key}
 use Rattle.ts_base.specs.declared.names.Prefix.TheVariants.{Schemas}
 use Rattle.ts_model.specs.Deeds.{History}
-use Rattle.ts_model.specs.Forms.{Forms}
+use Rattle.ts_model.specs.Codecs.{Codec}
 use Rattle.ts_model.specs.States.{Exchange, begun, goes_on, list_schemas, state_from, state_of}
 use Rattle.ts_model.specs.Told.{Told, after_told, deed_in, deed_told, exchange_of, found_after, found_in, grown, held_told, history_from, history_told, schemas_found, trace_of}
 use Rattle.ts_model.specs.declared.commands.Job.{Job}
@@ -153,19 +153,19 @@ schemas_found-stays number seen e unlisted = from_maker e.job refl
 
 -- ---- states
 
-module _ {F : Type 0} (forms : Forms F) (job : Job) where
+module _ {F : Type 0} (codec : Codec F) (job : Job) where
   -- more exchanges lead on from where those before led
-  pub state_from-append : (s : State F) (xs ys : List Exchange) → state_from forms job s (xs ++ ys) ≡ state_from forms job (state_from forms job s xs) ys
+  pub state_from-append : (s : State F) (xs ys : List Exchange) → state_from codec job s (xs ++ ys) ≡ state_from codec job (state_from codec job s xs) ys
   state_from-append s [] ys = refl
-  state_from-append s (x ∷ xs) ys = state_from-append (goes_on forms job s x) xs ys
+  state_from-append s (x ∷ xs) ys = state_from-append (goes_on codec job s x) xs ys
 
   -- a call of a job leads it on
   pub state_of-own : (number : ℕ) (seen : List Told) (e : Told) → e.job ≡ Some number
-      → state_of forms job (trace_of number (seen ++ e ∷ [])) ≡ goes_on forms job (state_of forms job (trace_of number seen)) (record { call = e.call; reply = e.reply })
+      → state_of codec job (trace_of number (seen ++ e ∷ [])) ≡ goes_on codec job (state_of codec job (trace_of number seen)) (record { call = e.call; reply = e.reply })
   state_of-own number seen e own =
-      ap (state_of forms job) (trace_of-own number seen e own) ∙ state_from-append (begun job.command) (trace_of number seen) (record { call = e.call; reply = e.reply } ∷ [])
+      ap (state_of codec job) (trace_of-own number seen e own) ∙ state_from-append (begun job.command) (trace_of number seen) (record { call = e.call; reply = e.reply } ∷ [])
 
   -- a call of another leaves a job where it is
   pub state_of-other : (number : ℕ) (seen : List Told) (e : Told) → (e.job ≡ Some number → ⊥)
-      → state_of forms job (trace_of number (seen ++ e ∷ [])) ≡ state_of forms job (trace_of number seen)
-  state_of-other number seen e apart = ap (state_of forms job) (trace_of-other number seen e apart)
+      → state_of codec job (trace_of number (seen ++ e ∷ [])) ≡ state_of codec job (trace_of number seen)
+  state_of-other number seen e apart = ap (state_of codec job) (trace_of-other number seen e apart)

@@ -1,12 +1,12 @@
 -- What a read answers.
-use Rattle.std.specs.Prelude.{◌≡◌, ℕ, ℤ, Bool, cond, ◌&&◌, List, Option, Some, None, Ok, option_map, option_and_then, map as list_map}
+use Rattle.std.specs.Prelude.{◌≡◌, ℕ, ℤ, Bool, cond, ◌&&◌, List, [], Option, Some, None, Ok, option_map, option_and_then, map as list_map}
 use Rattle.std.specs.List.{list_any}
 use Rattle.std.specs.Option.{option_or}
 use Rattle.ts_base.specs.declared.values.Val.{Val}
 use Rattle.ts_base.specs.Keys.{is_within, key_lt}
 use Rattle.ts_model.specs.declared.answers.Answer.{Answer}
 use Rattle.ts_model.specs.declared.deeds.Written.{Written}
-use Rattle.ts_model.specs.declared.deeds.Erasure.{Erasure}
+use Rattle.ts_model.specs.declared.deeds.Deletion.{Deletion}
 use Rattle.ts_model.specs.declared.queries.Ready.{Ready}
 use Rattle.ts_domain.specs.Boxes.{is_in_box}
 use Rattle.ts_schema.specs.declared.frames.Frame.{Frame}
@@ -17,7 +17,7 @@ use Rattle.ts_cond.specs.declared.query.Query.{Query}
 use Rattle.ts_cond.specs.Picks.{matches}
 use Rattle.std.specs.Ordering.{int_cmp}
 use Rattle.std.specs.Cmp.Lexicographic.{slice_cmp}
-use Rattle.ts_model.specs.Deeds.{History, frame_in, attrs_with, schema_there, row_at, last_write, erases}
+use Rattle.ts_model.specs.Deeds.{History, frame_in, attrs_with, schema_there, row_at, last_write, deletions}
 use Rattle.ts_model.specs.Queries.{attr_fields, ready_in, selected, types_shown}
 use Rattle.std.specs.FinMap as map
 
@@ -26,12 +26,12 @@ abbrev pub Cells : Type 0
 Cells = map.FinMap (slice_cmp int_cmp) (List Val)
 
 -- a delete erases a cell with a row of these attributes: it matches, and has a greater key than the cell's last write
-abbrev pub erases_cell : Written → List Attr → List ℤ → List Val → Erasure → Bool
+abbrev pub erases_cell : Written → List Attr → List ℤ → List Val → Deletion → Bool
 erases_cell w attrs c row e = key_lt w.key e.key && matches e.cond c (attr_fields attrs) row
 
 -- the cell of its last write is erased in [a, b]: a delete that is stamped there and has a greater key matches it, under the write's own schema
 abbrev pub is_erased : History → ℕ → ℕ → List ℤ → Written → List Val → Bool
-is_erased h a b c w row = list_any (λ e. is_within a b e.key && erases_cell w (attrs_with h w.schema) c row e) (erases h)
+is_erased h a b c w row = list_any (λ e. is_within a b e.key && erases_cell w (attrs_with h w.schema) c row e) (deletions h)
 
 -- the row of a write at a coordinate, unless it is erased
 abbrev pub row_left : History → ℕ → ℕ → List ℤ → Written → Option (List Val)
@@ -61,6 +61,10 @@ left_inside h there ready a b c = cond (is_in_box ready.sub c) (shown_at h there
 abbrev pub shown_inside : History → Frame → Schema → Ready → ℕ → ℕ → List ℤ → Option (List Val)
 shown_inside h frame there ready a b c = cond (is_in_box ready.sub c) (option_or (shown_at h there a b c) (unwritten frame there.attrs)) None
 
+-- the answer leaves no write out: no fragment is clipped
+abbrev pub IsWhole : Answer → Type 0
+IsWhole answer = answer.clipped ≡ []
+
 -- the answer to a read of [a, b]: of the cells of its box, as the history at the listing of the commits has them, shown through the schema there of the history at the listing of the schemas, its query selects the rows
 pub record IsAnswer (h : History) (later : History) (a b : ℕ) (query : Query) (answer : Answer) : Type 0 where
   pub frame : Frame
@@ -73,3 +77,4 @@ pub record IsAnswer (h : History) (later : History) (a b : ℕ) (query : Query) 
   pub each : (c : List ℤ) → map.get cells c ≡ shown_inside h frame there ready a b c
   pub rows : answer.rows ≡ selected frame there.attrs ready (map.entries cells)
   pub types : answer.types ≡ types_shown frame there.attrs ready
+  pub whole : IsWhole answer

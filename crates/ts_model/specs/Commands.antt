@@ -189,6 +189,7 @@ laid_over dims attrs w sub =
     columns (attr_column w.cols (counted_cells sub)) attrs or_else λ rows.
     unless (cells_at (coords_in_order w.layout sub) rows 0) (box_refusal dims attrs w sub)
 
+-- the cells of a write to a dense array, over the box that it names
 abbrev pub laid_dense : List Dim → List Attr → WriteIn → Result (List Cell) Refusal
 laid_dense dims attrs w = laid_over dims attrs w (box_of w.sub dims)
 
@@ -211,14 +212,17 @@ abbrev pub least_of_cells : List ℤ → List Cell → List ℤ
 least_of_cells corner [] = corner
 least_of_cells corner (cell ∷ cells) = least_of_cells (least_corner corner cell.coords) cells
 
+-- the greatest corner of a box round a corner and cells
 abbrev pub greatest_of_cells : List ℤ → List Cell → List ℤ
 greatest_of_cells corner [] = corner
 greatest_of_cells corner (cell ∷ cells) = greatest_of_cells (greatest_corner corner cell.coords) cells
 
+-- the low corner of the least box round cells
 abbrev pub low_of_cells : List Cell → List ℤ
 low_of_cells [] = []
 low_of_cells (cell ∷ cells) = least_of_cells cell.coords cells
 
+-- the high corner of the least box round cells
 abbrev pub high_of_cells : List Cell → List ℤ
 high_of_cells [] = []
 high_of_cells (cell ∷ cells) = greatest_of_cells cell.coords cells

@@ -5,7 +5,7 @@ use Rattle.ts_base.specs.declared.keys.FragKey.{FragKey}
 use Rattle.ts_base.specs.declared.heads.Cell.{Cell}
 use Rattle.ts_base.specs.declared.values.Val.{Val}
 use Rattle.ts_model.specs.declared.deeds.Written.{Written}
-use Rattle.ts_model.specs.declared.deeds.Erasure.{Erasure}
+use Rattle.ts_model.specs.declared.deeds.Deletion.{Deletion}
 use Rattle.ts_model.specs.declared.deeds.Deed.{Deed}
 use Rattle.ts_schema.specs.declared.frames.Frame.{Frame}
 use Rattle.ts_schema.specs.declared.schemas.Schema.{Schema}
@@ -46,9 +46,9 @@ write_in (Wrote w) = Some w
 write_in _ = None
 
 -- what a deed erased
-abbrev pub erase_in : Deed → Option Erasure
-erase_in (Erased e) = Some e
-erase_in _ = None
+abbrev pub deletion_in : Deed → Option Deletion
+deletion_in (Erased e) = Some e
+deletion_in _ = None
 
 -- the key of a deed; a frame has none
 abbrev pub key_in : Deed → Option Key
@@ -72,8 +72,8 @@ abbrev pub writes : History → List Written
 writes h = filter_map write_in h
 
 -- the deletes of a history, in order
-abbrev pub erases : History → List Erasure
-erases h = filter_map erase_in h
+abbrev pub deletions : History → List Deletion
+deletions h = filter_map deletion_in h
 
 -- the keys of a history, in order
 abbrev pub keys : History → List Key
@@ -88,8 +88,8 @@ abbrev pub schema_with : History → Key → Option Schema
 schema_with h k = find (λ s. key_eq s.key k) (schemas h)
 
 -- the delete under a name
-abbrev pub erase_of : History → FragKey → Option Erasure
-erase_of h f = find (λ e. frag_eq (frag_of e.key) f) (erases h)
+abbrev pub deletion_of : History → FragKey → Option Deletion
+deletion_of h f = find (λ e. frag_eq (frag_of e.key) f) (deletions h)
 
 -- the attributes of the schema of a key, and none where there is no such schema
 abbrev pub attrs_with : History → Key → List Attr
@@ -173,7 +173,7 @@ pub record WriteFollows (before : History) (w : Written) : Type 0 where
   pub boxed : frame.dense ≡ true → AreOfBox w.cells
 
 -- a delete may follow these deeds: the array is sparse, and the condition has a spelling
-pub record EraseFollows (before : History) (e : Erasure) : Type 0 where
+pub record DeletionFollows (before : History) (e : Deletion) : Type 0 where
   pub frame : Frame
   pub framed : frame_in before ≡ Some frame
   pub sparse : frame.dense ≡ false
@@ -186,7 +186,7 @@ abbrev pub MayFollow : History → Deed → Type 0
 MayFollow before (Framed frame) = FrameFollows before frame
 MayFollow before (Declared s) = SchemaFollows before s
 MayFollow before (Wrote w) = WriteFollows before w
-MayFollow before (Erased e) = EraseFollows before e
+MayFollow before (Erased e) = DeletionFollows before e
 
 -- each of the deeds may follow those before it
 abbrev pub Follow : History → History → Type 0

@@ -5,10 +5,10 @@ use Rattle.ts_model.specs.declared.commands.Job.{Job}
 use Rattle.ts_model.specs.declared.answers.Outcome.{Outcome}
 use Rattle.ts_model.specs.declared.answers.Driven.{Driven}
 use Rattle.ts_base.specs.Held.{Held}
-use Rattle.ts_model.specs.Driven.{AskedFrom, IsDriven, AreDriven}
+use Rattle.ts_model.specs.Driven.{AskedFrom, IsDriven}
 use Rattle.ts_model.specs.Told.{Told, trace_of, held_told, Suits, Replied, only_lane, entries_of}
 use Rattle.ts_model.specs.States.{begun, Exchange}
-use Rattle.ts_model.specs.Forms.{Forms}
+use Rattle.ts_model.specs.Codecs.{Codec}
 
 -- over a store that held m each call is replied to as by a store of one thread, and the store now holds what the calls leave
 pub record Leaves (m : Held) (now : Option Held) (told : List Told) : Type 0 where
@@ -23,22 +23,14 @@ pub record Calls (number lane : ℕ) (held now : Option Held) (before after : Li
   pub over : IfSome held (λ m. Leaves m now told)
 
 -- the job made calls that it may make, and these are they
-pub record RanTo {F : Type 0} (forms : Forms F) (number lane : ℕ) (job : Job) (held now : Option Held) (before after : List Entry) (trace : List Exchange) : Type 0 where
+pub record RanTo {F : Type 0} (codec : Codec F) (number lane : ℕ) (job : Job) (held now : Option Held) (before after : List Entry) (trace : List Exchange) : Type 0 where
   pub told : List Told
   pub calls : Calls number lane held now before after told
   pub same : trace_of number told ≡ trace
-  pub asked : AskedFrom forms job (begun job.command) trace
+  pub asked : AskedFrom codec job (begun job.command) trace
 
 -- the job made calls that it may make, and came out so by their replies
-pub record Ran {F : Type 0} (forms : Forms F) (number lane : ℕ) (job : Job) (held now : Option Held) (before after : List Entry) (result : Driven Outcome) : Type 0 where
+pub record Ran {F : Type 0} (codec : Codec F) (number lane : ℕ) (job : Job) (held now : Option Held) (before after : List Entry) (result : Driven Outcome) : Type 0 where
   pub told : List Told
   pub calls : Calls number lane held now before after told
-  pub driven : IsDriven forms job (trace_of number told) result
-
--- the jobs were done one after the other, each to its end or to its stop
-pub record AllRan {F : Type 0} (forms : Forms F) (lane : ℕ) (jobs : List Job) (held now : Option Held) (before after : List Entry) (results : List (Driven Outcome)) : Type 0 where
-  pub told : List Told
-  pub suit : All Suits told
-  pub entries : after ≡ before ++ entries_of (only_lane lane) told
-  pub driven : AreDriven forms 0 jobs results told
-  pub over : IfSome held (λ m. Leaves m now told)
+  pub driven : IsDriven codec job (trace_of number told) result

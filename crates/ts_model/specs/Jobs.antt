@@ -1,5 +1,5 @@
 -- Jobs: what carries their identifiers, and which jobs there can be.
-use Rattle.std.specs.Prelude.{◌≡◌, ℕ, ◌^◌, ◌<◌, List, Option, Some, None, nat_eq, slice_get, IsTrue, All, find}
+use Rattle.std.specs.Prelude.{◌≡◌, ℕ, ◌^◌, ◌<◌, List, Option, Some, None, nat_eq, slice_get, IsTrue, IfSome, All, find}
 use Rattle.ts_base.specs.declared.keys.Key.{Key}
 use Rattle.ts_base.specs.declared.keys.FragKey.{FragKey}
 use Rattle.ts_base.specs.declared.heads.Cell.{Cell}
@@ -8,7 +8,7 @@ use Rattle.ts_model.specs.declared.commands.Job.{Job}
 use Rattle.ts_model.specs.declared.commands.Line.{Line}
 use Rattle.ts_model.specs.declared.answers.Refusal.{Refusal}
 use Rattle.ts_model.specs.declared.deeds.Written.{Written}
-use Rattle.ts_model.specs.declared.deeds.Erasure.{Erasure}
+use Rattle.ts_model.specs.declared.deeds.Deletion.{Deletion}
 use Rattle.ts_cond.specs.Tests.{Condition}
 use Rattle.ts_schema.specs.declared.schemas.Schema.{Schema}
 use Rattle.ts_schema.specs.declared.attrs.Attr.{Attr}
@@ -33,8 +33,8 @@ abbrev pub written_as : Job → Key → List Cell → Written
 written_as job schema cells = record { key = key_of job; schema = schema; cells = cells }
 
 -- what a delete job erases, by this condition
-abbrev pub erasure_as : Job → Condition → Erasure
-erasure_as job condition = record { key = key_of job; cond = condition }
+abbrev pub deletion_as : Job → Condition → Deletion
+deletion_as job condition = record { key = key_of job; cond = condition }
 
 -- a job that there can be: its stamp has 64 bits and its identifier 128, and its command is one that there can be
 pub record IsFit (job : Job) : Type 0 where
@@ -46,9 +46,10 @@ pub record IsFit (job : Job) : Type 0 where
 abbrev pub AreFit : List Job → Type 0
 AreFit jobs = All IsFit jobs
 
--- a line that there can be
+-- a line that there can be: one of the lanes 0 to 7, a stamp of 64 bits where it has one, and a command that there can be
 pub record IsFitLine (line : Line) : Type 0 where
-  pub stamp : line.at < 2 ^ 64
+  pub lane : line.lane < 8
+  pub stamp : IfSome line.at (λ at. at < 2 ^ 64)
   pub command : IsTrue (fits line.command)
 
 -- no two jobs have one identifier
@@ -65,6 +66,7 @@ abbrev pub looks_at : Job → Command → ℕ
 looks_at job (Read from to query) = to
 looks_at job _ = job.at
 
+-- the timestamp at which a job looks for the schema of its work
 abbrev pub looked_at : Job → ℕ
 looked_at job = looks_at job job.command
 

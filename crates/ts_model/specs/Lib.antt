@@ -6,7 +6,7 @@ pub mod Pieces
 pub mod Queries
 pub mod Places
 pub mod Selections
-pub mod Forms
+pub mod Codecs
 pub mod States
 pub mod Stops
 pub mod Told

@@ -52,6 +52,7 @@ abbrev pub newest_after : Newest → List Version → Newest
 newest_after m [] = m
 newest_after m (v ∷ vs) = newest_after (with_version m v) vs
 
+-- of versions the newest at each place
 unfoldable pub newest_of : List Version → Newest
 newest_of vs = newest_after map.empty vs
 

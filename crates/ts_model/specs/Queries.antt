@@ -59,6 +59,7 @@ fields_in dims attrs = dim_fields 0 dims ++ attr_fields attrs
 abbrev pub low_of : List NamedBox → Dim → ℤ
 low_of named d = option_map_or (λ b. b.low) (find (λ b. same_name b.name d.name) named) d.low
 
+-- the high bound of a dimension: the one under its name, or else that of its domain
 abbrev pub high_of : List NamedBox → Dim → ℤ
 high_of named d = option_map_or (λ b. b.high) (find (λ b. same_name b.name d.name) named) d.high
 
@@ -71,10 +72,12 @@ abbrev pub dim_place : ℕ → List ℕ → List Dim → Option ℕ
 dim_place place name [] = None
 dim_place place name (d ∷ dims) = if same_name d.name name then Some place else dim_place (suc place) name dims
 
+-- the place of the attribute with a name, counted on from a place
 abbrev pub attr_place : ℕ → List ℕ → List Attr → Option ℕ
 attr_place place name [] = None
 attr_place place name (a ∷ attrs) = if same_name a.name name then Some place else attr_place (suc place) name attrs
 
+-- the place of the field with a name: dimensions come first, then attributes
 abbrev pub field_place : List Dim → List Attr → List ℕ → Option ℕ
 field_place dims attrs name = option_or (dim_place 0 name dims) (attr_place (length dims) name attrs)
 
@@ -139,6 +142,7 @@ abbrev pub some_condition : Result Condition Refusal → Result (Option Conditio
 some_condition (Ok condition) = Ok (Some condition)
 some_condition (Err r) = Err r
 
+-- the condition of a filter's text, where there is a filter, or why it is refused
 abbrev pub filter_in : List Dim → List Attr → Option (List ℕ) → Result (Option Condition) Refusal
 filter_in dims attrs None = Ok None
 filter_in dims attrs (Some text) = some_condition (condition_in dims attrs text)
@@ -154,8 +158,8 @@ abbrev pub ready_in : Frame → List Attr → Query → Result Ready Refusal
 ready_in frame attrs q = ready_with frame attrs q (query_refusal frame attrs q) (filter_in frame.domain attrs q.filter)
 
 -- the condition of a delete, or why it is refused: a dense array has no deletes
-abbrev pub erasing_in : Frame → List Attr → List ℕ → Result Condition Refusal
-erasing_in frame attrs text = if frame.dense then Err refusal.DenseArray else condition_in frame.domain attrs text
+abbrev pub delete_condition : Frame → List Attr → List ℕ → Result Condition Refusal
+delete_condition frame attrs text = if frame.dense then Err refusal.DenseArray else condition_in frame.domain attrs text
 
 -- ---- which rows are shown
 

@@ -25,8 +25,8 @@ use Rattle.ts_model.specs.declared.answers.Refusal.{Refusal}
 use Rattle.ts_model.specs.declared.answers.Refusal.TheVariants as refusal
 use Rattle.ts_model.specs.declared.scan.Scan.{Scan}
 use Rattle.ts_model.specs.Queries.{attr_fields, ready_in, selected, types_shown}
-use Rattle.ts_model.specs.Deeds.{History, frame_in, schema_there, row_at, erases}
-use Rattle.ts_model.specs.Answers.{Cells, erases_cell, left_inside, shown_inside, IsAnswer}
+use Rattle.ts_model.specs.Deeds.{History, frame_in, schema_there, row_at, deletions}
+use Rattle.ts_model.specs.Answers.{Cells, erases_cell, left_inside, shown_inside, IsWhole, IsAnswer}
 
 -- the rows of a tree by their coordinates
 abbrev pub cells_in : BTreeMap (List ℤ) (List Val) → Cells
@@ -73,7 +73,7 @@ shown_of e = record { coords = e.0; row = e.1 }
 
 -- one of the deeds that is stamped in [a, b] erases the cell of its last write, whose row has these attributes
 abbrev pub erased_under : List Attr → ℕ → ℕ → List ℤ → Written → List Val → List Deed → Bool
-erased_under attrs a b c w row deeds = list_any (λ e. is_within a b e.key && erases_cell w attrs c row e) (erases deeds)
+erased_under attrs a b c w row deeds = list_any (λ e. is_within a b e.key && erases_cell w attrs c row e) (deletions deeds)
 
 -- where a field's value is found: that of a dimension in the coordinates; else it is told
 abbrev pub pick_from : Option ℕ → Val → Pick
@@ -93,7 +93,7 @@ pub record AreRows (h : History) (frame : Frame) (there : Schema) (ready : Ready
 -- how a read of [a, b] ends of an array with a frame through a schema: with its answer, or refused
 abbrev pub IsAsked : History → Frame → Schema → ℕ → ℕ → Query → Outcome → Type 0
 IsAsked h frame there a b query (outcome.Read answer) =
-    (ready : Ready) × (ready_in frame there.attrs query ≡ Ok ready) × (answer.types ≡ types_shown frame there.attrs ready) × AreRows h frame there ready a b answer.rows
+    (ready : Ready) × (ready_in frame there.attrs query ≡ Ok ready) × (answer.types ≡ types_shown frame there.attrs ready) × AreRows h frame there ready a b answer.rows × IsWhole answer
 IsAsked h frame there a b query (outcome.Refused r) = ready_in frame there.attrs query ≡ Err r
 IsAsked h frame there a b query end = ⊥
 

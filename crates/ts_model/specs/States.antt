@@ -18,11 +18,14 @@ use Rattle.ts_model.specs.declared.answers.Answer.{Answer}
 use Rattle.ts_model.specs.declared.answers.Outcome.{Outcome}
 use Rattle.ts_model.specs.declared.answers.Refusal.{Refusal}
 use Rattle.ts_model.specs.declared.states.State.{State}
+use Rattle.ts_model.specs.declared.states.Creating.{Creating}
+use Rattle.ts_model.specs.declared.states.Seeking.{Seeking}
+use Rattle.ts_model.specs.declared.states.Collecting.{Collecting}
 use Rattle.ts_model.specs.declared.states.NewObject.{NewObject}
 use Rattle.ts_model.specs.declared.states.Opened.{Opened}
 use Rattle.ts_model.specs.declared.states.Reading.{Reading}
 use Rattle.ts_model.specs.declared.states.Listed.{Listed}
-use Rattle.ts_model.specs.declared.deeds.Erasure.{Erasure}
+use Rattle.ts_model.specs.declared.deeds.Deletion.{Deletion}
 use Rattle.ts_model.specs.declared.queries.Ready.{Ready}
 use Rattle.ts_schema.specs.declared.frames.Frame.{Frame}
 use Rattle.ts_schema.specs.declared.schemas.Schema.{Schema}
@@ -43,16 +46,19 @@ use Rattle.ts_schema.specs.Evolutions.{evolved_attrs, evolution_fault, schema_at
 use Rattle.ts_schema.specs.FrameTexts.{frame_object, frame_of}
 use Rattle.ts_schema.specs.SchemaTexts.{schema_object, schema_of}
 use Rattle.ts_model.specs.declared.commands.Command.TheVariants.{Create, Evolve, Write, Read, Delete}
-use Rattle.ts_model.specs.declared.states.State.TheVariants.{PutsFrame, ComparesFrame, ListsDeclared, Puts, ListsCommits, ListsSchemas, GetsSchema, GetsFrame, GetsHeads, GetsSchemas, GetsDeletes, Fetches, Over}
+use Rattle.ts_model.specs.declared.states.State.TheVariants.{Creates, Seeks, Puts, Collects, Over}
+use Rattle.ts_model.specs.declared.states.Creating.TheVariants.{PutsFrame, ComparesFrame, ListsDeclared}
+use Rattle.ts_model.specs.declared.states.Seeking.TheVariants.{ListsCommits, ListsSchemas, GetsSchema, GetsFrame}
+use Rattle.ts_model.specs.declared.states.Collecting.TheVariants.{GetsHeads, GetsSchemas, GetsDeletes, Fetches}
 use Rattle.ts_base.specs.declared.names.CommitKind.TheVariants.{Wrt, Del}
 use Rattle.ts_base.specs.declared.names.Prefix.TheVariants.{Commits, Schemas}
 use Rattle.ts_model.specs.Pieces.{newest_of}
-use Rattle.ts_model.specs.Forms.{Stepped, Forms, Asks, Takes, Breaks}
+use Rattle.ts_model.specs.Codecs.{Stepped, Codec, Asks, Takes, Breaks}
 use Rattle.ts_model.specs.Jobs.{key_of, frag_of_job, written_as, refused_before, looked_at}
 use Rattle.ts_model.specs.Deeds.{schemas, keys}
 use Rattle.ts_model.specs.Answers.{fills_of}
 use Rattle.ts_model.specs.Commands.{frame_made, laid, piece_of}
-use Rattle.ts_model.specs.Queries.{attr_fields, places_from, erasing_in, ready_in, selected, types_shown}
+use Rattle.ts_model.specs.Queries.{attr_fields, places_from, delete_condition, ready_in, selected, types_shown}
 use Rattle.ts_base.specs.declared.names.Name.TheVariants as name
 use Rattle.ts_base.specs.declared.names.Place.TheVariants as place
 use Rattle.ts_store.specs.declared.call.Call.TheVariants as call
@@ -104,11 +110,11 @@ meets a b f = nat_le a b && (nat_le f.t1 b && nat_le a f.t2)
 
 -- nothing to look into
 abbrev pub nothing_listed : Listed
-nothing_listed = record { near = []; deletes = [] }
+nothing_listed = record { fragments = []; delete_names = [] }
 
 -- what a read looks into: of its listing the committed fragments whose span meets the interval, and the deletes that are stamped in it
 abbrev pub looked_into : Command → List Name → Listed
-looked_into (Read from to query) names = record { near = filter (meets from to) (committed_in names); deletes = filter (meets from to) (deletes_in names) }
+looked_into (Read from to query) names = record { fragments = filter (meets from to) (committed_in names); delete_names = filter (meets from to) (deletes_in names) }
 looked_into _ names = nothing_listed
 
 -- ---- how jobs end
@@ -130,13 +136,17 @@ place_of (call.List prefix) = place.Prefix prefix
 place_of (call.Get n from len) = place.Name n
 place_of (call.Size n) = place.Name n
 
+-- the end of a job by a reply that does not let it go on
+abbrev pub end_by : Call → Reply → Outcome
+end_by c reply.Failed = outcome.Refused (refusal.StoreFault (place_of c))
+end_by (call.Put n bytes) reply.Taken = outcome.Refused (refusal.Taken n)
+end_by (call.Get n from len) reply.Absent = outcome.Refused (refusal.Missing n)
+end_by (call.Size n) reply.Absent = outcome.Refused (refusal.Missing n)
+end_by c r = outcome.OutOfMemory
+
 -- how a job ends by a reply that does not let it go on
 abbrev pub ended : {F : Type 0} → Call → Reply → State F
-ended c reply.Failed = refuse (refusal.StoreFault (place_of c))
-ended (call.Put n bytes) reply.Taken = refuse (refusal.Taken n)
-ended (call.Get n from len) reply.Absent = refuse (refusal.Missing n)
-ended (call.Size n) reply.Absent = refuse (refusal.Missing n)
-ended c r = Over outcome.OutOfMemory
+ended c r = Over (end_by c r)
 
 -- an object is damaged at an offset
 abbrev pub damaged : {F : Type 0} → Name → ℕ → State F
@@ -170,9 +180,9 @@ abbrev pub part_objects : FragKey → List PartBytes → List NewObject
 part_objects frag parts = list_map (λ x. record { name = name.Part frag x.part; bytes = x.bytes }) parts
 
 -- the objects that a write job puts: the parts of its fragment, and then the empty `.wrt`
-abbrev pub write_objects : {F : Type 0} → Forms F → Frame → Schema → Job → List Cell → List NewObject
-write_objects forms frame s job cells =
-    part_objects (frag_of_job job) (forms.parts frame s (piece_of frame (written_as job s.key cells))) ++ record { name = commit_of job; bytes = [] } ∷ []
+abbrev pub write_objects : {F : Type 0} → Codec F → Frame → Schema → Job → List Cell → List NewObject
+write_objects codec frame s job cells =
+    part_objects (frag_of_job job) (codec.parts frame s (piece_of frame (written_as job s.key cells))) ++ record { name = commit_of job; bytes = [] } ∷ []
 
 -- the object of a delete job with this condition
 abbrev pub delete_object_of : Job → Condition → NewObject
@@ -208,7 +218,7 @@ abbrev pub keys_named : Reading → List Opened → List Key
 keys_named r opened = map.keys (map.from_entries {R = key_cmp} (list_map (λ o. (o.head.schema, o.head.schema)) (filter (λ o. not (key_eq o.head.schema r.there.key)) opened)))
 
 -- a version is erased by these deletes: one with a greater key matches it, under the version's own schema
-abbrev pub is_erased_by : Reading → List Schema → List Erasure → Version → Bool
+abbrev pub is_erased_by : Reading → List Schema → List Deletion → Version → Bool
 is_erased_by r schemas erased v = list_any (λ e. key_lt v.key e.key && matches e.cond v.coords (attr_fields (known_attrs r schemas v.schema)) v.row) erased
 
 -- a version's coordinates, and its row as it shows through the schema there
@@ -217,11 +227,11 @@ cell_shown r schemas v = (v.coords, shown_row (known_attrs r schemas v.schema) v
 
 -- what is left of the versions that a read got: the newest of each cell, unless it is erased
 abbrev pub cells_left : Reading → List Schema → List Version → List (List ℤ × List Val)
-cells_left r schemas got = list_map (cell_shown r schemas) (filter (λ v. not (is_erased_by r schemas r.erased v)) (map.values (newest_of got)))
+cells_left r schemas got = list_map (cell_shown r schemas) (filter (λ v. not (is_erased_by r schemas r.deletions v)) (map.values (newest_of got)))
 
 -- the row of a version as it shows through the schema there, unless it is erased
 abbrev pub version_left : Reading → List Schema → Version → Option (List Val)
-version_left r schemas v = cond (not (is_erased_by r schemas r.erased v)) (Some (shown_row (known_attrs r schemas v.schema) v.row r.there.attrs)) None
+version_left r schemas v = cond (not (is_erased_by r schemas r.deletions v)) (Some (shown_row (known_attrs r schemas v.schema) v.row r.there.attrs)) None
 
 -- the row that a dense array shows where this is the newest version, if there is one: what is left of it, or else the fill
 abbrev pub row_or_fill : Reading → List Schema → Option Version → List Val
@@ -235,11 +245,12 @@ cells_filled r schemas got = list_map (λ c. (c, row_or_fill r schemas (map.get 
 abbrev pub cells_shown : Reading → List Schema → List Version → List (List ℤ × List Val)
 cells_shown r schemas got = cond (r.frame).dense (cells_filled r schemas got) (cells_left r schemas got)
 
--- the answer of a read that got these versions
+-- the answer of a read that got these versions; it can use each fragment that is near, so none is clipped
 abbrev pub answer_of : Reading → List Schema → List Version → Answer
 answer_of r schemas got = record {
   types = types_shown r.frame (r.there).attrs r.ready;
   rows = selected r.frame (r.there).attrs r.ready (cells_shown r schemas got);
+  clipped = [];
 }
 
 -- what is wanted of a fragment with so many attributes: the cells of a box that are stamped in [a, b], with all their values
@@ -252,43 +263,43 @@ want_of r attrs = wanted (r.ready).sub r.from r.to attrs
 
 -- where a step of a fetch leads: to a call, on with the versions, or to an end
 abbrev pub fetch_leads : {F : Type 0} → Reading → List Opened → List Schema → ℕ → FragKey → List Version → (List Version → State F) → Stepped F → State F
-fetch_leads r opened schemas next frag got on (Asks f c) = Fetches r opened schemas next frag got f c
+fetch_leads r opened schemas next frag got on (Asks f c) = Collects (Fetches r opened schemas next frag got f c)
 fetch_leads r opened schemas next frag got on (Takes vs) = on vs
 fetch_leads r opened schemas next frag got on (Breaks part at) = damaged (name.Part frag part) at
 
 -- where the beginning of a fetch leads
-abbrev pub fetch_begins : {F : Type 0} → Forms F → Reading → List Opened → List Schema → ℕ → FragKey → List Version → (List Version → State F) → Result F ℕ → State F
-fetch_begins forms r opened schemas next frag got on (Ok f) = fetch_leads r opened schemas next frag got on (forms.steps f reply.Start)
-fetch_begins forms r opened schemas next frag got on (Err at) = damaged (name.Part frag (forms.head_part r.frame)) at
+abbrev pub fetch_begins : {F : Type 0} → Codec F → Reading → List Opened → List Schema → ℕ → FragKey → List Version → (List Version → State F) → Result F ℕ → State F
+fetch_begins codec r opened schemas next frag got on (Ok f) = fetch_leads r opened schemas next frag got on (codec.steps f reply.Start)
+fetch_begins codec r opened schemas next frag got on (Err at) = damaged (name.Part frag (codec.head_part r.frame)) at
 
 -- a read begins to fetch a fragment in its schema, which it knows
-abbrev pub fetches_one : {F : Type 0} → Forms F → Reading → List Opened → List Schema → ℕ → Opened → List Version → (List Version → State F) → Option Schema → State F
-fetches_one forms r opened schemas next o got on None = Over outcome.OutOfMemory
-fetches_one forms r opened schemas next o got on (Some s) = fetch_begins forms r opened schemas next o.frag got on (forms.opens r.frame s o.frag o.object (want_of r s.attrs))
+abbrev pub fetches_one : {F : Type 0} → Codec F → Reading → List Opened → List Schema → ℕ → Opened → List Version → (List Version → State F) → Option Schema → State F
+fetches_one codec r opened schemas next o got on None = Over outcome.OutOfMemory
+fetches_one codec r opened schemas next o got on (Some s) = fetch_begins codec r opened schemas next o.frag got on (codec.opens r.frame s o.frag o.object (want_of r s.attrs))
 
 -- a read fetches the fragments from a place on, after the versions before; after the last it answers
-abbrev pub fetching : {F : Type 0} → Forms F → Reading → List Opened → List Schema → ℕ → List Opened → List Version → State F
-fetching forms r opened schemas next [] got = Over (outcome.Read (answer_of r schemas got))
-fetching forms r opened schemas next (o ∷ rest) got = fetches_one forms r opened schemas next o got (λ vs. fetching forms r opened schemas (suc next) rest (got ++ vs)) (known_schema r schemas o.head.schema)
+abbrev pub fetching : {F : Type 0} → Codec F → Reading → List Opened → List Schema → ℕ → List Opened → List Version → State F
+fetching codec r opened schemas next [] got = Over (outcome.Read (answer_of r schemas got))
+fetching codec r opened schemas next (o ∷ rest) got = fetches_one codec r opened schemas next o got (λ vs. fetching codec r opened schemas (suc next) rest (got ++ vs)) (known_schema r schemas o.head.schema)
 
 -- a read gets the next delete, or begins to fetch
-abbrev pub erasing : {F : Type 0} → Forms F → Reading → List Opened → List Schema → State F
-erasing forms r opened schemas = cond (nat_lt (length r.erased) (length r.deletes)) (GetsDeletes r opened schemas) (fetching forms r opened schemas 0 opened [])
+abbrev pub getting_deletes : {F : Type 0} → Codec F → Reading → List Opened → List Schema → State F
+getting_deletes codec r opened schemas = cond (nat_lt (length r.deletions) (length r.delete_names)) (Collects (GetsDeletes r opened schemas)) (fetching codec r opened schemas 0 opened [])
 
 -- a read gets the next further schema, or goes on to the deletes
-abbrev pub gathering : {F : Type 0} → Forms F → Reading → List Opened → List Key → List Schema → State F
-gathering forms r opened keys schemas = cond (nat_lt (length schemas) (length keys)) (GetsSchemas r opened keys schemas) (erasing forms r opened schemas)
+abbrev pub gathering : {F : Type 0} → Codec F → Reading → List Opened → List Key → List Schema → State F
+gathering codec r opened keys schemas = cond (nat_lt (length schemas) (length keys)) (Collects (GetsSchemas r opened keys schemas)) (getting_deletes codec r opened schemas)
 
 -- a read opens the next fragment, or goes on once all are open
-abbrev pub opening : {F : Type 0} → Forms F → Reading → List Opened → State F
-opening forms r opened = cond (nat_lt (length opened) (length r.near)) (GetsHeads r opened) (gathering forms r opened (keys_named r opened) [])
+abbrev pub opening : {F : Type 0} → Codec F → Reading → List Opened → State F
+opening codec r opened = cond (nat_lt (length opened) (length r.fragments)) (Collects (GetsHeads r opened)) (gathering codec r opened (keys_named r opened) [])
 
 -- ---- the work of a job in the schema there
 
 -- a write puts its cells, or is refused
-abbrev pub puts_cells : {F : Type 0} → Forms F → Job → Frame → Schema → Result (List Cell) Refusal → State F
-puts_cells forms job frame s (Ok cells) = putting (write_objects forms frame s job cells) 0 (outcome.Written (frag_of_job job))
-puts_cells forms job frame s (Err r) = refuse r
+abbrev pub puts_cells : {F : Type 0} → Codec F → Job → Frame → Schema → Result (List Cell) Refusal → State F
+puts_cells codec job frame s (Ok cells) = putting (write_objects codec frame s job cells) 0 (outcome.Written (frag_of_job job))
+puts_cells codec job frame s (Err r) = refuse r
 
 -- a delete puts its condition, or is refused
 abbrev pub puts_delete : {F : Type 0} → Job → Result Condition Refusal → State F
@@ -297,20 +308,20 @@ puts_delete job (Err r) = refuse r
 
 -- what a read reads, before it got any delete
 abbrev pub reading_of : ℕ → ℕ → Listed → Frame → Schema → Ready → Reading
-reading_of from to listed frame s ready = record { from = from; to = to; ready = ready; frame = frame; there = s; near = listed.near; deletes = listed.deletes; erased = [] }
+reading_of from to listed frame s ready = record { from = from; to = to; ready = ready; frame = frame; there = s; fragments = listed.fragments; delete_names = listed.delete_names; deletions = [] }
 
 -- a read opens its fragments, or is refused
-abbrev pub asks_for : {F : Type 0} → Forms F → ℕ → ℕ → Listed → Frame → Schema → Result Ready Refusal → State F
-asks_for forms from to listed frame s (Ok ready) = opening forms (reading_of from to listed frame s ready) []
-asks_for forms from to listed frame s (Err r) = refuse r
+abbrev pub asks_for : {F : Type 0} → Codec F → ℕ → ℕ → Listed → Frame → Schema → Result Ready Refusal → State F
+asks_for codec from to listed frame s (Ok ready) = opening codec (reading_of from to listed frame s ready) []
+asks_for codec from to listed frame s (Err r) = refuse r
 
 -- what a job does once it has the schema there and the frame
-abbrev pub works : {F : Type 0} → Forms F → Job → Command → Listed → Frame → Schema → State F
-works forms job (Create f) listed frame s = Over outcome.OutOfMemory
-works forms job (Evolve change) listed frame s = unless_refused (puts_schema job (evolved_attrs s.attrs change) (outcome.Evolved (key_of job))) (option_map refusal.SchemaBad (evolution_fault frame.domain s.attrs change))
-works forms job (Write w) listed frame s = puts_cells forms job frame s (laid frame s.attrs w)
-works forms job (Read from to query) listed frame s = asks_for forms from to listed frame s (ready_in frame s.attrs query)
-works forms job (Delete text) listed frame s = puts_delete job (erasing_in frame s.attrs text)
+abbrev pub works : {F : Type 0} → Codec F → Job → Command → Listed → Frame → Schema → State F
+works codec job (Create f) listed frame s = Over outcome.OutOfMemory
+works codec job (Evolve change) listed frame s = unless_refused (puts_schema job (evolved_attrs s.attrs change) (outcome.Evolved (key_of job))) (option_map refusal.SchemaBad (evolution_fault frame.domain s.attrs change))
+works codec job (Write w) listed frame s = puts_cells codec job frame s (laid frame s.attrs w)
+works codec job (Read from to query) listed frame s = asks_for codec from to listed frame s (ready_in frame s.attrs query)
+works codec job (Delete text) listed frame s = puts_delete job (delete_condition frame s.attrs text)
 
 -- ---- where replies lead
 
@@ -336,7 +347,7 @@ on_read n on (Err at) = damaged n at
 
 -- where the put of a frame leads: one that is there already is compared
 abbrev pub after_frame : {F : Type 0} → Job → Call → Reply → State F
-after_frame job c reply.Taken = ComparesFrame
+after_frame job c reply.Taken = Creates ComparesFrame
 after_frame job c r = on_made c (puts_first job (made_by job.command)) r
 
 -- the bytes are those of the frame that a create makes
@@ -347,38 +358,38 @@ is_own_frame (Some f) bytes = bytes_eq (frame_object (frame_made f)) bytes
 -- where the schemas of a listing lead: to the schema there, if there is one
 abbrev pub seeks : {F : Type 0} → Listed → ℕ → Option Key → State F
 seeks listed at None = refuse (refusal.NoSchema at)
-seeks listed at (Some k) = GetsSchema listed k
+seeks listed at (Some k) = Seeks (GetsSchema listed k)
 
 -- where the reply to a fetch's call leads: bytes and lengths are for the fetch
-abbrev pub after_fetched : {F : Type 0} → Forms F → Reading → List Opened → List Schema → ℕ → FragKey → List Version → F → Call → Reply → State F
-after_fetched forms r opened schemas next frag got f c (reply.Bytes bytes) =
-    fetch_leads r opened schemas next frag got (λ vs. fetching forms r opened schemas (suc next) (drop (suc next) opened) (got ++ vs)) (forms.steps f (reply.Bytes bytes))
-after_fetched forms r opened schemas next frag got f c (reply.Length n) =
-    fetch_leads r opened schemas next frag got (λ vs. fetching forms r opened schemas (suc next) (drop (suc next) opened) (got ++ vs)) (forms.steps f (reply.Length n))
-after_fetched forms r opened schemas next frag got f c r' = ended c r'
+abbrev pub after_fetched : {F : Type 0} → Codec F → Reading → List Opened → List Schema → ℕ → FragKey → List Version → F → Call → Reply → State F
+after_fetched codec r opened schemas next frag got f c (reply.Bytes bytes) =
+    fetch_leads r opened schemas next frag got (λ vs. fetching codec r opened schemas (suc next) (drop (suc next) opened) (got ++ vs)) (codec.steps f (reply.Bytes bytes))
+after_fetched codec r opened schemas next frag got f c (reply.Length n) =
+    fetch_leads r opened schemas next frag got (λ vs. fetching codec r opened schemas (suc next) (drop (suc next) opened) (got ++ vs)) (codec.steps f (reply.Length n))
+after_fetched codec r opened schemas next frag got f c r' = ended c r'
 
 -- where the head of a fragment leads
-abbrev pub after_head : {F : Type 0} → Forms F → Reading → List Opened → FragKey → List ℕ → State F
-after_head forms r opened f bytes =
-    on_read (name.Part f (forms.head_part r.frame)) (λ head. opening forms r (opened ++ record { frag = f; head = head; object = bytes } ∷ [])) (forms.head r.frame f bytes)
+abbrev pub after_head : {F : Type 0} → Codec F → Reading → List Opened → FragKey → List ℕ → State F
+after_head codec r opened f bytes =
+    on_read (name.Part f (codec.head_part r.frame)) (λ head. opening codec r (opened ++ record { frag = f; head = head; object = bytes } ∷ [])) (codec.head r.frame f bytes)
 
 -- where a further schema leads
-abbrev pub after_schema : {F : Type 0} → Forms F → Reading → List Opened → List Key → List Schema → Key → List ℕ → State F
-after_schema forms r opened keys schemas k bytes =
-    on_read (name.Schema k) (λ attrs. gathering forms r opened keys (schemas ++ record { key = k; attrs = attrs } ∷ [])) (schema_of bytes)
+abbrev pub after_schema : {F : Type 0} → Codec F → Reading → List Opened → List Key → List Schema → Key → List ℕ → State F
+after_schema codec r opened keys schemas k bytes =
+    on_read (name.Schema k) (λ attrs. gathering codec r opened keys (schemas ++ record { key = k; attrs = attrs } ∷ [])) (schema_of bytes)
 
 -- with a delete more
-abbrev pub with_erased : Reading → Erasure → Reading
-with_erased r e = record { from = r.from; to = r.to; ready = r.ready; frame = r.frame; there = r.there; near = r.near; deletes = r.deletes; erased = r.erased ++ e ∷ [] }
+abbrev pub with_deletion : Reading → Deletion → Reading
+with_deletion r e = record { from = r.from; to = r.to; ready = r.ready; frame = r.frame; there = r.there; fragments = r.fragments; delete_names = r.delete_names; deletions = r.deletions ++ e ∷ [] }
 
 -- the delete under a name with this condition
-abbrev pub erasure_of : FragKey → Condition → Erasure
-erasure_of f condition = record { key = record { t = f.t1; id = f.id }; cond = condition }
+abbrev pub deletion_named : FragKey → Condition → Deletion
+deletion_named f condition = record { key = record { t = f.t1; id = f.id }; cond = condition }
 
 -- where a delete leads
-abbrev pub after_delete : {F : Type 0} → Forms F → Reading → List Opened → List Schema → FragKey → List ℕ → State F
-after_delete forms r opened schemas f bytes =
-    on_read (name.Commit f Del) (λ condition. erasing forms (with_erased r (erasure_of f condition)) opened schemas) (cond_of bytes)
+abbrev pub after_delete : {F : Type 0} → Codec F → Reading → List Opened → List Schema → FragKey → List ℕ → State F
+after_delete codec r opened schemas f bytes =
+    on_read (name.Commit f Del) (λ condition. getting_deletes codec (with_deletion r (deletion_named f condition)) opened schemas) (cond_of bytes)
 
 -- with the item at a place; a job never asks past the last
 abbrev pub with_item : {F A : Type 0} → (A → State F) → Option A → State F
@@ -389,18 +400,19 @@ with_item on None = Over outcome.OutOfMemory
 
 -- where a command begins: one that is refused before its first call is over
 abbrev pub begins : {F : Type 0} → Command → State F
-begins (Create f) = PutsFrame
-begins (Evolve change) = ListsSchemas nothing_listed
-begins (Write w) = ListsSchemas nothing_listed
-begins (Read from to query) = ListsCommits
-begins (Delete text) = ListsSchemas nothing_listed
+begins (Create f) = Creates PutsFrame
+begins (Evolve change) = Seeks (ListsSchemas nothing_listed)
+begins (Write w) = Seeks (ListsSchemas nothing_listed)
+begins (Read from to query) = Seeks ListsCommits
+begins (Delete text) = Seeks (ListsSchemas nothing_listed)
 
+-- the first state of a job, which is over where the job is refused before its first call
 abbrev pub begun : {F : Type 0} → Command → State F
 begun command = unless_refused (begins command) (refused_before command)
 
 -- the get of the part that has the head
-abbrev pub get_head : {F : Type 0} → Forms F → Reading → FragKey → Call
-get_head forms r f = get_all (name.Part f (forms.head_part r.frame))
+abbrev pub get_head : {F : Type 0} → Codec F → Reading → FragKey → Call
+get_head codec r f = get_all (name.Part f (codec.head_part r.frame))
 
 -- the get of a schema
 abbrev pub get_schema : Key → Call
@@ -422,37 +434,61 @@ list_schemas = call.List Schemas
 abbrev pub list_commits : Call
 list_commits = call.List Commits
 
+-- the next call of a create that has not come to its puts
+abbrev pub create_asks : Job → Creating → Option Call
+create_asks job PutsFrame = option_map frame_put (made_by job.command)
+create_asks job ComparesFrame = Some get_frame
+create_asks job ListsDeclared = Some list_schemas
+
+-- the next call of a job that seeks its schema and the frame
+abbrev pub seek_asks : Seeking → Call
+seek_asks ListsCommits = list_commits
+seek_asks (ListsSchemas listed) = list_schemas
+seek_asks (GetsSchema listed there) = get_schema there
+seek_asks (GetsFrame listed there) = get_frame
+
+-- the next call of a read that collects
+abbrev pub collect_asks : {F : Type 0} → Codec F → Collecting F → Option Call
+collect_asks codec (GetsHeads r opened) = option_map (get_head codec r) (slice_get r.fragments (length opened))
+collect_asks codec (GetsSchemas r opened keys schemas) = option_map get_schema (slice_get keys (length schemas))
+collect_asks codec (GetsDeletes r opened schemas) = option_map get_delete (slice_get r.delete_names (length r.deletions))
+collect_asks codec (Fetches r opened schemas next frag got f c) = Some c
+
 -- the next call of a job, if it is not over
-abbrev pub asks : {F : Type 0} → Forms F → Job → State F → Option Call
-asks forms job PutsFrame = option_map frame_put (made_by job.command)
-asks forms job ComparesFrame = Some get_frame
-asks forms job ListsDeclared = Some list_schemas
-asks forms job (Puts objects next end) = option_map put_of (slice_get objects next)
-asks forms job ListsCommits = Some list_commits
-asks forms job (ListsSchemas listed) = Some list_schemas
-asks forms job (GetsSchema listed there) = Some (get_schema there)
-asks forms job (GetsFrame listed there) = Some get_frame
-asks forms job (GetsHeads r opened) = option_map (get_head forms r) (slice_get r.near (length opened))
-asks forms job (GetsSchemas r opened keys schemas) = option_map get_schema (slice_get keys (length schemas))
-asks forms job (GetsDeletes r opened schemas) = option_map get_delete (slice_get r.deletes (length r.erased))
-asks forms job (Fetches r opened schemas next frag got f c) = Some c
-asks forms job (Over o) = None
+abbrev pub asks : {F : Type 0} → Codec F → Job → State F → Option Call
+asks codec job (Creates s) = create_asks job s
+asks codec job (Seeks s) = Some (seek_asks s)
+asks codec job (Puts objects next end) = option_map put_of (slice_get objects next)
+asks codec job (Collects s) = collect_asks codec s
+asks codec job (Over o) = None
+
+-- where a reply leads a create that has not come to its puts
+abbrev pub create_goes : {F : Type 0} → Job → Creating → Reply → State F
+create_goes job PutsFrame r = with_item (λ f. after_frame job (frame_put f) r) (made_by job.command)
+create_goes job ComparesFrame r = on_bytes get_frame (λ bytes. cond (is_own_frame (made_by job.command) bytes) (Creates ListsDeclared) (refuse refusal.ArrayExists)) r
+create_goes job ListsDeclared r = on_names list_schemas (λ names. cond (nat_eq (length names) 0) (puts_first job (made_by job.command)) (refuse refusal.ArrayExists)) r
+
+-- where a reply leads a job that seeks its schema and the frame: once it has both, it works
+abbrev pub seek_goes : {F : Type 0} → Codec F → Job → Seeking → Reply → State F
+seek_goes codec job ListsCommits r = on_names list_commits (λ names. Seeks (ListsSchemas (looked_into job.command names))) r
+seek_goes codec job (ListsSchemas listed) r = on_names list_schemas (λ names. seeks listed (looked_at job) (schema_at (schemas_in names) (looked_at job))) r
+seek_goes codec job (GetsSchema listed there) r = on_bytes (get_schema there) (λ bytes. on_read (name.Schema there) (λ attrs. Seeks (GetsFrame listed (record { key = there; attrs = attrs }))) (schema_of bytes)) r
+seek_goes codec job (GetsFrame listed there) r = on_bytes get_frame (λ bytes. on_read name.Domain (λ frame. works codec job job.command listed frame there) (frame_of bytes)) r
+
+-- where a reply leads a read that collects
+abbrev pub collect_goes : {F : Type 0} → Codec F → Collecting F → Reply → State F
+collect_goes codec (GetsHeads r opened) r' = with_item (λ f. on_bytes (get_head codec r f) (after_head codec r opened f) r') (slice_get r.fragments (length opened))
+collect_goes codec (GetsSchemas r opened keys schemas) r' = with_item (λ k. on_bytes (get_schema k) (after_schema codec r opened keys schemas k) r') (slice_get keys (length schemas))
+collect_goes codec (GetsDeletes r opened schemas) r' = with_item (λ f. on_bytes (get_delete f) (after_delete codec r opened schemas f) r') (slice_get r.delete_names (length r.deletions))
+collect_goes codec (Fetches r opened schemas next frag got f c) r' = after_fetched codec r opened schemas next frag got f c r'
 
 -- where a reply leads a job
-abbrev pub goes : {F : Type 0} → Forms F → Job → State F → Reply → State F
-goes forms job PutsFrame r = with_item (λ f. after_frame job (frame_put f) r) (made_by job.command)
-goes forms job ComparesFrame r = on_bytes get_frame (λ bytes. cond (is_own_frame (made_by job.command) bytes) ListsDeclared (refuse refusal.ArrayExists)) r
-goes forms job ListsDeclared r = on_names list_schemas (λ names. cond (nat_eq (length names) 0) (puts_first job (made_by job.command)) (refuse refusal.ArrayExists)) r
-goes forms job (Puts objects next end) r = with_item (λ o. on_made (put_of o) (putting objects (suc next) end) r) (slice_get objects next)
-goes forms job ListsCommits r = on_names list_commits (λ names. ListsSchemas (looked_into job.command names)) r
-goes forms job (ListsSchemas listed) r = on_names list_schemas (λ names. seeks listed (looked_at job) (schema_at (schemas_in names) (looked_at job))) r
-goes forms job (GetsSchema listed there) r = on_bytes (get_schema there) (λ bytes. on_read (name.Schema there) (λ attrs. GetsFrame listed (record { key = there; attrs = attrs })) (schema_of bytes)) r
-goes forms job (GetsFrame listed there) r = on_bytes get_frame (λ bytes. on_read name.Domain (λ frame. works forms job job.command listed frame there) (frame_of bytes)) r
-goes forms job (GetsHeads r opened) r' = with_item (λ f. on_bytes (get_head forms r f) (after_head forms r opened f) r') (slice_get r.near (length opened))
-goes forms job (GetsSchemas r opened keys schemas) r' = with_item (λ k. on_bytes (get_schema k) (after_schema forms r opened keys schemas k) r') (slice_get keys (length schemas))
-goes forms job (GetsDeletes r opened schemas) r' = with_item (λ f. on_bytes (get_delete f) (after_delete forms r opened schemas f) r') (slice_get r.deletes (length r.erased))
-goes forms job (Fetches r opened schemas next frag got f c) r' = after_fetched forms r opened schemas next frag got f c r'
-goes forms job (Over o) r = Over o
+abbrev pub goes : {F : Type 0} → Codec F → Job → State F → Reply → State F
+goes codec job (Creates s) r = create_goes job s r
+goes codec job (Seeks s) r = seek_goes codec job s r
+goes codec job (Puts objects next end) r = with_item (λ o. on_made (put_of o) (putting objects (suc next) end) r) (slice_get objects next)
+goes codec job (Collects s) r = collect_goes codec s r
+goes codec job (Over o) r = Over o
 
 -- ---- leases
 
@@ -478,34 +514,21 @@ abbrev pub is_over : {F : Type 0} → State F → Bool
 is_over (Over end) = true
 is_over s = false
 
--- the job holds its lease: it has one, and is not over
+-- in this state the lease of a job that has one is put, and not yet removed: its put comes before every state that there is yet, and its removal before the job is over
+abbrev pub is_leased : {F : Type 0} → State F → Bool
+is_leased s = not (is_over s)
+
+-- the job holds its lease: it has one, which is put and not yet removed
 abbrev pub holds_lease : {F : Type 0} → Job → State F → Bool
-holds_lease job s = option_map_or (λ lease. not (is_over s)) (lease_of job) false
+holds_lease job s = option_map_or (λ lease. is_leased s) (lease_of job) false
 
 -- ---- want of memory
-
--- the end tells that all objects of the job are put
-abbrev pub is_made : Outcome → Bool
-is_made outcome.Created = true
-is_made (outcome.Evolved k) = true
-is_made (outcome.Written f) = true
-is_made (outcome.Deleted f) = true
-is_made end = false
-
--- memory can be wanting on the way to this state: before every end but one that tells what was put
-abbrev pub can_lack : {F : Type 0} → State F → Bool
-can_lack (Over end) = not (is_made end)
-can_lack s = true
 
 -- memory can be wanting for what a reply leads to: not where an object was put, nor where the job is over
 abbrev pub takes_memory : {F : Type 0} → State F → Bool
 takes_memory (Puts objects next end) = false
 takes_memory (Over end) = false
 takes_memory s = true
-
--- a job that has come this far may end for want of memory: it holds no lease, and does not owe word of what it put
-abbrev pub may_run_short : {F : Type 0} → Job → State F → Bool
-may_run_short job s = cond (holds_lease job s) false (can_lack s)
 
 -- ---- traces
 
@@ -515,14 +538,14 @@ pub record Exchange : Type 0 where
   pub reply : Reply
 
 -- where a call and its reply lead a job: the removal of the lease that it holds is its last call
-abbrev pub goes_on : {F : Type 0} → Forms F → Job → State F → Exchange → State F
-goes_on forms job s x = cond (is_release job x.call) (Over outcome.OutOfMemory) (goes forms job s x.reply)
+abbrev pub goes_on : {F : Type 0} → Codec F → Job → State F → Exchange → State F
+goes_on codec job s x = cond (is_release job x.call) (Over outcome.OutOfMemory) (goes codec job s x.reply)
 
 -- how far a job has come by these calls
-abbrev pub state_from : {F : Type 0} → Forms F → Job → State F → List Exchange → State F
-state_from forms job s [] = s
-state_from forms job s (x ∷ xs) = state_from forms job (goes_on forms job s x) xs
+abbrev pub state_from : {F : Type 0} → Codec F → Job → State F → List Exchange → State F
+state_from codec job s [] = s
+state_from codec job s (x ∷ xs) = state_from codec job (goes_on codec job s x) xs
 
 -- how far a job has come by all its calls
-abbrev pub state_of : {F : Type 0} → Forms F → Job → List Exchange → State F
-state_of forms job trace = state_from forms job (begun job.command) trace
+abbrev pub state_of : {F : Type 0} → Codec F → Job → List Exchange → State F
+state_of codec job trace = state_from codec job (begun job.command) trace

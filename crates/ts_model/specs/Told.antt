@@ -12,7 +12,7 @@ use Rattle.ts_model.specs.declared.commands.Job.{Job}
 use Rattle.ts_model.specs.declared.commands.WriteIn.{WriteIn}
 use Rattle.ts_model.specs.declared.answers.Refusal.{Refusal}
 use Rattle.ts_model.specs.declared.deeds.Written.{Written}
-use Rattle.ts_model.specs.declared.deeds.Erasure.{Erasure}
+use Rattle.ts_model.specs.declared.deeds.Deletion.{Deletion}
 use Rattle.ts_model.specs.declared.deeds.Deed.{Deed}
 use Rattle.ts_schema.specs.declared.frames.Frame.{Frame}
 use Rattle.ts_schema.specs.declared.schemas.Schema.{Schema}
@@ -25,10 +25,10 @@ use Rattle.ts_model.specs.declared.deeds.Deed.TheVariants.{Framed, Declared, Wro
 use Rattle.ts_base.specs.declared.names.CommitKind.TheVariants.{Wrt, Del}
 use Rattle.ts_base.specs.declared.names.Prefix.TheVariants.{Schemas}
 use Rattle.ts_model.specs.States.{schemas_in, made_by, Exchange}
-use Rattle.ts_model.specs.Jobs.{schema_of_job, written_as, erasure_as}
+use Rattle.ts_model.specs.Jobs.{schema_of_job, written_as, deletion_as}
 use Rattle.ts_model.specs.Deeds.{History, frame_in, schema_with}
 use Rattle.ts_model.specs.Commands.{frame_made, laid}
-use Rattle.ts_model.specs.Queries.{erasing_in}
+use Rattle.ts_model.specs.Queries.{delete_condition}
 use Rattle.ts_cond.specs.Tests.{Condition}
 use Rattle.ts_base.specs.declared.names.Name.TheVariants as name
 use Rattle.ts_store.specs.declared.call.Call.TheVariants as call
@@ -117,6 +117,7 @@ abbrev pub found_after : Option (List Key) → List Exchange → Option (List Ke
 found_after found [] = found
 found_after found (x ∷ xs) = found_after (found_in found x.call x.reply) xs
 
+-- the schemas that a job found: those of its last listing of them
 abbrev pub schemas_found : List Exchange → Option (List Key)
 schemas_found trace = found_after None trace
 
@@ -151,21 +152,21 @@ condition_of (Ok condition) = Some condition
 condition_of (Err r) = None
 
 -- what a text erases in a schema of an array with a frame
-abbrev pub erased_in : Job → List ℕ → Option Schema → Option Frame → Option Erasure
-erased_in job text (Some s) (Some frame) = option_map (erasure_as job) (condition_of (erasing_in frame s.attrs text))
-erased_in job text _ _ = None
+abbrev pub deleted_in : Job → List ℕ → Option Schema → Option Frame → Option Deletion
+deleted_in job text (Some s) (Some frame) = option_map (deletion_as job) (condition_of (delete_condition frame s.attrs text))
+deleted_in job text _ _ = None
 
 -- what a job erases
-abbrev pub erased_by : History → Job → Option (List Key) → Command → Option Erasure
-erased_by h job found (Delete text) = erased_in job text (schema_used h job found) (frame_in h)
-erased_by h job found _ = None
+abbrev pub deleted_by : History → Job → Option (List Key) → Command → Option Deletion
+deleted_by h job found (Delete text) = deleted_in job text (schema_used h job found) (frame_in h)
+deleted_by h job found _ = None
 
 -- the deed of an object that a job puts: of the frame, of a schema, of a `.wrt`, or of a `.del`
 abbrev pub deed_of : History → Job → Option (List Key) → Name → Option Deed
 deed_of h job found name.Domain = option_map (λ f. Framed (frame_made f)) (made_by job.command)
 deed_of h job found (name.Schema k) = option_map Declared (declared_by h job found job.command)
 deed_of h job found (name.Commit f Wrt) = option_map Wrote (written_by h job found job.command)
-deed_of h job found (name.Commit f Del) = option_map Erased (erased_by h job found job.command)
+deed_of h job found (name.Commit f Del) = option_map Erased (deleted_by h job found job.command)
 deed_of h job found _ = None
 
 -- the deed of a call of a job

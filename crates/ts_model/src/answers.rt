@@ -1,6 +1,6 @@
 //! How a command ends: its answer, or why it was refused.
 
-use ts_base::{FragKey, Key, Label, Name, Place, RowList, Sequence, ValType};
+use ts_base::{FragKey, FragList, Key, Label, Name, Place, RowList, Sequence, ValType};
 use ts_cond::CondFault;
 use ts_domain::DomainFault;
 use ts_schema::SchemaFault;
@@ -16,6 +16,9 @@ pub struct Answer {
     /// A row for each cell of the box that has a value and passes the filter, in the layout that
     /// was asked for: the value of each field that is shown.
     pub rows: RowList,
+    /// The fragments that are clipped, ascending: each is committed, but the read could not use it,
+    /// and it holds a write that the answer leaves out. No command makes such fragments yet.
+    pub clipped: FragList,
 }
 
 /// How a command ended.

@@ -7,7 +7,7 @@ ghost use Rattle.ts_domain.specs.Dims.{has_name};
 ghost use Rattle.ts_schema.specs.Attrs.{same_name, has_attr};
 ghost use Rattle.ts_schema.specs.FrameTexts.{IsFrame};
 ghost use Rattle.ts_schema.specs.SchemaTexts.{AreAttrs};
-ghost use Rattle.ts_model.specs.Queries.{low_of, high_of, box_of, stray_bound, bound_outside, over_most, unknown_in, query_refusal, condition_in, filter_in, ready_in, erasing_in, field_place, field_places, places_from, dim_place, attr_place, too_many};
+ghost use Rattle.ts_model.specs.Queries.{low_of, high_of, box_of, stray_bound, bound_outside, over_most, unknown_in, query_refusal, condition_in, filter_in, ready_in, delete_condition, field_place, field_places, places_from, dim_place, attr_place, too_many};
 ghost use Rattle.ts_model.specs.Selections.{IsChecked, IsNamedBox};
 
 use crate::answers::Refusal;
@@ -63,7 +63,7 @@ pub fn check_delete(
     text: &ByteList,
 ) -> Result<Cond, QueryFault>
     requires attrs { AreAttrs schema.now.attrs }
-    ensures { IsChecked result (erasing_in frame.now schema.now.attrs text.now) }
+    ensures { IsChecked result (delete_condition frame.now schema.now.attrs text.now) }
 {
     if frame.dense {
         return Err(QueryFault::Refused(Refusal::DenseArray));

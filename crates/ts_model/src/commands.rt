@@ -118,14 +118,19 @@ impl Duplicate for Job {
     }
 }
 
-/// A line of a script: a command and its stamp.
+/// A line of a script: a command in its lane.
 #[derive(Debug, Drop, PartialEq, Eq)]
 pub struct Line {
-    /// The command.
+    /// The lane, 0 to 7.
+    pub lane: u32,
+    /// The command. Where `to_stamp` is set its interval ends at 0 here.
     pub command: Command,
-    /// The stamp, in milliseconds since 1970-01-01.
-    pub at: u64,
+    /// The stamp, in milliseconds since 1970-01-01, or None: then it is the clock's number as the
+    /// command starts.
+    pub at: Option<u64>,
+    /// Whether the interval of a read ends at the command's own stamp.
+    pub to_stamp: bool,
 }
 
-/// The lines of a lane, in order.
+/// The lines of a script, in order.
 pub type LineList = Sequence<Line>;

@@ -17,7 +17,7 @@ pub struct Written {
 
 /// What a delete did.
 #[derive(Debug, Drop)]
-pub struct Erasure {
+pub struct Deletion {
     /// The key of the delete: its stamp, and the identifier of its job.
     pub key: Key,
     /// It erases each cell whose last write has a lesser key and matches this condition.
@@ -25,7 +25,7 @@ pub struct Erasure {
 }
 
 /// A list of deletes.
-pub type ErasureList = Sequence<Erasure>;
+pub type DeletionList = Sequence<Deletion>;
 
 /// A deed: a step that a reader of the array can tell from what came before.
 #[derive(Debug, Drop)]
@@ -37,7 +37,7 @@ pub enum Deed {
     /// A write was committed.
     Wrote(Written),
     /// A delete was committed.
-    Erased(Erasure),
+    Erased(Deletion),
 }
 
 /// A history: deeds in the order of their commits.

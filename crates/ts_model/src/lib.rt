@@ -9,7 +9,7 @@ mod blobs;
 mod checking;
 mod commands;
 mod deeds;
-mod erasures;
+mod deletions;
 mod fields;
 mod finding;
 mod places;
@@ -24,10 +24,13 @@ pub use answers::{Answer, Driven, Outcome, Refusal, TypeList};
 pub use blobs::blob_bytes;
 pub use checking::{bound_outside, box_of, check_delete, check_query, over_most, unknown_dim};
 pub use commands::{ColIn, ColInList, Command, FrameIn, Job, JobList, Line, LineList, WriteIn};
-pub use deeds::{Deed, Erasure, ErasureList, History, Written};
+pub use deeds::{Deed, Deletion, DeletionList, History, Written};
 pub use fields::{attr_fields, fields_in};
 pub use places::{GlobalPlace, place_in, place_of};
 pub use queries::{PlaceList, QueryFault, Ready, Shown, ShownList};
 pub use scan::reference;
 pub use selection::{fills_of, rows_of, types_shown};
-pub use states::{Listed, NewObject, NewObjectList, Opened, OpenedList, Reading, State};
+pub use states::{
+    Collecting, Creating, Listed, NewObject, NewObjectList, Opened, OpenedList, Reading, Seeking,
+    State,
+};

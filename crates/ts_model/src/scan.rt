@@ -10,7 +10,7 @@ ghost use Rattle.ts_domain.specs.Domains.{LiesInDomain};
 ghost use Rattle.ts_schema.specs.Attrs.{shown_row};
 ghost use Rattle.ts_schema.specs.FrameTexts.{IsFrame};
 ghost use Rattle.ts_schema.specs.SchemaTexts.{AreAttrs};
-ghost use Rattle.ts_model.specs.Answers.{shown_at};
+ghost use Rattle.ts_model.specs.Answers.{IsWhole, shown_at};
 ghost use Rattle.ts_model.specs.Deeds.{IsHistory, attrs_with};
 ghost use Rattle.ts_model.specs.Queries.{most_cells, types_shown};
 ghost use Rattle.ts_model.specs.Scans.{cells_in, cells_of_deed, with_shown, Shows, AreShown, AreRows, IsAsked, IsReferred, left_by, shown_by, shown_of};
@@ -19,13 +19,13 @@ ghost use Rattle.ts_model.specs.Selections.{IsNamedBox};
 use crate::answers::{Answer, Outcome, Refusal};
 use crate::checking::check_query;
 use crate::deeds::{Deed, History};
-use crate::erasures::is_erased;
+use crate::deletions::is_erased;
 use crate::finding::{find_row, frame_in, latest, schema_there, schema_with};
 use crate::queries::{QueryFault, Ready, Shown, ShownList};
 use crate::selection::{fills_of, rows_of, types_shown};
 use std::alloc::Global;
 use std::collections::BTreeMap;
-use ts_base::{Cell, Coords, Duplicate, Key, OutOfMemory, Row};
+use ts_base::{Cell, Coords, Duplicate, FragList, Key, OutOfMemory, Row};
 use ts_cond::Query;
 use ts_domain::Order;
 use ts_order::coords_at;
@@ -119,12 +119,14 @@ fn answer(alloc: Global, scan: &Scan) -> Result<Answer, OutOfMemory>
     requires few { scan.now.frame.now.dense ≡ true → cells_of scan.now.ready.now.sub ≤ most_cells }
     ensures types { IfOk result (λ answer. answer.types ≡ types_shown scan.now.frame.now scan.now.there.now.attrs scan.now.ready.now) }
     ensures rows { IfOk result (λ answer. AreRows scan.now.deeds.now scan.now.frame.now scan.now.there.now scan.now.ready.now scan.now.from scan.now.to answer.rows) }
+    ensures whole { IfOk result (λ answer. IsWhole answer) }
 {
     let cells = shown_cells(alloc, scan)?;
     let listed = listed(alloc, &cells)?;
     Ok(Answer {
         types: types_shown(alloc, scan.frame, scan.there, scan.ready)?,
         rows: rows_of(alloc, scan.frame, scan.there, scan.ready, listed)?,
+        clipped: FragList::new(alloc),
     })
 }
 

@@ -1,11 +1,11 @@
 //! How far a job has come.
 
 use crate::answers::Outcome;
-use crate::deeds::ErasureList;
+use crate::deeds::DeletionList;
 use crate::queries::Ready;
 use std::alloc::Global;
 use ts_base::{
-    ByteList, Duplicate, FragKey, FragList, Head, Key, KeyList, Name, OutOfMemory, Sequence,
+    Boxed, ByteList, Duplicate, FragKey, FragList, Head, Key, KeyList, Name, OutOfMemory, Sequence,
     VersionList,
 };
 use ts_schema::{Frame, Schema, SchemaList};
@@ -53,10 +53,10 @@ impl Duplicate for Opened {
 #[derive(Debug, Drop, PartialEq, Eq)]
 pub struct Listed {
     /// The committed fragments whose span meets the interval, ascending.
-    pub near: FragList,
+    pub fragments: FragList,
     /// The names of the deletes that are stamped in the interval, ascending: a delete is named as the
     /// fragment of a write with its key would be.
-    pub deletes: FragList,
+    pub delete_names: FragList,
 }
 
 /// What a read knows of the array, and what it asks of it.
@@ -73,35 +73,30 @@ pub struct Reading {
     /// The schema that holds at `to`.
     pub there: Schema,
     /// The committed fragments whose span meets the interval, ascending.
-    pub near: FragList,
+    pub fragments: FragList,
     /// The names of the deletes that are stamped in the interval, ascending: a delete is named as the
     /// fragment of a write with its key would be.
-    pub deletes: FragList,
+    pub delete_names: FragList,
     /// The deletes under the first of these names, as many as it got.
-    pub erased: ErasureList,
+    pub deletions: DeletionList,
 }
 
-/// How far a job has come: which call it makes next, with what it found so far.
-///
-/// `F` is how far the fetch of a fragment has come, which differs with the way in which fragments
-/// are written.
+/// How far a create has come that does not know yet whether it puts its schema: which call it makes
+/// next.
 #[derive(Debug, Drop)]
-pub enum State<F> {
-    /// A create puts the frame.
+pub enum Creating {
+    /// It puts the frame.
     PutsFrame,
-    /// A create gets the frame that was there already.
+    /// It gets the frame that was there already.
     ComparesFrame,
-    /// A create lists the schemas, since its own frame was there already.
+    /// It lists the schemas, since its own frame was there already.
     ListsDeclared,
-    /// A job puts objects, of which `next` are put already, and ends so after the last.
-    Puts {
-        /// The objects, in order.
-        objects: NewObjectList,
-        /// The place of the next one.
-        next: u64,
-        /// The end after the last.
-        end: Outcome,
-    },
+}
+
+/// How far a job has come that looks for the schema that it works in, and for the frame: which call
+/// it makes next, with what it found so far.
+#[derive(Debug, Drop)]
+pub enum Seeking {
     /// A read lists the commits.
     ListsCommits,
     /// An evolve, a write, a delete or a read lists the schemas.
@@ -123,14 +118,23 @@ pub enum State<F> {
         /// The schema.
         there: Schema,
     },
-    /// A read gets the part that has the head, of one fragment after the other.
+}
+
+/// How far a read has come that knows its schema and the frame: which call it makes next, with what
+/// it collected so far.
+///
+/// `F` is how far the fetch of a fragment has come, which differs with the way in which fragments
+/// are written.
+#[derive(Debug, Drop)]
+pub enum Collecting<F> {
+    /// It gets the part that has the head, of one fragment after the other.
     GetsHeads {
         /// What it reads.
         reading: Reading,
         /// The fragments before the next one.
         opened: OpenedList,
     },
-    /// A read gets the further schemas that the heads name, one after the other.
+    /// It gets the further schemas that the heads name, one after the other.
     GetsSchemas {
         /// What it reads.
         reading: Reading,
@@ -141,7 +145,7 @@ pub enum State<F> {
         /// The schemas of the keys before the next one.
         schemas: SchemaList,
     },
-    /// A read gets the deletes, one after the other.
+    /// It gets the deletes, one after the other.
     GetsDeletes {
         /// What it reads, with the deletes before the next one.
         reading: Reading,
@@ -150,7 +154,7 @@ pub enum State<F> {
         /// The schemas that the heads name.
         schemas: SchemaList,
     },
-    /// A read fetches one fragment after the other.
+    /// It fetches one fragment after the other.
     Fetches {
         /// What it reads.
         reading: Reading,
@@ -169,6 +173,28 @@ pub enum State<F> {
         /// The call that it asks for.
         asked: Call,
     },
+}
+
+/// How far a job has come: which call it makes next, with what it found so far.
+///
+/// `F` is how far the fetch of a fragment has come.
+#[derive(Debug, Drop)]
+pub enum State<F> {
+    /// A create comes to its frame.
+    Creates(Creating),
+    /// An evolve, a write, a delete or a read seeks the schema that it works in, and the frame.
+    Seeks(Seeking),
+    /// A job puts objects, of which `next` are put already, and ends so after the last.
+    Puts {
+        /// The objects, in order.
+        objects: NewObjectList,
+        /// The place of the next one.
+        next: u64,
+        /// The end after the last.
+        end: Outcome,
+    },
+    /// A read collects what it answers from. This is large, so it lies in a place of its own.
+    Collects(Boxed<Collecting<F>>),
     /// The job has ended.
     Over(Outcome),
 }

@@ -9,7 +9,7 @@ ghost use Rattle.ts_schema.specs.SchemaTexts.{AreAttrs};
 ghost use Rattle.ts_model.specs.declared.deeds.Deed.TheVariants.{Framed, Declared, Wrote};
 ghost use Rattle.ts_model.specs.Deeds.{IsHistory, RowFits};
 
-use crate::{Deed, Erasure, History, Outcome, Written, check_delete, fills_of, reference};
+use crate::{Deed, Deletion, History, Outcome, Written, check_delete, fills_of, reference};
 use std::alloc::Global;
 use std::process::Abort;
 use std::test::Fail;
@@ -118,7 +118,7 @@ fn worked(alloc: Global, frame: &Frame, attrs: AttrList, cond: Cond) -> Result<H
     let mut deeds = made(alloc, frame, attrs)?;
     deeds.push(wrote(alloc, 1, 2, 7)?)?;
     deeds.push(wrote(alloc, 2, 3, 10)?)?;
-    deeds.push(Deed::Erased(Erasure {
+    deeds.push(Deed::Erased(Deletion {
         key: Key { t: 2, id: 4 },
         cond,
     }))?;

@@ -1,6 +1,6 @@
 use Rattle.std.proofs.Common.{◌≡◌, map, take}
 use Rattle.ts_model.specs.Scans.{pick_at}
-use Rattle.ts_model.proofs.erasures.picks_at.Given as goal
+use Rattle.ts_model.proofs.deletions.picks_at.Given as goal
 
 -- the values of the fields so far
 abbrev pub invariant-loop-field : goal.invariant-loop-field

@@ -27,7 +27,7 @@ pub data Stepped (F : Type 0) : Type 0 where
   Breaks : Part → ℕ → Stepped F
 
 -- one way to write fragments and to read them; F is how far a fetch has come
-pub record Forms (F : Type 0) : Type 0 where
+pub record Codec (F : Type 0) : Type 0 where
   -- the parts of a piece in the order of their puts, that of the head last
   pub parts : Frame → Schema → Piece → List PartBytes
   -- the part that has the head
@@ -52,8 +52,8 @@ is_look (call.Size n) = true
 is_look _ = false
 
 -- a fetch asks for nothing but gets and sizes
-abbrev pub AsksLooks : {F : Type 0} → Forms F → Type 0
-AsksLooks {F} forms = (f : F) (r : Reply) (g : F) (c : Call) → forms.steps f r ≡ Asks g c → IsTrue (is_look c)
+abbrev pub AsksLooks : {F : Type 0} → Codec F → Type 0
+AsksLooks {F} codec = (f : F) (r : Reply) (g : F) (c : Call) → codec.steps f r ≡ Asks g c → IsTrue (is_look c)
 
 -- a fetch waits for the reply to a call, on its way to what is wanted of the piece that the parts spell
 abbrev pub Tracking : Type 0 → Type 1
@@ -85,30 +85,30 @@ GoesWell tracks wanted (Takes vs) = vs ≡ wanted
 GoesWell tracks wanted (Breaks part at) = ⊥
 
 -- a fetch that begins on the parts of a piece goes well
-pub record OpensWell {F : Type 0} (forms : Forms F) (tracks : F → Call → Type 0) (frame : Frame) (schema : Schema) (p : Piece) (object : List ℕ) (want : Want) : Type 0 where
+pub record OpensWell {F : Type 0} (codec : Codec F) (tracks : F → Call → Type 0) (frame : Frame) (schema : Schema) (p : Piece) (object : List ℕ) (want : Want) : Type 0 where
   pub fetch : F
-  pub opens : forms.opens frame schema p.head.frag object want ≡ Ok fetch
-  pub starts : GoesWell tracks (taken want p.versions) (forms.steps fetch reply.Start)
+  pub opens : codec.opens frame schema p.head.frag object want ≡ Ok fetch
+  pub starts : GoesWell tracks (taken want p.versions) (codec.steps fetch reply.Start)
 
 -- the laws of one way to write fragments and to read them
-pub record FormsLaws {F : Type 0} (forms : Forms F) (spelled : Spelled) (tracks : Tracking F) : Type 0 where
+pub record CodecLaws {F : Type 0} (codec : Codec F) (spelled : Spelled) (tracks : Tracking F) : Type 0 where
   -- the parts of a piece that one write makes spell it, where each is short enough to be got at once
-  pub parts : (frame : Frame) (s : Schema) (p : Piece) → IsOrdinary frame s.attrs p → All (λ x. IsShort x.bytes) (forms.parts frame s p) → spelled frame s p (look_in (forms.parts frame s p))
+  pub parts : (frame : Frame) (s : Schema) (p : Piece) → IsOrdinary frame s.attrs p → All (λ x. IsShort x.bytes) (codec.parts frame s p) → spelled frame s p (look_in (codec.parts frame s p))
   -- the part that has the head is the last
   pub last : (frame : Frame) (s : Schema) (p : Piece) → IsOrdinary frame s.attrs p
-      → (front : List PartBytes) × (bytes : List ℕ) × (forms.parts frame s p ≡ front ++ record { part = forms.head_part frame; bytes = bytes } ∷ [])
+      → (front : List PartBytes) × (bytes : List ℕ) × (codec.parts frame s p ≡ front ++ record { part = codec.head_part frame; bytes = bytes } ∷ [])
   -- no part comes twice
-  pub once : (frame : Frame) (s : Schema) (p : Piece) (i k : ℕ) (x y : PartBytes) → slice_get (forms.parts frame s p) i ≡ Some x → slice_get (forms.parts frame s p) k ≡ Some y → x.part ≡ y.part → i ≡ k
+  pub once : (frame : Frame) (s : Schema) (p : Piece) (i k : ℕ) (x y : PartBytes) → slice_get (codec.parts frame s p) i ≡ Some x → slice_get (codec.parts frame s p) k ≡ Some y → x.part ≡ y.part → i ≡ k
   -- the part with the head is there, and its object is read as the piece's head
   pub head : (frame : Frame) (s : Schema) (p : Piece) (look : Look) → spelled frame s p look
-      → (object : List ℕ) × (look (forms.head_part frame) ≡ Some object) × (forms.head frame p.head.frag object ≡ Ok p.head)
+      → (object : List ℕ) × (look (codec.head_part frame) ≡ Some object) × (codec.head frame p.head.frag object ≡ Ok p.head)
   -- a fetch asks for nothing but gets and sizes
-  pub looks : AsksLooks forms
+  pub looks : AsksLooks codec
   -- a fetch begins well
-  pub opens : (frame : Frame) (s : Schema) (p : Piece) (look : Look) (want : Want) (object : List ℕ) → spelled frame s p look → look (forms.head_part frame) ≡ Some object
-      → OpensWell forms (tracks frame s p look want) frame s p object want
+  pub opens : (frame : Frame) (s : Schema) (p : Piece) (look : Look) (want : Want) (object : List ℕ) → spelled frame s p look → look (codec.head_part frame) ≡ Some object
+      → OpensWell codec (tracks frame s p look want) frame s p object want
   -- a fetch asks for parts that the fragment has
   pub asks : (frame : Frame) (s : Schema) (p : Piece) (look : Look) (want : Want) (f : F) (c : Call) → tracks frame s p look want f c → AsksHeld look p.head.frag c
   -- a fetch that is told what is held goes on well
   pub goes : (frame : Frame) (s : Schema) (p : Piece) (look : Look) (want : Want) (f : F) (c : Call) (part : Part) (bytes : List ℕ) (r : Reply)
-      → tracks frame s p look want f c → look part ≡ Some bytes → SpeaksOf c (name.Part p.head.frag part) → IsToldOf c bytes r → GoesWell (tracks frame s p look want) (taken want p.versions) (forms.steps f r)
+      → tracks frame s p look want f c → look part ≡ Some bytes → SpeaksOf c (name.Part p.head.frag part) → IsToldOf c bytes r → GoesWell (tracks frame s p look want) (taken want p.versions) (codec.steps f r)

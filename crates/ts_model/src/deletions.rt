@@ -5,7 +5,7 @@ ghost use Rattle.ts_model.specs.Answers.{erases_cell, is_erased};
 ghost use Rattle.ts_model.specs.Queries.{attr_field, attr_fields};
 ghost use Rattle.ts_model.specs.Scans.{erased_under, pick_at};
 
-use crate::deeds::{Deed, Erasure, Written};
+use crate::deeds::{Deed, Deletion, Written};
 use crate::finding::schema_with;
 use std::alloc::Global;
 use ts_base::{Coords, Duplicate, OutOfMemory, Row, Val};
@@ -74,19 +74,19 @@ fn erases(alloc: Global, last: &Last, deed: &Deed, from: u64, to: u64) -> Result
     ensures { IfOk result (λ erased. erased ≡ erased_under last.now.attrs.now from to last.now.at.now last.now.write.now last.now.row.now (deed.now ∷ [])) }
 {
     match deed {
-        Deed::Erased(erasure) if erasure.key.is_within(from, to) => {
-            erases_cell(alloc, last, erasure)
+        Deed::Erased(deletion) if deletion.key.is_within(from, to) => {
+            erases_cell(alloc, last, deletion)
         }
         _ => Ok(false),
     }
 }
 
 // Whether a delete erases the cell: it has a greater key, and matches.
-fn erases_cell(alloc: Global, last: &Last, erasure: &Erasure) -> Result<bool, OutOfMemory>
-    ensures { IfOk result (λ erased. erased ≡ erases_cell last.now.write.now last.now.attrs.now last.now.at.now last.now.row.now erasure.now) }
+fn erases_cell(alloc: Global, last: &Last, deletion: &Deletion) -> Result<bool, OutOfMemory>
+    ensures { IfOk result (λ erased. erased ≡ erases_cell last.now.write.now last.now.attrs.now last.now.at.now last.now.row.now deletion.now) }
 {
-    if last.write.key < erasure.key {
-        matches(alloc, &erasure.cond, last.at, last.row, last.attrs)
+    if last.write.key < deletion.key {
+        matches(alloc, &deletion.cond, last.at, last.row, last.attrs)
     } else {
         Ok(false)
     }

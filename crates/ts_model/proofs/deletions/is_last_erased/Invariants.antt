@@ -1,6 +1,6 @@
 use Rattle.std.proofs.Common.{◌≡◌, drop}
 use Rattle.ts_model.specs.Scans.{erased_under}
-use Rattle.ts_model.proofs.erasures.is_last_erased.Given as goal
+use Rattle.ts_model.proofs.deletions.is_last_erased.Given as goal
 
 -- none of the deeds so far erases the cell
 abbrev pub invariant-loop-deed : goal.invariant-loop-deed
