@@ -11,10 +11,10 @@ use Rattle.ts_model.specs.declared.answers.Driven.TheVariants.{Done}
 use Rattle.ts_model.specs.declared.answers.Outcome.{Outcome}
 use Rattle.ts_model.specs.Deeds.{History}
 use Rattle.ts_model.specs.Driven.{IsDriven}
-use Rattle.ts_model.specs.Forms.{Forms, Spelled, Tracking, FormsLaws}
+use Rattle.ts_model.specs.Codecs.{Codec, Spelled, Tracking, CodecLaws}
 use Rattle.ts_model.specs.Jobs.{IsFit}
 use Rattle.ts_model.specs.Told.{Told, Suits, Replied, trace_of, held_told, history_told}
-use Rattle.ts_law.specs.Ends.{IsTrueEnd}
+use Rattle.ts_law.specs.Ends.{IsTrueOver}
 use Rattle.ts_law.specs.Fresh.{IsNewId}
 use Rattle.ts_law.specs.Kept.{Kept}
 use Rattle.ts_law.specs.Lanes.{lane_by, own_lane, IsOwned, IsWithin}
@@ -28,23 +28,23 @@ use Rattle.ts_law.proofs.TrueRuns.{jobs_true_run}
 -- what the calls of one job leave, and what its end tells
 pub record IsTrueAlone (spelled : Spelled) (job : Job) (h : History) (m : Held) (told : List Told) (result : Driven Outcome) : Type 0 where
   pub stands : Stands spelled (held_told m told) (history_told (job ∷ []) h told)
-  pub is_true : (end : Outcome) → result ≡ Done end → IsTrueEnd (job ∷ []) h told 0 job end
+  pub is_true : (end : Outcome) → result ≡ Done end → IsTrueOver spelled m (job ∷ []) h told 0 job end
 
-module _ {F : Type 0} (forms : Forms F) (spelled : Spelled) (tracks : Tracking F) (laws : FormsLaws forms spelled tracks) (job : Job) (h : History) (m : Held) (told : List Told) (result : Driven Outcome)
-    (stands : Stands spelled m h) (new : IsNewId m h [] job.id) (fit : IsFit job) (replied : Replied m told) (suit : All Suits told) (own : AreBy 0 told) (is : IsDriven forms job (trace_of 0 told) result) where
-  begins : Kept forms spelled tracks h (job ∷ []) [] [] m
-  begins = spawn_kept forms spelled tracks h [] [] [] m job (starts_kept forms spelled tracks h m stands) fit new
+module _ {F : Type 0} (codec : Codec F) (spelled : Spelled) (tracks : Tracking F) (laws : CodecLaws codec spelled tracks) (job : Job) (h : History) (m : Held) (told : List Told) (result : Driven Outcome)
+    (stands : Stands spelled m h) (new : IsNewId m h [] job.id) (fit : IsFit job) (replied : Replied m told) (suit : All Suits told) (own : AreBy 0 told) (is : IsDriven codec job (trace_of 0 told) result) where
+  begins : Kept codec spelled tracks h (job ∷ []) [] [] m
+  begins = spawn_kept codec spelled tracks h [] [] [] m job (starts_kept codec spelled tracks h m stands) fit new
 
-  driven : AreDriven forms (job ∷ []) (result ∷ []) told
+  driven : AreDriven codec (job ∷ []) (result ∷ []) told
   driven = record { one_each = refl; driven = by_place }
     where
-      by_place : (number : ℕ) (j : Job) (r : Driven Outcome) → slice_get (job ∷ []) number ≡ Some j → slice_get (result ∷ []) number ≡ Some r → IsDriven forms j (trace_of number told) r
-      by_place zero j r at r_at = subst (λ i. IsDriven forms i (trace_of 0 told) r) (same_Some job j at) (subst (λ o. IsDriven forms job (trace_of 0 told) o) (same_Some result r r_at) is)
+      by_place : (number : ℕ) (j : Job) (r : Driven Outcome) → slice_get (job ∷ []) number ≡ Some j → slice_get (result ∷ []) number ≡ Some r → IsDriven codec j (trace_of number told) r
+      by_place zero j r at r_at = subst (λ i. IsDriven codec i (trace_of 0 told) r) (same_Some job j at) (subst (λ o. IsDriven codec job (trace_of 0 told) o) (same_Some result r r_at) is)
       by_place (suc number) j r at r_at = absurd (none-some j at)
 
   run : IsTrueRun spelled own_lane (job ∷ []) h m told (result ∷ [])
   run =
-      jobs_true_run forms spelled tracks laws own_lane (job ∷ []) h m told (result ∷ []) begins replied suit
+      jobs_true_run codec spelled tracks laws own_lane (job ∷ []) h m told (result ∷ []) begins replied suit
       (All-weaker (λ e. e.job ≡ Some 0) IsOwned (λ e mine. (0, mine)) told own)
       (All-weaker (λ e. e.job ≡ Some 0) (IsWithin (job ∷ [])) (λ e mine number by_it. let same = same_Some 0 number (sym mine ∙ by_it) in omega (arith, same)) told own) (apart_in_turn told) driven
 

@@ -16,16 +16,16 @@ use Rattle.ts_model.specs.declared.answers.Driven.TheVariants.{Done}
 use Rattle.ts_model.specs.declared.answers.Outcome.TheVariants as outcome
 use Rattle.ts_model.specs.declared.answers.Refusal.{Refusal}
 use Rattle.ts_model.specs.declared.answers.Refusal.TheVariants as refusal
-use Rattle.ts_model.specs.Forms.{Forms}
+use Rattle.ts_model.specs.Codecs.{Codec}
 use Rattle.ts_model.specs.Jobs.{refused_before}
 use Rattle.ts_model.specs.States.{Exchange}
 use Rattle.ts_model.specs.Told.{Told, is_by, exchange_of, trace_of, Suits}
-use Rattle.ts_law.specs.Rows.{Found, IsCause, MayEndAs, IsSegment}
+use Rattle.ts_law.specs.Courses.{Found, IsCause, MayEndAs, IsSegment}
 use Rattle.ts_model.proofs.ListLemmas.{filter_map-Contains}
 
 -- only the reply Failed calls for it
-pub only_failed : {F : Type 0} (forms : Forms F) (job : Job) (found : Found) (trace : List Exchange) (last : Exchange) (p : Place) → IsCause forms job found trace last (refusal.StoreFault p) → last.reply ≡ reply.Failed
-only_failed forms job found trace last p cause = cause.1
+pub only_failed : {F : Type 0} (codec : Codec F) (job : Job) (found : Found) (trace : List Exchange) (last : Exchange) (p : Place) → IsCause codec job found trace last (refusal.StoreFault p) → last.reply ≡ reply.Failed
+only_failed codec job found trace last p cause = cause.1
 
 -- a fault of the dimensions or of the attributes is none of the store
 not_of_faults : {A B : Type 0} (f : A → Refusal) (g : B → Refusal) (a : Option A) (b : Option B) (p : Place) → ((x : A) → f x ≡ refusal.StoreFault p → ⊥) → ((y : B) → g y ≡ refusal.StoreFault p → ⊥)
@@ -55,14 +55,14 @@ told_with number own x at =
     by_test e false is = absurd (none-some _ is)
 
 -- where a job ends because a call failed, it made a call whose fate is not Done
-pub fault_has_cause : {F : Type 0} (forms : Forms F) (number : ℕ) (job : Job) (own : List Told) (p : Place) → All Suits own
-    → IsSegment forms job (trace_of number own) (Done (outcome.Refused (refusal.StoreFault p))) → (e : Told) × Contains own e × (e.fate ≢ fate.Done)
-fault_has_cause forms number job own p suit segment = by_refusal (refused_before job.command) refl segment.ends
+pub fault_has_cause : {F : Type 0} (codec : Codec F) (number : ℕ) (job : Job) (own : List Told) (p : Place) → All Suits own
+    → IsSegment codec job (trace_of number own) (Done (outcome.Refused (refusal.StoreFault p))) → (e : Told) × Contains own e × (e.fate ≢ fate.Done)
+fault_has_cause codec number job own p suit segment = by_refusal (refused_before job.command) refl segment.ends
   where
-    by_refusal : (r : Option Refusal) → refused_before job.command ≡ r → MayEndAs forms job segment.found (trace_of number own) (outcome.Refused (refusal.StoreFault p)) r → (e : Told) × Contains own e × (e.fate ≢ fate.Done)
+    by_refusal : (r : Option Refusal) → refused_before job.command ≡ r → MayEndAs codec job segment.found (trace_of number own) (outcome.Refused (refusal.StoreFault p)) r → (e : Told) × Contains own e × (e.fate ≢ fate.Done)
     by_refusal None is (last, at, cause) =
         let there : Contains (trace_of number own) last = subst (λ t. Contains t last) (sym at.parts) (Contains-push at.front last) in
         let (e, among, same) = told_with number own last there in
-        (e, among, (All-contains Suits own e suit among).failed (same ∙ only_failed forms job segment.found (trace_of number own) last p cause))
+        (e, among, (All-contains Suits own e suit among).failed (same ∙ only_failed codec job segment.found (trace_of number own) last p cause))
     by_refusal (Some r) is (none, inl same) = absurd (not_before job.command r p is same)
     by_refusal (Some r) is (none, inr same) = let other : outcome.Refused (refusal.StoreFault p) ≡ outcome.OutOfMemory = same in cc

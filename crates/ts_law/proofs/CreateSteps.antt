@@ -15,7 +15,7 @@ use Rattle.ts_store.specs.declared.call.Reply.{Reply}
 use Rattle.ts_model.specs.Commands.{create_refusal, fits, frame_made}
 use Rattle.ts_model.specs.Deeds.{History, frame_in, keys}
 use Rattle.ts_law.specs.Ends.{IsUndone}
-use Rattle.ts_model.specs.Forms.{Forms, FormsLaws, Spelled, Tracking}
+use Rattle.ts_model.specs.Codecs.{Codec, CodecLaws, Spelled, Tracking}
 use Rattle.ts_law.specs.Fresh.{id_in}
 use Rattle.ts_model.specs.Jobs.{key_of}
 use Rattle.ts_law.specs.Kept.{Claims, Clean}
@@ -27,7 +27,8 @@ use Rattle.ts_model.specs.declared.commands.FrameIn.{FrameIn}
 use Rattle.ts_model.specs.declared.commands.Job.{Job}
 use Rattle.ts_model.specs.declared.deeds.Deed.TheVariants.{Framed}
 use Rattle.ts_model.specs.declared.states.State.{State}
-use Rattle.ts_model.specs.declared.states.State.TheVariants.{ComparesFrame, ListsDeclared, Over, Puts, PutsFrame}
+use Rattle.ts_model.specs.declared.states.State.TheVariants.{Creates, Puts, Over}
+use Rattle.ts_model.specs.declared.states.Creating.TheVariants.{PutsFrame, ComparesFrame, ListsDeclared}
 use Rattle.ts_law.proofs.Declaring.{created_frame, frame_one}
 use Rattle.ts_law.proofs.Effects.{Added, IsLook, Still, got, look_stays, put_went, still_leads}
 use Rattle.ts_law.proofs.HeldLemmas.{Holds, get_apart}
@@ -53,7 +54,7 @@ undone_more h g job none undone =
 -- the frame carries no identifier
 clean_after_frame : (m : Held) (h : History) (frame : Frame) (bytes : List ℕ) (job : Job) → Clean m h job → Clean (map.insert m name.Domain bytes) (h ++ Framed frame ∷ []) job
 clean_after_frame m h frame bytes job clean = record {
-  free = λ n carries. get_apart m name.Domain bytes n (λ same. none-some job.id (ap id_in (sym same) ∙ carries)) ∙ clean.free n carries;
+  free = λ n carries apart. get_apart m name.Domain bytes n (λ same. none-some job.id (ap id_in (sym same) ∙ carries)) ∙ clean.free n carries apart;
   undone = undone_more h (Framed frame ∷ []) job refl clean.undone;
 }
 
@@ -63,7 +64,7 @@ got_whole whole short = take_all (2 ^ 64 - 1) whole (omega arith)
 
 -- ---- one call
 
-module _ {F : Type 0} (forms : Forms F) (spelled : Spelled) (tracks : Tracking F) (past : History) (jobs : List Job) (seen : List Told) (e : Told) (m : Held) (number : ℕ) (job : Job) where
+module _ {F : Type 0} (codec : Codec F) (spelled : Spelled) (tracks : Tracking F) (past : History) (jobs : List Job) (seen : List Told) (e : Told) (m : Held) (number : ℕ) (job : Job) where
   -- the history before the call
   abbrev h : History
   h = history_told jobs past seen
@@ -78,15 +79,15 @@ module _ {F : Type 0} (forms : Forms F) (spelled : Spelled) (tracks : Tracking F
 
   -- what a state of the job claims after the call
   abbrev ClaimsLater : State F → Type 0
-  ClaimsLater s = Claims forms spelled tracks past jobs (seen ++ e ∷ []) m' number job s
+  ClaimsLater s = Claims codec spelled tracks past jobs (seen ++ e ∷ []) m' number job s
 
   -- the call comes to the job in a state
   abbrev ComesHere : State F → Type 0
-  ComesHere s = Comes forms spelled tracks past jobs seen e m number job s
+  ComesHere s = Comes codec spelled tracks past jobs seen e m number job s
 
   -- the call advances the job from a state
   abbrev AdvancesHere : State F → Type 0
-  AdvancesHere s = Advances forms spelled tracks past jobs seen e m number job s
+  AdvancesHere s = Advances codec spelled tracks past jobs seen e m number job s
 
   -- ---- a create: the frame
 
@@ -96,10 +97,10 @@ module _ {F : Type 0} (forms : Forms F) (spelled : Spelled) (tracks : Tracking F
 
   -- where the reply to the put of the frame leads
   frame_leads : (f : FrameIn) → job.command ≡ Create f → (r : Reply) → (r ≡ reply.Made → ClaimsLater (Puts (schema_object_of job f.attrs ∷ []) 0 outcome.Created))
-      → (r ≡ reply.Taken → ClaimsLater ComparesFrame)
-      → IsUndone h' job → ClaimsLater (goes forms job PutsFrame r)
+      → (r ≡ reply.Taken → ClaimsLater (Creates ComparesFrame))
+      → IsUndone h' job → ClaimsLater (goes codec job (Creates PutsFrame) r)
   frame_leads f creates reply.Made made taken undone = at_made f creates (λ o. ClaimsLater (with_item (λ g. puts_first job o) o)) (made refl)
-  frame_leads f creates reply.Taken made taken undone = at_made f creates (λ o. ClaimsLater (with_item (λ g. ComparesFrame) o)) (taken refl)
+  frame_leads f creates reply.Taken made taken undone = at_made f creates (λ o. ClaimsLater (with_item (λ g. (Creates ComparesFrame)) o)) (taken refl)
   frame_leads f creates reply.Failed made taken undone = at_made f creates (λ o. ClaimsLater (with_item (λ g. ended (frame_put g) reply.Failed) o)) undone
   frame_leads f creates _ made taken undone = at_made f creates (λ o. ClaimsLater (with_item (λ g. Over outcome.OutOfMemory) o)) tt
 
@@ -116,11 +117,11 @@ module _ {F : Type 0} (forms : Forms F) (spelled : Spelled) (tracks : Tracking F
   puts_first_claims : (f : FrameIn) → job.command ≡ Create f → create_refusal f ≡ None → Clean m' h' job → frame_in h' ≡ Some (frame_made f)
       → ClaimsLater (Puts (schema_object_of job f.attrs ∷ []) 0 outcome.Created)
   puts_first_claims f creates sound clean framed =
-      begins_putting forms past jobs (seen ++ e ∷ []) m' number job (schema_object_of job f.attrs ∷ []) outcome.Created clean
+      begins_putting codec past jobs (seen ++ e ∷ []) m' number job (schema_object_of job f.attrs ∷ []) outcome.Created clean
       (schema_carries job f.attrs) (omega arith) (f, creates, refl, sound, framed)
 
   -- the put of the frame advances a create
-  frame_step : (f : FrameIn) → job.command ≡ Create f → create_refusal f ≡ None → Clean m h job → ComesHere PutsFrame → AdvancesHere PutsFrame
+  frame_step : (f : FrameIn) → job.command ≡ Create f → create_refusal f ≡ None → Clean m h job → ComesHere (Creates PutsFrame) → AdvancesHere (Creates PutsFrame)
   frame_step f creates sound clean c = elim (put_went m name.Domain (frame_object (frame_made f)) e is c.replied) [
     | Added free same_held changed said ↦
         let same_history = later_deed jobs past seen e (Framed (frame_made f)) (frame_deed f creates c.own c.is_job is) changed in
@@ -155,19 +156,19 @@ module _ {F : Type 0} (forms : Forms F) (spelled : Spelled) (tracks : Tracking F
       framed_later same_history held = let there = frame_held spelled m h c.stands held in (there.0, ap frame_in same_history ∙ there.1)
 
   -- a create advances by the put of its frame
-  pub frame_steps : FormsLaws forms spelled tracks → ComesHere PutsFrame → AdvancesHere PutsFrame
+  pub frame_steps : CodecLaws codec spelled tracks → ComesHere (Creates PutsFrame) → AdvancesHere (Creates PutsFrame)
   frame_steps laws c = frame_step (c.claims).1.0 (c.claims).1.1 (c.claims).1.2 (c.claims).0 c
 
   -- ---- a create: the frame that is there
 
   -- where the reply to the get of the frame leads
-  compare_leads : (f : FrameIn) → job.command ≡ Create f → (r : Reply) → ((bytes : List ℕ) → r ≡ reply.Bytes bytes → is_own_frame (Some f) bytes ≡ true → ClaimsLater ListsDeclared)
+  compare_leads : (f : FrameIn) → job.command ≡ Create f → (r : Reply) → ((bytes : List ℕ) → r ≡ reply.Bytes bytes → is_own_frame (Some f) bytes ≡ true → ClaimsLater (Creates ListsDeclared))
       → (r ≡ reply.Absent → ⊥)
-      → IsUndone h' job → ClaimsLater (goes forms job ComparesFrame r)
+      → IsUndone h' job → ClaimsLater (goes codec job (Creates ComparesFrame) r)
   compare_leads f creates (reply.Bytes bytes) found absent undone =
-      at_made f creates (λ o. ClaimsLater (cond (is_own_frame o bytes) ListsDeclared (refuse refusal.ArrayExists))) (from (is_own_frame (Some f) bytes) refl)
+      at_made f creates (λ o. ClaimsLater (cond (is_own_frame o bytes) (Creates ListsDeclared) (refuse refusal.ArrayExists))) (from (is_own_frame (Some f) bytes) refl)
     where
-      from : (b : Bool) → is_own_frame (Some f) bytes ≡ b → ClaimsLater (cond b ListsDeclared (refuse refusal.ArrayExists))
+      from : (b : Bool) → is_own_frame (Some f) bytes ≡ b → ClaimsLater (cond b (Creates ListsDeclared) (refuse refusal.ArrayExists))
       from true own = found bytes refl own
       from false other = undone
   compare_leads f creates reply.Absent found absent undone = absurd (absent refl)
@@ -181,7 +182,7 @@ module _ {F : Type 0} (forms : Forms F) (spelled : Spelled) (tracks : Tracking F
       (sym (got_whole (frame_object frame) short) ∙ sym told ∙ sym ((bytes_eq-Decides (frame_object (frame_made f)) bytes).0 own))
 
   -- the get of the frame that is there advances a create
-  compare_step : (f : FrameIn) → job.command ≡ Create f → create_refusal f ≡ None → Clean m h job → (frame : Frame) → frame_in h ≡ Some frame → ComesHere ComparesFrame → AdvancesHere ComparesFrame
+  compare_step : (f : FrameIn) → job.command ≡ Create f → create_refusal f ≡ None → Clean m h job → (frame : Frame) → frame_in h ≡ Some frame → ComesHere (Creates ComparesFrame) → AdvancesHere (Creates ComparesFrame)
   compare_step f creates sound clean frame framed c = record {
     leads = still_leads spelled past jobs seen e m job.id c.stands looked.0 same_history;
     own = compare_leads f creates e.reply
@@ -213,14 +214,14 @@ module _ {F : Type 0} (forms : Forms F) (spelled : Spelled) (tracks : Tracking F
           (found.2 ∙ ap (part_of 0 (2 ^ 64 - 1)) (same_Some found.0 (frame_object frame) (sym found.1 ∙ held))) own
 
   -- a create advances by the get of the frame that it found
-  pub compare_steps : FormsLaws forms spelled tracks → ComesHere ComparesFrame → AdvancesHere ComparesFrame
+  pub compare_steps : CodecLaws codec spelled tracks → ComesHere (Creates ComparesFrame) → AdvancesHere (Creates ComparesFrame)
   compare_steps laws c = compare_step (c.claims).1.0 (c.claims).1.1 (c.claims).1.2 (c.claims).0 (c.claims).2.0 (c.claims).2.1 c
 
   -- ---- a create: the schemas that are there
 
   -- where the listing of the schemas leads a create
   declared_leads : (f : FrameIn) → job.command ≡ Create f → (r : Reply) → ClaimsLater (Puts (schema_object_of job f.attrs ∷ []) 0 outcome.Created) → IsUndone h' job
-      → ClaimsLater (goes forms job ListsDeclared r)
+      → ClaimsLater (goes codec job (Creates ListsDeclared) r)
   declared_leads f creates (reply.Names names) puts undone =
       at_made f creates (λ o. ClaimsLater (cond (nat_eq (length names) 0) (puts_first job o) (refuse refusal.ArrayExists))) (from (nat_eq (length names) 0))
     where
@@ -231,7 +232,7 @@ module _ {F : Type 0} (forms : Forms F) (spelled : Spelled) (tracks : Tracking F
   declared_leads f creates _ puts undone = tt
 
   -- the listing of the schemas advances a create
-  declared_step : (f : FrameIn) → job.command ≡ Create f → create_refusal f ≡ None → frame_in h ≡ Some (frame_made f) → Clean m h job → ComesHere ListsDeclared → AdvancesHere ListsDeclared
+  declared_step : (f : FrameIn) → job.command ≡ Create f → create_refusal f ≡ None → frame_in h ≡ Some (frame_made f) → Clean m h job → ComesHere (Creates ListsDeclared) → AdvancesHere (Creates ListsDeclared)
   declared_step f creates sound framed clean c = record {
     leads = still_leads spelled past jobs seen e m job.id c.stands looked.0 same_history;
     own = declared_leads f creates e.reply (puts_first_claims f creates sound clean_later (ap frame_in same_history ∙ framed)) clean_later.undone;
@@ -247,5 +248,5 @@ module _ {F : Type 0} (forms : Forms F) (spelled : Spelled) (tracks : Tracking F
       clean_later = clean_look m m' h h' job looked.0 same_history clean
 
   -- a create advances by the listing of the schemas
-  pub declared_steps : FormsLaws forms spelled tracks → ComesHere ListsDeclared → AdvancesHere ListsDeclared
+  pub declared_steps : CodecLaws codec spelled tracks → ComesHere (Creates ListsDeclared) → AdvancesHere (Creates ListsDeclared)
   declared_steps laws c = declared_step (c.claims).1.0 (c.claims).1.1 (c.claims).1.2 (c.claims).1.3 (c.claims).0 c

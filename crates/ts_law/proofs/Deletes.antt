@@ -38,7 +38,7 @@ use Rattle.ts_model.specs.declared.answers.Refusal.{Refusal}
 use Rattle.ts_model.specs.declared.answers.Refusal.TheVariants as refusal
 use Rattle.ts_model.specs.Commands.{is_byte, is_text}
 use Rattle.ts_model.specs.Deeds.{History, IsHistory, frame_in, schema_with}
-use Rattle.ts_model.specs.Queries.{attr_field, attr_fields, condition_in, dim_field, dim_fields, fields_in, or_refused, erasing_in}
+use Rattle.ts_model.specs.Queries.{attr_field, attr_fields, condition_in, dim_field, dim_fields, fields_in, or_refused, delete_condition}
 use Rattle.ts_model.proofs.HistoryLaws.{frame_in-append, schema_follows, schema_with-is}
 use Rattle.ts_model.proofs.Spelled.{bytes_tested, neither, no_fault}
 
@@ -212,17 +212,17 @@ parsed_as true found c sparse says = cc
 parsed_as false found c sparse says = read_as found c says
 
 -- an array whose delete is not refused is sparse
-pub erasing_sparse : (frame : Frame) (attrs : List Attr) (text : List ℕ) (c : Condition) → erasing_in frame attrs text ≡ Ok c → frame.dense ≡ false
-erasing_sparse frame attrs text c says = by frame.dense says
+pub delete_condition_sparse : (frame : Frame) (attrs : List Attr) (text : List ℕ) (c : Condition) → delete_condition frame attrs text ≡ Ok c → frame.dense ≡ false
+delete_condition_sparse frame attrs text c says = by frame.dense says
   where
     by : (b : Bool) → cond b (Err refusal.DenseArray) (condition_in frame.domain attrs text) ≡ Ok c → b ≡ false
     by true h = cc
     by false h = refl
 
 -- a text of bytes that a delete spells over the fields of an array is a condition that has an object
-pub erasing_spelled : (frame : Frame) (attrs : List Attr) (text : List ℕ) (c : Condition) → IsFrame frame → AreAttrs attrs → schema_fault frame.domain attrs ≡ None → frame.dense ≡ false → IsTrue (is_text text)
-    → erasing_in frame attrs text ≡ Ok c → IsCond c
-erasing_spelled frame attrs text c is are sound sparse can says =
+pub delete_condition_spelled : (frame : Frame) (attrs : List Attr) (text : List ℕ) (c : Condition) → IsFrame frame → AreAttrs attrs → schema_fault frame.domain attrs ≡ None → frame.dense ≡ false → IsTrue (is_text text)
+    → delete_condition frame attrs text ≡ Ok c → IsCond c
+delete_condition_spelled frame attrs text c is are sound sparse can says =
     let parts = and_parts (nat_lt (length text) (2 ^ 64)) (list_all is_byte text) can in
     parsed_has_object text (fields_in frame.domain attrs) c (bytes_tested text parts.1) (ltb-true (length text) (2 ^ 64) parts.0) (fields_fit frame attrs is are sound)
     (parsed_as frame.dense (parsed text (fields_in frame.domain attrs)) c sparse says)

@@ -1,5 +1,5 @@
 -- A job that was driven over a store, and the calls that were made of it.
-use Rattle.std.proofs.Common.{◌≡◌, ℕ, true, inr, List, [], ◌∷◌, ◌++◌, Option, Some, None, refl, sym, ◌∙◌, subst, append_assoc, append-nil}
+use Rattle.std.proofs.Common.{◌≡◌, ℕ, inr, List, [], ◌∷◌, ◌++◌, Option, Some, None, refl, sym, ◌∙◌, subst, append_assoc, append-nil}
 use Rattle.std.specs.Prelude.{IfSome}
 use Rattle.std.proofs.lemmas.List.Elements.{All-nil}
 use Rattle.ts_base.specs.Held.{Held}
@@ -10,13 +10,8 @@ use Rattle.ts_model.specs.declared.answers.Driven.TheVariants.{Done}
 use Rattle.ts_model.specs.declared.answers.Outcome.{Outcome}
 use Rattle.ts_model.specs.declared.answers.Outcome.TheVariants.{OutOfMemory}
 use Rattle.ts_model.specs.declared.states.State.{State}
-use Rattle.ts_model.specs.Forms.{Forms}
-use Rattle.ts_model.specs.declared.states.State.TheVariants.{PutsFrame}
-use Rattle.ts_model.specs.declared.answers.Refusal.{Refusal}
-use Rattle.ts_model.specs.declared.commands.Command.{Command}
-use Rattle.ts_model.specs.declared.commands.Command.TheVariants.{Create, Evolve, Write, Read, Delete}
-use Rattle.ts_model.specs.Jobs.{refused_before}
-use Rattle.ts_model.specs.States.{Exchange, begun, can_lack, may_run_short, state_of, unless_refused}
+use Rattle.ts_model.specs.Codecs.{Codec}
+use Rattle.ts_model.specs.States.{Exchange, begun, state_of}
 use Rattle.ts_model.specs.Stops.{Uncut}
 use Rattle.ts_model.specs.Driven.{AskedFrom, ComesOut, IsDriven}
 use Rattle.ts_model.specs.Driving.{Leaves, RanTo, Ran}
@@ -28,57 +23,42 @@ use Rattle.ts_law.specs.Runs.{exchanges}
 use Rattle.ts_law.proofs.Lanes.{own_exchanges}
 
 -- stores that tell what they hold and the journal of their calls, and lists of calls that lead from one to another
-module _ {F : Type 0} (forms : Forms F) {S : Type 0} (held : S → Option Held) (journal : S → List Entry) (leads : S → List Exchange → S → Type 0) (number lane : ℕ) (job : Job)
+module _ {F : Type 0} (codec : Codec F) {S : Type 0} (held : S → Option Held) (journal : S → List Entry) (leads : S → List Exchange → S → Type 0) (number lane : ℕ) (job : Job)
     (none : (a b : S) → leads a [] b → b ≡ a)
     (one : (a b : S) (x : Exchange) (xs : List Exchange) → leads a (x ∷ xs) b → (between : S) × Makes lane (held a) (held between) (journal a) (journal between) x × leads between xs b) where
   -- a job makes more calls than before
-  ran-more : (opening : Option Held) (before : List Entry) (past xs : List Exchange) (a b : S) → RanTo forms number lane job opening (held a) before (journal a) past
-      → AskedFrom forms job (state_of forms job past) xs → leads a xs b → RanTo forms number lane job opening (held b) before (journal b) (past ++ xs)
+  ran-more : (opening : Option Held) (before : List Entry) (past xs : List Exchange) (a b : S) → RanTo codec number lane job opening (held a) before (journal a) past
+      → AskedFrom codec job (state_of codec job past) xs → leads a xs b → RanTo codec number lane job opening (held b) before (journal b) (past ++ xs)
   ran-more opening before past [] a b ran asked way =
-      let P : S → Type 0 = λ s. RanTo forms number lane job opening (held s) before (journal s) (past ++ []) in
-      let Q : List Exchange → Type 0 = λ t. RanTo forms number lane job opening (held a) before (journal a) t in
+      let P : S → Type 0 = λ s. RanTo codec number lane job opening (held s) before (journal s) (past ++ []) in
+      let Q : List Exchange → Type 0 = λ t. RanTo codec number lane job opening (held a) before (journal a) t in
       subst P (sym (none a b way)) (subst Q (sym (append-nil past)) ran)
   ran-more opening before past (x ∷ xs) a b ran asked way =
       let (between, makes, rest) = one a b x xs way in
-      let P : List Exchange → Type 0 = λ t. RanTo forms number lane job opening (held b) before (journal b) t in
-      let Q : State F → Type 0 = λ s. AskedFrom forms job s xs in
-      let more = ran-step forms number lane job opening (held a) (held between) before (journal a) (journal between) past x.call makes.fate x.reply ran asked.0 makes.short makes.fits makes.answers makes.enters in
+      let P : List Exchange → Type 0 = λ t. RanTo codec number lane job opening (held b) before (journal b) t in
+      let Q : State F → Type 0 = λ s. AskedFrom codec job s xs in
+      let more = ran-step codec number lane job opening (held a) (held between) before (journal a) (journal between) past x.call makes.fate x.reply ran asked.0 makes.short makes.fits makes.answers makes.enters in
       subst P (append_assoc past (x ∷ []) xs)
-      (ran-more opening before (past ++ x ∷ []) xs between b more (subst Q (sym (state_from-append forms job (begun job.command) past (x ∷ []))) asked.1) rest)
+      (ran-more opening before (past ++ x ∷ []) xs between b more (subst Q (sym (state_from-append codec job (begun job.command) past (x ∷ []))) asked.1) rest)
 
   -- a job that asked for each of these calls, none of which its stop cut off, and came out so by them: they are the calls that were told
-  pub ran-told : (trace : List Exchange) (a b : S) (result : Driven Outcome) → leads a trace b → AskedFrom forms job (begun job.command) trace → Uncut job.stop 0 trace → ComesOut forms job trace result
-      → (ran : Ran forms number lane job (held a) (held b) (journal a) (journal b) result) × (exchanges ran.told ≡ trace)
+  pub ran-told : (trace : List Exchange) (a b : S) (result : Driven Outcome) → leads a trace b → AskedFrom codec job (begun job.command) trace → Uncut job.stop 0 trace → ComesOut codec job trace result
+      → (ran : Ran codec number lane job (held a) (held b) (journal a) (journal b) result) × (exchanges ran.told ≡ trace)
   ran-told trace a b result way asked uncut ends =
-      let ran = ran-more (held a) (journal a) [] trace a b (ran-none forms number lane job (held a) (journal a)) asked way in
-      let P : List Exchange → Type 0 = λ xs. IsDriven forms job xs result in (
+      let ran = ran-more (held a) (journal a) [] trace a b (ran-none codec number lane job (held a) (journal a)) asked way in
+      let P : List Exchange → Type 0 = λ xs. IsDriven codec job xs result in (
         record { told = ran.told; calls = ran.calls; driven = subst P (sym ran.same) (record { asked = asked; uncut = uncut; ends = ends }) },
         own_exchanges number ran.told ran.calls.own ∙ ran.same,
       )
 
--- memory can be wanting before the first call of a job
-begins_short : (F : Type 0) (job : Job) → may_run_short job (begun {F = F} job.command) ≡ true
-begins_short F job = by job.command
-  where
-    refused : (s : State F) → can_lack s ≡ true → (o : Option Refusal) → can_lack (unless_refused s o) ≡ true
-    refused s lacks None = lacks
-    refused s lacks (Some r) = refl
-
-    by : (command : Command) → can_lack (begun {F = F} command) ≡ true
-    by (Create f) = refused PutsFrame refl (refused_before (Create f))
-    by (Evolve change) = refl
-    by (Write w) = refl
-    by (Read from to query) = refl
-    by (Delete text) = refl
-
 -- a job for which there was no memory made no call
-pub ran-no_call : {F S : Type 0} (forms : Forms F) (held : S → Option Held) (made : S → List Exchange → S → Type 0) (number lane : ℕ) (job : Job) (store : S) (journal : List Entry)
-    → made store [] store → RanOver forms held made number lane job store store journal journal (Done OutOfMemory)
-ran-no_call {F} forms held made number lane job store journal none = record {
+pub ran-no_call : {F S : Type 0} (codec : Codec F) (held : S → Option Held) (made : S → List Exchange → S → Type 0) (number lane : ℕ) (job : Job) (store : S) (journal : List Entry)
+    → made store [] store → RanOver codec held made number lane job store store journal journal (Done OutOfMemory)
+ran-no_call {F} codec held made number lane job store journal none = record {
   ran = record {
     told = [];
     calls = record { own = All-nil (λ e. e.job ≡ Some number); suit = All-nil Suits; entries = sym (append-nil journal); over = nothing (held store) };
-    driven = record { asked = tt; uncut = tt; ends = inr (refl, begins_short F job) };
+    driven = record { asked = tt; uncut = tt; ends = inr (refl, (refl, refl)) };
   };
   made_of = none;
 }

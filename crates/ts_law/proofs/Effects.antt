@@ -10,7 +10,7 @@ use Rattle.ts_law.proofs.HeldLemmas.{Holds}
 use Rattle.ts_model.proofs.ListLemmas.{Contains-nil}
 use Rattle.ts_model.proofs.Traces.{later_unchanged}
 use Rattle.ts_model.specs.Deeds.{History}
-use Rattle.ts_model.specs.Forms.{Spelled}
+use Rattle.ts_model.specs.Codecs.{Spelled}
 use Rattle.ts_law.specs.Stands.{Stands}
 use Rattle.ts_law.specs.Steps.{Keeps, Leads}
 use Rattle.ts_model.specs.Told.{IsReplied, Told, after_told, changes, history_told}
@@ -95,7 +95,7 @@ look_history jobs past seen e m look replied = later_unchanged jobs past seen e 
 -- what stays as it was keeps all
 pub keeps_still : (m m' : Held) (h h' : History) (id : ℕ) → m' ≡ m → h' ≡ h → Keeps m m' h h' id
 keeps_still m m' h h' id same_held same_history = record {
-  keeps = λ n bytes e. subst (λ x. map.get x n ≡ Some bytes) (sym same_held) e;
+  keeps = λ n bytes _ e. subst (λ x. map.get x n ≡ Some bytes) (sym same_held) e;
   adds = λ n bytes e. inl (subst (λ x. map.get x n ≡ Some bytes) same_held e);
   more = [];
   grows = same_history ∙ sym (append-nil h);

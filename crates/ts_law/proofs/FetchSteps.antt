@@ -27,27 +27,28 @@ use Rattle.ts_store.specs.declared.call.Reply.{Reply}
 use Rattle.ts_store.specs.declared.call.Reply.TheVariants as reply
 use Rattle.ts_store.specs.Calls.{answer, reply_of, is_no_memory, part_of, part_reply, length_reply}
 use Rattle.ts_model.specs.declared.commands.Job.{Job}
-use Rattle.ts_model.specs.declared.deeds.Erasure.{Erasure}
+use Rattle.ts_model.specs.declared.deeds.Deletion.{Deletion}
 use Rattle.ts_model.specs.declared.deeds.Written.{Written}
 use Rattle.ts_model.specs.declared.answers.Refusal.TheVariants as refusal
 use Rattle.ts_model.specs.declared.states.Opened.{Opened}
 use Rattle.ts_model.specs.declared.states.Reading.{Reading}
 use Rattle.ts_model.specs.declared.states.State.{State}
-use Rattle.ts_model.specs.declared.states.State.TheVariants.{Fetches}
-use Rattle.ts_model.specs.Deeds.{History, IsHistory, erases, writes, schema_with, schema_there, attrs_with}
-use Rattle.ts_model.specs.Forms.{Forms, Spelled, Tracking, FormsLaws, OpensWell, GoesWell, Stepped, IsToldOf, SpeaksOf}
-use Rattle.ts_model.specs.Forms.Stepped.{Asks, Takes, Breaks}
+use Rattle.ts_model.specs.declared.states.State.TheVariants.{Collects}
+use Rattle.ts_model.specs.declared.states.Collecting.TheVariants.{Fetches}
+use Rattle.ts_model.specs.Deeds.{History, IsHistory, deletions, writes, schema_with, schema_there, attrs_with}
+use Rattle.ts_model.specs.Codecs.{Codec, Spelled, Tracking, CodecLaws, OpensWell, GoesWell, Stepped, IsToldOf, SpeaksOf}
+use Rattle.ts_model.specs.Codecs.Stepped.{Asks, Takes, Breaks}
 use Rattle.ts_model.specs.Jobs.{looks_at}
 use Rattle.ts_commit.specs.Selections.{has_origin, is_usable}
 use Rattle.ts_law.specs.Stands.{HoldsIn}
 use Rattle.ts_model.specs.States.{known_schema, known_attrs, want_of, ended, fetch_leads, fetch_begins, fetches_one, fetching, after_fetched}
-use Rattle.ts_law.specs.Kept.{AreGot, Clean, Erasing, Gathering, Fetching, Claims, heads_of}
+use Rattle.ts_law.specs.Kept.{AreGot, Clean, GettingDeletes, Gathering, Fetching, Claims, heads_of}
 use Rattle.ts_model.specs.Told.{Told, IsReplied, after_told, history_told}
 use Rattle.ts_law.specs.Ends.{IsTrueRefusal}
 use Rattle.ts_law.specs.Steps.{Comes, Advances}
 use Rattle.ts_model.proofs.ListLemmas.{Contains-slice_get, take_next}
-use Rattle.ts_model.proofs.HistoryLaws.{IsHistory-front, erases-append, schema_with-append}
-use Rattle.ts_law.proofs.Erasing.{all_erased, erased_in}
+use Rattle.ts_model.proofs.HistoryLaws.{IsHistory-front, deletions-append, schema_with-append}
+use Rattle.ts_law.proofs.DeletesGot.{all_deletions, deleted_in}
 use Rattle.ts_model.proofs.Traces.{history_told_grows}
 use Rattle.ts_law.proofs.Effects.{IsLook, look_stays, look_history, look_leads}
 use Rattle.ts_law.proofs.Stays.{clean_look, fetching_stays, on_way_stays}
@@ -78,16 +79,16 @@ begins_now jobs past seen before listing later place = let grown = history_told_
 
 -- ---- what a read claims while it fetches
 
-module _ {F : Type 0} (forms : Forms F) (spelled : Spelled) (tracks : Tracking F) (laws : FormsLaws forms spelled tracks)
+module _ {F : Type 0} (codec : Codec F) (spelled : Spelled) (tracks : Tracking F) (laws : CodecLaws codec spelled tracks)
     (past : History) (jobs : List Job) (seen : List Told) (m : Held) (number : ℕ) (job : Job) (clean : Clean m (history_told jobs past seen) job)
-    (r : Reading) (opened : List Opened) (schemas : List Schema) (erasing : Erasing forms spelled past jobs seen m number job r opened schemas) (all_deletes : length r.erased ≡ length r.deletes) where
+    (r : Reading) (opened : List Opened) (schemas : List Schema) (deletes_found : GettingDeletes codec spelled past jobs seen m number job r opened schemas) (all_deletes : length r.deletions ≡ length r.delete_names) where
   -- what the read gathered
-  abbrev gathers : Gathering forms spelled past jobs seen m number job r opened schemas
-  gathers = erasing.gathers
+  abbrev gathers : Gathering codec spelled past jobs seen m number job r opened schemas
+  gathers = deletes_found.gathers
 
   -- the state's claims hold
   abbrev Holds : State F → Type 0
-  Holds s = Claims forms spelled tracks past jobs seen m number job s
+  Holds s = Claims codec spelled tracks past jobs seen m number job s
 
   -- the history at the listing of the commits
   abbrev g : History
@@ -117,14 +118,14 @@ module _ {F : Type 0} (forms : Forms F) (spelled : Spelled) (tracks : Tracking F
   tracked frag one = tracks r.frame (one.holds).schema one.piece ((one.holds).spells).look (want_of r ((one.holds).schema).attrs)
 
   -- a step of a fetch leads to a call, or on with the versions that are wanted
-  step_claims : (next : ℕ) (frag : FragKey) (got : List Version) (on : List Version → State F) → slice_get r.near next ≡ Some frag → (one : IsUsed frag) → IsFound next got
+  step_claims : (next : ℕ) (frag : FragKey) (got : List Version) (on : List Version → State F) → slice_get r.fragments next ≡ Some frag → (one : IsUsed frag) → IsFound next got
       → ((vs : List Version) → vs ≡ wanted_of frag one → Holds (on vs))
       → (s : Stepped F) → GoesWell (tracked frag one) (wanted_of frag one) s → Holds (fetch_leads r opened schemas next frag got on s)
   step_claims next frag got on at one found rest (Asks f c) well = (
     clean,
     at,
     (
-      record { erasing = erasing; all_deletes = all_deletes; found = found },
+      record { deletes_found = deletes_found; all_deletes = all_deletes; found = found },
       record { piece = one.piece; holds = one.holds; same_frame = one.same_frame; usable = one.usable; way = well },
     ),
   )
@@ -132,15 +133,15 @@ module _ {F : Type 0} (forms : Forms F) (spelled : Spelled) (tracks : Tracking F
   step_claims next frag got on at one found rest (Breaks part at_offset) well = absurd well
 
   -- the fragments of the open ones are all that were listed
-  all_frags : list_map (λ o. o.frag) opened ≡ r.near
-  all_frags = ((gathers.opens).are_open).frags ∙ ap (λ n. take n r.near) gathers.all ∙ take_all (length r.near) r.near (omega arith)
+  all_frags : list_map (λ o. o.frag) opened ≡ r.fragments
+  all_frags = ((gathers.opens).are_open).frags ∙ ap (λ n. take n r.fragments) gathers.all ∙ take_all (length r.fragments) r.fragments (omega arith)
 
   -- the fragment of the open one at a place is the one listed there
-  frag_at : (next : ℕ) (o : Opened) → slice_get opened next ≡ Some o → slice_get r.near next ≡ Some o.frag
+  frag_at : (next : ℕ) (o : Opened) → slice_get opened next ≡ Some o → slice_get r.fragments next ≡ Some o.frag
   frag_at next o at = ap (λ fs. slice_get fs next) (sym all_frags) ∙ slice_get-map (λ o. o.frag) opened next ∙ ap (option_map (λ o. o.frag)) at
 
   -- the fragment that is listed at a place is that of the open one there
-  open_there : (next : ℕ) (frag : FragKey) → slice_get r.near next ≡ Some frag → (o : Opened) × (slice_get opened next ≡ Some o) × (o.frag ≡ frag)
+  open_there : (next : ℕ) (frag : FragKey) → slice_get r.fragments next ≡ Some frag → (o : Opened) × (slice_get opened next ≡ Some o) × (o.frag ≡ frag)
   open_there next frag at = by (slice_get opened next) refl (sym (slice_get-map (λ o. o.frag) opened next) ∙ ap (λ fs. slice_get fs next) all_frags ∙ at)
     where
       by : (q : Option Opened) → slice_get opened next ≡ q → option_map (λ o. o.frag) q ≡ Some frag → (o : Opened) × (slice_get opened next ≡ Some o) × (o.frag ≡ frag)
@@ -161,15 +162,15 @@ module _ {F : Type 0} (forms : Forms F) (spelled : Spelled) (tracks : Tracking F
     grows k s is = ap (λ x. schema_with x k) from_g.1 ∙ schema_with-append g from_g.0 k s is
 
     -- a delete of that history is one of this
-    erases_grow : (x : Erasure) → Contains (erases g) x → Contains (erases h) x
-    erases_grow x at = subst (λ y. Contains (erases y) x) (sym from_g.1) (rw (erases-append g from_g.0) (Contains-append_left (erases g) (erases from_g.0) x at))
+    deletions_grow : (x : Deletion) → Contains (deletions g) x → Contains (deletions h) x
+    deletions_grow x at = subst (λ y. Contains (deletions y) x) (sym from_g.1) (rw (deletions-append g from_g.0) (Contains-append_left (deletions g) (deletions from_g.0) x at))
 
     -- a write in the interval went into one of the open fragments
     opened_with : (w : Written) → Contains (writes g) w → is_within r.from r.to w.key ≡ true → (o : Opened) × Contains opened o × (has_origin w.key o.head ≡ true)
     opened_with w at within =
-        let near = ((((gathers.opens).reads).at).listed).covered w at within in
-        let o = map-Contains (λ o. o.frag) opened near.0 (subst (λ fs. Contains fs near.0) (sym all_frags) near.1) in
-        (o.0, o.1, origin_open forms spelled tracks laws g m r opened (gathers.opens).are_open near.0 w.key near.2 o.0 o.1 o.2)
+        let fragments = ((((gathers.opens).reads).at).listed).covered w at within in
+        let o = map-Contains (λ o. o.frag) opened fragments.0 (subst (λ fs. Contains fs fragments.0) (sym all_frags) fragments.1) in
+        (o.0, o.1, origin_open codec spelled tracks laws g m r opened (gathers.opens).are_open fragments.0 w.key fragments.2 o.0 o.1 o.2)
 
     -- so it is an origin in one of the heads
     headed : (w : Written) → Contains (writes g) w → is_within r.from r.to w.key ≡ true → list_any (has_origin w.key) (heads_of opened) ≡ true
@@ -179,10 +180,10 @@ module _ {F : Type 0} (forms : Forms F) (spelled : Spelled) (tracks : Tracking F
     known_to : (w : Written) → Contains (writes g) w → is_within r.from r.to w.key ≡ true → known_attrs r schemas w.schema ≡ attrs_with g w.schema
     known_to w at within =
         let o = opened_with w at within in
-        knows_attrs forms spelled g h m r opened schemas grows ((((gathers.opens).reads).at).works).declared (gathers.opens).are_open gathers.gathered erasing.all_schemas w is_g at o.0 o.1 o.2
+        knows_attrs codec spelled g h m r opened schemas grows ((((gathers.opens).reads).at).works).declared (gathers.opens).are_open gathers.gathered deletes_found.all_schemas w is_g at o.0 o.1 o.2
 
     -- after the last fragment the answer is that of the history
-    end_claims : (next : ℕ) (got : List Version) → drop next opened ≡ [] → IsFound next got → Holds (fetching forms r opened schemas next [] got)
+    end_claims : (next : ℕ) (got : List Version) → drop next opened ≡ [] → IsFound next got → Holds (fetching codec r opened schemas next [] got)
     end_claims next got none found =
         let reads = (gathers.opens).reads in
         let past_end = drop_none opened next none in
@@ -198,8 +199,8 @@ module _ {F : Type 0} (forms : Forms F) (spelled : Spelled) (tracks : Tracking F
             between = (reads.at).between;
             order = (reads.at).order;
             answers = answer_is g r.from r.to (r.ready).sub got (λ c inside. are.inside c inside ∙ last_is_all g r.from r.to (heads_of opened) headed c) are.outside r schemas refl known_to
-                (erased_in spelled past jobs seen m number r.from r.to r.near r.deletes (reads.at).listed is_h erases_grow r.erased erasing.erases all_deletes)
-                (all_erased spelled past jobs seen m number r.from r.to r.near r.deletes (reads.at).listed is_h erases_grow r.erased erasing.erases all_deletes)
+                (deleted_in spelled past jobs seen m number r.from r.to r.fragments r.delete_names (reads.at).listed is_h deletions_grow r.deletions deletes_found.deletions all_deletes)
+                (all_deletions spelled past jobs seen m number r.from r.to r.fragments r.delete_names (reads.at).listed is_h deletions_grow r.deletions deletes_found.deletions all_deletes)
                 (history_told jobs past (((reads.at).works).schemas).before) reads.query reads.framed
                 (subst (λ command. schema_there (history_told jobs past (((reads.at).works).schemas).before) (looks_at job command) ≡ Some r.there) reads.reads ((reads.at).works).holds)
                 reads.is_ready;
@@ -209,26 +210,26 @@ module _ {F : Type 0} (forms : Forms F) (spelled : Spelled) (tracks : Tracking F
     -- a fragment in its schema, which the read knows, is opened
     one_claims : (next : ℕ) (o : Opened) (got : List Version) (on : List Version → State F) → slice_get opened next ≡ Some o → (there : Contains opened o) → IsFound next got
         → ((vs : List Version) → vs ≡ wanted_of o.frag (used_open o there) → Holds (on vs))
-        → Holds (fetches_one forms r opened schemas next o got on (known_schema r schemas (o.head).schema))
+        → Holds (fetches_one codec r opened schemas next o got on (known_schema r schemas (o.head).schema))
     one_claims next o got on at there found rest =
         let opens = ((gathers.opens).are_open).each o there in
         let schema = (opens.holds).schema in
         let spells = (opens.holds).spells in
         let want = want_of r schema.attrs in
-        let well : OpensWell forms (tracks r.frame schema opens.piece spells.look want) r.frame schema opens.piece o.object want =
+        let well : OpensWell codec (tracks r.frame schema opens.piece spells.look want) r.frame schema opens.piece o.object want =
         laws.opens r.frame schema opens.piece spells.look want o.object (subst (λ frame. spelled frame schema opens.piece spells.look) opens.same_frame spells.spells) opens.object in
-        let begins : forms.opens r.frame schema o.frag o.object want ≡ Ok well.fetch = ap (λ f. forms.opens r.frame schema f o.object want) (sym spells.named) ∙ well.opens in
-        let known = knows forms spelled g h m r opened schemas grows ((((gathers.opens).reads).at).works).declared (gathers.opens).are_open gathers.gathered erasing.all_schemas o there in
-        subst (λ s. Holds (fetches_one forms r opened schemas next o got on s)) (sym known)
-        (subst (λ x. Holds (fetch_begins forms r opened schemas next o.frag got on x)) (sym begins)
-        (step_claims next o.frag got on (frag_at next o at) (used_open o there) found rest (forms.steps well.fetch reply.Start) well.starts))
+        let begins : codec.opens r.frame schema o.frag o.object want ≡ Ok well.fetch = ap (λ f. codec.opens r.frame schema f o.object want) (sym spells.named) ∙ well.opens in
+        let known = knows codec spelled g h m r opened schemas grows ((((gathers.opens).reads).at).works).declared (gathers.opens).are_open gathers.gathered deletes_found.all_schemas o there in
+        subst (λ s. Holds (fetches_one codec r opened schemas next o got on s)) (sym known)
+        (subst (λ x. Holds (fetch_begins codec r opened schemas next o.frag got on x)) (sym begins)
+        (step_claims next o.frag got on (frag_at next o at) (used_open o there) found rest (codec.steps well.fetch reply.Start) well.starts))
 
     -- with one fragment more, what is wanted of it was got
     found_more : (next : ℕ) (o : Opened) (got : List Version) → slice_get opened next ≡ Some o → (one : IsUsed o.frag) → IsFound next got → (vs : List Version) → vs ≡ wanted_of o.frag one → IsFound (suc next) (got ++ vs)
     found_more next o got at one found vs all =
         let one_more : next + 1 ≡ suc next = omega arith in
         let opens = ((gathers.opens).are_open).each o (Contains-slice_get opened next o at) in
-        let same : (one.piece).head ≡ o.head = one_head forms spelled tracks laws g m o.frag one.piece opens.piece one.holds opens.holds ∙ sym opens.head in
+        let same : (one.piece).head ≡ o.head = one_head codec spelled tracks laws g m o.frag one.piece opens.piece one.holds opens.holds ∙ sym opens.head in
         let heads : heads_of (take (suc next) opened) ≡ heads_of (take next opened) ++ (one.piece).head ∷ [] =
         ap (λ n. heads_of (take n opened)) (sym one_more) ∙ ap heads_of (take_next opened next o at) ∙ map-append (λ x. x.head) (take next opened) (o ∷ [])
         ∙ ap (λ x. heads_of (take next opened) ++ x ∷ []) (sym same) in
@@ -240,7 +241,7 @@ module _ {F : Type 0} (forms : Forms F) (spelled : Spelled) (tracks : Tracking F
         (none_taken g is_g r.frame framed (one.holds).schema one.piece (one.holds).declared (one.holds).holds (r.ready).sub r.from r.to)))
 
     -- the fragments from a place on are fetched
-    rest_claims : (rest : List Opened) (next : ℕ) (got : List Version) → drop next opened ≡ rest → IsFound next got → Holds (fetching forms r opened schemas next rest got)
+    rest_claims : (rest : List Opened) (next : ℕ) (got : List Version) → drop next opened ≡ rest → IsFound next got → Holds (fetching codec r opened schemas next rest got)
     rest_claims [] next got left found = end_claims next got left found
     rest_claims (o ∷ rest) next got left found =
         let parts = drop_first opened next o rest left in
@@ -265,10 +266,10 @@ module _ {F : Type 0} (forms : Forms F) (spelled : Spelled) (tracks : Tracking F
     failed_claims (call.Remove q) f part speaks = absurd speaks
     failed_claims (call.List p) f part speaks = absurd speaks
 
-    module _ (next : ℕ) (frag : FragKey) (got : List Version) (at : slice_get r.near next ≡ Some frag) (found : IsFound next got) (fetch : F) where
+    module _ (next : ℕ) (frag : FragKey) (got : List Version) (at : slice_get r.fragments next ≡ Some frag) (found : IsFound next got) (fetch : F) where
       -- where the read goes on with the versions of the fragment
       abbrev goes_on : List Version → State F
-      goes_on vs = fetching forms r opened schemas (suc next) (drop (suc next) opened) (got ++ vs)
+      goes_on vs = fetching codec r opened schemas (suc next) (drop (suc next) opened) (got ++ vs)
 
       module _ (one : IsUsed frag) where
         -- with the versions of the fragment, what is wanted of it was got
@@ -285,14 +286,14 @@ module _ {F : Type 0} (forms : Forms F) (spelled : Spelled) (tracks : Tracking F
 
         -- what a part tells leads the read on
         told_claims : (c : Call) (part : Part) (bytes : List ℕ) (said : Reply) → tracked frag one fetch c → ((one.holds).spells).look part ≡ Some bytes
-            → SpeaksOf c (name.Part ((one.piece).head).frag part) → IsToldOf c bytes said → Holds (after_fetched forms r opened schemas next frag got fetch c said)
+            → SpeaksOf c (name.Part ((one.piece).head).frag part) → IsToldOf c bytes said → Holds (after_fetched codec r opened schemas next frag got fetch c said)
         told_claims (call.Get q from len) part bytes said way held speaks told =
-            subst (λ x. Holds (after_fetched forms r opened schemas next frag got fetch (call.Get q from len) x)) (sym told)
-            (on_claims (forms.steps fetch (reply.Bytes (part_of from len bytes)))
+            subst (λ x. Holds (after_fetched codec r opened schemas next frag got fetch (call.Get q from len) x)) (sym told)
+            (on_claims (codec.steps fetch (reply.Bytes (part_of from len bytes)))
             (laws.goes r.frame (one.holds).schema one.piece ((one.holds).spells).look (want_of r ((one.holds).schema).attrs) fetch (call.Get q from len) part bytes (reply.Bytes (part_of from len bytes)) way held speaks refl))
         told_claims (call.Size q) part bytes said way held speaks told =
-            subst (λ x. Holds (after_fetched forms r opened schemas next frag got fetch (call.Size q) x)) (sym told)
-            (on_claims (forms.steps fetch (reply.Length (length bytes)))
+            subst (λ x. Holds (after_fetched codec r opened schemas next frag got fetch (call.Size q) x)) (sym told)
+            (on_claims (codec.steps fetch (reply.Length (length bytes)))
             (laws.goes r.frame (one.holds).schema one.piece ((one.holds).spells).look (want_of r ((one.holds).schema).attrs) fetch (call.Size q) part bytes (reply.Length (length bytes)) way held speaks refl))
         told_claims (call.Put q more) part bytes said way held speaks told = absurd speaks
         told_claims (call.Remove q) part bytes said way held speaks told = absurd speaks
@@ -300,21 +301,21 @@ module _ {F : Type 0} (forms : Forms F) (spelled : Spelled) (tracks : Tracking F
 
         -- where a reply leads the read
         reply_claims : (c : Call) (part : Part) (bytes : List ℕ) (said : Reply) → tracked frag one fetch c → ((one.holds).spells).look part ≡ Some bytes
-            → SpeaksOf c (name.Part ((one.piece).head).frag part) → (said ≡ reply.NoMemory) ⊎ ((said ≡ reply.Failed) ⊎ IsToldOf c bytes said) → Holds (after_fetched forms r opened schemas next frag got fetch c said)
+            → SpeaksOf c (name.Part ((one.piece).head).frag part) → (said ≡ reply.NoMemory) ⊎ ((said ≡ reply.Failed) ⊎ IsToldOf c bytes said) → Holds (after_fetched codec r opened schemas next frag got fetch c said)
         reply_claims c part bytes said way held speaks (inl none) =
-            subst (λ x. Holds (after_fetched forms r opened schemas next frag got fetch c x)) (sym none) (no_memory_claims c (name.Part ((one.piece).head).frag part) speaks)
+            subst (λ x. Holds (after_fetched codec r opened schemas next frag got fetch c x)) (sym none) (no_memory_claims c (name.Part ((one.piece).head).frag part) speaks)
         reply_claims c part bytes said way held speaks (inr (inl failed)) =
-            subst (λ x. Holds (after_fetched forms r opened schemas next frag got fetch c x)) (sym failed) (failed_claims c ((one.piece).head).frag part speaks)
+            subst (λ x. Holds (after_fetched codec r opened schemas next frag got fetch c x)) (sym failed) (failed_claims c ((one.piece).head).frag part speaks)
         reply_claims c part bytes said way held speaks (inr (inr told)) = told_claims c part bytes said way held speaks told
 
 -- a read that fetches the fragments from a place on claims what is true
-pub fetching_claims : {F : Type 0} (forms : Forms F) (spelled : Spelled) (tracks : Tracking F) (past : History) (jobs : List Job) (seen : List Told) (m : Held) (number : ℕ) (job : Job)
-    (r : Reading) (opened : List Opened) (schemas : List Schema) (next : ℕ) (got : List Version) → FormsLaws forms spelled tracks → Clean m (history_told jobs past seen) job
-    → (fetches : Fetching forms spelled past jobs seen m number job r opened schemas next got)
-    → IsHistory (history_told jobs past (((((((fetches.erasing).gathers).opens).reads).at).listed).commits).before) → IsHistory (history_told jobs past seen)
-    → Claims forms spelled tracks past jobs seen m number job (fetching forms r opened schemas next (drop next opened) got)
-fetching_claims forms spelled tracks past jobs seen m number job r opened schemas next got laws clean fetches is_g is_h =
-    rest_claims forms spelled tracks laws past jobs seen m number job clean r opened schemas fetches.erasing fetches.all_deletes is_g is_h (drop next opened) next got refl fetches.found
+pub fetching_claims : {F : Type 0} (codec : Codec F) (spelled : Spelled) (tracks : Tracking F) (past : History) (jobs : List Job) (seen : List Told) (m : Held) (number : ℕ) (job : Job)
+    (r : Reading) (opened : List Opened) (schemas : List Schema) (next : ℕ) (got : List Version) → CodecLaws codec spelled tracks → Clean m (history_told jobs past seen) job
+    → (fetches : Fetching codec spelled past jobs seen m number job r opened schemas next got)
+    → IsHistory (history_told jobs past (((((((fetches.deletes_found).gathers).opens).reads).at).listed).commits).before) → IsHistory (history_told jobs past seen)
+    → Claims codec spelled tracks past jobs seen m number job (fetching codec r opened schemas next (drop next opened) got)
+fetching_claims codec spelled tracks past jobs seen m number job r opened schemas next got laws clean fetches is_g is_h =
+    rest_claims codec spelled tracks laws past jobs seen m number job clean r opened schemas fetches.deletes_found fetches.all_deletes is_g is_h (drop next opened) next got refl fetches.found
 
 -- ---- what a call on a part tells
 
@@ -354,11 +355,11 @@ speaks_look (call.List p) n speaks = absurd speaks
 
 -- ---- the call of a fetch
 
-module _ {F : Type 0} (forms : Forms F) (spelled : Spelled) (tracks : Tracking F) (past : History) (jobs : List Job) (seen : List Told) (e : Told) (m : Held) (number : ℕ) (job : Job)
+module _ {F : Type 0} (codec : Codec F) (spelled : Spelled) (tracks : Tracking F) (past : History) (jobs : List Job) (seen : List Told) (e : Told) (m : Held) (number : ℕ) (job : Job)
     (r : Reading) (opened : List Opened) (schemas : List Schema) (next : ℕ) (frag : FragKey) (got : List Version) (fetch : F) (c : Call) where
   -- the call of a fetch leads its read on
-  pub fetch_steps : FormsLaws forms spelled tracks → Comes forms spelled tracks past jobs seen e m number job (Fetches r opened schemas next frag got fetch c)
-      → Advances forms spelled tracks past jobs seen e m number job (Fetches r opened schemas next frag got fetch c)
+  pub fetch_steps : CodecLaws codec spelled tracks → Comes codec spelled tracks past jobs seen e m number job (Collects (Fetches r opened schemas next frag got fetch c))
+      → Advances codec spelled tracks past jobs seen e m number job (Collects (Fetches r opened schemas next frag got fetch c))
   fetch_steps laws comes =
       let fetches = comes.claims.2.0 in
       let way = comes.claims.2.1 in
@@ -369,21 +370,21 @@ module _ {F : Type 0} (forms : Forms F) (spelled : Spelled) (tracks : Tracking F
       let same_held = (look_stays m e look comes.replied).0 in
       let same_history = look_history jobs past seen e m look comes.replied in
       let clean = clean_look m (after_told m e) (history_told jobs past seen) (history_told jobs past (seen ++ e ∷ [])) job same_held same_history comes.claims.0 in
-      let later = fetching_stays spelled past jobs seen e m (after_told m e) job.id leads.leaves number forms job r opened schemas next got
+      let later = fetching_stays spelled past jobs seen e m (after_told m e) job.id leads.leaves number codec job r opened schemas next got
       (λ own lists. subst (λ x. SpeaksOf x (name.Part ((way.piece).head).frag asks.part)) (sym is ∙ lists) asks.named) fetches in
       let on_way = on_way_stays spelled past jobs seen e m (after_told m e) job.id leads.leaves number tracks
-      (history_told jobs past (((((((fetches.erasing).gathers).opens).reads).at).listed).commits).before) r frag fetch c way in
+      (history_told jobs past (((((((fetches.deletes_found).gathers).opens).reads).at).listed).commits).before) r frag fetch c way in
       let spells = (on_way.holds).spells in
       let again = laws.asks r.frame (on_way.holds).schema on_way.piece spells.look (want_of r ((on_way.holds).schema).attrs) fetch c on_way.way in
       let held : map.get m (name.Part frag again.part) ≡ Some again.bytes = subst (λ x. map.get x (name.Part frag again.part) ≡ Some again.bytes) same_held (spells.held again.part again.bytes again.held) in
       let speaks : SpeaksOf c (name.Part frag again.part) = subst (λ f. SpeaksOf c (name.Part f again.part)) spells.named again.named in
       let is_h : IsHistory (history_told jobs past seen) = (comes.stands).history in
-      let commits = ((((((fetches.erasing).gathers).opens).reads).at).listed).commits in
+      let commits = ((((((fetches.deletes_found).gathers).opens).reads).at).listed).commits in
       let from_g = begins_now jobs past seen commits.before commits.listing commits.later commits.place in
       let is_g = IsHistory-front (history_told jobs past commits.before) from_g.0 (subst IsHistory from_g.1 is_h) in
       record {
         leads = leads;
-        own = reply_claims forms spelled tracks laws past jobs (seen ++ e ∷ []) (after_told m e) number job clean r opened schemas later.erasing later.all_deletes is_g (subst IsHistory (sym same_history) is_h)
+        own = reply_claims codec spelled tracks laws past jobs (seen ++ e ∷ []) (after_told m e) number job clean r opened schemas later.deletes_found later.all_deletes is_g (subst IsHistory (sym same_history) is_h)
             next frag got comes.claims.1 later.found fetch (record { piece = on_way.piece; holds = on_way.holds; same_frame = on_way.same_frame; usable = on_way.usable }) c again.part again.bytes e.reply on_way.way again.held again.named
             (tells_of m (name.Part frag again.part) again.bytes held e c is speaks comes.replied);
       }

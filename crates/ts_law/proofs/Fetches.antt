@@ -29,7 +29,7 @@ use Rattle.ts_model.specs.declared.deeds.Written.{Written}
 use Rattle.ts_model.specs.declared.states.Opened.{Opened}
 use Rattle.ts_model.specs.declared.states.Reading.{Reading}
 use Rattle.ts_model.specs.Deeds.{History, IsHistory, writes, schema_with, attrs_with, has_cell}
-use Rattle.ts_model.specs.Forms.{Forms, FormsLaws, Spelled, Tracking}
+use Rattle.ts_model.specs.Codecs.{Codec, CodecLaws, Spelled, Tracking}
 use Rattle.ts_model.specs.Pieces.{version_of}
 use Rattle.ts_law.specs.Origins.{origins_of, wrote_in, last_of, last_version, newest_at}
 use Rattle.ts_law.specs.Stands.{HoldsIn, WentInto}
@@ -221,17 +221,17 @@ module _ (h : History) (from to : ℕ) (sub : SubBox) where
 -- ---- heads
 
 -- a fragment has one head, whatever pieces its parts spell
-pub one_head : {F : Type 0} (forms : Forms F) (spelled : Spelled) (tracks : Tracking F) → FormsLaws forms spelled tracks → (g : History) (m : Held) (f : FragKey) (p q : Piece)
+pub one_head : {F : Type 0} (codec : Codec F) (spelled : Spelled) (tracks : Tracking F) → CodecLaws codec spelled tracks → (g : History) (m : Held) (f : FragKey) (p q : Piece)
     → HoldsIn spelled g m f p → HoldsIn spelled g m f q → p.head ≡ q.head
-one_head forms spelled tracks laws g m f p q a b =
+one_head codec spelled tracks laws g m f p q a b =
     let first = laws.head a.frame a.schema p (a.spells).look (a.spells).spells in
     let second = laws.head b.frame b.schema q (b.spells).look (b.spells).spells in
     let frame : a.frame ≡ b.frame = same_Some a.frame b.frame (sym a.framed ∙ b.framed) in
-    let object : first.0 ≡ second.0 = same_Some first.0 second.0 (sym ((a.spells).held (forms.head_part a.frame) first.0 first.1) ∙ ap (λ x. map.get m (name.Part f (forms.head_part x))) frame
-    ∙ (b.spells).held (forms.head_part b.frame) second.0 second.1) in
-    let same : forms.head a.frame p.head.frag first.0 ≡ forms.head b.frame q.head.frag second.0 =
-    ap (λ x. forms.head x p.head.frag first.0) frame ∙ ap (λ x. forms.head b.frame x first.0) ((a.spells).named ∙ sym (b.spells).named) ∙ ap (forms.head b.frame q.head.frag) object in
-    one_read (forms.head b.frame q.head.frag second.0) p.head q.head (sym same ∙ first.2) second.2
+    let object : first.0 ≡ second.0 = same_Some first.0 second.0 (sym ((a.spells).held (codec.head_part a.frame) first.0 first.1) ∙ ap (λ x. map.get m (name.Part f (codec.head_part x))) frame
+    ∙ (b.spells).held (codec.head_part b.frame) second.0 second.1) in
+    let same : codec.head a.frame p.head.frag first.0 ≡ codec.head b.frame q.head.frag second.0 =
+    ap (λ x. codec.head x p.head.frag first.0) frame ∙ ap (λ x. codec.head b.frame x first.0) ((a.spells).named ∙ sym (b.spells).named) ∙ ap (codec.head b.frame q.head.frag) object in
+    one_read (codec.head b.frame q.head.frag second.0) p.head q.head (sym same ∙ first.2) second.2
   where
     one_read : (r : Result Head ℕ) (x y : Head) → r ≡ Ok x → r ≡ Ok y → x ≡ y
     one_read r x y e f = cc
@@ -255,17 +255,17 @@ module _ (r : Reading) (opened : List Opened) where
       ∙ is_some-find key_cmp (o.head).schema named ∙ list_any-from_Contains (eq_by_cmp_equiv key_total) (o.head).schema (list_map (λ e. e.0) named)
       (Contains-map (λ e. e.0) named ((o.head).schema, (o.head).schema) (Contains-map (λ p. ((p.head).schema, (p.head).schema)) further o (Contains-filter _ opened o at (ap not other)))))
 
-module _ {F : Type 0} (forms : Forms F) (spelled : Spelled) (g h : History) (m : Held) (r : Reading) (opened : List Opened) (schemas : List Schema)
+module _ {F : Type 0} (codec : Codec F) (spelled : Spelled) (g h : History) (m : Held) (r : Reading) (opened : List Opened) (schemas : List Schema)
     (grows : (k : Key) (s : Schema) → schema_with g k ≡ Some s → schema_with h k ≡ Some s)
     (there : schema_with h (r.there).key ≡ Some r.there)
-    (are_open : AreOpen forms spelled g m r opened) (gathered : AreSchemas h (keys_named r opened) schemas) (all_schemas : length schemas ≡ length (keys_named r opened)) where
+    (are_open : AreOpen codec spelled g m r opened) (gathered : AreSchemas h (keys_named r opened) schemas) (all_schemas : length schemas ≡ length (keys_named r opened)) where
   -- the schemas that were gathered have all keys that the heads name
   all_keys : list_map (λ s. s.key) schemas ≡ keys_named r opened
   all_keys = gathered.keys_are ∙ ap (λ n. take n (keys_named r opened)) all_schemas ∙ take_all (length (keys_named r opened)) (keys_named r opened) (omega arith)
 
   module _ (o : Opened) (at : Contains opened o) where
     -- how it is open
-    abbrev open_at : IsOpen forms spelled g m r.frame r.from r.to o
+    abbrev open_at : IsOpen codec spelled g m r.frame r.from r.to o
     open_at = are_open.each o at
 
     -- its schema
@@ -306,9 +306,9 @@ module _ {F : Type 0} (forms : Forms F) (spelled : Spelled) (g h : History) (m :
       ∙ ap (λ s. option_map_or (λ t. t.attrs) s []) (sym (opens.holds).declared) ∙ ap (λ x. attrs_with g x.schema) (sym opens.head) ∙ ap (attrs_with g) (sym key)
 
 -- a write that went into a fragment which is open is one of the origins in its head
-pub origin_open : {F : Type 0} (forms : Forms F) (spelled : Spelled) (tracks : Tracking F) → FormsLaws forms spelled tracks → (g : History) (m : Held) (r : Reading) (opened : List Opened)
-    → AreOpen forms spelled g m r opened → (f : FragKey) (k : Key) → WentInto spelled g m f k → (o : Opened) → Contains opened o → o.frag ≡ f → has_origin k o.head ≡ true
-origin_open forms spelled tracks laws g m r opened are_open f k went o at own =
+pub origin_open : {F : Type 0} (codec : Codec F) (spelled : Spelled) (tracks : Tracking F) → CodecLaws codec spelled tracks → (g : History) (m : Held) (r : Reading) (opened : List Opened)
+    → AreOpen codec spelled g m r opened → (f : FragKey) (k : Key) → WentInto spelled g m f k → (o : Opened) → Contains opened o → o.frag ≡ f → has_origin k o.head ≡ true
+origin_open codec spelled tracks laws g m r opened are_open f k went o at own =
     let opens = are_open.each o at in
-    let same : (went.piece).head ≡ o.head = one_head forms spelled tracks laws g m f went.piece opens.piece went.holds (subst (λ x. HoldsIn spelled g m x opens.piece) own opens.holds) ∙ sym opens.head in
+    let same : (went.piece).head ≡ o.head = one_head codec spelled tracks laws g m f went.piece opens.piece went.holds (subst (λ x. HoldsIn spelled g m x opens.piece) own opens.holds) ∙ sym opens.head in
     subst (λ x. has_origin k x ≡ true) same went.origin

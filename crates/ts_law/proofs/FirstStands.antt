@@ -1,5 +1,5 @@
 -- Where a run may begin: the empty map stands for the empty history, and each seed is fresh over it.
-use Rattle.std.proofs.Common.{◌≡◌, ℕ, ◌^◌, ◌<◌, inl, inr, List, [], None, length, sym, ◌∙◌, ap}
+use Rattle.std.proofs.Common.{◌≡◌, ℕ, Bool, ◌^◌, ◌<◌, inl, inr, List, [], None, sym, ◌∙◌, ap}
 use Rattle.std.specs.Prelude.{All}
 use Rattle.std.specs.Option.{is_some}
 use Rattle.std.specs.FinMap as map
@@ -11,18 +11,17 @@ use Rattle.ts_base.specs.declared.names.CommitKind.TheVariants.{Del}
 use Rattle.ts_base.specs.Names.{name_cmp, wrt_of}
 use Rattle.ts_base.specs.Held.{Held}
 use Rattle.ts_model.specs.declared.commands.Job.{Job}
-use Rattle.ts_model.specs.declared.commands.Line.{Line}
 use Rattle.ts_model.specs.declared.answers.Driven.{Driven}
 use Rattle.ts_model.specs.declared.answers.Outcome.{Outcome}
-use Rattle.ts_model.specs.Forms.{Forms, Spelled, Tracking, FormsLaws}
-use Rattle.ts_model.specs.Jobs.{IsFitLine}
+use Rattle.ts_model.specs.Codecs.{Codec, Spelled, Tracking, CodecLaws}
 use Rattle.ts_law.specs.Stands.{Stands}
-use Rattle.ts_law.specs.Fresh.{IsFreshSeed, AreJobsOf}
+use Rattle.ts_law.specs.Fresh.{IsFreshSeed, Numbered, AreJobsOf}
 use Rattle.ts_law.specs.Lanes.{IsOwned, IsWithin, InTurn}
 use Rattle.ts_model.specs.Told.{Told, Suits, Replied}
 use Rattle.ts_law.specs.Runs.{AreDriven, IsTrueRun}
 use Rattle.ts_model.proofs.ListLemmas.{Contains-nil}
 use Rattle.ts_law.proofs.HeldLemmas.{Holds}
+use Rattle.ts_law.proofs.LineJobs.{AreInOrder}
 use Rattle.ts_law.proofs.TrueRuns.{true_run}
 
 -- nothing is held
@@ -57,9 +56,9 @@ fresh_over_nothing seed id upper (inl (k, at, is)) = Contains-nil k at
 fresh_over_nothing seed id upper (inr (n, held, is)) = none_held n held
 
 -- a run over nothing is true of the empty history
-pub true_from_nothing : {F : Type 0} (forms : Forms F) (spelled : Spelled) (tracks : Tracking F) → FormsLaws forms spelled tracks
-    → (seed lane : ℕ) (lines : List Line) (lanes : ℕ → ℕ) (jobs : List Job) (told : List Told) (results : List (Driven Outcome))
-    → AreJobsOf seed lane lines jobs → seed < 2 ^ 64 → lane < 2 ^ 32 → length lines < 2 ^ 32 → All IsFitLine lines
-    → Replied nothing told → All Suits told → All IsOwned told → All (IsWithin jobs) told → InTurn lanes told → AreDriven forms jobs results told → IsTrueRun spelled lanes jobs [] nothing told results
-true_from_nothing forms spelled tracks laws seed lane lines lanes jobs told results are seed_fits lane_fits few fit replied suit owned within in_turn driven =
-    true_run forms spelled tracks laws seed lane lines lanes jobs [] nothing told results are (nothing_stands spelled) (fresh_over_nothing seed) seed_fits lane_fits few fit replied suit owned within in_turn driven
+pub true_from_nothing : {F : Type 0} (codec : Codec F) (spelled : Spelled) (tracks : Tracking F) → CodecLaws codec spelled tracks
+    → (gives : ℕ → Bool) (seed : ℕ) (items : List Numbered) (lanes : ℕ → ℕ) (jobs : List Job) (told : List Told) (results : List (Driven Outcome))
+    → AreJobsOf gives seed items jobs → AreInOrder items → seed < 2 ^ 64
+    → Replied nothing told → All Suits told → All IsOwned told → All (IsWithin jobs) told → InTurn lanes told → AreDriven codec jobs results told → IsTrueRun spelled lanes jobs [] nothing told results
+true_from_nothing codec spelled tracks laws gives seed items lanes jobs told results are order seed_fits replied suit owned within in_turn driven =
+    true_run codec spelled tracks laws gives seed items lanes jobs [] nothing told results are order (nothing_stands spelled) (fresh_over_nothing seed) seed_fits replied suit owned within in_turn driven

@@ -23,7 +23,7 @@ use Rattle.ts_model.specs.declared.deeds.Deed.{Deed}
 use Rattle.ts_model.specs.declared.deeds.Deed.TheVariants.{Framed, Declared, Wrote, Erased}
 use Rattle.ts_law.proofs.Effects.{cond_same}
 use Rattle.ts_model.specs.Deeds.{History, IsHistory, IsNewKey, key_in, write_in, keys, writes, has_cell}
-use Rattle.ts_model.specs.Forms.{Spelled}
+use Rattle.ts_model.specs.Codecs.{Spelled}
 use Rattle.ts_schema.specs.declared.frames.Frame.{Frame}
 use Rattle.ts_model.specs.Commands.{FillBox, piece_of}
 use Rattle.ts_model.specs.Pieces.{version_of, HoldsWrite}

@@ -14,6 +14,7 @@ use Rattle.ts_base.specs.declared.names.Prefix.TheVariants.{Commits, Schemas}
 use Rattle.ts_base.specs.Held.{Held}
 use Rattle.ts_schema.specs.FrameTexts.{frame_object, frame_of}
 use Rattle.ts_schema.specs.Parts.{IsShort}
+use Rattle.ts_schema.specs.declared.schemas.Schema.{Schema}
 use Rattle.ts_store.specs.declared.call.Call.{Call}
 use Rattle.ts_store.specs.declared.call.Reply.{Reply}
 use Rattle.ts_store.specs.declared.fate.Fate.{Fate}
@@ -27,13 +28,16 @@ use Rattle.ts_model.specs.declared.answers.Outcome.{Outcome}
 use Rattle.ts_model.specs.declared.deeds.Deed.TheVariants.{Framed, Declared, Wrote, Erased}
 use Rattle.ts_model.specs.declared.states.State.{State}
 use Rattle.ts_model.specs.declared.states.NewObject.{NewObject}
-use Rattle.ts_model.specs.declared.states.State.TheVariants.{ComparesFrame, Fetches, GetsDeletes, GetsFrame, GetsHeads, GetsSchema, GetsSchemas, ListsCommits, ListsDeclared, ListsSchemas, Over, Puts, PutsFrame}
+use Rattle.ts_model.specs.declared.states.State.TheVariants.{Creates, Seeks, Puts, Collects, Over}
+use Rattle.ts_model.specs.declared.states.Creating.TheVariants.{PutsFrame, ComparesFrame, ListsDeclared}
+use Rattle.ts_model.specs.declared.states.Seeking.TheVariants.{ListsCommits, ListsSchemas, GetsSchema, GetsFrame}
+use Rattle.ts_model.specs.declared.states.Collecting.TheVariants.{GetsHeads, GetsSchemas, GetsDeletes, Fetches}
 use Rattle.ts_model.specs.Commands.{frame_made, create_refusal, fits}
 use Rattle.ts_model.specs.Deeds.{History}
-use Rattle.ts_model.specs.Forms.{Forms, FormsLaws, Spelled, Tracking}
+use Rattle.ts_model.specs.Codecs.{Codec, CodecLaws, Spelled, Tracking}
 use Rattle.ts_model.specs.Jobs.{IsFit, AreApart, job_with}
 use Rattle.ts_model.specs.States.{asks, frame_put, get_delete, get_head, get_schema, made_by, put_of, state_of, want_of}
-use Rattle.ts_model.specs.Told.{Told, trace_of, IsShortCall, IsReplied, Replied, after_told, changes, held_told, entry_of, entries_of, found_in, found_after, schemas_found, declared_by, written_by, erased_by, deed_of, deed_in, deed_told, grown, history_from, history_told}
+use Rattle.ts_model.specs.Told.{Told, trace_of, IsShortCall, IsReplied, Replied, after_told, changes, held_told, entry_of, entries_of, found_in, found_after, schemas_found, declared_by, written_by, deleted_by, deed_of, deed_in, deed_told, grown, history_from, history_told}
 use Rattle.ts_model.proofs.Asked.{next_call}
 use Rattle.ts_model.proofs.HistoryLaws.{job_of_id}
 use Rattle.ts_model.proofs.ListLemmas.{Contains-here, Contains-slice_get}
@@ -41,7 +45,7 @@ use Rattle.ts_model.proofs.Traces.{exchange_of_own, exchange_of_other, deed_told
 use Rattle.ts_law.specs.Fresh.{id_in}
 use Rattle.ts_law.specs.Histories.{found_by, deed_carried, deed_put, deed_entered, grown_by, history_by, history_of}
 use Rattle.ts_law.specs.Lanes.{lane_by, IsOwned, IsBefore, InTurn}
-use Rattle.ts_law.specs.Kept.{AreAllowed, Aims, Claims, IsAllowed, Kept}
+use Rattle.ts_law.specs.Kept.{AreAllowed, Aims, Claims, IsAllowed, Kept, Works}
 use Rattle.ts_law.proofs.Declaring.{created_frame, frame_again}
 use Rattle.ts_law.proofs.Frames.{aims-carry}
 use Rattle.ts_law.proofs.Journals.{journal_held}
@@ -214,7 +218,7 @@ create_deed : (h : History) (job : Job) (f : FrameIn) (x z : Option (List Key)) 
 create_deed h job f x z name.Domain is = refl
 create_deed h job f x z (name.Schema k) is = ap (λ c. option_map Declared (declared_by h job x c)) is ∙ sym (ap (λ c. option_map Declared (declared_by h job z c)) is)
 create_deed h job f x z (name.Commit frag Wrt) is = ap (λ c. option_map Wrote (written_by h job x c)) is ∙ sym (ap (λ c. option_map Wrote (written_by h job z c)) is)
-create_deed h job f x z (name.Commit frag Del) is = ap (λ c. option_map Erased (erased_by h job x c)) is ∙ sym (ap (λ c. option_map Erased (erased_by h job z c)) is)
+create_deed h job f x z (name.Commit frag Del) is = ap (λ c. option_map Erased (deleted_by h job x c)) is ∙ sym (ap (λ c. option_map Erased (deleted_by h job z c)) is)
 create_deed h job f x z n is = refl
 
 -- the deed of an object whose name carries an identifier
@@ -230,33 +234,33 @@ carried_is jobs h found n number job apart at carries =
 
 -- the put of a frame: its bytes spell the frame of the create that puts it
 pub record PutsAFrame (job : Job) (n : Name) (bytes : List ℕ) : Type 0 where
-  made : FrameIn
-  creates : job.command ≡ Create made
+  pub made : FrameIn
+  pub creates : job.command ≡ Create made
   sound : create_refusal made ≡ None
   named : n ≡ name.Domain
   spelled : bytes ≡ frame_object (frame_made made)
 
--- another put: its name carries the job's identifier, and a job that is no create found the schemas before
-pub record PutsItsOwn (seen : List Told) (number : ℕ) (job : Job) (n : Name) : Type 0 where
+-- another put: its name carries the job's identifier, and a job that is no create works in a schema
+pub record PutsItsOwn (past : History) (jobs : List Job) (seen : List Told) (number : ℕ) (job : Job) (n : Name) : Type 0 where
   carries : id_in n ≡ Some job.id
-  finds : ((f : FrameIn) × (job.command ≡ Create f)) ⊎ ((found : List Key) × (schemas_found (trace_of number seen) ≡ Some found))
+  pub finds : ((f : FrameIn) × (job.command ≡ Create f)) ⊎ ((there : Schema) × Works past jobs seen number job there)
 
-module _ {F : Type 0} (forms : Forms F) (spelled : Spelled) (tracks : Tracking F) (laws : FormsLaws forms spelled tracks) (past : History) (jobs : List Job) (seen : List Told) (m : Held) where
+module _ {F : Type 0} (codec : Codec F) (spelled : Spelled) (tracks : Tracking F) (laws : CodecLaws codec spelled tracks) (past : History) (jobs : List Job) (seen : List Told) (m : Held) where
   -- what stands behind a put by its end
-  aims_find : (number : ℕ) (job : Job) (objects : List NewObject) (end : Outcome) → Aims forms past jobs seen number job objects end
-      → ((f : FrameIn) × (job.command ≡ Create f)) ⊎ ((found : List Key) × (schemas_found (trace_of number seen) ≡ Some found))
+  aims_find : (number : ℕ) (job : Job) (objects : List NewObject) (end : Outcome) → Aims codec past jobs seen number job objects end
+      → ((f : FrameIn) × (job.command ≡ Create f)) ⊎ ((there : Schema) × Works past jobs seen number job there)
   aims_find number job objects outcome.Created (f, creates, is, none, framed) = inl (f, creates)
-  aims_find number job objects (outcome.Evolved k) (change, frame, there, evolves, same, is, framed, sound, works) = inr (works.found, works.is_found)
-  aims_find number job objects (outcome.Written f) (w, frame, there, cells, writes_them, same, is, framed, lays, works) = inr (works.found, works.is_found)
-  aims_find number job objects (outcome.Deleted f) (text, frame, there, condition, deletes, same, is, framed, says, works) = inr (works.found, works.is_found)
+  aims_find number job objects (outcome.Evolved k) (change, frame, there, evolves, same, is, framed, sound, works) = inr (there, works)
+  aims_find number job objects (outcome.Written f) (w, frame, there, cells, writes_them, same, is, framed, lays, works) = inr (there, works)
+  aims_find number job objects (outcome.Deleted f) (text, frame, there, condition, deletes, same, is, framed, says, works) = inr (there, works)
   aims_find number job objects (outcome.Read answer) none = absurd none
   aims_find number job objects (outcome.Refused r) none = absurd none
   aims_find number job objects outcome.OutOfMemory none = absurd none
 
   -- a put of a job
-  put_from : (number : ℕ) (job : Job) (s : State F) (n : Name) (bytes : List ℕ) → Claims forms spelled tracks past jobs seen m number job s → asks forms job s ≡ Some (call.Put n bytes)
-      → PutsAFrame job n bytes ⊎ PutsItsOwn seen number job n
-  put_from number job PutsFrame n bytes claims asked =
+  pub put_from : (number : ℕ) (job : Job) (s : State F) (n : Name) (bytes : List ℕ) → Claims codec spelled tracks past jobs seen m number job s → asks codec job s ≡ Some (call.Put n bytes)
+      → PutsAFrame job n bytes ⊎ PutsItsOwn past jobs seen number job n
+  put_from number job (Creates PutsFrame) n bytes claims asked =
       let (f, creates, sound) = claims.1 in
       let same : frame_put f ≡ call.Put n bytes = same_Some (frame_put f) (call.Put n bytes) (sym (ap (λ c. option_map frame_put (made_by c)) creates) ∙ asked) in
       inl (record { made = f; creates = creates; sound = sound; named = sym (one_name name.Domain n (frame_object (frame_made f)) bytes same); spelled = sym (one_bytes name.Domain n (frame_object (frame_made f)) bytes same) })
@@ -266,25 +270,25 @@ module _ {F : Type 0} (forms : Forms F) (spelled : Spelled) (tracks : Tracking F
   put_from number job (Puts objects next end) n bytes claims asked =
       let (o, at, is) = asked_by put_of (slice_get objects next) (call.Put n bytes) asked in
       inr (record {
-        carries = ap id_in (sym (one_name o.name n o.bytes bytes is)) ∙ aims-carry forms past jobs seen number job objects end claims.aims next o at;
+        carries = ap id_in (sym (one_name o.name n o.bytes bytes is)) ∙ (aims-carry codec past jobs seen number job objects end claims.aims next o at).0;
         finds = aims_find number job objects end claims.aims;
       })
-  put_from number job ComparesFrame n bytes claims asked = absurd (no_get name.Domain 0 _ n bytes (same_Some _ _ asked))
-  put_from number job ListsDeclared n bytes claims asked = absurd (no_listing Schemas n bytes (same_Some _ _ asked))
-  put_from number job ListsCommits n bytes claims asked = absurd (no_listing Commits n bytes (same_Some _ _ asked))
-  put_from number job (ListsSchemas listing) n bytes claims asked = absurd (no_listing Schemas n bytes (same_Some _ _ asked))
-  put_from number job (GetsSchema listing there) n bytes claims asked = absurd (no_get (name.Schema there) 0 _ n bytes (same_Some _ _ asked))
-  put_from number job (GetsFrame listing there) n bytes claims asked = absurd (no_get name.Domain 0 _ n bytes (same_Some _ _ asked))
-  put_from number job (GetsHeads r opened) n bytes claims asked =
-      let f = asked_by (get_head forms r) (slice_get r.near _) (call.Put n bytes) asked in
-      absurd (no_get (name.Part f.0 (forms.head_part r.frame)) 0 _ n bytes f.2)
-  put_from number job (GetsSchemas r opened named schemas) n bytes claims asked =
+  put_from number job (Creates ComparesFrame) n bytes claims asked = absurd (no_get name.Domain 0 _ n bytes (same_Some _ _ asked))
+  put_from number job (Creates ListsDeclared) n bytes claims asked = absurd (no_listing Schemas n bytes (same_Some _ _ asked))
+  put_from number job (Seeks ListsCommits) n bytes claims asked = absurd (no_listing Commits n bytes (same_Some _ _ asked))
+  put_from number job (Seeks (ListsSchemas listing)) n bytes claims asked = absurd (no_listing Schemas n bytes (same_Some _ _ asked))
+  put_from number job (Seeks (GetsSchema listing there)) n bytes claims asked = absurd (no_get (name.Schema there) 0 _ n bytes (same_Some _ _ asked))
+  put_from number job (Seeks (GetsFrame listing there)) n bytes claims asked = absurd (no_get name.Domain 0 _ n bytes (same_Some _ _ asked))
+  put_from number job (Collects (GetsHeads r opened)) n bytes claims asked =
+      let f = asked_by (get_head codec r) (slice_get r.fragments _) (call.Put n bytes) asked in
+      absurd (no_get (name.Part f.0 (codec.head_part r.frame)) 0 _ n bytes f.2)
+  put_from number job (Collects (GetsSchemas r opened named schemas)) n bytes claims asked =
       let k = asked_by get_schema (slice_get named _) (call.Put n bytes) asked in
       absurd (no_get (name.Schema k.0) 0 _ n bytes k.2)
-  put_from number job (GetsDeletes r opened schemas) n bytes claims asked =
-      let f = asked_by get_delete (slice_get r.deletes _) (call.Put n bytes) asked in
+  put_from number job (Collects (GetsDeletes r opened schemas)) n bytes claims asked =
+      let f = asked_by get_delete (slice_get r.delete_names _) (call.Put n bytes) asked in
       absurd (no_get (name.Commit f.0 Del) 0 _ n bytes f.2)
-  put_from number job (Fetches r opened schemas next frag got fetch c) n bytes claims asked =
+  put_from number job (Collects (Fetches r opened schemas next frag got fetch c)) n bytes claims asked =
       let way = claims.2.1 in
       let on = way.holds in
       let held = laws.asks r.frame on.schema way.piece (on.spells).look (want_of r (on.schema).attrs) fetch c way.way in
@@ -292,46 +296,46 @@ module _ {F : Type 0} (forms : Forms F) (spelled : Spelled) (tracks : Tracking F
   put_from number job (Over end) n bytes claims asked = absurd (none-some _ asked)
 
 -- the deed of a put is the one that its bytes and its name tell
-put_deed : (jobs : List Job) (seen : List Told) (g : History) (found : Option (List Key)) (number : ℕ) (job : Job) (n : Name) (bytes : List ℕ) → AreApart jobs → slice_get jobs number ≡ Some job → IsFit job → IsShort bytes
-    → (schemas_found (trace_of number seen) ≡ None) ⊎ (schemas_found (trace_of number seen) ≡ found) → PutsAFrame job n bytes ⊎ PutsItsOwn seen number job n
+put_deed : (past : History) (jobs : List Job) (seen : List Told) (g : History) (found : Option (List Key)) (number : ℕ) (job : Job) (n : Name) (bytes : List ℕ) → AreApart jobs → slice_get jobs number ≡ Some job → IsFit job → IsShort bytes
+    → (schemas_found (trace_of number seen) ≡ None) ⊎ (schemas_found (trace_of number seen) ≡ found) → PutsAFrame job n bytes ⊎ PutsItsOwn past jobs seen number job n
     → deed_of g job (schemas_found (trace_of number seen)) n ≡ deed_put jobs g found n bytes
-put_deed jobs seen g found number job n bytes apart at fit short same (inl puts) =
+put_deed past jobs seen g found number job n bytes apart at fit short same (inl puts) =
     let whole = frame_again (frame_made puts.made) (created_frame puts.made (subst (λ c. IsTrue (fits c)) puts.creates fit.command) puts.sound) (subst IsShort puts.spelled short) in
     ap (deed_of g job (schemas_found (trace_of number seen))) puts.named
     ∙ ap (λ c. option_map (λ f. Framed (frame_made f)) (made_by c)) puts.creates
     ∙ sym (ap (λ k. deed_put jobs g found k bytes) puts.named ∙ ap (λ b. option_map Framed (result_ok (frame_of b))) puts.spelled ∙ ap (λ r. option_map Framed (result_ok r)) whole)
-put_deed jobs seen g found number job n bytes apart at fit short same (inr puts) =
+put_deed past jobs seen g found number job n bytes apart at fit short same (inr puts) =
     by_found puts.finds ∙ sym (put_carried jobs g found n bytes job.id puts.carries ∙ carried_is jobs g found n number job apart at puts.carries)
   where
-    by_found : ((f : FrameIn) × (job.command ≡ Create f)) ⊎ ((keys : List Key) × (schemas_found (trace_of number seen) ≡ Some keys)) → deed_of g job (schemas_found (trace_of number seen)) n ≡ deed_of g job found n
+    by_found : ((f : FrameIn) × (job.command ≡ Create f)) ⊎ ((there : Schema) × Works past jobs seen number job there) → deed_of g job (schemas_found (trace_of number seen)) n ≡ deed_of g job found n
     by_found (inl creates) = create_deed g job creates.0 (schemas_found (trace_of number seen)) found n creates.1
     by_found (inr has) = elim same [
-      | inl none ↦ absurd (none-some has.0 (sym none ∙ has.1))
+      | inl none ↦ absurd (none-some (has.1).found (sym none ∙ (has.1).is_found))
       | inr is ↦ ap (λ k. deed_of g job k n) is
     ]
 
 -- ---- the journal
 
 -- a call in the midst of calls that may come
-allowed_at : {F : Type 0} (forms : Forms F) (jobs : List Job) (seen front back : List Told) (e : Told) → AreAllowed forms jobs [] seen (front ++ e ∷ back) → IsAllowed forms jobs [] (seen ++ front) e
-allowed_at forms jobs seen [] back e may = subst (λ t. IsAllowed forms jobs [] t e) (sym (append-nil seen)) may.0
-allowed_at forms jobs seen (d ∷ front) back e may = subst (λ t. IsAllowed forms jobs [] t e) (append_assoc seen (d ∷ []) front) (allowed_at forms jobs (seen ++ d ∷ []) front back e may.1)
+pub allowed_at : {F : Type 0} (codec : Codec F) (jobs : List Job) (seen front back : List Told) (e : Told) → AreAllowed codec jobs [] seen (front ++ e ∷ back) → IsAllowed codec jobs [] (seen ++ front) e
+allowed_at codec jobs seen [] back e may = subst (λ t. IsAllowed codec jobs [] t e) (sym (append-nil seen)) may.0
+allowed_at codec jobs seen (d ∷ front) back e may = subst (λ t. IsAllowed codec jobs [] t e) (append_assoc seen (d ∷ []) front) (allowed_at codec jobs (seen ++ d ∷ []) front back e may.1)
 
 -- a call in the midst of calls that are replied to
 replied_at : (m : Held) (front back : List Told) (e : Told) → Replied m (front ++ e ∷ back) → IsReplied (held_told m front) e
 replied_at m [] back e replied = replied.0
 replied_at m (d ∷ front) back e replied = replied_at (after_told m d) front back e replied.1
 
-module _ {F : Type 0} (forms : Forms F) (spelled : Spelled) (tracks : Tracking F) (laws : FormsLaws forms spelled tracks) (jobs : List Job) (past : History) (m : Held) (told : List Told) (lane : Option ℕ → ℕ)
-    (begins : Kept forms spelled tracks past jobs [] [] m) (may : AreAllowed forms jobs [] [] told) (replied : Replied m told) (turns : AreInTurn lane told) where
+module _ {F : Type 0} (codec : Codec F) (spelled : Spelled) (tracks : Tracking F) (laws : CodecLaws codec spelled tracks) (jobs : List Job) (past : History) (m : Held) (told : List Told) (lane : Option ℕ → ℕ)
+    (begins : Kept codec spelled tracks past jobs [] [] m) (may : AreAllowed codec jobs [] [] told) (replied : Replied m told) (turns : AreInTurn lane told) where
   module _ (seen back : List Told) (e : Told) (parts : told ≡ seen ++ e ∷ back) (g : History) where
     -- what is kept before the call
-    kept : Kept forms spelled tracks past jobs [] seen (held_told m seen)
-    kept = every_prefix forms spelled tracks laws past jobs [] [] m told seen (e ∷ back) begins may replied parts
+    kept : Kept codec spelled tracks past jobs [] seen (held_told m seen)
+    kept = every_prefix codec spelled tracks laws past jobs [] [] m told seen (e ∷ back) begins may replied parts
 
     -- the call is that of a job
-    allowed : IsAllowed forms jobs [] seen e
-    allowed = allowed_at forms jobs [] seen back e (subst (AreAllowed forms jobs [] []) parts may)
+    allowed : IsAllowed codec jobs [] seen e
+    allowed = allowed_at codec jobs [] seen back e (subst (AreAllowed codec jobs [] []) parts may)
 
     -- its reply
     answered : IsReplied (held_told m seen) e
@@ -351,11 +355,11 @@ module _ {F : Type 0} (forms : Forms F) (spelled : Spelled) (tracks : Tracking F
       where
         by_call : (c : Call) → e.call ≡ c → deed_in g allowed.job (schemas_found (trace_of allowed.number seen)) c ≡ deed_entered jobs g (found_by m (lane (Some allowed.number)) None (entries_of lane seen)) c
         by_call (call.Put n bytes) is =
-            put_deed jobs seen g (found_by m (lane (Some allowed.number)) None (entries_of lane seen)) allowed.number allowed.job n bytes kept.apart allowed.is_job
+            put_deed past jobs seen g (found_by m (lane (Some allowed.number)) None (entries_of lane seen)) allowed.number allowed.job n bytes kept.apart allowed.is_job
             (All-contains IsFit jobs allowed.job kept.fit (Contains-slice_get jobs allowed.number allowed.job allowed.is_job)) (subst IsShortCall is allowed.short) found_then
-            (put_from forms spelled tracks laws past jobs seen (held_told m seen) allowed.number allowed.job (state_of forms allowed.job (trace_of allowed.number seen)) n bytes
+            (put_from codec spelled tracks laws past jobs seen (held_told m seen) allowed.number allowed.job (state_of codec allowed.job (trace_of allowed.number seen)) n bytes
             (kept.claims allowed.number allowed.job allowed.is_job allowed.alive)
-            (next_call forms allowed.job (state_of forms allowed.job (trace_of allowed.number seen)) e.call allowed.asked ∙ ap Some is))
+            (next_call codec allowed.job (state_of codec allowed.job (trace_of allowed.number seen)) e.call allowed.asked ∙ ap Some is))
         by_call (call.Remove n) is = refl
         by_call (call.List p) is = refl
         by_call (call.Get n from len) is = refl

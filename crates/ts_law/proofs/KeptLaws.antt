@@ -10,7 +10,7 @@ use Rattle.ts_base.specs.declared.names.CommitKind.TheVariants.{Del}
 use Rattle.ts_base.specs.declared.names.Name.{Name}
 use Rattle.ts_base.specs.declared.names.Prefix.{Prefix}
 use Rattle.ts_base.specs.declared.names.Prefix.TheVariants.{Commits, Schemas}
-use Rattle.ts_law.proofs.EraseSteps.{deletes_steps}
+use Rattle.ts_law.proofs.DeleteSteps.{deletes_steps}
 use Rattle.ts_law.proofs.FetchSteps.{fetch_steps}
 use Rattle.ts_law.proofs.Frames.{aims-carry, claims_stay}
 use Rattle.ts_model.proofs.Asked.{next_call}
@@ -23,7 +23,7 @@ use Rattle.ts_model.proofs.Traces.{state_of-other, state_of-own}
 use Rattle.ts_model.specs.Commands.{frame_made}
 use Rattle.ts_model.specs.Deeds.{History}
 use Rattle.ts_law.specs.Ends.{IsTrueEnd}
-use Rattle.ts_model.specs.Forms.{Forms, FormsLaws, SpeaksOf, Spelled, Tracking}
+use Rattle.ts_model.specs.Codecs.{Codec, CodecLaws, SpeaksOf, Spelled, Tracking}
 use Rattle.ts_law.specs.Fresh.{id_in}
 use Rattle.ts_model.specs.Jobs.{IsFit, job_with}
 use Rattle.ts_law.specs.Kept.{AreAllowed, Claims, IsAllowed, IsOfJobs, Kept}
@@ -33,7 +33,10 @@ use Rattle.ts_model.specs.Told.{IsReplied, Replied, Told, after_told, held_told,
 use Rattle.ts_model.specs.declared.answers.Outcome.{Outcome}
 use Rattle.ts_model.specs.declared.commands.Job.{Job}
 use Rattle.ts_model.specs.declared.states.State.{State}
-use Rattle.ts_model.specs.declared.states.State.TheVariants.{ComparesFrame, Fetches, GetsDeletes, GetsFrame, GetsHeads, GetsSchema, GetsSchemas, ListsCommits, ListsDeclared, ListsSchemas, Over, Puts, PutsFrame}
+use Rattle.ts_model.specs.declared.states.State.TheVariants.{Creates, Seeks, Puts, Collects, Over}
+use Rattle.ts_model.specs.declared.states.Creating.TheVariants.{PutsFrame, ComparesFrame, ListsDeclared}
+use Rattle.ts_model.specs.declared.states.Seeking.TheVariants.{ListsCommits, ListsSchemas, GetsSchema, GetsFrame}
+use Rattle.ts_model.specs.declared.states.Collecting.TheVariants.{GetsHeads, GetsSchemas, GetsDeletes, Fetches}
 use Rattle.ts_schema.specs.FrameTexts.{frame_object}
 use Rattle.ts_store.specs.declared.call.Call.{Call}
 use Rattle.ts_store.specs.declared.call.Call.TheVariants as call
@@ -62,32 +65,32 @@ asked_by of (Some x) c e = (x, refl, same_Some (of x) c e)
 pub speaks_no_put : (c : Call) (n q : Name) (more : List ℕ) → SpeaksOf c n → c ≡ call.Put q more → ⊥
 speaks_no_put c n q more speaks same = subst (λ d. SpeaksOf d n) same speaks
 
-module _ {F : Type 0} (forms : Forms F) (spelled : Spelled) (tracks : Tracking F) (laws : FormsLaws forms spelled tracks) (past : History) (jobs : List Job) (seen : List Told) (m : Held) where
+module _ {F : Type 0} (codec : Codec F) (spelled : Spelled) (tracks : Tracking F) (laws : CodecLaws codec spelled tracks) (past : History) (jobs : List Job) (seen : List Told) (m : Held) where
   -- a put of a job carries its identifier
-  own_put : (number : ℕ) (job : Job) (s : State F) (n : Name) (bytes : List ℕ) (id : ℕ) → Claims forms spelled tracks past jobs seen m number job s
-      → asks forms job s ≡ Some (call.Put n bytes) → id_in n ≡ Some id → job.id ≡ id
-  own_put number job PutsFrame n bytes id claims asked carried =
+  own_put : (number : ℕ) (job : Job) (s : State F) (n : Name) (bytes : List ℕ) (id : ℕ) → Claims codec spelled tracks past jobs seen m number job s
+      → asks codec job s ≡ Some (call.Put n bytes) → id_in n ≡ Some id → job.id ≡ id
+  own_put number job (Creates PutsFrame) n bytes id claims asked carried =
       let f = asked_by frame_put (made_by job.command) (call.Put n bytes) asked in
       absurd (none-some id (ap id_in (one_name name.Domain n (frame_object (frame_made f.0)) bytes f.2) ∙ carried))
-  own_put number job ComparesFrame n bytes id claims asked carried = absurd (no_get name.Domain 0 (2 ^ 64 - 1) n bytes (same_Some _ _ asked))
-  own_put number job ListsDeclared n bytes id claims asked carried = absurd (no_listing Schemas n bytes (same_Some _ _ asked))
+  own_put number job (Creates ComparesFrame) n bytes id claims asked carried = absurd (no_get name.Domain 0 (2 ^ 64 - 1) n bytes (same_Some _ _ asked))
+  own_put number job (Creates ListsDeclared) n bytes id claims asked carried = absurd (no_listing Schemas n bytes (same_Some _ _ asked))
   own_put number job (Puts objects next end) n bytes id claims asked carried =
       let o = asked_by put_of (slice_get objects next) (call.Put n bytes) asked in
-      same_Some job.id id (sym (aims-carry forms past jobs seen number job objects end claims.aims next o.0 o.1) ∙ ap id_in (one_name (o.0).name n (o.0).bytes bytes o.2) ∙ carried)
-  own_put number job ListsCommits n bytes id claims asked carried = absurd (no_listing Commits n bytes (same_Some _ _ asked))
-  own_put number job (ListsSchemas listing) n bytes id claims asked carried = absurd (no_listing Schemas n bytes (same_Some _ _ asked))
-  own_put number job (GetsSchema listing there) n bytes id claims asked carried = absurd (no_get (name.Schema there) 0 (2 ^ 64 - 1) n bytes (same_Some _ _ asked))
-  own_put number job (GetsFrame listing there) n bytes id claims asked carried = absurd (no_get name.Domain 0 (2 ^ 64 - 1) n bytes (same_Some _ _ asked))
-  own_put number job (GetsHeads r opened) n bytes id claims asked carried =
-      let f = asked_by (get_head forms r) (slice_get r.near (length opened)) (call.Put n bytes) asked in
-      absurd (no_get (name.Part f.0 (forms.head_part r.frame)) 0 (2 ^ 64 - 1) n bytes f.2)
-  own_put number job (GetsSchemas r opened named schemas) n bytes id claims asked carried =
+      same_Some job.id id (sym (aims-carry codec past jobs seen number job objects end claims.aims next o.0 o.1).0 ∙ ap id_in (one_name (o.0).name n (o.0).bytes bytes o.2) ∙ carried)
+  own_put number job (Seeks ListsCommits) n bytes id claims asked carried = absurd (no_listing Commits n bytes (same_Some _ _ asked))
+  own_put number job (Seeks (ListsSchemas listing)) n bytes id claims asked carried = absurd (no_listing Schemas n bytes (same_Some _ _ asked))
+  own_put number job (Seeks (GetsSchema listing there)) n bytes id claims asked carried = absurd (no_get (name.Schema there) 0 (2 ^ 64 - 1) n bytes (same_Some _ _ asked))
+  own_put number job (Seeks (GetsFrame listing there)) n bytes id claims asked carried = absurd (no_get name.Domain 0 (2 ^ 64 - 1) n bytes (same_Some _ _ asked))
+  own_put number job (Collects (GetsHeads r opened)) n bytes id claims asked carried =
+      let f = asked_by (get_head codec r) (slice_get r.fragments (length opened)) (call.Put n bytes) asked in
+      absurd (no_get (name.Part f.0 (codec.head_part r.frame)) 0 (2 ^ 64 - 1) n bytes f.2)
+  own_put number job (Collects (GetsSchemas r opened named schemas)) n bytes id claims asked carried =
       let k = asked_by get_schema (slice_get named (length schemas)) (call.Put n bytes) asked in
       absurd (no_get (name.Schema k.0) 0 (2 ^ 64 - 1) n bytes k.2)
-  own_put number job (GetsDeletes r opened schemas) n bytes id claims asked carried =
-      let f = asked_by get_delete (slice_get r.deletes (length r.erased)) (call.Put n bytes) asked in
+  own_put number job (Collects (GetsDeletes r opened schemas)) n bytes id claims asked carried =
+      let f = asked_by get_delete (slice_get r.delete_names (length r.deletions)) (call.Put n bytes) asked in
       absurd (no_get (name.Commit f.0 Del) 0 (2 ^ 64 - 1) n bytes f.2)
-  own_put number job (Fetches r opened schemas next frag got fetch c) n bytes id claims asked carried =
+  own_put number job (Collects (Fetches r opened schemas next frag got fetch c)) n bytes id claims asked carried =
       let way = claims.2.1 in
       let held = laws.asks r.frame (way.holds).schema way.piece ((way.holds).spells).look (want_of r ((way.holds).schema).attrs) fetch c way.way in
       absurd (speaks_no_put c (name.Part ((way.piece).head).frag held.part) n bytes held.named (same_Some c (call.Put n bytes) asked))
@@ -95,21 +98,21 @@ module _ {F : Type 0} (forms : Forms F) (spelled : Spelled) (tracks : Tracking F
 
 -- ---- one call
 
-module _ {F : Type 0} (forms : Forms F) (spelled : Spelled) (tracks : Tracking F) (laws : FormsLaws forms spelled tracks) (past : History) (jobs : List Job) (dead : List ℕ) (seen : List Told) (m : Held)
-    (e : Told) (kept : Kept forms spelled tracks past jobs dead seen m) (may : IsAllowed forms jobs dead seen e)
-    (steps : Advances forms spelled tracks past jobs seen e m may.number may.job (state_of forms may.job (trace_of may.number seen))) where
+module _ {F : Type 0} (codec : Codec F) (spelled : Spelled) (tracks : Tracking F) (laws : CodecLaws codec spelled tracks) (past : History) (jobs : List Job) (dead : List ℕ) (seen : List Told) (m : Held)
+    (e : Told) (kept : Kept codec spelled tracks past jobs dead seen m) (may : IsAllowed codec jobs dead seen e)
+    (steps : Advances codec spelled tracks past jobs seen e m may.number may.job (state_of codec may.job (trace_of may.number seen))) where
   -- the call is one of a job
   is_of_jobs : IsOfJobs jobs e
   is_of_jobs = record {
     numbered = λ other is. subst (λ n. n < length jobs) (same_Some may.number other (sym may.own ∙ is)) (slice_get_within jobs may.number may.job may.is_job);
     puts = λ n bytes id is carried.
-        let same = own_put forms spelled tracks laws past jobs seen m may.number may.job (state_of forms may.job (trace_of may.number seen)) n bytes id
-        (kept.claims may.number may.job may.is_job may.alive) (next_call forms may.job (state_of forms may.job (trace_of may.number seen)) e.call may.asked ∙ ap Some is) carried in
+        let same = own_put codec spelled tracks laws past jobs seen m may.number may.job (state_of codec may.job (trace_of may.number seen)) n bytes id
+        (kept.claims may.number may.job may.is_job may.alive) (next_call codec may.job (state_of codec may.job (trace_of may.number seen)) e.call may.asked ∙ ap Some is) carried in
         subst (λ i. IsSome (job_with jobs i)) same (rw (job_of_id jobs may.number may.job kept.apart may.is_job) refl);
   }
 
   -- what is kept stays where the job of the call advances
-  advance_kept : Kept forms spelled tracks past jobs dead (seen ++ e ∷ []) (after_told m e)
+  advance_kept : Kept codec spelled tracks past jobs dead (seen ++ e ∷ []) (after_told m e)
   advance_kept = record {
     stands = (steps.leads).stands;
     apart = kept.apart;
@@ -118,29 +121,29 @@ module _ {F : Type 0} (forms : Forms F) (spelled : Spelled) (tracks : Tracking F
     claims = λ number job at alive. elim (cases_eq may.number number) [
       | inl own ↦
           let same : may.job ≡ job = same_Some may.job job (sym may.is_job ∙ ap (slice_get jobs) own ∙ at) in
-          subst (λ n. Claims forms spelled tracks past jobs (seen ++ e ∷ []) (after_told m e) n job (state_of forms job (trace_of n (seen ++ e ∷ [])))) own
-          (subst (λ j. Claims forms spelled tracks past jobs (seen ++ e ∷ []) (after_told m e) may.number j (state_of forms j (trace_of may.number (seen ++ e ∷ [])))) same
-          (subst (Claims forms spelled tracks past jobs (seen ++ e ∷ []) (after_told m e) may.number may.job) (sym (state_of-own forms may.job may.number seen e may.own)) steps.own))
+          subst (λ n. Claims codec spelled tracks past jobs (seen ++ e ∷ []) (after_told m e) n job (state_of codec job (trace_of n (seen ++ e ∷ [])))) own
+          (subst (λ j. Claims codec spelled tracks past jobs (seen ++ e ∷ []) (after_told m e) may.number j (state_of codec j (trace_of may.number (seen ++ e ∷ [])))) same
+          (subst (Claims codec spelled tracks past jobs (seen ++ e ∷ []) (after_told m e) may.number may.job) (sym (state_of-own codec may.job may.number seen e may.own)) steps.own))
       | inr apart ↦
           let other : (e.job ≡ Some number → ⊥) = λ own. apart (same_Some may.number number (sym may.own ∙ own)) in
-          subst (Claims forms spelled tracks past jobs (seen ++ e ∷ []) (after_told m e) number job) (sym (state_of-other forms job number seen e other))
-          (claims_stay forms spelled tracks past jobs seen e m (may.job).id (steps.leads).leaves number job (state_of forms job (trace_of number seen))
+          subst (Claims codec spelled tracks past jobs (seen ++ e ∷ []) (after_told m e) number job) (sym (state_of-other codec job number seen e other))
+          (claims_stay codec spelled tracks past jobs seen e m (may.job).id (steps.leads).leaves number job (state_of codec job (trace_of number seen))
           (λ one_id. apart (kept.apart may.number number may.job job may.is_job at (sym one_id))) other (kept.claims number job at alive))
     ];
   }
 
 -- what the end of a job that was not dropped tells of the history is true
-pub end_is_true : {F : Type 0} (forms : Forms F) (spelled : Spelled) (tracks : Tracking F) (past : History) (jobs : List Job) (dead : List ℕ) (seen : List Told) (m : Held)
-    → Kept forms spelled tracks past jobs dead seen m → (number : ℕ) (job : Job) (end : Outcome) → slice_get jobs number ≡ Some job → (Contains dead number → ⊥)
-    → state_of forms job (trace_of number seen) ≡ Over end → IsTrueEnd jobs past seen number job end
-end_is_true forms spelled tracks past jobs dead seen m kept number job end at alive over = subst (Claims forms spelled tracks past jobs seen m number job) over (kept.claims number job at alive)
+pub end_is_true : {F : Type 0} (codec : Codec F) (spelled : Spelled) (tracks : Tracking F) (past : History) (jobs : List Job) (dead : List ℕ) (seen : List Told) (m : Held)
+    → Kept codec spelled tracks past jobs dead seen m → (number : ℕ) (job : Job) (end : Outcome) → slice_get jobs number ≡ Some job → (Contains dead number → ⊥)
+    → state_of codec job (trace_of number seen) ≡ Over end → IsTrueEnd jobs past seen number job end
+end_is_true codec spelled tracks past jobs dead seen m kept number job end at alive over = subst (Claims codec spelled tracks past jobs seen m number job) over (kept.claims number job at alive)
 
 -- ---- fronts of calls
 
 -- the front of calls that may come may come
-pub AreAllowed-front : {F : Type 0} (forms : Forms F) (jobs : List Job) (dead : List ℕ) (seen a b : List Told) → AreAllowed forms jobs dead seen (a ++ b) → AreAllowed forms jobs dead seen a
-AreAllowed-front forms jobs dead seen [] b may = tt
-AreAllowed-front forms jobs dead seen (e ∷ a) b may = (may.0, AreAllowed-front forms jobs dead (seen ++ e ∷ []) a b may.1)
+pub AreAllowed-front : {F : Type 0} (codec : Codec F) (jobs : List Job) (dead : List ℕ) (seen a b : List Told) → AreAllowed codec jobs dead seen (a ++ b) → AreAllowed codec jobs dead seen a
+AreAllowed-front codec jobs dead seen [] b may = tt
+AreAllowed-front codec jobs dead seen (e ∷ a) b may = (may.0, AreAllowed-front codec jobs dead (seen ++ e ∷ []) a b may.1)
 
 -- the front of calls that are replied to is such
 pub Replied-front : (m : Held) (a b : List Told) → Replied m (a ++ b) → Replied m a
@@ -149,31 +152,31 @@ Replied-front m (e ∷ a) b replied = (replied.0, Replied-front (after_told m e)
 
 -- ---- any call
 
-module _ {F : Type 0} (forms : Forms F) (spelled : Spelled) (tracks : Tracking F) (laws : FormsLaws forms spelled tracks) where
+module _ {F : Type 0} (codec : Codec F) (spelled : Spelled) (tracks : Tracking F) (laws : CodecLaws codec spelled tracks) where
   -- a call leads its job on by the state that it is in
   own_step : (past : History) (jobs : List Job) (seen : List Told) (e : Told) (m : Held) (number : ℕ) (job : Job) (s : State F)
-      → Comes forms spelled tracks past jobs seen e m number job s → Advances forms spelled tracks past jobs seen e m number job s
-  own_step past jobs seen e m number job PutsFrame comes = frame_steps forms spelled tracks past jobs seen e m number job laws comes
-  own_step past jobs seen e m number job ComparesFrame comes = compare_steps forms spelled tracks past jobs seen e m number job laws comes
-  own_step past jobs seen e m number job ListsDeclared comes = declared_steps forms spelled tracks past jobs seen e m number job laws comes
-  own_step past jobs seen e m number job (Puts objects next end) comes = puts_steps forms spelled tracks past jobs seen e m number job objects next end laws comes
-  own_step past jobs seen e m number job ListsCommits comes = commits_steps forms spelled tracks past jobs seen e m number job laws comes
-  own_step past jobs seen e m number job (ListsSchemas listing) comes = schemas_steps forms spelled tracks past jobs seen e m number job laws listing comes
-  own_step past jobs seen e m number job (GetsSchema listing there) comes = schema_steps forms spelled tracks past jobs seen e m number job laws listing there comes
-  own_step past jobs seen e m number job (GetsFrame listing there) comes = framed_steps forms spelled tracks past jobs seen e m number job laws listing there comes
-  own_step past jobs seen e m number job (GetsHeads r opened) comes = heads_steps forms spelled tracks past jobs seen e m number job laws r opened comes
-  own_step past jobs seen e m number job (GetsSchemas r opened named schemas) comes = further_steps forms spelled tracks past jobs seen e m number job laws r opened named schemas comes
-  own_step past jobs seen e m number job (GetsDeletes r opened schemas) comes = deletes_steps forms spelled tracks past jobs seen e m number job laws r opened schemas comes
-  own_step past jobs seen e m number job (Fetches r opened schemas next frag got fetch c) comes =
-      fetch_steps forms spelled tracks past jobs seen e m number job r opened schemas next frag got fetch c laws comes
+      → Comes codec spelled tracks past jobs seen e m number job s → Advances codec spelled tracks past jobs seen e m number job s
+  own_step past jobs seen e m number job (Creates PutsFrame) comes = frame_steps codec spelled tracks past jobs seen e m number job laws comes
+  own_step past jobs seen e m number job (Creates ComparesFrame) comes = compare_steps codec spelled tracks past jobs seen e m number job laws comes
+  own_step past jobs seen e m number job (Creates ListsDeclared) comes = declared_steps codec spelled tracks past jobs seen e m number job laws comes
+  own_step past jobs seen e m number job (Puts objects next end) comes = puts_steps codec spelled tracks past jobs seen e m number job objects next end laws comes
+  own_step past jobs seen e m number job (Seeks ListsCommits) comes = commits_steps codec spelled tracks past jobs seen e m number job laws comes
+  own_step past jobs seen e m number job (Seeks (ListsSchemas listing)) comes = schemas_steps codec spelled tracks past jobs seen e m number job laws listing comes
+  own_step past jobs seen e m number job (Seeks (GetsSchema listing there)) comes = schema_steps codec spelled tracks past jobs seen e m number job laws listing there comes
+  own_step past jobs seen e m number job (Seeks (GetsFrame listing there)) comes = framed_steps codec spelled tracks past jobs seen e m number job laws listing there comes
+  own_step past jobs seen e m number job (Collects (GetsHeads r opened)) comes = heads_steps codec spelled tracks past jobs seen e m number job laws r opened comes
+  own_step past jobs seen e m number job (Collects (GetsSchemas r opened named schemas)) comes = further_steps codec spelled tracks past jobs seen e m number job laws r opened named schemas comes
+  own_step past jobs seen e m number job (Collects (GetsDeletes r opened schemas)) comes = deletes_steps codec spelled tracks past jobs seen e m number job laws r opened schemas comes
+  own_step past jobs seen e m number job (Collects (Fetches r opened schemas next frag got fetch c)) comes =
+      fetch_steps codec spelled tracks past jobs seen e m number job r opened schemas next frag got fetch c laws comes
   own_step past jobs seen e m number job (Over end) comes = absurd (none-some e.call comes.asked)
 
   -- what is kept stays by a call that may come
-  pub step_kept : (past : History) (jobs : List Job) (dead : List ℕ) (seen : List Told) (m : Held) (e : Told) → Kept forms spelled tracks past jobs dead seen m
-      → IsAllowed forms jobs dead seen e → IsReplied m e → Kept forms spelled tracks past jobs dead (seen ++ e ∷ []) (after_told m e)
+  pub step_kept : (past : History) (jobs : List Job) (dead : List ℕ) (seen : List Told) (m : Held) (e : Told) → Kept codec spelled tracks past jobs dead seen m
+      → IsAllowed codec jobs dead seen e → IsReplied m e → Kept codec spelled tracks past jobs dead (seen ++ e ∷ []) (after_told m e)
   step_kept past jobs dead seen m e kept may replied =
-      advance_kept forms spelled tracks laws past jobs dead seen m e kept may
-      (own_step past jobs seen e m may.number may.job (state_of forms may.job (trace_of may.number seen)) (record {
+      advance_kept codec spelled tracks laws past jobs dead seen m e kept may
+      (own_step past jobs seen e m may.number may.job (state_of codec may.job (trace_of may.number seen)) (record {
         stands = kept.stands;
         apart = kept.apart;
         fit = All-contains IsFit jobs may.job kept.fit (Contains-slice_get jobs may.number may.job may.is_job);
@@ -181,23 +184,23 @@ module _ {F : Type 0} (forms : Forms F) (spelled : Spelled) (tracks : Tracking F
         is_job = may.is_job;
         replied = replied;
         short = may.short;
-        asked = next_call forms may.job (state_of forms may.job (trace_of may.number seen)) e.call may.asked;
+        asked = next_call codec may.job (state_of codec may.job (trace_of may.number seen)) e.call may.asked;
         claims = kept.claims may.number may.job may.is_job may.alive;
       }))
 
   -- what is kept stays by calls that may come
   pub all_kept : (past : History) (jobs : List Job) (dead : List ℕ) (seen : List Told) (m : Held) (told : List Told)
-      → Kept forms spelled tracks past jobs dead seen m → AreAllowed forms jobs dead seen told → Replied m told → Kept forms spelled tracks past jobs dead (seen ++ told) (held_told m told)
-  all_kept past jobs dead seen m [] kept may replied = subst (λ t. Kept forms spelled tracks past jobs dead t m) (sym (append-nil seen)) kept
+      → Kept codec spelled tracks past jobs dead seen m → AreAllowed codec jobs dead seen told → Replied m told → Kept codec spelled tracks past jobs dead (seen ++ told) (held_told m told)
+  all_kept past jobs dead seen m [] kept may replied = subst (λ t. Kept codec spelled tracks past jobs dead t m) (sym (append-nil seen)) kept
   all_kept past jobs dead seen m (e ∷ told) kept may replied =
-      subst (λ t. Kept forms spelled tracks past jobs dead t (held_told (after_told m e) told)) (append_assoc seen (e ∷ []) told)
+      subst (λ t. Kept codec spelled tracks past jobs dead t (held_told (after_told m e) told)) (append_assoc seen (e ∷ []) told)
       (all_kept past jobs dead (seen ++ e ∷ []) (after_told m e) told (step_kept past jobs dead seen m e kept may.0 replied.0) may.1 replied.1)
 
   -- what is kept is kept after each first part of the calls
   pub every_prefix : (past : History) (jobs : List Job) (dead : List ℕ) (seen : List Told) (m : Held) (told front back : List Told)
-      → Kept forms spelled tracks past jobs dead seen m → AreAllowed forms jobs dead seen told → Replied m told → told ≡ front ++ back
-      → Kept forms spelled tracks past jobs dead (seen ++ front) (held_told m front)
+      → Kept codec spelled tracks past jobs dead seen m → AreAllowed codec jobs dead seen told → Replied m told → told ≡ front ++ back
+      → Kept codec spelled tracks past jobs dead (seen ++ front) (held_told m front)
   every_prefix past jobs dead seen m told front back kept may replied parts =
       all_kept past jobs dead seen m front kept
-      (AreAllowed-front forms jobs dead seen front back (subst (AreAllowed forms jobs dead seen) parts may))
+      (AreAllowed-front codec jobs dead seen front back (subst (AreAllowed codec jobs dead seen) parts may))
       (Replied-front m front back (subst (Replied m) parts replied))

@@ -10,7 +10,7 @@ use Rattle.ts_store.specs.declared.journal.Entry.{Entry}
 use Rattle.ts_store.specs.Calls.{is_no_memory}
 use Rattle.ts_model.specs.declared.commands.Job.{Job}
 use Rattle.ts_model.specs.Driven.{MayAsk, AskedFrom}
-use Rattle.ts_model.specs.Forms.{Forms}
+use Rattle.ts_model.specs.Codecs.{Codec}
 use Rattle.ts_model.specs.States.{Exchange, begun, state_of}
 use Rattle.ts_model.specs.Told.{Told, trace_of, only_lane, entry_of, entries_of}
 use Rattle.ts_model.proofs.Asked.{asked-push}
@@ -45,12 +45,12 @@ own_exchanges number (e ∷ own) by_it =
     ∙ sym (ap (λ o. cons_option o (trace_of number own)) (exchange_of_own number e (All-head (λ x. x.job ≡ Some number) e own by_it)))
 
 -- the entries of a job's calls, in its lane
-pub own_entries : (number lane : ℕ) (own : List Told) → AreBy number own → entries_of (only_lane lane) own ≡ entries_of (lane_by (one_lane lane)) own
-own_entries number lane [] by_it = refl
-own_entries number lane (e ∷ own) by_it =
-    let entry_in : Option ℕ → Option Entry = λ j. cond (is_no_memory e.reply) None (Some (record { lane = lane_by (one_lane lane) j; call = e.call; fate = e.fate })) in
-    ap (λ o. cons_option o (entries_of (only_lane lane) own)) (ap entry_in (sym (All-head (λ x. x.job ≡ Some number) e own by_it)))
-    ∙ ap (λ es. cons_option (entry_of (lane_by (one_lane lane)) e) es) (own_entries number lane own (All-tail (λ x. x.job ≡ Some number) e own by_it))
+pub own_entries : (lanes : ℕ → ℕ) (number : ℕ) (own : List Told) → AreBy number own → entries_of (only_lane (lanes number)) own ≡ entries_of (lane_by lanes) own
+own_entries lanes number [] by_it = refl
+own_entries lanes number (e ∷ own) by_it =
+    let entry_in : Option ℕ → Option Entry = λ j. cond (is_no_memory e.reply) None (Some (record { lane = lane_by lanes j; call = e.call; fate = e.fate })) in
+    ap (λ o. cons_option o (entries_of (only_lane (lanes number)) own)) (ap entry_in (sym (All-head (λ x. x.job ≡ Some number) e own by_it)))
+    ∙ ap (λ es. cons_option (entry_of (lane_by lanes) e) es) (own_entries lanes number own (All-tail (λ x. x.job ≡ Some number) e own by_it))
 
 -- ---- turns
 
@@ -71,6 +71,11 @@ own_in_turn lanes number (e ∷ own) by_it =
       own_in_turn lanes number own rest,
     )
 
+-- where all jobs come one after the other, those of each lane do
+pub in_turn_lanes : (lanes : ℕ → ℕ) (told : List Told) → InTurn one_lane told → InTurn lanes told
+in_turn_lanes lanes [] turn = tt
+in_turn_lanes lanes (e ∷ told) turn = (All-weaker (IsBefore one_lane e) (IsBefore lanes e) (λ d before i j ei dj same. before i j ei dj refl) told turn.0, in_turn_lanes lanes told turn.1)
+
 -- where each job has its own lane, calls come in turn in whatever order
 pub apart_in_turn : (told : List Told) → InTurn own_lane told
 apart_in_turn [] = tt
@@ -82,40 +87,40 @@ apart_in_turn (e ∷ told) = (before told, apart_in_turn told)
 
 -- ---- jobs that each have their own lane
 
-module _ {F : Type 0} (forms : Forms F) where
+module _ {F : Type 0} (codec : Codec F) where
   -- no call was made yet, and there is no job
-  pub no_lanes : AreInLanes forms own_lane [] []
+  pub no_lanes : AreInLanes codec own_lane [] []
   no_lanes = record { within = All-nil (IsWithin []); asked = λ number job at. absurd (none-some job at); in_turn = tt }
 
   -- a job makes one more call, which it may make where those before have led it
-  pub one_more_call : (jobs : List Job) (told : List Told) (e : Told) (number : ℕ) (job : Job) → AreInLanes forms own_lane jobs told → e.job ≡ Some number → slice_get jobs number ≡ Some job
-      → MayAsk forms job (state_of forms job (trace_of number told)) e.call → AreInLanes forms own_lane jobs (told ++ e ∷ [])
+  pub one_more_call : (jobs : List Job) (told : List Told) (e : Told) (number : ℕ) (job : Job) → AreInLanes codec own_lane jobs told → e.job ≡ Some number → slice_get jobs number ≡ Some job
+      → MayAsk codec job (state_of codec job (trace_of number told)) e.call → AreInLanes codec own_lane jobs (told ++ e ∷ [])
   one_more_call jobs told e number job lanes own at asked_it = record {
     within = All-push (IsWithin jobs) told e lanes.within (λ n by_it. let same = same_Some number n (sym own ∙ by_it) in let less = slice_get_within jobs number job at in omega (arith, same, less));
     asked = λ k j j_at. elim (cases_eq number k) [
       | inl same ↦
           let by_it = own ∙ ap Some same in
           let same_job : job ≡ j = same_Some job j (sym at ∙ ap (slice_get jobs) same ∙ j_at) in
-          let P : ℕ → Job → Type 0 = λ n i. MayAsk forms i (state_of forms i (trace_of n told)) e.call in
-          let Q : List Exchange → Type 0 = λ t. AskedFrom forms j (begun j.command) t in
+          let P : ℕ → Job → Type 0 = λ n i. MayAsk codec i (state_of codec i (trace_of n told)) e.call in
+          let Q : List Exchange → Type 0 = λ t. AskedFrom codec j (begun j.command) t in
           subst Q (sym (trace_of-own k told e by_it))
-          (asked-push forms j (begun j.command) (trace_of k told) (record { call = e.call; reply = e.reply }) (lanes.asked k j j_at) (subst (λ i. P k i) same_job (subst (λ n. P n job) same asked_it)))
+          (asked-push codec j (begun j.command) (trace_of k told) (record { call = e.call; reply = e.reply }) (lanes.asked k j j_at) (subst (λ i. P k i) same_job (subst (λ n. P n job) same asked_it)))
       | inr apart ↦
-          let Q : List Exchange → Type 0 = λ t. AskedFrom forms j (begun j.command) t in
+          let Q : List Exchange → Type 0 = λ t. AskedFrom codec j (begun j.command) t in
           subst Q (sym (trace_of-other k told e (λ by_it. apart (same_Some number k (sym own ∙ by_it))))) (lanes.asked k j j_at)
     ];
     in_turn = apart_in_turn (told ++ e ∷ []);
   }
 
   -- one job more, which has made no call
-  pub one_more_job : (jobs : List Job) (told : List Told) (job : Job) → AreInLanes forms own_lane jobs told → AreInLanes forms own_lane (jobs ++ job ∷ []) told
+  pub one_more_job : (jobs : List Job) (told : List Told) (job : Job) → AreInLanes codec own_lane jobs told → AreInLanes codec own_lane (jobs ++ job ∷ []) told
   one_more_job jobs told job lanes = record {
     within = All-weaker (IsWithin jobs) (IsWithin (jobs ++ job ∷ [])) (λ e below n by_it. let less = below n by_it in let more = length_push jobs job in omega (arith, less, more)) told lanes.within;
     asked = λ k j j_at. elim (slice_get_push jobs job k j j_at) [
       | inl before ↦ lanes.asked k j before
       | inr last ↦
           let none : trace_of k told ≡ [] = none_made k told (All-weaker (IsWithin jobs) (λ e. e.job ≡ Some k → ⊥) (λ e below by_it. let less = below k by_it in omega (arith, less, last.0)) told lanes.within) in
-          let Q : List Exchange → Type 0 = λ t. AskedFrom forms j (begun j.command) t in
+          let Q : List Exchange → Type 0 = λ t. AskedFrom codec j (begun j.command) t in
           subst Q (sym none) tt
     ];
     in_turn = lanes.in_turn;

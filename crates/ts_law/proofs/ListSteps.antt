@@ -27,23 +27,24 @@ use Rattle.ts_schema.specs.SchemaTexts.{schema_object}
 use Rattle.ts_model.specs.declared.commands.Command.{Command}
 use Rattle.ts_model.specs.declared.commands.Command.TheVariants.{Create, Delete, Evolve, Write, Read}
 use Rattle.ts_model.specs.declared.commands.Job.{Job}
-use Rattle.ts_model.specs.declared.deeds.Erasure.{Erasure}
+use Rattle.ts_model.specs.declared.deeds.Deletion.{Deletion}
 use Rattle.ts_model.specs.declared.states.Listed.{Listed}
 use Rattle.ts_model.specs.declared.states.State.{State}
-use Rattle.ts_model.specs.declared.states.State.TheVariants.{ListsCommits, ListsSchemas}
-use Rattle.ts_model.specs.Deeds.{History, IsHistory, erases, erase_of, schemas, schema_with, schema_there}
-use Rattle.ts_model.specs.Forms.{Forms, FormsLaws, Spelled, Tracking}
+use Rattle.ts_model.specs.declared.states.State.TheVariants.{Seeks}
+use Rattle.ts_model.specs.declared.states.Seeking.TheVariants.{ListsCommits, ListsSchemas}
+use Rattle.ts_model.specs.Deeds.{History, IsHistory, deletions, deletion_of, schemas, schema_with, schema_there}
+use Rattle.ts_model.specs.Codecs.{Codec, CodecLaws, Spelled, Tracking}
 use Rattle.ts_model.specs.Jobs.{looked_at}
 use Rattle.ts_law.specs.Stands.{IsCommitted, HoldsIn, WentInto, Stands}
 use Rattle.ts_law.proofs.OriginLaws.{key_there}
 use Rattle.ts_model.specs.States.{wrt_in, committed_in, del_in, deletes_in, schema_key_in, schemas_in, meets, looked_into, list_commits, list_schemas, on_names, seeks}
 use Rattle.ts_model.specs.Told.{Told, trace_of, after_told, IsReplied, schemas_found, history_told}
 use Rattle.ts_law.specs.Ends.{IsUndone}
-use Rattle.ts_law.specs.Kept.{Clean, Works, HasNear, HasListed, Claims}
+use Rattle.ts_law.specs.Kept.{Clean, Works, HasLooked, HasListed, Claims}
 use Rattle.ts_law.specs.Steps.{Keeps, Leads, Advances, Comes}
 use Rattle.ts_model.proofs.ListLemmas.{Contains-filter, filter-Contains, Contains-filter_map, filter_map-Contains}
 use Rattle.ts_law.proofs.HeldLemmas.{Holds, Holds-from_get, listed_from_Holds, Holds-from_listed}
-use Rattle.ts_model.proofs.HistoryLaws.{erase_of-is, erase_of_name, schema_with-is, schema_of_key, there_is_with, there_by_keys}
+use Rattle.ts_model.proofs.HistoryLaws.{deletion_of-is, deletion_of_name, schema_with-is, schema_of_key, there_is_with, there_by_keys}
 use Rattle.ts_model.proofs.Traces.{schemas_found-own}
 use Rattle.ts_law.proofs.Effects.{IsLook, look_stays, look_leads, look_history, listed}
 use Rattle.ts_law.proofs.StandsLaws.{free_from_get}
@@ -115,30 +116,30 @@ module _ (spelled : Spelled) (m : Held) (h : History) (stands : Stands spelled m
   dels = filter (meets from to) (deletes_in (names_under Commits m))
 
   -- a delete whose object is held is one of the history
-  erase_from_held : (f : FragKey) → Holds m (name.Commit f kind.Del) → (x : Erasure) × (erase_of h f ≡ Some x)
-  erase_from_held f held = by_found (erase_of h f) refl
+  erase_from_held : (f : FragKey) → Holds m (name.Commit f kind.Del) → (x : Deletion) × (deletion_of h f ≡ Some x)
+  erase_from_held f held = by_found (deletion_of h f) refl
     where
-      lost : erase_of h f ≡ None → ⊥
+      lost : deletion_of h f ≡ None → ⊥
       lost none = free_from_get m (name.Commit f kind.Del) (stands.deletes f ∙ ap (option_map (λ x. cond_object x.cond)) none) held
 
-      by_found : (o : Option Erasure) → erase_of h f ≡ o → (x : Erasure) × (o ≡ Some x)
+      by_found : (o : Option Deletion) → deletion_of h f ≡ o → (x : Deletion) × (o ≡ Some x)
       by_found None none = absurd (lost none)
       by_found (Some x) some = (x, refl)
 
   -- a delete that a read looks into is one of the history, and stamped in the interval
-  erase_from_looked : (f : FragKey) → Contains dels f → (x : Erasure) × Contains (erases h) x × (frag_of x.key ≡ f) × (is_within from to x.key ≡ true)
+  erase_from_looked : (f : FragKey) → Contains dels f → (x : Deletion) × Contains (deletions h) x × (frag_of x.key ≡ f) × (is_within from to x.key ≡ true)
   erase_from_looked f at =
       let parts = filter-Contains (meets from to) (deletes_in (names_under Commits m)) f at in
       let found = filter_map-Contains del_in (names_under Commits m) f parts.0 in
       let held = subst (Holds m) (del_in-some found.0 f found.2) (Holds-from_listed Commits m found.0 found.1).0 in
       let of = erase_from_held f held in
-      let is = erase_of-is h f of.0 of.1 in
+      let is = deletion_of-is h f of.0 of.1 in
       (of.0, is.0, is.1, within_of_meets from to (of.0).key (ap (meets from to) is.1 ∙ parts.1))
 
   -- a delete of the history that is stamped in the interval is one that a read looks into
-  looked_from_erase : (x : Erasure) → Contains (erases h) x → is_within from to x.key ≡ true → Contains dels (frag_of x.key)
+  looked_from_erase : (x : Deletion) → Contains (deletions h) x → is_within from to x.key ≡ true → Contains dels (frag_of x.key)
   looked_from_erase x at within =
-      let held : map.get m (name.Commit (frag_of x.key) kind.Del) ≡ Some (cond_object x.cond) = stands.deletes (frag_of x.key) ∙ ap (option_map (λ y. cond_object y.cond)) (erase_of_name h x stands.history at) in
+      let held : map.get m (name.Commit (frag_of x.key) kind.Del) ≡ Some (cond_object x.cond) = stands.deletes (frag_of x.key) ∙ ap (option_map (λ y. cond_object y.cond)) (deletion_of_name h x stands.history at) in
       Contains-filter (meets from to) (deletes_in (names_under Commits m)) (frag_of x.key)
       (Contains-filter_map del_in (names_under Commits m) (name.Commit (frag_of x.key) kind.Del) (frag_of x.key)
       (listed_from_Holds Commits m (name.Commit (frag_of x.key) kind.Del) (Holds-from_get m (name.Commit (frag_of x.key) kind.Del) (cond_object x.cond) held) refl) refl)
@@ -215,7 +216,7 @@ looked spelled past jobs seen e m job c is look stands replied clean =
 
 -- ---- the calls
 
-module _ {F : Type 0} (forms : Forms F) (spelled : Spelled) (tracks : Tracking F) (past : History) (jobs : List Job) (seen : List Told) (e : Told) (m : Held) (number : ℕ) (job : Job) where
+module _ {F : Type 0} (codec : Codec F) (spelled : Spelled) (tracks : Tracking F) (past : History) (jobs : List Job) (seen : List Told) (e : Told) (m : Held) (number : ℕ) (job : Job) where
   -- the history before the call
   abbrev h : History
   h = history_told jobs past seen
@@ -230,15 +231,15 @@ module _ {F : Type 0} (forms : Forms F) (spelled : Spelled) (tracks : Tracking F
 
   -- what a state claims after the call
   abbrev ClaimedAfter : State F → Type 0
-  ClaimedAfter s = Claims forms spelled tracks past jobs (seen ++ e ∷ []) m' number job s
+  ClaimedAfter s = Claims codec spelled tracks past jobs (seen ++ e ∷ []) m' number job s
 
   -- a call of the job comes in a state
   abbrev ComesHere : State F → Type 0
-  ComesHere s = Comes forms spelled tracks past jobs seen e m number job s
+  ComesHere s = Comes codec spelled tracks past jobs seen e m number job s
 
   -- a call leads the job on from a state
   abbrev AdvancesHere : State F → Type 0
-  AdvancesHere s = Advances forms spelled tracks past jobs seen e m number job s
+  AdvancesHere s = Advances codec spelled tracks past jobs seen e m number job s
 
   -- how a reply to a listing leads on
   names_lead : (p : Prefix) (on : List Name → State F) (r : Reply) → ((names : List Name) → r ≡ reply.Names names → ClaimedAfter (on names)) → IsUndone h' job → ClaimedAfter (on_names (call.List p) on r)
@@ -250,7 +251,7 @@ module _ {F : Type 0} (forms : Forms F) (spelled : Spelled) (tracks : Tracking F
 
   -- a read knows the fragments and the deletes that it listed
   near_listed : Stands spelled m h → e.job ≡ Some number → e.call ≡ list_commits → m' ≡ m → (from to : ℕ) (query : Query)
-      → HasNear spelled past jobs (seen ++ e ∷ []) m' number (Read from to query) (looked_into (Read from to query) (names_under Commits m))
+      → HasLooked spelled past jobs (seen ++ e ∷ []) m' number (Read from to query) (looked_into (Read from to query) (names_under Commits m))
   near_listed stands own is same_held from to query = record {
     commits = listed_now seen e number Commits own is;
     whole = λ f at.
@@ -261,26 +262,26 @@ module _ {F : Type 0} (forms : Forms F) (spelled : Spelled) (tracks : Tracking F
         let is = stands.covered w at in
         (is.0, looked_from_committed m from to is.0 is.1 (meets_of_origin spelled m h from to is.0 w.key is.2 within), subst (λ n. WentInto spelled h n is.0 w.key) (sym same_held) is.2);
     erased = erase_from_looked spelled m h stands from to;
-    erasing = looked_from_erase spelled m h stands from to;
+    deletes_found = looked_from_erase spelled m h stands from to;
   }
 
   -- they are those of the command
   near_in_command : Stands spelled m h → e.job ≡ Some number → e.call ≡ list_commits → m' ≡ m → (from to : ℕ) (query : Query) → job.command ≡ Read from to query
-      → (names : List Name) → names ≡ names_under Commits m → HasNear spelled past jobs (seen ++ e ∷ []) m' number job.command (looked_into job.command names)
+      → (names : List Name) → names ≡ names_under Commits m → HasLooked spelled past jobs (seen ++ e ∷ []) m' number job.command (looked_into job.command names)
   near_in_command stands own is same_held from to query reads names all =
-      subst (λ c. HasNear spelled past jobs (seen ++ e ∷ []) m' number c (looked_into c names)) (sym reads)
-      (subst (λ ns. HasNear spelled past jobs (seen ++ e ∷ []) m' number (Read from to query) (looked_into (Read from to query) ns)) (sym all)
+      subst (λ c. HasLooked spelled past jobs (seen ++ e ∷ []) m' number c (looked_into c names)) (sym reads)
+      (subst (λ ns. HasLooked spelled past jobs (seen ++ e ∷ []) m' number (Read from to query) (looked_into (Read from to query) ns)) (sym all)
       (near_listed stands own is same_held from to query))
 
   -- the listing of the commits leads a read to the listing of the schemas
-  pub commits_steps : FormsLaws forms spelled tracks → ComesHere ListsCommits → AdvancesHere ListsCommits
+  pub commits_steps : CodecLaws codec spelled tracks → ComesHere (Seeks ListsCommits) → AdvancesHere (Seeks ListsCommits)
   commits_steps laws comes =
       let is : e.call ≡ list_commits = sym (same_Some list_commits e.call comes.asked) in
       let look = looked spelled past jobs seen e m job list_commits is tt comes.stands comes.replied comes.claims.0 in
       let reads = comes.claims.1 in
       record {
         leads = look.leads;
-        own = names_lead Commits (λ names. ListsSchemas (looked_into job.command names)) e.reply
+        own = names_lead Commits (λ names. Seeks (ListsSchemas (looked_into job.command names))) e.reply
             (λ names said. (look.clean, near_in_command comes.stands comes.own is look.same_held reads.0 reads.1 reads.2 reads.3 names (listed m e Commits names is comes.replied said)))
             look.clean.undone;
       }
@@ -292,10 +293,11 @@ module _ {F : Type 0} (forms : Forms F) (spelled : Spelled) (tracks : Tracking F
   told_them own is names said = schemas_found-own number seen e own ∙ rw (is, said) refl
 
   -- a job knows the schema there once it listed the schemas
-  abbrev works_listed : Stands spelled m h → e.job ≡ Some number → e.call ≡ list_schemas → h' ≡ h → (names : List Name) → e.reply ≡ reply.Names names → names ≡ names_under Schemas m
+  abbrev works_listed : Stands spelled m h → IsUndone h job → e.job ≡ Some number → e.call ≡ list_schemas → h' ≡ h → (names : List Name) → e.reply ≡ reply.Names names → names ≡ names_under Schemas m
       → (s : Schema) → schema_there h (looked_at job) ≡ Some s → Works past jobs (seen ++ e ∷ []) number job s
-  works_listed stands own is same_history names said all s there = record {
+  works_listed stands undone own is same_history names said all s there = record {
     schemas = listed_now seen e number Schemas own is;
+    undone = undone;
     holds = there;
     found = schemas_in names;
     is_found = told_them own is names said;
@@ -304,13 +306,13 @@ module _ {F : Type 0} (forms : Forms F) (spelled : Spelled) (tracks : Tracking F
   }
 
   -- what a job listed before goes on with the schema there
-  has_listed : Keeps m m' h h' job.id → (c : Command) (listed : Listed) → HasNear spelled past jobs seen m number c listed → (s : Schema) (works : Works past jobs (seen ++ e ∷ []) number job s)
+  has_listed : Keeps m m' h h' job.id → (c : Command) (listed : Listed) → HasLooked spelled past jobs seen m number c listed → (s : Schema) (works : Works past jobs (seen ++ e ∷ []) number job s)
       → (works.schemas).before ≡ seen → HasListed spelled past jobs (seen ++ e ∷ []) m' number job c listed s
   has_listed keeps (Create f) listed before s works at = before
   has_listed keeps (Evolve change) listed before s works at = works
   has_listed keeps (Write w) listed before s works at = works
   has_listed keeps (Read from to query) listed before s works at = record {
-    listed = near_stays spelled past jobs seen e m m' job.id keeps number from to listed.near listed.deletes before;
+    listed = near_stays spelled past jobs seen e m m' job.id keeps number from to listed.fragments listed.delete_names before;
     works = works;
     between = (before.commits).later;
     order = at ∙ (before.commits).place;
@@ -330,7 +332,7 @@ module _ {F : Type 0} (forms : Forms F) (spelled : Spelled) (tracks : Tracking F
       ] refl)
 
   -- the listing of the schemas leads a job to the get of the schema there, or to its end
-  pub schemas_steps : FormsLaws forms spelled tracks → (listing : Listed) → ComesHere (ListsSchemas listing) → AdvancesHere (ListsSchemas listing)
+  pub schemas_steps : CodecLaws codec spelled tracks → (listing : Listed) → ComesHere (Seeks (ListsSchemas listing)) → AdvancesHere (Seeks (ListsSchemas listing))
   schemas_steps laws listing comes =
       let is : e.call ≡ list_schemas = sym (same_Some list_schemas e.call comes.asked) in
       let look = looked spelled past jobs seen e m job list_schemas is tt comes.stands comes.replied comes.claims.0 in
@@ -340,6 +342,6 @@ module _ {F : Type 0} (forms : Forms F) (spelled : Spelled) (tracks : Tracking F
             (λ names said.
             let all = listed m e Schemas names is comes.replied said in
             sought listing comes.stands look.clean names all (λ s there.
-            has_listed look.leads.leaves job.command listing comes.claims.1 s (works_listed comes.stands comes.own is look.same_history names said all s there) refl))
+            has_listed look.leads.leaves job.command listing comes.claims.1 s (works_listed comes.stands comes.claims.0.undone comes.own is look.same_history names said all s there) refl))
             look.clean.undone;
       }

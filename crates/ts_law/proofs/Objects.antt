@@ -1,5 +1,5 @@
 -- What jobs are to put, and what is known of it before the first put.
-use Rattle.std.proofs.Common.{List, None, Option, Some, [], ap, arith, cond, false, inl, inr, length, length-append, refl, suc, sym, true, zero, ℕ, ◌++◌, ◌<◌, ◌∙◌, ◌∷◌, ◌≡◌}
+use Rattle.std.proofs.Common.{List, None, Option, Some, [], ap, arith, cond, false, inl, inr, length, length-append, refl, subst, suc, sym, true, zero, ℕ, ◌++◌, ◌<◌, ◌∙◌, ◌∷◌, ◌≡◌}
 use Rattle.std.proofs.lemmas.Bool.{eqb-true}
 use Rattle.std.proofs.lemmas.List.{length-map}
 use Rattle.std.proofs.lemmas.Option.{none-some, same_Some, slice_get-map}
@@ -8,15 +8,19 @@ use Rattle.ts_base.specs.Held.{Held}
 use Rattle.ts_base.specs.Names.{wrt_of}
 use Rattle.ts_cond.specs.Tests.{Condition}
 use Rattle.ts_base.specs.declared.keys.FragKey.{FragKey}
+use Rattle.ts_base.specs.declared.names.LeaseMode.{LeaseMode}
+use Rattle.ts_base.specs.declared.names.Name.{Name}
 use Rattle.ts_base.specs.declared.names.Part.{Part}
 use Rattle.ts_base.specs.declared.names.PartBytes.{PartBytes}
 use Rattle.ts_schema.specs.Parts.{look_in}
 use Rattle.ts_schema.specs.declared.attrs.Attr.{Attr}
 use Rattle.ts_model.specs.Deeds.{History}
-use Rattle.ts_model.specs.Forms.{Forms}
+use Rattle.ts_model.specs.Codecs.{Codec}
 use Rattle.ts_law.specs.Fresh.{id_in}
 use Rattle.ts_law.specs.Kept.{Aims, Clean, Putting}
-use Rattle.ts_model.specs.States.{delete_object_of, part_objects, schema_object_of}
+use Rattle.ts_law.specs.Stands.{IsNoLease}
+use Rattle.ts_model.specs.Jobs.{key_of}
+use Rattle.ts_model.specs.States.{delete_object_of, lease_of, mode_of, part_objects, schema_object_of}
 use Rattle.ts_model.specs.Told.{Told, history_told}
 use Rattle.ts_model.specs.declared.answers.Outcome.{Outcome}
 use Rattle.ts_model.specs.declared.commands.Job.{Job}
@@ -26,18 +30,22 @@ use Rattle.ts_base.specs.declared.names.Name.TheVariants as name
 use Rattle.ts_base.specs.declared.names.Part.TheVariants as part_kind
 use Rattle.ts_base.specs.contracts.names.PartPartialEq.TheImpl as part
 
--- each of the objects carries the identifier
+-- the name carries the identifier, and is none of a lease
+abbrev pub Carries : ℕ → Name → Type 0
+Carries id n = (id_in n ≡ Some id) × IsNoLease n
+
+-- so does the name of each of the objects
 abbrev pub CarryAll : ℕ → List NewObject → Type 0
-CarryAll id objects = (i : ℕ) (o : NewObject) → slice_get objects i ≡ Some o → id_in o.name ≡ Some id
+CarryAll id objects = (i : ℕ) (o : NewObject) → slice_get objects i ≡ Some o → Carries id o.name
 
 -- the schema object of a job carries its identifier
 pub schema_carries : (job : Job) (attrs : List Attr) → CarryAll job.id (schema_object_of job attrs ∷ [])
-schema_carries job attrs zero o at = ap (λ x. id_in x.name) (sym (same_Some (schema_object_of job attrs) o at))
+schema_carries job attrs zero o at = subst (λ x. Carries job.id x.name) (same_Some (schema_object_of job attrs) o at) (refl, tt)
 schema_carries job attrs (suc i) o at = absurd (none-some o at)
 
 -- the object of a delete job carries its identifier
 pub delete_carries : (job : Job) (condition : Condition) → CarryAll job.id (delete_object_of job condition ∷ [])
-delete_carries job condition zero o at = ap (λ x. id_in x.name) (sym (same_Some (delete_object_of job condition) o at))
+delete_carries job condition zero o at = subst (λ x. Carries job.id x.name) (same_Some (delete_object_of job condition) o at) (refl, tt)
 delete_carries job condition (suc i) o at = absurd (none-some o at)
 
 -- the object of a part
@@ -92,8 +100,8 @@ put_at frag parts i o at = elim (slice_get_push (part_objects frag parts) (recor
 -- the objects of a write carry the identifier of its fragment
 pub write_carries : (frag : FragKey) (parts : List PartBytes) → CarryAll frag.id (objects_of frag parts)
 write_carries frag parts i o at = elim (put_at frag parts i o at) [
-  | APart x is same ↦ ap (λ y. id_in y.name) same
-  | ACommit is same ↦ ap (λ y. id_in y.name) same
+  | APart x is same ↦ subst (λ y. Carries frag.id y.name) (sym same) (refl, tt)
+  | ACommit is same ↦ subst (λ y. Carries frag.id y.name) (sym same) (refl, tt)
 ]
 
 -- no two parts of a list are one
@@ -142,14 +150,22 @@ look_finds (x ∷ parts) p bytes e = elim ((part.ghosts).eq x.part p) as (λ b. 
       | false ↦ λ _ found. let later = look_finds parts p bytes found in (suc later.0, later.1)
     ] refl e
 
+-- what is no lease is not that of a job
+pub apart_from_lease : (job : Job) (n : Name) → IsNoLease n → lease_of job ≡ Some n → ⊥
+apart_from_lease job n none = by_mode (mode_of job.command)
+  where
+    by_mode : (o : Option LeaseMode) → option_map (name.Lease (key_of job)) o ≡ Some n → ⊥
+    by_mode None is = none-some n is
+    by_mode (Some mode) is = subst IsNoLease (sym (same_Some (name.Lease (key_of job) mode) n is)) none
+
 -- a job that puts nothing yet has the objects before it free, where nothing carries its identifier
-pub begins_putting : {F : Type 0} (forms : Forms F) (past : History) (jobs : List Job) (told : List Told) (n : Held) (number : ℕ) (job : Job) (objects : List NewObject) (end : Outcome)
-    → Clean n (history_told jobs past told) job → CarryAll job.id objects → 0 < length objects → Aims forms past jobs told number job objects end
-    → Putting forms past jobs told n number job objects 0 end
-begins_putting forms past jobs told n number job objects end clean carry some aims = record {
+pub begins_putting : {F : Type 0} (codec : Codec F) (past : History) (jobs : List Job) (told : List Told) (n : Held) (number : ℕ) (job : Job) (objects : List NewObject) (end : Outcome)
+    → Clean n (history_told jobs past told) job → CarryAll job.id objects → 0 < length objects → Aims codec past jobs told number job objects end
+    → Putting codec past jobs told n number job objects 0 end
+begins_putting codec past jobs told n number job objects end clean carry some aims = record {
   held = λ i o before at. absurd (omega arith);
   short = λ i o before at. absurd (omega arith);
-  free = λ i o behind at. clean.free o.name (carry i o at);
+  free = λ i o behind at. let carries = carry i o at in clean.free o.name carries.0 (apart_from_lease job o.name carries.1);
   some = some;
   undone = clean.undone;
   aims = aims;

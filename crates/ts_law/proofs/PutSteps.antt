@@ -27,20 +27,20 @@ use Rattle.ts_schema.specs.declared.frames.Frame.{Frame}
 use Rattle.ts_schema.specs.declared.schemas.Schema.{Schema}
 use Rattle.ts_store.specs.declared.call.Reply.{Reply}
 use Rattle.ts_model.specs.Commands.{create_refusal, fits, frame_made, laid, piece_of}
-use Rattle.ts_model.specs.Deeds.{EraseFollows, History, IsHistory, IsKey, SchemaFollows, WriteFollows, erases, frame_in, has_cell, schema_there, schema_with, writes}
+use Rattle.ts_model.specs.Deeds.{DeletionFollows, History, IsHistory, IsKey, SchemaFollows, WriteFollows, deletions, frame_in, has_cell, schema_there, schema_with, writes}
 use Rattle.ts_law.specs.Ends.{HasDeclared, IsDeleted, IsTrueEnd, IsTrueRefusal, IsUndone, IsWritten, kind_of}
-use Rattle.ts_model.specs.Forms.{Forms, FormsLaws, Spelled, Tracking}
-use Rattle.ts_model.specs.Jobs.{AreApart, IsFit, erasure_as, frag_of_job, key_of, looked_at, looks_at, schema_of_job, written_as}
+use Rattle.ts_model.specs.Codecs.{Codec, CodecLaws, Spelled, Tracking}
+use Rattle.ts_model.specs.Jobs.{AreApart, IsFit, deletion_as, frag_of_job, key_of, looked_at, looks_at, schema_of_job, written_as}
 use Rattle.ts_law.specs.Kept.{Claims, Clean, Putting, Works}
 use Rattle.ts_model.specs.Pieces.{HoldsWrite, IsOrdinary}
-use Rattle.ts_model.specs.Queries.{erasing_in}
+use Rattle.ts_model.specs.Queries.{delete_condition}
 use Rattle.ts_law.specs.Stands.{Spells, Stands}
 use Rattle.ts_law.specs.Origins.{box_in}
 use Rattle.ts_domain.specs.Boxes.{is_in_box}
 use Rattle.ts_law.proofs.Grows.{piece_box}
 use Rattle.ts_model.specs.States.{works as comes_to, delete_object_of, goes, list_schemas, part_objects, put_of, puts_cells, puts_delete, puts_schema, putting, refuse, schema_name, schema_object_of, unless_refused, write_objects}
 use Rattle.ts_law.specs.Steps.{Advances, Comes, Keeps, Leads}
-use Rattle.ts_model.specs.Told.{IsShortCall, Told, after_told, cells_of, condition_of, declared_by, deed_of, deed_told, erased_by, erased_in, history_told, schema_used, schemas_found, trace_of, written_by, written_in}
+use Rattle.ts_model.specs.Told.{IsShortCall, Told, after_told, cells_of, condition_of, declared_by, deed_of, deed_told, deleted_by, deleted_in, history_told, schema_used, schemas_found, trace_of, written_by, written_in}
 use Rattle.ts_model.specs.declared.answers.Outcome.{Outcome}
 use Rattle.ts_model.specs.declared.answers.Refusal.{Refusal}
 use Rattle.ts_model.specs.declared.commands.Command.TheVariants.{Create, Delete, Evolve, Write}
@@ -48,23 +48,23 @@ use Rattle.ts_model.specs.declared.commands.FrameIn.{FrameIn}
 use Rattle.ts_model.specs.declared.commands.Job.{Job}
 use Rattle.ts_model.specs.declared.commands.WriteIn.{WriteIn}
 use Rattle.ts_model.specs.declared.deeds.Deed.TheVariants.{Declared, Erased, Wrote}
-use Rattle.ts_model.specs.declared.deeds.Erasure.{Erasure}
+use Rattle.ts_model.specs.declared.deeds.Deletion.{Deletion}
 use Rattle.ts_model.specs.declared.deeds.Written.{Written}
 use Rattle.ts_model.specs.declared.states.Listed.{Listed}
 use Rattle.ts_model.specs.declared.states.NewObject.{NewObject}
 use Rattle.ts_model.specs.declared.states.State.{State}
-use Rattle.ts_model.specs.declared.states.State.TheVariants.{Over, Puts}
+use Rattle.ts_model.specs.declared.states.State.TheVariants.{Puts, Over}
 use Rattle.ts_law.proofs.Declaring.{created_attrs, created_sound, evolved_are_attrs, evolved_sound}
-use Rattle.ts_law.proofs.Deletes.{erasing_sparse, erasing_spelled, schema_sound}
+use Rattle.ts_law.proofs.Deletes.{delete_condition_sparse, delete_condition_spelled, schema_sound}
 use Rattle.ts_law.proofs.Effects.{Added, Still, put_went, still_leads}
 use Rattle.ts_law.proofs.HeldLemmas.{Holds, get_apart, get_put}
-use Rattle.ts_model.proofs.HistoryLaws.{erases-append, frame_facts, schema_facts, schema_there-is, writes-append}
+use Rattle.ts_model.proofs.HistoryLaws.{deletions-append, frame_facts, schema_facts, schema_there-is, writes-append}
 use Rattle.ts_model.proofs.LaidLaws.{written_held, written_ordinary}
 use Rattle.ts_law.proofs.LaidRefusals.{FailsByColumns, columns_true, laid_fails}
 use Rattle.ts_model.proofs.Laying.{laid_follows}
 use Rattle.ts_model.proofs.ListLemmas.{Contains-here, Contains-nil, Contains-only}
 use Rattle.ts_law.proofs.Objects.{ACommit, APart, begins_putting, delete_carries, last_at, look_finds, object_count, objects_apart, objects_of, part_count, part_here, part_object, put_at, schema_carries, write_carries}
-use Rattle.ts_law.proofs.QueryRefusals.{FailsByQuery, erasing_fails, query_true}
+use Rattle.ts_law.proofs.QueryRefusals.{FailsByQuery, delete_condition_fails, query_true}
 use Rattle.ts_law.proofs.StandsLaws.{declared_last, free_from_get, keeps_put, leads_at, stands_commit, stands_delete, stands_put, stands_schema}
 use Rattle.ts_law.proofs.Stays.{frame_stays, listed_stays, works_stays}
 use Rattle.ts_model.proofs.Traces.{deed_told_own, later_deed, later_no_deed, later_unchanged}
@@ -87,7 +87,7 @@ fault_is_true h job (name.Lease k mode) undone = undone
 
 -- ---- one call
 
-module _ {F : Type 0} (forms : Forms F) (spelled : Spelled) (tracks : Tracking F) (past : History) (jobs : List Job) (seen : List Told) (e : Told) (m : Held) (number : ℕ) (job : Job) where
+module _ {F : Type 0} (codec : Codec F) (spelled : Spelled) (tracks : Tracking F) (past : History) (jobs : List Job) (seen : List Told) (e : Told) (m : Held) (number : ℕ) (job : Job) where
   -- the history before the call
   abbrev h : History
   h = history_told jobs past seen
@@ -102,15 +102,15 @@ module _ {F : Type 0} (forms : Forms F) (spelled : Spelled) (tracks : Tracking F
 
   -- what a state of the job claims after the call
   abbrev ClaimsLater : State F → Type 0
-  ClaimsLater s = Claims forms spelled tracks past jobs (seen ++ e ∷ []) m' number job s
+  ClaimsLater s = Claims codec spelled tracks past jobs (seen ++ e ∷ []) m' number job s
 
   -- the call comes to the job in a state
   abbrev ComesHere : State F → Type 0
-  ComesHere s = Comes forms spelled tracks past jobs seen e m number job s
+  ComesHere s = Comes codec spelled tracks past jobs seen e m number job s
 
   -- the call advances the job from a state
   abbrev AdvancesHere : State F → Type 0
-  AdvancesHere s = Advances forms spelled tracks past jobs seen e m number job s
+  AdvancesHere s = Advances codec spelled tracks past jobs seen e m number job s
 
   -- where the call leads
   abbrev LeadsHere : Type 0
@@ -124,7 +124,7 @@ module _ {F : Type 0} (forms : Forms F) (spelled : Spelled) (tracks : Tracking F
 
   -- where the reply to a put leads
   put_leads : (objects : List NewObject) (next : ℕ) (end : Outcome) (o : NewObject) → slice_get objects next ≡ Some o → (r : Reply) → (r ≡ reply.Made → ClaimsLater (putting objects (suc next) end))
-      → (r ≡ reply.Taken → ⊥) → (r ≡ reply.Failed → ClaimsLater (refuse (refusal.StoreFault (place.Name o.name)))) → ClaimsLater (goes forms job (Puts objects next end) r)
+      → (r ≡ reply.Taken → ⊥) → (r ≡ reply.Failed → ClaimsLater (refuse (refusal.StoreFault (place.Name o.name)))) → ClaimsLater (goes codec job (Puts objects next end) r)
   put_leads objects next end o at reply.Made made taken failed = rw at (made refl)
   put_leads objects next end o at reply.Taken made taken failed = absurd (taken refl)
   put_leads objects next end o at reply.Failed made taken failed = rw at (failed refl)
@@ -226,6 +226,7 @@ module _ {F : Type 0} (forms : Forms F) (spelled : Spelled) (tracks : Tracking F
           evolves = evolves;
           schemas = listed_stays seen e number Schemas works.schemas;
           there = there;
+          undone = works.undone;
           holds = ap (schema_there (history_told jobs past (works.schemas).before)) (sym looks) ∙ works.holds;
           declared = declared;
         },
@@ -246,10 +247,10 @@ module _ {F : Type 0} (forms : Forms F) (spelled : Spelled) (tracks : Tracking F
   -- ---- the put of a delete
 
   module _ (text : List ℕ) (frame : Frame) (there : Schema) (condition : Condition)
-      (deletes : job.command ≡ Delete text) (framed : frame_in h ≡ Some frame) (says : erasing_in frame there.attrs text ≡ Ok condition) (works : Works past jobs seen number job there) where
+      (deletes : job.command ≡ Delete text) (framed : frame_in h ≡ Some frame) (says : delete_condition frame there.attrs text ≡ Ok condition) (works : Works past jobs seen number job there) where
     -- what the job erases
-    abbrev own_erasure : Erasure
-    own_erasure = erasure_as job condition
+    abbrev own_deletion : Deletion
+    own_deletion = deletion_as job condition
 
     -- what it puts
     abbrev own_object : NewObject
@@ -264,38 +265,38 @@ module _ {F : Type 0} (forms : Forms F) (spelled : Spelled) (tracks : Tracking F
     delete_looks = ap (looks_at job) deletes
 
     -- the delete may follow
-    erasure_follows : IsFit job → IsHistory h → IsUndone h job → EraseFollows h own_erasure
-    erasure_follows fit is undone =
-        let sparse = erasing_sparse frame there.attrs text condition says in
+    deletion_follows : IsFit job → IsHistory h → IsUndone h job → DeletionFollows h own_deletion
+    deletion_follows fit is undone =
+        let sparse = delete_condition_sparse frame there.attrs text condition says in
         record {
           frame = frame;
           framed = framed;
           sparse = sparse;
           new = undone;
           key = key_fits fit;
-          cond = erasing_spelled frame there.attrs text condition (frame_facts h frame is framed) (schema_facts h there.key there is works.declared).0
+          cond = delete_condition_spelled frame there.attrs text condition (frame_facts h frame is framed) (schema_facts h there.key there is works.declared).0
               (schema_sound h there.key there frame is works.declared framed) sparse (subst (λ x. IsTrue (fits x)) deletes fit.command) says;
         }
 
     -- the deed of the `.del`
-    erasure_deed : e.job ≡ Some number → slice_get jobs number ≡ Some job → e.call ≡ put_of own_object → deed_told jobs h seen e ≡ Some (Erased own_erasure)
-    erasure_deed own at is =
+    deletion_deed : e.job ≡ Some number → slice_get jobs number ≡ Some job → e.call ≡ put_of own_object → deed_told jobs h seen e ≡ Some (Erased own_deletion)
+    deletion_deed own at is =
         deed_told_own jobs h seen e number job (put_of own_object) own at is
-        ∙ ap (λ x. option_map Erased (erased_by h job (schemas_found (trace_of number seen)) x)) deletes
-        ∙ ap (λ s. option_map Erased (erased_in job text s (frame_in h))) (used_is there delete_looks works)
-        ∙ ap (λ f. option_map Erased (erased_in job text (Some there) f)) framed
-        ∙ ap (λ r. option_map Erased (option_map (erasure_as job) (condition_of r))) says
+        ∙ ap (λ x. option_map Erased (deleted_by h job (schemas_found (trace_of number seen)) x)) deletes
+        ∙ ap (λ s. option_map Erased (deleted_in job text s (frame_in h))) (used_is there delete_looks works)
+        ∙ ap (λ f. option_map Erased (deleted_in job text (Some there) f)) framed
+        ∙ ap (λ r. option_map Erased (option_map (deletion_as job) (condition_of r))) says
 
     -- the `.del` was put, and the job is over
-    erasure_came : (c : ComesHere (Puts (own_object ∷ []) 0 deleted)) → (Holds m (del_of (key_of job)) → ⊥) → m' ≡ map.insert m (del_of (key_of job)) (cond_object condition) → h' ≡ h ++ Erased own_erasure ∷ []
+    deletion_came : (c : ComesHere (Puts (own_object ∷ []) 0 deleted)) → (Holds m (del_of (key_of job)) → ⊥) → m' ≡ map.insert m (del_of (key_of job)) (cond_object condition) → h' ≡ h ++ Erased own_deletion ∷ []
         → Came (own_object ∷ []) 0 deleted own_object
-    erasure_came c free same_held same_history = (leads, (refl, erased), inl (refl, sym (ap kind_of deletes)))
+    deletion_came c free same_held same_history = (leads, (refl, erased), inl (refl, sym (ap kind_of deletes)))
       where
         leads : LeadsHere
-        leads = leads_at spelled past jobs seen e m job.id (map.insert m (del_of (key_of job)) (cond_object condition)) (h ++ Erased own_erasure ∷ []) same_held same_history
-            (stands_delete spelled m h own_erasure free (erasure_follows c.fit (c.stands).history (c.claims).undone)
+        leads = leads_at spelled past jobs seen e m job.id (map.insert m (del_of (key_of job)) (cond_object condition)) (h ++ Erased own_deletion ∷ []) same_held same_history
+            (stands_delete spelled m h own_deletion free (deletion_follows c.fit (c.stands).history (c.claims).undone)
             (subst IsShortCall (put_asked (own_object ∷ []) 0 deleted own_object refl c) c.short) c.stands)
-            (keeps_put m h (del_of (key_of job)) (cond_object condition) job.id (Erased own_erasure ∷ []) free (inl refl) (λ k own. ap (λ l. l.id) (sym (Contains-only (key_of job) k own))))
+            (keeps_put m h (del_of (key_of job)) (cond_object condition) job.id (Erased own_deletion ∷ []) free (inl refl) (λ k own. ap (λ l. l.id) (sym (Contains-only (key_of job) k own))))
 
         erased : IsDeleted jobs past (seen ++ e ∷ []) number job
         erased = record {
@@ -303,23 +304,24 @@ module _ {F : Type 0} (forms : Forms F) (spelled : Spelled) (tracks : Tracking F
           deletes = deletes;
           schemas = listed_stays seen e number Schemas works.schemas;
           there = there;
+          undone = works.undone;
           holds = ap (schema_there (history_told jobs past (works.schemas).before)) (sym delete_looks) ∙ works.holds;
           frame = frame;
           framed = frame_stays m m' h h' job.id leads.leaves frame framed;
           condition = condition;
           says = says;
-          erased = rw (same_history, erases-append h (Erased own_erasure ∷ [])) (Contains-append_right (erases h) (own_erasure ∷ []) own_erasure (Contains-here own_erasure []));
+          erased = rw (same_history, deletions-append h (Erased own_deletion ∷ [])) (Contains-append_right (deletions h) (own_deletion ∷ []) own_deletion (Contains-here own_deletion []));
         }
 
     -- a delete advances by the put of its `.del`
     delete_puts : ComesHere (Puts (own_object ∷ []) 0 deleted) → AdvancesHere (Puts (own_object ∷ []) 0 deleted)
     delete_puts c = puts_on (own_object ∷ []) 0 deleted own_object refl c (λ free same_held changed.
-        erasure_came c free same_held (later_deed jobs past seen e (Erased own_erasure)
-        (erasure_deed c.own c.is_job (put_asked (own_object ∷ []) 0 deleted own_object refl c)) changed))
+        deletion_came c free same_held (later_deed jobs past seen e (Erased own_deletion)
+        (deletion_deed c.own c.is_job (put_asked (own_object ∷ []) 0 deleted own_object refl c)) changed))
 
   -- ---- the puts of a write
 
-  module _ (laws : FormsLaws forms spelled tracks) (w : WriteIn) (frame : Frame) (there : Schema) (cells : List Cell)
+  module _ (laws : CodecLaws codec spelled tracks) (w : WriteIn) (frame : Frame) (there : Schema) (cells : List Cell)
       (writes_them : job.command ≡ Write w) (framed : frame_in h ≡ Some frame) (lays : laid frame there.attrs w ≡ Ok cells) (works : Works past jobs seen number job there) where
     -- the fragment of the write
     abbrev frag : FragKey
@@ -335,7 +337,7 @@ module _ {F : Type 0} (forms : Forms F) (spelled : Spelled) (tracks : Tracking F
 
     -- the parts of the piece
     abbrev own_parts : List PartBytes
-    own_parts = forms.parts frame there own_piece
+    own_parts = codec.parts frame there own_piece
 
     -- what the job puts
     abbrev own_objects : List NewObject
@@ -361,7 +363,7 @@ module _ {F : Type 0} (forms : Forms F) (spelled : Spelled) (tracks : Tracking F
         leads : LeadsHere
         leads = leads_at spelled past jobs seen e m job.id (map.insert m o.name o.bytes) h same_held same_history stands
             (subst (λ g. Keeps m (map.insert m o.name o.bytes) h g job.id) (append-nil h)
-            (keeps_put m h o.name o.bytes job.id [] free (inl (write_carries frag own_parts next o at)) (λ k none. absurd (Contains-nil k none))))
+            (keeps_put m h o.name o.bytes job.id [] free (inl (write_carries frag own_parts next o at).0) (λ k none. absurd (Contains-nil k none))))
 
         undone : IsUndone h' job
         undone = subst (λ g. IsUndone g job) (sym same_history) (c.claims).undone
@@ -378,11 +380,11 @@ module _ {F : Type 0} (forms : Forms F) (spelled : Spelled) (tracks : Tracking F
         same_object : (i : ℕ) (y : NewObject) → i ≡ next → slice_get own_objects i ≡ Some y → o ≡ y
         same_object i y here found = same_Some o y (sym at ∙ ap (slice_get own_objects) (sym here) ∙ found)
 
-        putting_on : Putting forms past jobs (seen ++ e ∷ []) m' number job own_objects (suc next) own_end
+        putting_on : Putting codec past jobs (seen ++ e ∷ []) m' number job own_objects (suc next) own_end
         putting_on = record {
           held = λ i y before found. let within : i ≤ next = omega arith in elim (eq-or-lt_of_le within) [
             | inl here ↦ put_now y (same_object i y here found)
-            | inr earlier ↦ (leads.leaves).keeps y.name y.bytes ((c.claims).held i y earlier found)
+            | inr earlier ↦ (leads.leaves).keeps y.name y.bytes (write_carries frag own_parts i y found).1 ((c.claims).held i y earlier found)
           ];
           short = λ i y before found. let within : i ≤ next = omega arith in elim (eq-or-lt_of_le within) [
             | inl here ↦ subst (λ z. IsShort z.bytes) (same_object i y here found) short
@@ -498,6 +500,7 @@ module _ {F : Type 0} (forms : Forms F) (spelled : Spelled) (tracks : Tracking F
           writes_them = writes_them;
           schemas = listed_stays seen e number Schemas works.schemas;
           there = there;
+          undone = works.undone;
           holds = ap (schema_there (history_told jobs past (works.schemas).before)) (sym looks) ∙ works.holds;
           frame = frame;
           framed = frame_stays m m' h h' job.id leads.leaves frame framed;
@@ -536,7 +539,7 @@ module _ {F : Type 0} (forms : Forms F) (spelled : Spelled) (tracks : Tracking F
         ]
 
   -- a job advances by each of its puts
-  pub puts_steps : (objects : List NewObject) (next : ℕ) (end : Outcome) → FormsLaws forms spelled tracks → ComesHere (Puts objects next end) → AdvancesHere (Puts objects next end)
+  pub puts_steps : (objects : List NewObject) (next : ℕ) (end : Outcome) → CodecLaws codec spelled tracks → ComesHere (Puts objects next end) → AdvancesHere (Puts objects next end)
   puts_steps objects next outcome.Created laws c =
       let aims = (c.claims).aims in
       subst (λ os. ComesHere (Puts os next outcome.Created) → AdvancesHere (Puts os next outcome.Created)) (sym aims.2)
@@ -560,54 +563,54 @@ module _ {F : Type 0} (forms : Forms F) (spelled : Spelled) (tracks : Tracking F
 
 -- ---- what an evolve, a write and a delete come to, once they have the frame
 
-module _ {F : Type 0} (forms : Forms F) (spelled : Spelled) (tracks : Tracking F) (past : History) (jobs : List Job) (seen : List Told) (m : Held) (number : ℕ) (job : Job) where
+module _ {F : Type 0} (codec : Codec F) (spelled : Spelled) (tracks : Tracking F) (past : History) (jobs : List Job) (seen : List Told) (m : Held) (number : ℕ) (job : Job) where
   -- an evolve puts its schema, or it is refused for it
-  pub works_evolve : (change : Evolution) (listed : Listed) (frame : Frame) (there : Schema) → FormsLaws forms spelled tracks → IsFit job → AreApart jobs
+  pub works_evolve : (change : Evolution) (listed : Listed) (frame : Frame) (there : Schema) → CodecLaws codec spelled tracks → IsFit job → AreApart jobs
       → Clean m (history_told jobs past seen) job
       → Works past jobs seen number job there → frame_in (history_told jobs past seen) ≡ Some frame → IsHistory (history_told jobs past seen) → job.command ≡ Evolve change
-      → Claims forms spelled tracks past jobs seen m number job (comes_to forms job job.command listed frame there)
+      → Claims codec spelled tracks past jobs seen m number job (comes_to codec job job.command listed frame there)
   works_evolve change listed frame there laws fit apart clean at framed is evolves =
-      subst (λ c. Claims forms spelled tracks past jobs seen m number job (comes_to forms job c listed frame there)) (sym evolves) (from (evolution_fault frame.domain there.attrs change) refl)
+      subst (λ c. Claims codec spelled tracks past jobs seen m number job (comes_to codec job c listed frame there)) (sym evolves) (from (evolution_fault frame.domain there.attrs change) refl)
     where
       from : (o : Option SchemaFault) → evolution_fault frame.domain there.attrs change ≡ o
-          → Claims forms spelled tracks past jobs seen m number job
+          → Claims codec spelled tracks past jobs seen m number job
           (unless_refused (puts_schema job (evolved_attrs there.attrs change) (outcome.Evolved (key_of job))) (option_map refusal.SchemaBad o))
       from None sound =
-          begins_putting forms past jobs seen m number job (schema_object_of job (evolved_attrs there.attrs change) ∷ []) (outcome.Evolved (key_of job)) clean
+          begins_putting codec past jobs seen m number job (schema_object_of job (evolved_attrs there.attrs change) ∷ []) (outcome.Evolved (key_of job)) clean
           (schema_carries job (evolved_attrs there.attrs change)) (omega arith)
           (change, frame, there, evolves, refl, refl, framed, sound, at)
       from (Some fault) sound = clean.undone
 
   -- a write puts its parts, or it is refused for its columns
-  pub works_write : (w : WriteIn) (listed : Listed) (frame : Frame) (there : Schema) → FormsLaws forms spelled tracks → IsFit job → AreApart jobs → Clean m (history_told jobs past seen) job
+  pub works_write : (w : WriteIn) (listed : Listed) (frame : Frame) (there : Schema) → CodecLaws codec spelled tracks → IsFit job → AreApart jobs → Clean m (history_told jobs past seen) job
       → Works past jobs seen number job there → frame_in (history_told jobs past seen) ≡ Some frame → IsHistory (history_told jobs past seen) → job.command ≡ Write w
-      → Claims forms spelled tracks past jobs seen m number job (comes_to forms job job.command listed frame there)
+      → Claims codec spelled tracks past jobs seen m number job (comes_to codec job job.command listed frame there)
   works_write w listed frame there laws fit apart clean at framed is writes_them =
-      subst (λ c. Claims forms spelled tracks past jobs seen m number job (comes_to forms job c listed frame there)) (sym writes_them)
+      subst (λ c. Claims codec spelled tracks past jobs seen m number job (comes_to codec job c listed frame there)) (sym writes_them)
       (from (laid frame there.attrs w) refl (laid_fails frame there.attrs w))
     where
       from : (laying : Result (List Cell) Refusal) → laid frame there.attrs w ≡ laying → FailsByColumns laying
-          → Claims forms spelled tracks past jobs seen m number job (puts_cells forms job frame there laying)
+          → Claims codec spelled tracks past jobs seen m number job (puts_cells codec job frame there laying)
       from (Ok cells) lays fails =
-          let parts = forms.parts frame there (piece_of frame (written_as job there.key cells)) in
+          let parts = codec.parts frame there (piece_of frame (written_as job there.key cells)) in
           let some : 0 < length (objects_of (frag_of_job job) parts) = omega (arith, object_count (frag_of_job job) parts) in
-          subst (λ b. Claims forms spelled tracks past jobs seen m number job
-          (cond b (Puts (write_objects forms frame there job cells) 0 (outcome.Written (frag_of_job job))) (Over (outcome.Written (frag_of_job job)))))
+          subst (λ b. Claims codec spelled tracks past jobs seen m number job
+          (cond b (Puts (write_objects codec frame there job cells) 0 (outcome.Written (frag_of_job job))) (Over (outcome.Written (frag_of_job job)))))
           (sym (lt-ltb 0 (length (objects_of (frag_of_job job) parts)) some))
-          (begins_putting forms past jobs seen m number job (write_objects forms frame there job cells) (outcome.Written (frag_of_job job)) clean (write_carries (frag_of_job job) parts) some
+          (begins_putting codec past jobs seen m number job (write_objects codec frame there job cells) (outcome.Written (frag_of_job job)) clean (write_carries (frag_of_job job) parts) some
           (w, frame, there, cells, writes_them, refl, refl, framed, lays, at))
       from (Err r) lays fails = columns_true (history_told jobs past seen) job r fails clean.undone
 
   -- a delete puts its condition, or it is refused
-  pub works_delete : (text : List ℕ) (listed : Listed) (frame : Frame) (there : Schema) → FormsLaws forms spelled tracks → IsFit job → AreApart jobs → Clean m (history_told jobs past seen) job
+  pub works_delete : (text : List ℕ) (listed : Listed) (frame : Frame) (there : Schema) → CodecLaws codec spelled tracks → IsFit job → AreApart jobs → Clean m (history_told jobs past seen) job
       → Works past jobs seen number job there → frame_in (history_told jobs past seen) ≡ Some frame → IsHistory (history_told jobs past seen) → job.command ≡ Delete text
-      → Claims forms spelled tracks past jobs seen m number job (comes_to forms job job.command listed frame there)
+      → Claims codec spelled tracks past jobs seen m number job (comes_to codec job job.command listed frame there)
   works_delete text listed frame there laws fit apart clean at framed is deletes =
-      subst (λ c. Claims forms spelled tracks past jobs seen m number job (comes_to forms job c listed frame there)) (sym deletes)
-      (from (erasing_in frame there.attrs text) refl (erasing_fails frame there.attrs text))
+      subst (λ c. Claims codec spelled tracks past jobs seen m number job (comes_to codec job c listed frame there)) (sym deletes)
+      (from (delete_condition frame there.attrs text) refl (delete_condition_fails frame there.attrs text))
     where
-      from : (found : Result Condition Refusal) → erasing_in frame there.attrs text ≡ found → FailsByQuery found → Claims forms spelled tracks past jobs seen m number job (puts_delete job found)
+      from : (found : Result Condition Refusal) → delete_condition frame there.attrs text ≡ found → FailsByQuery found → Claims codec spelled tracks past jobs seen m number job (puts_delete job found)
       from (Ok condition) says fails =
-          begins_putting forms past jobs seen m number job (delete_object_of job condition ∷ []) (outcome.Deleted (frag_of_job job)) clean (delete_carries job condition) (omega arith)
+          begins_putting codec past jobs seen m number job (delete_object_of job condition ∷ []) (outcome.Deleted (frag_of_job job)) clean (delete_carries job condition) (omega arith)
           (text, frame, there, condition, deletes, refl, refl, framed, says, at)
       from (Err r) says fails = query_true (history_told jobs past seen) job r fails clean.undone

@@ -12,7 +12,7 @@ use Rattle.ts_schema.specs.declared.attrs.Attr.{Attr}
 use Rattle.ts_schema.specs.declared.frames.Frame.{Frame}
 use Rattle.ts_model.specs.Deeds.{History}
 use Rattle.ts_law.specs.Ends.{IsTrueRefusal, IsUndone}
-use Rattle.ts_model.specs.Queries.{box_of, condition_in, counted_cells, erasing_in, fields_in, filter_in, most_cells, or_refused, query_refusal, ready_in, ready_with, some_condition, unknown_in}
+use Rattle.ts_model.specs.Queries.{box_of, condition_in, counted_cells, delete_condition, fields_in, filter_in, most_cells, or_refused, query_refusal, ready_in, ready_with, some_condition, unknown_in}
 use Rattle.ts_model.specs.declared.answers.Refusal.{Refusal}
 use Rattle.ts_model.specs.declared.commands.Job.{Job}
 use Rattle.ts_model.specs.declared.answers.Refusal.TheVariants as refusal
@@ -98,5 +98,5 @@ dense_fails true found fails = tt
 dense_fails false found fails = fails
 
 -- a delete is refused for its array or its text, and for nothing else
-pub erasing_fails : (frame : Frame) (attrs : List Attr) (text : List ℕ) → FailsByQuery (erasing_in frame attrs text)
-erasing_fails frame attrs text = dense_fails frame.dense (condition_in frame.domain attrs text) (text_fails (parsed text (fields_in frame.domain attrs)))
+pub delete_condition_fails : (frame : Frame) (attrs : List Attr) (text : List ℕ) → FailsByQuery (delete_condition frame attrs text)
+delete_condition_fails frame attrs text = dense_fails frame.dense (condition_in frame.domain attrs text) (text_fails (parsed text (fields_in frame.domain attrs)))

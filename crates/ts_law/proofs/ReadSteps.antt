@@ -38,18 +38,20 @@ use Rattle.ts_model.specs.declared.answers.Refusal.{Refusal}
 use Rattle.ts_model.specs.declared.queries.Ready.{Ready}
 use Rattle.ts_model.specs.declared.states.Listed.{Listed}
 use Rattle.ts_model.specs.declared.states.State.{State}
-use Rattle.ts_model.specs.declared.states.State.TheVariants.{GetsSchema, GetsFrame, GetsHeads, GetsSchemas, GetsDeletes}
+use Rattle.ts_model.specs.declared.states.State.TheVariants.{Seeks, Collects}
+use Rattle.ts_model.specs.declared.states.Seeking.TheVariants.{GetsSchema, GetsFrame}
+use Rattle.ts_model.specs.declared.states.Collecting.TheVariants.{GetsHeads, GetsSchemas, GetsDeletes}
 use Rattle.ts_model.specs.declared.states.Opened.{Opened}
 use Rattle.ts_model.specs.declared.states.Reading.{Reading}
 use Rattle.ts_model.specs.Deeds.{History, IsHistory, frame_in, schema_with}
-use Rattle.ts_model.specs.Forms.{Forms, FormsLaws, Spelled, Tracking}
+use Rattle.ts_model.specs.Codecs.{Codec, CodecLaws, Spelled, Tracking}
 use Rattle.ts_model.specs.Jobs.{looked_at, IsFit, AreApart}
 use Rattle.ts_commit.specs.Selections.{is_usable}
 use Rattle.ts_law.specs.Stands.{HoldsIn, Stands}
-use Rattle.ts_model.specs.States.{list_schemas, get_all, get_frame, get_head, get_schema, on_bytes, on_read, keys_named, fetching, erasing, gathering, opening, reading_of, asks_for, works, after_head, after_schema, with_item}
+use Rattle.ts_model.specs.States.{list_schemas, get_all, get_frame, get_head, get_schema, on_bytes, on_read, keys_named, fetching, getting_deletes, gathering, opening, reading_of, asks_for, works, after_head, after_schema, with_item}
 use Rattle.ts_model.specs.Told.{Told, after_told, IsReplied, history_told}
 use Rattle.ts_law.specs.Ends.{IsTrueRefusal, IsUndone, ListedAt}
-use Rattle.ts_law.specs.Kept.{AreErasures, Clean, Works, HasListed, ReadsAt, IsOpen, Opening, Gathering, Erasing, Claims}
+use Rattle.ts_law.specs.Kept.{AreDeletions, Clean, Works, HasListed, ReadsAt, IsOpen, Opening, Gathering, GettingDeletes, Claims}
 use Rattle.ts_model.specs.Queries.{ready_in}
 use Rattle.ts_law.specs.Steps.{Advances, Comes}
 use Rattle.ts_model.proofs.ListLemmas.{Contains-nil, Contains-here, Contains-there, filter-Contains, Contains-slice_get, take_next}
@@ -108,14 +110,14 @@ pub asked_of : {A : Type 0} (ask : A → Call) (o : Option A) (c : Call) → opt
 asked_of ask None c is = absurd (none-some c is)
 asked_of ask (Some x) c is = (x, refl, sym (same_Some (ask x) c is))
 
-module _ {F : Type 0} (forms : Forms F) (spelled : Spelled) (tracks : Tracking F) (past : History) (jobs : List Job) (seen : List Told) (m : Held) (number : ℕ) (job : Job) where
+module _ {F : Type 0} (codec : Codec F) (spelled : Spelled) (tracks : Tracking F) (past : History) (jobs : List Job) (seen : List Told) (m : Held) (number : ℕ) (job : Job) where
   -- the history now
   abbrev now : History
   now = history_told jobs past seen
 
   -- what a state claims
   abbrev Claimed : State F → Type 0
-  Claimed s = Claims forms spelled tracks past jobs seen m number job s
+  Claimed s = Claims codec spelled tracks past jobs seen m number job s
 
   -- the history at a listing is the front of the history now
   front_at : {p : Prefix} (at : ListedAt seen number p) → (more : History) × (now ≡ history_told jobs past at.before ++ more)
@@ -140,51 +142,51 @@ module _ {F : Type 0} (forms : Forms F) (spelled : Spelled) (tracks : Tracking F
       framed_by_schema (history_told jobs past (work.schemas).before) there.key there then (there_is_with (history_told jobs past (work.schemas).before) (looked_at job) there then work.holds)
 
   -- a read gets the next delete, or begins to fetch
-  pub erasing_claims : FormsLaws forms spelled tracks → Clean m now job → IsHistory now → (r : Reading) (opened : List Opened) (schemas : List Schema)
-      → Erasing forms spelled past jobs seen m number job r opened schemas → Claimed (erasing forms r opened schemas)
-  erasing_claims laws clean is r opened schemas erases =
-      elim (nat_lt (length r.erased) (length r.deletes)) as (λ b. nat_lt (length r.erased) (length r.deletes) ≡ b
-      → Claimed (cond b (GetsDeletes r opened schemas) (fetching forms r opened schemas 0 opened []))) [
-        | true ↦ λ _. (clean, erases)
-        | false ↦ λ end. fetching_claims forms spelled tracks past jobs seen m number job r opened schemas 0 [] laws clean
+  pub getting_deletes_claims : CodecLaws codec spelled tracks → Clean m now job → IsHistory now → (r : Reading) (opened : List Opened) (schemas : List Schema)
+      → GettingDeletes codec spelled past jobs seen m number job r opened schemas → Claimed (getting_deletes codec r opened schemas)
+  getting_deletes_claims laws clean is r opened schemas deletions =
+      elim (nat_lt (length r.deletions) (length r.delete_names)) as (λ b. nat_lt (length r.deletions) (length r.delete_names) ≡ b
+      → Claimed (cond b (Collects (GetsDeletes r opened schemas)) (fetching codec r opened schemas 0 opened []))) [
+        | true ↦ λ _. (clean, deletions)
+        | false ↦ λ end. fetching_claims codec spelled tracks past jobs seen m number job r opened schemas 0 [] laws clean
             (record {
-              erasing = erases;
-              all_deletes = as_many (λ x. frag_of x.key) r.erased r.deletes erases.erases.names_are (ltb-false (length r.erased) (length r.deletes) end);
-              found = got_none (history_told jobs past ((((((erases.gathers).opens).reads).at).listed).commits).before) r.from r.to (r.ready).sub;
+              deletes_found = deletions;
+              all_deletes = as_many (λ x. frag_of x.key) r.deletions r.delete_names deletions.deletions.names_are (ltb-false (length r.deletions) (length r.delete_names) end);
+              found = got_none (history_told jobs past ((((((deletions.gathers).opens).reads).at).listed).commits).before) r.from r.to (r.ready).sub;
             })
-            (history_at ((((erases.gathers).opens.reads).at).listed).commits is) is
+            (history_at ((((deletions.gathers).opens.reads).at).listed).commits is) is
       ] refl
 
   -- a read gets the next further schema, or goes on to the deletes, of which it has none
-  gathering_claims : FormsLaws forms spelled tracks → Clean m now job → IsHistory now → (r : Reading) (opened : List Opened) (schemas : List Schema) → r.erased ≡ []
-      → Gathering forms spelled past jobs seen m number job r opened schemas → Claimed (gathering forms r opened (keys_named r opened) schemas)
+  gathering_claims : CodecLaws codec spelled tracks → Clean m now job → IsHistory now → (r : Reading) (opened : List Opened) (schemas : List Schema) → r.deletions ≡ []
+      → Gathering codec spelled past jobs seen m number job r opened schemas → Claimed (gathering codec r opened (keys_named r opened) schemas)
   gathering_claims laws clean is r opened schemas none gathers =
       elim (nat_lt (length schemas) (length (keys_named r opened))) as (λ b. nat_lt (length schemas) (length (keys_named r opened)) ≡ b
-      → Claimed (cond b (GetsSchemas r opened (keys_named r opened) schemas) (erasing forms r opened schemas))) [
+      → Claimed (cond b (Collects (GetsSchemas r opened (keys_named r opened) schemas)) (getting_deletes codec r opened schemas))) [
         | true ↦ λ _. (clean, refl, gathers, none)
-        | false ↦ λ end. erasing_claims laws clean is r opened schemas (record {
+        | false ↦ λ end. getting_deletes_claims laws clean is r opened schemas (record {
           gathers = gathers;
           all_schemas = as_many (λ s. s.key) schemas (keys_named r opened) gathers.gathered.keys_are (ltb-false (length schemas) (length (keys_named r opened)) end);
-          erases = subst (AreErasures now r.deletes) (sym none) (record { names_are = refl; each = λ x at. absurd (Contains-nil x at) });
+          deletions = subst (AreDeletions now r.delete_names) (sym none) (record { names_are = refl; each = λ x at. absurd (Contains-nil x at) });
         })
       ] refl
 
   -- a read opens the next fragment, or goes on once all are open
-  opening_claims : FormsLaws forms spelled tracks → Clean m now job → IsHistory now → (r : Reading) (opened : List Opened) → r.erased ≡ []
-      → Opening forms spelled past jobs seen m number job r opened → Claimed (opening forms r opened)
+  opening_claims : CodecLaws codec spelled tracks → Clean m now job → IsHistory now → (r : Reading) (opened : List Opened) → r.deletions ≡ []
+      → Opening codec spelled past jobs seen m number job r opened → Claimed (opening codec r opened)
   opening_claims laws clean is r opened none opens =
-      elim (nat_lt (length opened) (length r.near)) as (λ b. nat_lt (length opened) (length r.near) ≡ b → Claimed (cond b (GetsHeads r opened) (gathering forms r opened (keys_named r opened) []))) [
+      elim (nat_lt (length opened) (length r.fragments)) as (λ b. nat_lt (length opened) (length r.fragments) ≡ b → Claimed (cond b (Collects (GetsHeads r opened)) (gathering codec r opened (keys_named r opened) []))) [
         | true ↦ λ _. (clean, opens, none)
         | false ↦ λ end. gathering_claims laws clean is r opened [] none (record {
           opens = opens;
-          all = as_many (λ o. o.frag) opened r.near opens.are_open.frags (ltb-false (length opened) (length r.near) end);
+          all = as_many (λ o. o.frag) opened r.fragments opens.are_open.frags (ltb-false (length opened) (length r.fragments) end);
           gathered = record { keys_are = refl; each = λ s at. absurd (Contains-nil s at) };
         })
       ] refl
 
 -- ---- the gets
 
-module _ {F : Type 0} (forms : Forms F) (spelled : Spelled) (tracks : Tracking F) (past : History) (jobs : List Job) (seen : List Told) (e : Told) (m : Held) (number : ℕ) (job : Job) where
+module _ {F : Type 0} (codec : Codec F) (spelled : Spelled) (tracks : Tracking F) (past : History) (jobs : List Job) (seen : List Told) (e : Told) (m : Held) (number : ℕ) (job : Job) where
   -- the history before the call
   abbrev h : History
   h = history_told jobs past seen
@@ -199,15 +201,15 @@ module _ {F : Type 0} (forms : Forms F) (spelled : Spelled) (tracks : Tracking F
 
   -- what a state claims after the call
   abbrev ClaimedAfter : State F → Type 0
-  ClaimedAfter s = Claims forms spelled tracks past jobs (seen ++ e ∷ []) m' number job s
+  ClaimedAfter s = Claims codec spelled tracks past jobs (seen ++ e ∷ []) m' number job s
 
   -- a call of the job comes in a state
   abbrev ComesHere : State F → Type 0
-  ComesHere s = Comes forms spelled tracks past jobs seen e m number job s
+  ComesHere s = Comes codec spelled tracks past jobs seen e m number job s
 
   -- a call leads the job on from a state
   abbrev AdvancesHere : State F → Type 0
-  AdvancesHere s = Advances forms spelled tracks past jobs seen e m number job s
+  AdvancesHere s = Advances codec spelled tracks past jobs seen e m number job s
 
   -- how a reply to a get leads on
   bytes_lead : (n : Name) (on : List ℕ → State F) (r : Reply) → ((bytes : List ℕ) → r ≡ reply.Bytes bytes → ClaimedAfter (on bytes)) → (r ≡ reply.Absent → ⊥)
@@ -261,7 +263,7 @@ module _ {F : Type 0} (forms : Forms F) (spelled : Spelled) (tracks : Tracking F
       (read_lead (name.Schema k) on s.attrs (schema_of (schema_object s.attrs)) (attrs_again s.attrs (schema_facts h k s stands.history declared).0 short) goes_on)
 
   -- the get of the schema there leads a job to the get of the frame
-  pub schema_steps : FormsLaws forms spelled tracks → (listing : Listed) (there : Key) → ComesHere (GetsSchema listing there) → AdvancesHere (GetsSchema listing there)
+  pub schema_steps : CodecLaws codec spelled tracks → (listing : Listed) (there : Key) → ComesHere (Seeks (GetsSchema listing there)) → AdvancesHere (Seeks (GetsSchema listing there))
   schema_steps laws listing there comes =
       let is : e.call ≡ get_schema there = sym (same_Some (get_schema there) e.call comes.asked) in
       let look = looked spelled past jobs seen e m job (get_schema there) is tt comes.stands comes.replied comes.claims.0 in
@@ -270,51 +272,51 @@ module _ {F : Type 0} (forms : Forms F) (spelled : Spelled) (tracks : Tracking F
       let declared : schema_with h there ≡ Some s = subst (λ k. schema_with h k ≡ Some s) same (works_of job.command listing s comes.claims.1.2).declared in
       record {
         leads = look.leads;
-        own = schema_lead comes.stands there s (λ attrs. GetsFrame listing (record { key = there; attrs = attrs })) declared is comes.replied look.clean.undone
-            (subst (λ k. ClaimedAfter (GetsFrame listing (record { key = k; attrs = s.attrs }))) same
+        own = schema_lead comes.stands there s (λ attrs. Seeks (GetsFrame listing (record { key = there; attrs = attrs }))) declared is comes.replied look.clean.undone
+            (subst (λ k. ClaimedAfter (Seeks (GetsFrame listing (record { key = k; attrs = s.attrs })))) same
             (look.clean, has_listed_stays spelled past jobs seen e m m' job.id look.leads.leaves number job job.command listing s (no_listing (name.Schema there) is) comes.claims.1.2));
       }
 
   -- ---- the frame
 
   -- a read opens its fragments, or it is refused for its query
-  asks_lead : FormsLaws forms spelled tracks → Clean m' h' job → IsHistory h' → (from to : ℕ) (query : Query) (listing : Listed) (frame : Frame) (there : Schema)
-      → (at : ReadsAt spelled past jobs (seen ++ e ∷ []) m' number job from to listing.near listing.deletes there) → frame_in (history_told jobs past ((at.works).schemas).before) ≡ Some frame
-      → job.command ≡ Read from to query → (o : Result Ready Refusal) → ready_in frame there.attrs query ≡ o → FailsByQuery o → ClaimedAfter (asks_for forms from to listing frame there o)
+  asks_lead : CodecLaws codec spelled tracks → Clean m' h' job → IsHistory h' → (from to : ℕ) (query : Query) (listing : Listed) (frame : Frame) (there : Schema)
+      → (at : ReadsAt spelled past jobs (seen ++ e ∷ []) m' number job from to listing.fragments listing.delete_names there) → frame_in (history_told jobs past ((at.works).schemas).before) ≡ Some frame
+      → job.command ≡ Read from to query → (o : Result Ready Refusal) → ready_in frame there.attrs query ≡ o → FailsByQuery o → ClaimedAfter (asks_for codec from to listing frame there o)
   asks_lead laws clean is from to query listing frame there at framed command (Err r) asked fails = query_true h' job r fails clean.undone
   asks_lead laws clean is from to query listing frame there at framed command (Ok ready) asked fails =
-      opening_claims forms spelled tracks past jobs (seen ++ e ∷ []) m' number job laws clean is (reading_of from to listing frame there ready) [] refl (record {
+      opening_claims codec spelled tracks past jobs (seen ++ e ∷ []) m' number job laws clean is (reading_of from to listing frame there ready) [] refl (record {
         reads = record { query = query; reads = command; at = at; framed = framed; is_ready = asked };
         are_open = record { frags = refl; each = λ o at. absurd (Contains-nil o at) };
       })
 
   -- a job works in the schema there once it has the frame
-  works_lead : FormsLaws forms spelled tracks → IsFit job → AreApart jobs → Clean m' h' job → IsHistory h' → (c : Command) → job.command ≡ c
+  works_lead : CodecLaws codec spelled tracks → IsFit job → AreApart jobs → Clean m' h' job → IsHistory h' → (c : Command) → job.command ≡ c
       → (listing : Listed) (frame : Frame) (there : Schema)
-      → frame_in h' ≡ Some frame → HasListed spelled past jobs (seen ++ e ∷ []) m' number job c listing there → ClaimedAfter (works forms job job.command listing frame there)
+      → frame_in h' ≡ Some frame → HasListed spelled past jobs (seen ++ e ∷ []) m' number job c listing there → ClaimedAfter (works codec job job.command listing frame there)
   works_lead laws fit apart clean is (Create f) command listing frame there framed listed = absurd listed
   works_lead laws fit apart clean is (Evolve change) command listing frame there framed listed =
-      works_evolve forms spelled tracks past jobs (seen ++ e ∷ []) m' number job change listing frame there laws fit apart clean listed framed is command
+      works_evolve codec spelled tracks past jobs (seen ++ e ∷ []) m' number job change listing frame there laws fit apart clean listed framed is command
   works_lead laws fit apart clean is (Write w) command listing frame there framed listed =
-      works_write forms spelled tracks past jobs (seen ++ e ∷ []) m' number job w listing frame there laws fit apart clean listed framed is command
+      works_write codec spelled tracks past jobs (seen ++ e ∷ []) m' number job w listing frame there laws fit apart clean listed framed is command
   works_lead laws fit apart clean is (Read from to query) command listing frame there framed listed =
-      let then = framed_there forms spelled tracks past jobs (seen ++ e ∷ []) m' number job there listed.works is in
+      let then = framed_there codec spelled tracks past jobs (seen ++ e ∷ []) m' number job there listed.works is in
       let same : then.0 ≡ frame = same_Some then.0 frame
-      (sym (frame_at forms spelled tracks past jobs (seen ++ e ∷ []) m' number job ((listed.works).schemas) then.0 then.1) ∙ framed) in
-      subst (λ c. ClaimedAfter (works forms job c listing frame there)) (sym command)
+      (sym (frame_at codec spelled tracks past jobs (seen ++ e ∷ []) m' number job ((listed.works).schemas) then.0 then.1) ∙ framed) in
+      subst (λ c. ClaimedAfter (works codec job c listing frame there)) (sym command)
       (asks_lead laws clean is from to query listing frame there listed (then.1 ∙ ap Some same) command (ready_in frame there.attrs query) refl (ready_fails frame there.attrs query))
   works_lead laws fit apart clean is (Delete text) command listing frame there framed listed =
-      works_delete forms spelled tracks past jobs (seen ++ e ∷ []) m' number job text listing frame there laws fit apart clean listed framed is command
+      works_delete codec spelled tracks past jobs (seen ++ e ∷ []) m' number job text listing frame there laws fit apart clean listed framed is command
 
   -- the get of the frame leads a job to its work in the schema there
-  pub framed_steps : FormsLaws forms spelled tracks → (listing : Listed) (there : Schema) → ComesHere (GetsFrame listing there) → AdvancesHere (GetsFrame listing there)
+  pub framed_steps : CodecLaws codec spelled tracks → (listing : Listed) (there : Schema) → ComesHere (Seeks (GetsFrame listing there)) → AdvancesHere (Seeks (GetsFrame listing there))
   framed_steps laws listing there comes =
       let is : e.call ≡ get_frame = sym (same_Some get_frame e.call comes.asked) in
       let look = looked spelled past jobs seen e m job get_frame is tt comes.stands comes.replied comes.claims.0 in
       let framed = framed_by_schema h there.key there comes.stands.history (works_of job.command listing there comes.claims.1).declared in
       let held : map.get m name.Domain ≡ Some (frame_object framed.0) = comes.stands.frame ∙ ap (option_map frame_object) framed.1 in
       let short = comes.stands.short_frame (frame_object framed.0) held in
-      let on : Frame → State F = λ frame. works forms job job.command listing frame there in
+      let on : Frame → State F = λ frame. works codec job job.command listing frame there in
       record {
         leads = look.leads;
         own = whole_lead name.Domain (frame_object framed.0) (λ bytes. on_read name.Domain on (frame_of bytes)) is comes.replied held short look.clean.undone
@@ -325,15 +327,15 @@ module _ {F : Type 0} (forms : Forms F) (spelled : Spelled) (tracks : Tracking F
 
   -- ---- the heads
 
-  module _ (laws : FormsLaws forms spelled tracks) (r : Reading) (opened : List Opened) (f : FragKey) (next : slice_get r.near (length opened) ≡ Some f)
-      (opens : Opening forms spelled past jobs (seen ++ e ∷ []) m' number job r opened) (none : r.erased ≡ []) where
+  module _ (laws : CodecLaws codec spelled tracks) (r : Reading) (opened : List Opened) (f : FragKey) (next : slice_get r.fragments (length opened) ≡ Some f)
+      (opens : Opening codec spelled past jobs (seen ++ e ∷ []) m' number job r opened) (none : r.deletions ≡ []) where
     -- the history at the listing of the commits
     abbrev g : History
     g = history_told jobs past (((opens.reads.at).listed).commits).before
 
     -- the fragment's piece, which the read can use
     abbrev own : (p : Piece) × HoldsIn spelled g m' f p × (is_usable r.from r.to p.head ≡ true)
-    own = ((opens.reads.at).listed).whole f (Contains-slice_get r.near (length opened) f next)
+    own = ((opens.reads.at).listed).whole f (Contains-slice_get r.fragments (length opened) f next)
 
     abbrev piece : Piece
     piece = own.0
@@ -343,7 +345,7 @@ module _ {F : Type 0} (forms : Forms F) (spelled : Spelled) (tracks : Tracking F
     holds = own.1
 
     -- the part that has the head is there, and is read as the head
-    abbrev found : (object : List ℕ) × ((holds.spells).look (forms.head_part holds.frame) ≡ Some object) × (forms.head holds.frame piece.head.frag object ≡ Ok piece.head)
+    abbrev found : (object : List ℕ) × ((holds.spells).look (codec.head_part holds.frame) ≡ Some object) × (codec.head holds.frame piece.head.frag object ≡ Ok piece.head)
     found = laws.head holds.frame holds.schema piece (holds.spells).look (holds.spells).spells
 
     -- the fragment, open
@@ -353,72 +355,72 @@ module _ {F : Type 0} (forms : Forms F) (spelled : Spelled) (tracks : Tracking F
     -- an array has one frame
     same_frame : holds.frame ≡ r.frame
     same_frame = same_Some holds.frame r.frame
-        (sym (frame_at forms spelled tracks past jobs (seen ++ e ∷ []) m' number job (((opens.reads.at).listed).commits) holds.frame holds.framed)
-        ∙ frame_at forms spelled tracks past jobs (seen ++ e ∷ []) m' number job (((opens.reads.at).works).schemas) r.frame opens.reads.framed)
+        (sym (frame_at codec spelled tracks past jobs (seen ++ e ∷ []) m' number job (((opens.reads.at).listed).commits) holds.frame holds.framed)
+        ∙ frame_at codec spelled tracks past jobs (seen ++ e ∷ []) m' number job (((opens.reads.at).works).schemas) r.frame opens.reads.framed)
 
     -- the part that has the head is there in the frame that the read knows
-    at_part : (holds.spells).look (forms.head_part r.frame) ≡ Some found.0
-    at_part = subst (λ frame. (holds.spells).look (forms.head_part frame) ≡ Some found.0) same_frame found.1
+    at_part : (holds.spells).look (codec.head_part r.frame) ≡ Some found.0
+    at_part = subst (λ frame. (holds.spells).look (codec.head_part frame) ≡ Some found.0) same_frame found.1
 
     -- and its object is read as the head
-    read : forms.head r.frame f found.0 ≡ Ok piece.head
-    read = subst (λ frame. forms.head frame f found.0 ≡ Ok piece.head) same_frame
-        (subst (λ frag. forms.head holds.frame frag found.0 ≡ Ok piece.head) (holds.spells).named found.2)
+    read : codec.head r.frame f found.0 ≡ Ok piece.head
+    read = subst (λ frame. codec.head frame f found.0 ≡ Ok piece.head) same_frame
+        (subst (λ frag. codec.head holds.frame frag found.0 ≡ Ok piece.head) (holds.spells).named found.2)
 
     -- one fragment more is open
-    opened_more : Opening forms spelled past jobs (seen ++ e ∷ []) m' number job r (opened ++ more ∷ [])
+    opened_more : Opening codec spelled past jobs (seen ++ e ∷ []) m' number job r (opened ++ more ∷ [])
     opened_more = record {
       reads = opens.reads;
       are_open = record {
-        frags = push_next (λ o. o.frag) opened more r.near opens.are_open.frags next;
+        frags = push_next (λ o. o.frag) opened more r.fragments opens.are_open.frags next;
         each = λ o at. elim (Contains-push_cases opened more o at) [
           | inl before ↦ opens.are_open.each o before
           | inr last ↦
-              subst (IsOpen forms spelled g m' r.frame r.from r.to) last (record { piece = piece; holds = holds; same_frame = same_frame; usable = own.2; head = refl; object = at_part })
+              subst (IsOpen codec spelled g m' r.frame r.from r.to) last (record { piece = piece; holds = holds; same_frame = same_frame; usable = own.2; head = refl; object = at_part })
         ];
       };
     }
 
     -- the part that has the head of the next fragment leads on with one fragment more
-    head_lead : e.call ≡ get_head forms r f → IsReplied m e → m' ≡ m → Clean m' h' job → IsHistory h' → ClaimedAfter (on_bytes (get_head forms r f) (after_head forms r opened f) e.reply)
+    head_lead : e.call ≡ get_head codec r f → IsReplied m e → m' ≡ m → Clean m' h' job → IsHistory h' → ClaimedAfter (on_bytes (get_head codec r f) (after_head codec r opened f) e.reply)
     head_lead is replied same_held clean history =
-        let on : Head → State F = λ head. opening forms r (opened ++ record { frag = f; head = head; object = found.0 } ∷ []) in
-        whole_lead (name.Part f (forms.head_part r.frame)) found.0 (after_head forms r opened f) is replied
-        (ap (λ n. map.get n (name.Part f (forms.head_part r.frame))) (sym same_held) ∙ (holds.spells).held (forms.head_part r.frame) found.0 at_part)
-        ((holds.spells).short (forms.head_part r.frame) found.0 at_part) clean.undone
-        (read_lead (name.Part f (forms.head_part r.frame)) on piece.head (forms.head r.frame f found.0) read
-        (opening_claims forms spelled tracks past jobs (seen ++ e ∷ []) m' number job laws clean history r (opened ++ more ∷ []) none opened_more))
+        let on : Head → State F = λ head. opening codec r (opened ++ record { frag = f; head = head; object = found.0 } ∷ []) in
+        whole_lead (name.Part f (codec.head_part r.frame)) found.0 (after_head codec r opened f) is replied
+        (ap (λ n. map.get n (name.Part f (codec.head_part r.frame))) (sym same_held) ∙ (holds.spells).held (codec.head_part r.frame) found.0 at_part)
+        ((holds.spells).short (codec.head_part r.frame) found.0 at_part) clean.undone
+        (read_lead (name.Part f (codec.head_part r.frame)) on piece.head (codec.head r.frame f found.0) read
+        (opening_claims codec spelled tracks past jobs (seen ++ e ∷ []) m' number job laws clean history r (opened ++ more ∷ []) none opened_more))
 
   -- the get of a head leads a read to the next one, or on
-  pub heads_steps : FormsLaws forms spelled tracks → (r : Reading) (opened : List Opened) → ComesHere (GetsHeads r opened) → AdvancesHere (GetsHeads r opened)
+  pub heads_steps : CodecLaws codec spelled tracks → (r : Reading) (opened : List Opened) → ComesHere (Collects (GetsHeads r opened)) → AdvancesHere (Collects (GetsHeads r opened))
   heads_steps laws r opened comes =
-      let next = asked_of (get_head forms r) (slice_get r.near (length opened)) e.call comes.asked in
-      let look = looked spelled past jobs seen e m job (get_head forms r next.0) next.2 tt comes.stands comes.replied comes.claims.0 in
-      let unlisted = no_listing (name.Part next.0 (forms.head_part r.frame)) next.2 in
-      let opens = opening_stays spelled past jobs seen e m m' job.id look.leads.leaves number forms job r opened unlisted comes.claims.1 in
+      let next = asked_of (get_head codec r) (slice_get r.fragments (length opened)) e.call comes.asked in
+      let look = looked spelled past jobs seen e m job (get_head codec r next.0) next.2 tt comes.stands comes.replied comes.claims.0 in
+      let unlisted = no_listing (name.Part next.0 (codec.head_part r.frame)) next.2 in
+      let opens = opening_stays spelled past jobs seen e m m' job.id look.leads.leaves number codec job r opened unlisted comes.claims.1 in
       record {
         leads = look.leads;
-        own = subst (λ o. ClaimedAfter (with_item (λ f. on_bytes (get_head forms r f) (after_head forms r opened f) e.reply) o)) (sym next.1)
+        own = subst (λ o. ClaimedAfter (with_item (λ f. on_bytes (get_head codec r f) (after_head codec r opened f) e.reply) o)) (sym next.1)
             (head_lead laws r opened next.0 next.1 opens comes.claims.2 next.2 comes.replied look.same_held look.clean look.history);
       }
 
   -- ---- the further schemas
 
   -- the next further schema is a deed
-  further_declared : (r : Reading) (opened : List Opened) (schemas : List Schema) → Gathering forms spelled past jobs seen m number job r opened schemas → (k : Key) → Contains (keys_named r opened) k
+  further_declared : (r : Reading) (opened : List Opened) (schemas : List Schema) → Gathering codec spelled past jobs seen m number job r opened schemas → (k : Key) → Contains (keys_named r opened) k
       → (s : Schema) × (schema_with h k ≡ Some s)
   further_declared r opened schemas gathers k at =
       let by = named_by r opened k at in
       let is = gathers.opens.are_open.each by.0 by.1 in
       let keyed : (is.piece).head.schema ≡ k = ap (λ head. head.schema) (sym is.head) ∙ by.2 in (
         (is.holds).schema,
-        schema_at_listing forms spelled tracks past jobs seen m number job ((((gathers.opens.reads).at).listed).commits) k (is.holds).schema
+        schema_at_listing codec spelled tracks past jobs seen m number job ((((gathers.opens.reads).at).listed).commits) k (is.holds).schema
             (subst (λ l. schema_with (history_told jobs past ((((gathers.opens.reads).at).listed).commits).before) l ≡ Some (is.holds).schema) keyed (is.holds).declared),
       )
 
   -- the get of a further schema leads a read to the next one, or to the first fetch
-  pub further_steps : FormsLaws forms spelled tracks → (r : Reading) (opened : List Opened) (named : List Key) (schemas : List Schema)
-      → ComesHere (GetsSchemas r opened named schemas) → AdvancesHere (GetsSchemas r opened named schemas)
+  pub further_steps : CodecLaws codec spelled tracks → (r : Reading) (opened : List Opened) (named : List Key) (schemas : List Schema)
+      → ComesHere (Collects (GetsSchemas r opened named schemas)) → AdvancesHere (Collects (GetsSchemas r opened named schemas))
   further_steps laws r opened named schemas comes =
       let next = asked_of get_schema (slice_get named (length schemas)) e.call comes.asked in
       let k = next.0 in
@@ -429,14 +431,14 @@ module _ {F : Type 0} (forms : Forms F) (spelled : Spelled) (tracks : Tracking F
       let keyed : s.key ≡ k = (schema_with-is h k s declared.1).1 in
       let its_own : schema_with h' s.key ≡ Some s = ap (λ g. schema_with g s.key) look.same_history ∙ subst (λ l. schema_with h l ≡ Some s) (sym keyed) declared.1 in
       let unlisted = no_listing (name.Schema k) next.2 in
-      let gathers = gathering_stays spelled past jobs seen e m m' job.id look.leads.leaves number forms job r opened schemas unlisted comes.claims.2 in
+      let gathers = gathering_stays spelled past jobs seen e m m' job.id look.leads.leaves number codec job r opened schemas unlisted comes.claims.2 in
       record {
         leads = look.leads;
-        own = subst (λ o. ClaimedAfter (with_item (λ l. on_bytes (get_schema l) (after_schema forms r opened named schemas l) e.reply) o)) (sym next.1)
-            (schema_lead comes.stands k s (λ attrs. gathering forms r opened named (schemas ++ record { key = k; attrs = attrs } ∷ [])) declared.1 next.2 comes.replied look.clean.undone
-            (subst (λ l. ClaimedAfter (gathering forms r opened named (schemas ++ record { key = l; attrs = s.attrs } ∷ []))) keyed
-            (subst (λ ks. ClaimedAfter (gathering forms r opened ks (schemas ++ s ∷ []))) (sym comes.claims.1)
-            (gathering_claims forms spelled tracks past jobs (seen ++ e ∷ []) m' number job laws look.clean look.history r opened (schemas ++ s ∷ []) comes.claims.3 (record {
+        own = subst (λ o. ClaimedAfter (with_item (λ l. on_bytes (get_schema l) (after_schema codec r opened named schemas l) e.reply) o)) (sym next.1)
+            (schema_lead comes.stands k s (λ attrs. gathering codec r opened named (schemas ++ record { key = k; attrs = attrs } ∷ [])) declared.1 next.2 comes.replied look.clean.undone
+            (subst (λ l. ClaimedAfter (gathering codec r opened named (schemas ++ record { key = l; attrs = s.attrs } ∷ []))) keyed
+            (subst (λ ks. ClaimedAfter (gathering codec r opened ks (schemas ++ s ∷ []))) (sym comes.claims.1)
+            (gathering_claims codec spelled tracks past jobs (seen ++ e ∷ []) m' number job laws look.clean look.history r opened (schemas ++ s ∷ []) comes.claims.3 (record {
               opens = gathers.opens;
               all = gathers.all;
               gathered = record {

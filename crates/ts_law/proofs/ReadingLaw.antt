@@ -20,10 +20,10 @@ use Rattle.ts_domain.specs.Boxes.{is_in_box}
 use Rattle.ts_schema.specs.declared.schemas.Schema.{Schema}
 use Rattle.ts_schema.specs.Attrs.{shown_row}
 use Rattle.ts_commit.specs.Selections.{has_origin}
-use Rattle.ts_model.specs.declared.deeds.Erasure.{Erasure}
+use Rattle.ts_model.specs.declared.deeds.Deletion.{Deletion}
 use Rattle.ts_model.specs.declared.deeds.Written.{Written}
 use Rattle.ts_model.specs.declared.states.Reading.{Reading}
-use Rattle.ts_model.specs.Deeds.{History, writes, erases, row_at, has_cell, last_write, attrs_with, frame_in, schema_there}
+use Rattle.ts_model.specs.Deeds.{History, writes, deletions, row_at, has_cell, last_write, attrs_with, frame_in, schema_there}
 use Rattle.ts_model.specs.Answers.{Cells, erases_cell, is_erased, shown_in, shown_at, shown_inside, fills_of, unwritten, IsAnswer}
 use Rattle.ts_model.specs.Pieces.{version_of, newest_of}
 use Rattle.ts_model.specs.Queries.{low_of, high_of, ready_in, selected}
@@ -71,27 +71,27 @@ module _ (h : History) (from to : ℕ) (sub : SubBox) (got : List Version)
     (none_outside : (c : List ℤ) → is_in_box sub c ≡ false → newest_at got c ≡ None) where
   module _ (r : Reading) (schemas : List Schema) (box : (r.ready).sub ≡ sub)
       (known : (w : Written) → Contains (writes h) w → is_within from to w.key ≡ true → known_attrs r schemas w.schema ≡ attrs_with h w.schema)
-      (erased_in : (x : Erasure) → Contains r.erased x → Contains (erases h) x × (is_within from to x.key ≡ true))
-      (all_erased : (x : Erasure) → Contains (erases h) x → is_within from to x.key ≡ true → Contains r.erased x) where
+      (deleted_in : (x : Deletion) → Contains r.deletions x → Contains (deletions h) x × (is_within from to x.key ≡ true))
+      (all_deletions : (x : Deletion) → Contains (deletions h) x → is_within from to x.key ≡ true → Contains r.deletions x) where
     -- the row of a version, as a read shows it
     abbrev shown_version : Version → List Val
     shown_version v = shown_row (known_attrs r schemas v.schema) v.row r.there.attrs
 
     -- a version is left where no delete erases it
     abbrev is_left : Version → Bool
-    is_left v = not (is_erased_by r schemas r.erased v)
+    is_left v = not (is_erased_by r schemas r.deletions v)
 
     -- the deletes that were got erase what those of the history in the interval do
-    same_erased : (p : Erasure → Bool) → list_any p r.erased ≡ list_any (λ x. is_within from to x.key && p x) (erases h)
-    same_erased p = both_ways (list_any p r.erased) (list_any (λ x. is_within from to x.key && p x) (erases h))
+    same_erased : (p : Deletion → Bool) → list_any p r.deletions ≡ list_any (λ x. is_within from to x.key && p x) (deletions h)
+    same_erased p = both_ways (list_any p r.deletions) (list_any (λ x. is_within from to x.key && p x) (deletions h))
         (λ some.
-        let found = Any-from_list_any p r.erased some in
-        let of = erased_in found.1 (found.0, found.2, found.3) in
-        any_from_member (λ x. is_within from to x.key && p x) (erases h) found.1 of.0 (and_from (is_within from to (found.1).key) (p found.1) of.1 found.4))
+        let found = Any-from_list_any p r.deletions some in
+        let of = deleted_in found.1 (found.0, found.2, found.3) in
+        any_from_member (λ x. is_within from to x.key && p x) (deletions h) found.1 of.0 (and_from (is_within from to (found.1).key) (p found.1) of.1 found.4))
         (λ some.
-        let found = Any-from_list_any (λ x. is_within from to x.key && p x) (erases h) some in
+        let found = Any-from_list_any (λ x. is_within from to x.key && p x) (deletions h) some in
         let tests = and_parts (is_within from to (found.1).key) (p found.1) found.4 in
-        any_from_member p r.erased found.1 (all_erased found.1 (found.0, found.2, found.3) tests.0) tests.1)
+        any_from_member p r.deletions found.1 (all_deletions found.1 (found.0, found.2, found.3) tests.0) tests.1)
 
     -- the version of a write is left where its cell is
     left_cell : (c : List ℤ) (w : Written) (row : List Val) → known_attrs r schemas w.schema ≡ attrs_with h w.schema
@@ -101,8 +101,8 @@ module _ (h : History) (from to : ℕ) (sub : SubBox) (got : List Version)
         ∙ ap (λ attrs. cond (not (is_erased h from to c w row)) (Some (shown_row attrs row r.there.attrs)) None) same
         ∙ by_test (is_erased h from to c w row)
       where
-        is_same : is_erased_by r schemas r.erased (version_with w c row) ≡ is_erased h from to c w row
-        is_same = ap (λ attrs. list_any (erases_cell w attrs c row) r.erased) same ∙ same_erased (erases_cell w (attrs_with h w.schema) c row)
+        is_same : is_erased_by r schemas r.deletions (version_with w c row) ≡ is_erased h from to c w row
+        is_same = ap (λ attrs. list_any (erases_cell w attrs c row) r.deletions) same ∙ same_erased (erases_cell w (attrs_with h w.schema) c row)
 
         by_test : (b : Bool) → cond (not b) (Some (shown_row (attrs_with h w.schema) row r.there.attrs)) None
             ≡ option_map (λ row. shown_row (attrs_with h w.schema) row r.there.attrs) (cond b None (Some row))
@@ -231,4 +231,5 @@ module _ (h : History) (from to : ℕ) (sub : SubBox) (got : List Version)
           each = found.2;
           rows = ap (selected r.frame r.there.attrs r.ready) found.1;
           types = refl;
+          whole = refl;
         }

@@ -23,15 +23,15 @@ use Rattle.ts_model.proofs.HistoryLaws.{keys-append, new_from_absent}
 use Rattle.ts_model.proofs.ListLemmas.{Contains-nil, Contains-only, filter_map-Contains, find-append, or_else, slice_get_push}
 use Rattle.ts_model.specs.Answers.{IsAnswer}
 use Rattle.ts_model.specs.Commands.{create_refusal, frame_made, laid}
-use Rattle.ts_model.specs.Deeds.{History, IsNewKey, erases, frame_in, key_in, keys, schema_there, schema_with, writes}
+use Rattle.ts_model.specs.Deeds.{History, IsNewKey, deletions, frame_in, key_in, keys, schema_there, schema_with, writes}
 use Rattle.ts_law.specs.Ends.{HasDeclared, IsCreated, IsTrueEnd, IsTrueRefusal, IsUndone, ListedAt}
-use Rattle.ts_model.specs.Forms.{Forms, Spelled, Tracking}
+use Rattle.ts_model.specs.Codecs.{Codec, Spelled, Tracking}
 use Rattle.ts_law.specs.Fresh.{IsCarried, IsNewId, id_in}
-use Rattle.ts_model.specs.Jobs.{AreApart, IsFit, erasure_as, job_with, key_of, looked_at, schema_of_job, written_as}
-use Rattle.ts_law.specs.Kept.{Aims, AreErasures, AreGot, AreOpen, AreSchemas, Claims, Clean, Erasing, Fetching, Gathering, HasListed, HasNear, IsOfJobs, Kept, Near, OnWay, Opening, Putting, ReadsAt, ReadsIn, Works, heads_of}
+use Rattle.ts_model.specs.Jobs.{AreApart, IsFit, deletion_as, job_with, key_of, looked_at, schema_of_job, written_as}
+use Rattle.ts_law.specs.Kept.{Aims, AreDeletions, AreGot, AreOpen, AreSchemas, Claims, Clean, GettingDeletes, Fetching, Gathering, HasListed, HasLooked, IsOfJobs, Kept, LooksInto, OnWay, Opening, Putting, ReadsAt, ReadsIn, Works, heads_of}
 use Rattle.ts_law.specs.Stands.{HoldsIn, WentInto, Stands}
 use Rattle.ts_model.specs.States.{begun, keys_named, made_by, state_of, unless_refused}
-use Rattle.ts_model.specs.Told.{Told, cells_of, condition_of, declared_by, deed_in, deed_of, deed_told, erased_by, erased_in, grown, history_from, history_told, is_by, schema_used, schemas_found, trace_of, written_by, written_in}
+use Rattle.ts_model.specs.Told.{Told, cells_of, condition_of, declared_by, deed_in, deed_of, deed_told, deleted_by, deleted_in, grown, history_from, history_told, is_by, schema_used, schemas_found, trace_of, written_by, written_in}
 use Rattle.ts_model.specs.declared.answers.Outcome.{Outcome}
 use Rattle.ts_model.specs.declared.answers.Refusal.{Refusal}
 use Rattle.ts_model.specs.declared.commands.Command.{Command}
@@ -41,15 +41,18 @@ use Rattle.ts_model.specs.declared.commands.Job.{Job}
 use Rattle.ts_model.specs.declared.commands.WriteIn.{WriteIn}
 use Rattle.ts_model.specs.declared.deeds.Deed.{Deed}
 use Rattle.ts_model.specs.declared.deeds.Deed.TheVariants.{Declared, Erased, Framed, Wrote}
-use Rattle.ts_model.specs.declared.deeds.Erasure.{Erasure}
+use Rattle.ts_model.specs.declared.deeds.Deletion.{Deletion}
 use Rattle.ts_model.specs.declared.deeds.Written.{Written}
-use Rattle.ts_model.specs.Queries.{erasing_in}
+use Rattle.ts_model.specs.Queries.{delete_condition}
 use Rattle.ts_model.specs.declared.states.Listed.{Listed}
 use Rattle.ts_model.specs.declared.states.NewObject.{NewObject}
 use Rattle.ts_model.specs.declared.states.Opened.{Opened}
 use Rattle.ts_model.specs.declared.states.Reading.{Reading}
 use Rattle.ts_model.specs.declared.states.State.{State}
-use Rattle.ts_model.specs.declared.states.State.TheVariants.{ComparesFrame, Fetches, GetsDeletes, GetsFrame, GetsHeads, GetsSchema, GetsSchemas, ListsCommits, ListsDeclared, ListsSchemas, Over, Puts, PutsFrame}
+use Rattle.ts_model.specs.declared.states.State.TheVariants.{Creates, Seeks, Puts, Collects, Over}
+use Rattle.ts_model.specs.declared.states.Creating.TheVariants.{PutsFrame, ComparesFrame, ListsDeclared}
+use Rattle.ts_model.specs.declared.states.Seeking.TheVariants.{ListsCommits, ListsSchemas, GetsSchema, GetsFrame}
+use Rattle.ts_model.specs.declared.states.Collecting.TheVariants.{GetsHeads, GetsSchemas, GetsDeletes, Fetches}
 use Rattle.ts_schema.specs.Evolutions.{evolved_attrs}
 use Rattle.ts_schema.specs.Faults.{schema_fault}
 use Rattle.ts_schema.specs.declared.faults.SchemaFault.{SchemaFault}
@@ -96,22 +99,22 @@ written_key_is h job found (Read from to query) w is = absurd (none-some w is)
 written_key_is h job found (Delete text) w is = absurd (none-some w is)
 
 -- what a text erases has the key of the job
-erased_in_key_is : (job : Job) (text : List ℕ) (o : Option Schema) (q : Option Frame) (x : Erasure) → erased_in job text o q ≡ Some x → x.key ≡ key_of job
-erased_in_key_is job text None q x is = absurd (none-some x is)
-erased_in_key_is job text (Some s) None x is = absurd (none-some x is)
-erased_in_key_is job text (Some s) (Some frame) x is = of_condition (condition_of (erasing_in frame s.attrs text)) is
+deleted_in_key_is : (job : Job) (text : List ℕ) (o : Option Schema) (q : Option Frame) (x : Deletion) → deleted_in job text o q ≡ Some x → x.key ≡ key_of job
+deleted_in_key_is job text None q x is = absurd (none-some x is)
+deleted_in_key_is job text (Some s) None x is = absurd (none-some x is)
+deleted_in_key_is job text (Some s) (Some frame) x is = of_condition (condition_of (delete_condition frame s.attrs text)) is
   where
-    of_condition : (o : Option Condition) → option_map (erasure_as job) o ≡ Some x → x.key ≡ key_of job
+    of_condition : (o : Option Condition) → option_map (deletion_as job) o ≡ Some x → x.key ≡ key_of job
     of_condition None e = absurd (none-some x e)
-    of_condition (Some condition) e = ap (λ y. y.key) (sym (same_Some (erasure_as job condition) x e))
+    of_condition (Some condition) e = ap (λ y. y.key) (sym (same_Some (deletion_as job condition) x e))
 
 -- what a job erases has its key
-erased_key_is : (h : History) (job : Job) (found : Option (List Key)) (c : Command) (x : Erasure) → erased_by h job found c ≡ Some x → x.key ≡ key_of job
-erased_key_is h job found (Create f) x is = absurd (none-some x is)
-erased_key_is h job found (Evolve change) x is = absurd (none-some x is)
-erased_key_is h job found (Write v) x is = absurd (none-some x is)
-erased_key_is h job found (Read from to query) x is = absurd (none-some x is)
-erased_key_is h job found (Delete text) x is = erased_in_key_is job text (schema_used h job found) (frame_in h) x is
+deletion_key_is : (h : History) (job : Job) (found : Option (List Key)) (c : Command) (x : Deletion) → deleted_by h job found c ≡ Some x → x.key ≡ key_of job
+deletion_key_is h job found (Create f) x is = absurd (none-some x is)
+deletion_key_is h job found (Evolve change) x is = absurd (none-some x is)
+deletion_key_is h job found (Write v) x is = absurd (none-some x is)
+deletion_key_is h job found (Read from to query) x is = absurd (none-some x is)
+deletion_key_is h job found (Delete text) x is = deleted_in_key_is job text (schema_used h job found) (frame_in h) x is
 
 -- what is made of something that has a key
 made_key : {A : Type 0} (make : A → Deed) (key : A → Key) (o : Option A) (own : Key) → ((a : A) → key_in (make a) ≡ Some (key a)) → ((a : A) → o ≡ Some a → key a ≡ own)
@@ -120,7 +123,7 @@ made_key make key None own keyed owns d k is has = absurd (none-some d is)
 made_key make key (Some a) own keyed owns d k is has = sym (same_Some (key a) k (sym (keyed a) ∙ ap key_in (same_Some (make a) d is) ∙ has)) ∙ owns a refl
 
 -- a frame has no key
-frame_has_no_key : (o : Option FrameIn) (d : Deed) (k : Key) → option_map (λ f. Framed (frame_made f)) o ≡ Some d → key_in d ≡ Some k → ⊥
+pub frame_has_no_key : (o : Option FrameIn) (d : Deed) (k : Key) → option_map (λ f. Framed (frame_made f)) o ≡ Some d → key_in d ≡ Some k → ⊥
 frame_has_no_key None d k is has = none-some d is
 frame_has_no_key (Some f) d k is has = none-some k (ap key_in (same_Some (Framed (frame_made f)) d is) ∙ has)
 
@@ -132,7 +135,7 @@ deed_of_key h job found (name.Schema l) d k is has =
 deed_of_key h job found (name.Commit f kind.Wrt) d k is has =
     made_key Wrote (λ w. w.key) (written_by h job found job.command) (key_of job) (λ w. refl) (λ w e. written_key_is h job found job.command w e) d k is has
 deed_of_key h job found (name.Commit f kind.Del) d k is has =
-    made_key Erased (λ x. x.key) (erased_by h job found job.command) (key_of job) (λ x. refl) (λ x e. erased_key_is h job found job.command x e) d k is has
+    made_key Erased (λ x. x.key) (deleted_by h job found job.command) (key_of job) (λ x. refl) (λ x e. deletion_key_is h job found job.command x e) d k is has
 deed_of_key h job found _ d k is has = absurd (none-some d is)
 
 -- the key of a deed of a job's call is the job's
@@ -198,12 +201,12 @@ new_is_free m past id free n carries = from_got (map.get m n) refl
     from_got None is = refl
     from_got (Some bytes) is = absurd (free (inr (n, Holds-from_get m n bytes is, carries)))
 
-module _ {F : Type 0} (forms : Forms F) (spelled : Spelled) (tracks : Tracking F) (m : Held) (past : History) (jobs : List Job) (seen : List Told) (number : ℕ) (job : Job)
+module _ {F : Type 0} (codec : Codec F) (spelled : Spelled) (tracks : Tracking F) (m : Held) (past : History) (jobs : List Job) (seen : List Told) (number : ℕ) (job : Job)
     (clean : Clean m (history_told jobs past seen) job) where
   -- a create that is not refused puts its frame, and else no deed has its key
   create_claims : (f : FrameIn) → job.command ≡ Create f → (o q : Option Refusal) → create_refusal f ≡ option_or o q
       → ((r : Refusal) → o ≡ Some r → IsTrueRefusal (history_told jobs past seen) job r) → ((r : Refusal) → q ≡ Some r → IsTrueRefusal (history_told jobs past seen) job r)
-      → Claims forms spelled tracks past jobs seen m number job (unless_refused PutsFrame (option_or o q))
+      → Claims codec spelled tracks past jobs seen m number job (unless_refused (Creates PutsFrame) (option_or o q))
   create_claims f is None None sound first second = (clean, (f, is, sound))
   create_claims f is None (Some r) sound first second = second r refl
   create_claims f is (Some r) q sound first second = first r refl
@@ -219,7 +222,7 @@ module _ {F : Type 0} (forms : Forms F) (spelled : Spelled) (tracks : Tracking F
   schema_refusal f (Some fault) r is = subst (IsTrueRefusal (history_told jobs past seen) job) (same_Some (refusal.SchemaBad fault) r is) clean.undone
 
   -- the claims of where a clean job begins
-  begun_claims : (c : Command) → job.command ≡ c → Claims forms spelled tracks past jobs seen m number job (begun c)
+  begun_claims : (c : Command) → job.command ≡ c → Claims codec spelled tracks past jobs seen m number job (begun c)
   begun_claims (Create f) is =
       create_claims f is (option_map refusal.DomainBad (domain_fault f.dims)) (option_map refusal.SchemaBad (schema_fault f.dims f.attrs)) refl
       (λ r e. domain_refusal f (domain_fault f.dims) r e) (λ r e. schema_refusal f (schema_fault f.dims f.attrs) r e)
@@ -231,8 +234,8 @@ module _ {F : Type 0} (forms : Forms F) (spelled : Spelled) (tracks : Tracking F
 -- ---- the start
 
 -- what is kept before the first job comes: the map stands for the past
-pub starts_kept : {F : Type 0} (forms : Forms F) (spelled : Spelled) (tracks : Tracking F) (past : History) (m : Held) → Stands spelled m past → Kept forms spelled tracks past [] [] [] m
-starts_kept forms spelled tracks past m stands = record {
+pub starts_kept : {F : Type 0} (codec : Codec F) (spelled : Spelled) (tracks : Tracking F) (past : History) (m : Held) → Stands spelled m past → Kept codec spelled tracks past [] [] [] m
+starts_kept codec spelled tracks past m stands = record {
   stands = stands;
   apart = λ i j a b at_i at_j same. absurd (none-some a at_i);
   fit = All-nil IsFit;
@@ -301,7 +304,7 @@ module _ (jobs : List Job) (job : Job) where
 
   -- ---- what was claimed of the jobs before is true among all
 
-  module _ {F : Type 0} (forms : Forms F) (spelled : Spelled) (tracks : Tracking F) (past : History) (seen : List Told) (known : All (IsOfJobs jobs) seen) (m : Held) (number : ℕ) (j : Job) where
+  module _ {F : Type 0} (codec : Codec F) (spelled : Spelled) (tracks : Tracking F) (past : History) (seen : List Told) (known : All (IsOfJobs jobs) seen) (m : Held) (number : ℕ) (j : Job) where
     -- the history now is one
     now : history_told jobs past seen ≡ history_told all past seen
     now = sym (history_more past seen known)
@@ -326,6 +329,7 @@ module _ (jobs : List Job) (job : Job) where
     abbrev works_more : (there : Schema) → Works past jobs seen number j there → Works past all seen number j there
     works_more there is = record {
       schemas = is.schemas;
+      undone = subst (λ g. IsUndone g j) (listed_more Schemas is.schemas) is.undone;
       holds = subst (λ g. schema_there g (looked_at j) ≡ Some there) (listed_more Schemas is.schemas) is.holds;
       found = is.found;
       is_found = is.is_found;
@@ -334,30 +338,30 @@ module _ (jobs : List Job) (job : Job) where
     }
 
     -- what a read listed is the same among all
-    abbrev near_more : (from to : ℕ) (near deletes : List FragKey) → Near spelled past jobs seen m number from to near deletes → Near spelled past all seen m number from to near deletes
-    near_more from to near deletes is = record {
+    abbrev near_more : (from to : ℕ) (fragments delete_names : List FragKey) → LooksInto spelled past jobs seen m number from to fragments delete_names → LooksInto spelled past all seen m number from to fragments delete_names
+    near_more from to fragments delete_names is = record {
       commits = is.commits;
       whole = λ f at. let own = is.whole f at in (own.0, subst (λ g. HoldsIn spelled g m f own.0) (listed_more Commits is.commits) own.1, own.2);
       covered = λ w at within.
           let own = is.covered w (subst (λ g. Contains (writes g) w) (sym (listed_more Commits is.commits)) at) within in
           (own.0, own.1, subst (λ g. WentInto spelled g m own.0 w.key) (listed_more Commits is.commits) own.2);
-      erased = λ f at. let found = is.erased f at in (found.0, subst (λ g. Contains (erases g) found.0) (listed_more Commits is.commits) found.1, found.2, found.3);
-      erasing = λ x at within. is.erasing x (subst (λ g. Contains (erases g) x) (sym (listed_more Commits is.commits)) at) within;
+      erased = λ f at. let found = is.erased f at in (found.0, subst (λ g. Contains (deletions g) found.0) (listed_more Commits is.commits) found.1, found.2, found.3);
+      deletes_found = λ x at within. is.deletes_found x (subst (λ g. Contains (deletions g) x) (sym (listed_more Commits is.commits)) at) within;
     }
 
     -- what a job listed before the schemas is the same among all
-    has_near_more : (command : Command) (listed : Listed) → HasNear spelled past jobs seen m number command listed → HasNear spelled past all seen m number command listed
+    has_near_more : (command : Command) (listed : Listed) → HasLooked spelled past jobs seen m number command listed → HasLooked spelled past all seen m number command listed
     has_near_more (Create f) listed is = is
     has_near_more (Evolve change) listed is = is
     has_near_more (Write w) listed is = is
-    has_near_more (Read from to query) listed is = near_more from to listed.near listed.deletes is
+    has_near_more (Read from to query) listed is = near_more from to listed.fragments listed.delete_names is
     has_near_more (Delete text) listed is = is
 
     -- what a read listed, and then the schemas, is the same among all
-    abbrev reads_at_more : (from to : ℕ) (near deletes : List FragKey) (there : Schema)
-        → ReadsAt spelled past jobs seen m number j from to near deletes there → ReadsAt spelled past all seen m number j from to near deletes there
-    reads_at_more from to near deletes there is = record {
-      listed = near_more from to near deletes is.listed;
+    abbrev reads_at_more : (from to : ℕ) (fragments delete_names : List FragKey) (there : Schema)
+        → ReadsAt spelled past jobs seen m number j from to fragments delete_names there → ReadsAt spelled past all seen m number j from to fragments delete_names there
+    reads_at_more from to fragments delete_names there is = record {
+      listed = near_more from to fragments delete_names is.listed;
       works = works_more there is.works;
       between = is.between;
       order = is.order;
@@ -369,7 +373,7 @@ module _ (jobs : List Job) (job : Job) where
     has_listed_more (Create f) listed there is = is
     has_listed_more (Evolve change) listed there is = works_more there is
     has_listed_more (Write w) listed there is = works_more there is
-    has_listed_more (Read from to query) listed there is = reads_at_more from to listed.near listed.deletes there is
+    has_listed_more (Read from to query) listed there is = reads_at_more from to listed.fragments listed.delete_names there is
     has_listed_more (Delete text) listed there is = works_more there is
 
     -- what a read knows is the same among all
@@ -377,21 +381,21 @@ module _ (jobs : List Job) (job : Job) where
     reads_in_more r is = record {
       query = is.query;
       reads = is.reads;
-      at = reads_at_more r.from r.to r.near r.deletes r.there is.at;
+      at = reads_at_more r.from r.to r.fragments r.delete_names r.there is.at;
       framed = subst (λ g. frame_in g ≡ Some r.frame) (listed_more Schemas ((is.at).works).schemas) is.framed;
       is_ready = is.is_ready;
     }
 
     -- a read that opens is such among all
-    abbrev opening_more : (r : Reading) (opened : List Opened) → Opening forms spelled past jobs seen m number j r opened → Opening forms spelled past all seen m number j r opened
+    abbrev opening_more : (r : Reading) (opened : List Opened) → Opening codec spelled past jobs seen m number j r opened → Opening codec spelled past all seen m number j r opened
     opening_more r opened is = record {
       reads = reads_in_more r is.reads;
-      are_open = subst (λ g. AreOpen forms spelled g m r opened) (listed_more Commits (((is.reads).at).listed).commits) is.are_open;
+      are_open = subst (λ g. AreOpen codec spelled g m r opened) (listed_more Commits (((is.reads).at).listed).commits) is.are_open;
     }
 
     -- a read that gathers schemas is such among all
     abbrev gathering_more : (r : Reading) (opened : List Opened) (schemas : List Schema)
-        → Gathering forms spelled past jobs seen m number j r opened schemas → Gathering forms spelled past all seen m number j r opened schemas
+        → Gathering codec spelled past jobs seen m number j r opened schemas → Gathering codec spelled past all seen m number j r opened schemas
     gathering_more r opened schemas is = record {
       opens = opening_more r opened is.opens;
       all = is.all;
@@ -399,25 +403,25 @@ module _ (jobs : List Job) (job : Job) where
     }
 
     -- a read that gets deletes is such among all
-    abbrev erasing_more : (r : Reading) (opened : List Opened) (schemas : List Schema)
-        → Erasing forms spelled past jobs seen m number j r opened schemas → Erasing forms spelled past all seen m number j r opened schemas
-    erasing_more r opened schemas is = record {
+    abbrev getting_deletes_more : (r : Reading) (opened : List Opened) (schemas : List Schema)
+        → GettingDeletes codec spelled past jobs seen m number j r opened schemas → GettingDeletes codec spelled past all seen m number j r opened schemas
+    getting_deletes_more r opened schemas is = record {
       gathers = gathering_more r opened schemas is.gathers;
       all_schemas = is.all_schemas;
-      erases = subst (λ g. AreErasures g r.deletes r.erased) now is.erases;
+      deletions = subst (λ g. AreDeletions g r.delete_names r.deletions) now is.deletions;
     }
 
     -- a read that fetches is such among all
     abbrev fetching_more : (r : Reading) (opened : List Opened) (schemas : List Schema) (next : ℕ) (got : List Version)
-        → Fetching forms spelled past jobs seen m number j r opened schemas next got → Fetching forms spelled past all seen m number j r opened schemas next got
+        → Fetching codec spelled past jobs seen m number j r opened schemas next got → Fetching codec spelled past all seen m number j r opened schemas next got
     fetching_more r opened schemas next got is = record {
-      erasing = erasing_more r opened schemas is.erasing;
+      deletes_found = getting_deletes_more r opened schemas is.deletes_found;
       all_deletes = is.all_deletes;
-      found = subst (λ g. AreGot g r.from r.to (r.ready).sub (heads_of (take next opened)) got) (listed_more Commits ((((((is.erasing).gathers).opens).reads).at).listed).commits) is.found;
+      found = subst (λ g. AreGot g r.from r.to (r.ready).sub (heads_of (take next opened)) got) (listed_more Commits ((((((is.deletes_found).gathers).opens).reads).at).listed).commits) is.found;
     }
 
     -- what the last put of a job makes of it is the same among all
-    aims_more : (objects : List NewObject) (end : Outcome) → Aims forms past jobs seen number j objects end → Aims forms past all seen number j objects end
+    aims_more : (objects : List NewObject) (end : Outcome) → Aims codec past jobs seen number j objects end → Aims codec past all seen number j objects end
     aims_more objects outcome.Created (f, creates, is, none, framed) = (f, creates, is, none, framed_more (frame_made f) framed)
     aims_more objects (outcome.Evolved k) (change, frame, there, evolves, same, is, framed, sound, works) =
         (change, frame, there, evolves, same, is, framed_more frame framed, sound, works_more there works)
@@ -430,7 +434,7 @@ module _ (jobs : List Job) (job : Job) where
     aims_more objects outcome.OutOfMemory is = is
 
     -- a job that puts is such among all
-    putting_more : (objects : List NewObject) (next : ℕ) (end : Outcome) → Putting forms past jobs seen m number j objects next end → Putting forms past all seen m number j objects next end
+    putting_more : (objects : List NewObject) (next : ℕ) (end : Outcome) → Putting codec past jobs seen m number j objects next end → Putting codec past all seen m number j objects next end
     putting_more objects next end is = record {
       held = is.held;
       short = is.short;
@@ -450,6 +454,7 @@ module _ (jobs : List Job) (job : Job) where
         evolves = is.evolves;
         schemas = is.schemas;
         there = is.there;
+        undone = subst (λ g. IsUndone g j) (listed_more Schemas is.schemas) is.undone;
         holds = subst (λ g. schema_there g j.at ≡ Some is.there) (listed_more Schemas is.schemas) is.holds;
         declared = subst (λ g. HasDeclared g j (evolved_attrs (is.there).attrs is.change)) now is.declared;
       },
@@ -461,6 +466,7 @@ module _ (jobs : List Job) (job : Job) where
         writes_them = is.writes_them;
         schemas = is.schemas;
         there = is.there;
+        undone = subst (λ g. IsUndone g j) (listed_more Schemas is.schemas) is.undone;
         holds = subst (λ g. schema_there g j.at ≡ Some is.there) (listed_more Schemas is.schemas) is.holds;
         frame = is.frame;
         framed = framed_more is.frame is.framed;
@@ -476,12 +482,13 @@ module _ (jobs : List Job) (job : Job) where
         deletes = is.deletes;
         schemas = is.schemas;
         there = is.there;
+        undone = subst (λ g. IsUndone g j) (listed_more Schemas is.schemas) is.undone;
         holds = subst (λ g. schema_there g j.at ≡ Some is.there) (listed_more Schemas is.schemas) is.holds;
         frame = is.frame;
         framed = framed_more is.frame is.framed;
         condition = is.condition;
         says = is.says;
-        erased = subst (λ g. Contains (erases g) (erasure_as j is.condition)) now is.erased;
+        erased = subst (λ g. Contains (deletions g) (deletion_as j is.condition)) now is.erased;
       },
     )
     end_more (outcome.Read answer) (from, to, query, reads, is) = (
@@ -502,30 +509,30 @@ module _ (jobs : List Job) (job : Job) where
     end_more outcome.OutOfMemory is = is
 
     -- the claims of a job hold among all
-    claims_more : (s : State F) → Claims forms spelled tracks past jobs seen m number j s → Claims forms spelled tracks past all seen m number j s
-    claims_more PutsFrame is = (clean_more is.0, is.1)
-    claims_more ComparesFrame is = (clean_more is.0, is.1, (is.2.0, framed_more is.2.0 is.2.1))
-    claims_more ListsDeclared is = (clean_more is.0, (is.1.0, is.1.1, is.1.2, framed_more (frame_made is.1.0) is.1.3))
+    claims_more : (s : State F) → Claims codec spelled tracks past jobs seen m number j s → Claims codec spelled tracks past all seen m number j s
+    claims_more (Creates PutsFrame) is = (clean_more is.0, is.1)
+    claims_more (Creates ComparesFrame) is = (clean_more is.0, is.1, (is.2.0, framed_more is.2.0 is.2.1))
+    claims_more (Creates ListsDeclared) is = (clean_more is.0, (is.1.0, is.1.1, is.1.2, framed_more (frame_made is.1.0) is.1.3))
     claims_more (Puts objects next end) is = putting_more objects next end is
-    claims_more ListsCommits is = (clean_more is.0, is.1)
-    claims_more (ListsSchemas listed) is = (clean_more is.0, has_near_more j.command listed is.1)
-    claims_more (GetsSchema listed there) is = (clean_more is.0, (is.1.0, is.1.1, has_listed_more j.command listed is.1.0 is.1.2))
-    claims_more (GetsFrame listed there) is = (clean_more is.0, has_listed_more j.command listed there is.1)
-    claims_more (GetsHeads r opened) is = (clean_more is.0, opening_more r opened is.1, is.2)
-    claims_more (GetsSchemas r opened named schemas) is = (clean_more is.0, is.1, gathering_more r opened schemas is.2, is.3)
-    claims_more (GetsDeletes r opened schemas) is = (clean_more is.0, erasing_more r opened schemas is.1)
-    claims_more (Fetches r opened schemas next frag got fetch c) is = (
+    claims_more (Seeks ListsCommits) is = (clean_more is.0, is.1)
+    claims_more (Seeks (ListsSchemas listed)) is = (clean_more is.0, has_near_more j.command listed is.1)
+    claims_more (Seeks (GetsSchema listed there)) is = (clean_more is.0, (is.1.0, is.1.1, has_listed_more j.command listed is.1.0 is.1.2))
+    claims_more (Seeks (GetsFrame listed there)) is = (clean_more is.0, has_listed_more j.command listed there is.1)
+    claims_more (Collects (GetsHeads r opened)) is = (clean_more is.0, opening_more r opened is.1, is.2)
+    claims_more (Collects (GetsSchemas r opened named schemas)) is = (clean_more is.0, is.1, gathering_more r opened schemas is.2, is.3)
+    claims_more (Collects (GetsDeletes r opened schemas)) is = (clean_more is.0, getting_deletes_more r opened schemas is.1)
+    claims_more (Collects (Fetches r opened schemas next frag got fetch c)) is = (
       clean_more is.0,
       is.1,
       (
         fetching_more r opened schemas next got is.2.0,
-        subst (λ g. OnWay spelled tracks g m r frag fetch c) (listed_more Commits (((((((is.2.0).erasing).gathers).opens).reads).at).listed).commits) is.2.1,
+        subst (λ g. OnWay spelled tracks g m r frag fetch c) (listed_more Commits (((((((is.2.0).deletes_found).gathers).opens).reads).at).listed).commits) is.2.1,
       ),
     )
     claims_more (Over end) is = end_more end is
 
-  module _ {F : Type 0} (forms : Forms F) (spelled : Spelled) (tracks : Tracking F) (past : History) (dead : List ℕ) (seen : List Told) (m : Held)
-      (kept : Kept forms spelled tracks past jobs dead seen m) (is : IsNewId m past jobs job.id) where
+  module _ {F : Type 0} (codec : Codec F) (spelled : Spelled) (tracks : Tracking F) (past : History) (dead : List ℕ) (seen : List Told) (m : Held)
+      (kept : Kept codec spelled tracks past jobs dead seen m) (is : IsNewId m past jobs job.id) where
     -- no two of all jobs have one identifier
     apart_more : AreApart all
     apart_more i k a b at_i at_k same = elim (slice_get_push jobs job i a at_i) [
@@ -540,14 +547,14 @@ module _ (jobs : List Job) (job : Job) where
     ]
 
     -- the claims of the job that comes
-    new_claims : Claims forms spelled tracks past all seen m (length jobs) job (begun job.command)
-    new_claims = begun_claims forms spelled tracks m past all seen (length jobs) job (record {
-      free = new_is_free m past job.id is.free;
+    new_claims : Claims codec spelled tracks past all seen m (length jobs) job (begun job.command)
+    new_claims = begun_claims codec spelled tracks m past all seen (length jobs) job (record {
+      free = λ n carries _. new_is_free m past job.id is.free n carries;
       undone = subst (λ g. IsNewKey g (key_of job)) (sym (history_more past seen kept.known)) (new_key m past jobs seen job is);
     }) job.command refl
 
     -- what is kept is kept among all
-    more_kept : IsFit job → Kept forms spelled tracks past all dead seen m
+    more_kept : IsFit job → Kept codec spelled tracks past all dead seen m
     more_kept fit = record {
       stands = subst (Stands spelled m) (sym (history_more past seen kept.known)) kept.stands;
       apart = apart_more;
@@ -555,15 +562,15 @@ module _ (jobs : List Job) (job : Job) where
       known = All-weaker (IsOfJobs jobs) (IsOfJobs all) of_all seen kept.known;
       claims = λ number j at alive. elim (slice_get_push jobs job number j at) [
         | inl before ↦
-            claims_more forms spelled tracks past seen kept.known m number j (state_of forms j (trace_of number seen)) (kept.claims number j before alive)
+            claims_more codec spelled tracks past seen kept.known m number j (state_of codec j (trace_of number seen)) (kept.claims number j before alive)
         | inr last ↦
-            subst (λ n. Claims forms spelled tracks past all seen m n j (state_of forms j (trace_of n seen))) (sym last.0)
-            (subst (λ i. Claims forms spelled tracks past all seen m (length jobs) i (state_of forms i (trace_of (length jobs) seen))) last.1
-            (subst (λ t. Claims forms spelled tracks past all seen m (length jobs) job (state_of forms job t)) (sym (no_calls seen kept.known)) new_claims))
+            subst (λ n. Claims codec spelled tracks past all seen m n j (state_of codec j (trace_of n seen))) (sym last.0)
+            (subst (λ i. Claims codec spelled tracks past all seen m (length jobs) i (state_of codec i (trace_of (length jobs) seen))) last.1
+            (subst (λ t. Claims codec spelled tracks past all seen m (length jobs) job (state_of codec job t)) (sym (no_calls seen kept.known)) new_claims))
       ];
     }
 
 -- what is kept stays where a job with a new identifier comes
-pub spawn_kept : {F : Type 0} (forms : Forms F) (spelled : Spelled) (tracks : Tracking F) (past : History) (jobs : List Job) (dead : List ℕ) (seen : List Told) (m : Held) (job : Job)
-    → Kept forms spelled tracks past jobs dead seen m → IsFit job → IsNewId m past jobs job.id → Kept forms spelled tracks past (jobs ++ job ∷ []) dead seen m
-spawn_kept forms spelled tracks past jobs dead seen m job kept fit is = more_kept jobs job forms spelled tracks past dead seen m kept is fit
+pub spawn_kept : {F : Type 0} (codec : Codec F) (spelled : Spelled) (tracks : Tracking F) (past : History) (jobs : List Job) (dead : List ℕ) (seen : List Told) (m : Held) (job : Job)
+    → Kept codec spelled tracks past jobs dead seen m → IsFit job → IsNewId m past jobs job.id → Kept codec spelled tracks past (jobs ++ job ∷ []) dead seen m
+spawn_kept codec spelled tracks past jobs dead seen m job kept fit is = more_kept jobs job codec spelled tracks past dead seen m kept is fit

@@ -27,11 +27,11 @@ use Rattle.ts_schema.specs.Parts.{IsShort}
 use Rattle.ts_domain.specs.Boxes.{is_in_box}
 use Rattle.ts_cond.specs.CondTexts.{cond_object}
 use Rattle.ts_model.specs.declared.deeds.Written.{Written}
-use Rattle.ts_model.specs.declared.deeds.Erasure.{Erasure}
+use Rattle.ts_model.specs.declared.deeds.Deletion.{Deletion}
 use Rattle.ts_model.specs.declared.deeds.Deed.TheVariants.{Framed, Declared, Wrote, Erased}
-use Rattle.ts_model.specs.Deeds.{History, schema_in, erase_in, frame_in, schemas, writes, erases, keys, schema_with, erase_of, has_cell, SchemaFollows, WriteFollows, EraseFollows, IsNewKey, IsHistory}
+use Rattle.ts_model.specs.Deeds.{History, schema_in, deletion_in, frame_in, schemas, writes, deletions, keys, schema_with, deletion_of, has_cell, SchemaFollows, WriteFollows, DeletionFollows, IsNewKey, IsHistory}
 use Rattle.ts_model.specs.Pieces.{HoldsWrite}
-use Rattle.ts_model.specs.Forms.{Spelled}
+use Rattle.ts_model.specs.Codecs.{Spelled}
 use Rattle.ts_law.specs.Origins.{IsReadable, box_in}
 use Rattle.ts_law.specs.Stands.{IsCommitted, Spells, HoldsIn, WentInto, Stands}
 use Rattle.ts_law.specs.Fresh.{id_in}
@@ -68,12 +68,12 @@ schema_with-undeclared : (h g : History) (k : Key) → schemas g ≡ [] → sche
 schema_with-undeclared h g k none = ap (find (λ s. key_eq s.key k)) (filter_map-append schema_in h g ∙ ap (λ ss. schemas h ++ ss) none ∙ append-nil (schemas h))
 
 -- a delete is looked for among earlier deeds first
-erase_of-or : (h g : History) (f : FragKey) → erase_of (h ++ g) f ≡ or_else (erase_of h f) (erase_of g f)
-erase_of-or h g f = ap (find (λ x. frag_eq (frag_of x.key) f)) (filter_map-append erase_in h g) ∙ find-append (λ x. frag_eq (frag_of x.key) f) (erases h) (erases g)
+deletion_of-or : (h g : History) (f : FragKey) → deletion_of (h ++ g) f ≡ or_else (deletion_of h f) (deletion_of g f)
+deletion_of-or h g f = ap (find (λ x. frag_eq (frag_of x.key) f)) (filter_map-append deletion_in h g) ∙ find-append (λ x. frag_eq (frag_of x.key) f) (deletions h) (deletions g)
 
 -- deeds that erase nothing add no delete
-erase_of-unerased : (h g : History) (f : FragKey) → erases g ≡ [] → erase_of (h ++ g) f ≡ erase_of h f
-erase_of-unerased h g f none = ap (find (λ x. frag_eq (frag_of x.key) f)) (filter_map-append erase_in h g ∙ ap (λ xs. erases h ++ xs) none ∙ append-nil (erases h))
+deletion_of-unerased : (h g : History) (f : FragKey) → deletions g ≡ [] → deletion_of (h ++ g) f ≡ deletion_of h f
+deletion_of-unerased h g f none = ap (find (λ x. frag_eq (frag_of x.key) f)) (filter_map-append deletion_in h g ∙ ap (λ xs. deletions h ++ xs) none ∙ append-nil (deletions h))
 
 -- ---- what is held after a put
 
@@ -101,7 +101,7 @@ get_before m n bytes q kept held = elim (eq_by_cmp name_cmp q n) as (λ b. eq_by
 pub keeps_put : (m : Held) (h : History) (n : Name) (bytes : List ℕ) (id : ℕ) (more : History) → (Holds m n → ⊥) → (id_in n ≡ Some id) ⊎ (n ≡ name.Domain)
     → ((k : Key) → Contains (keys more) k → k.id ≡ id) → Keeps m (map.insert m n bytes) h (h ++ more) id
 keeps_put m h n bytes id more free carries come = record {
-  keeps = λ q kept e. stays_held m n bytes q kept free e;
+  keeps = λ q kept _ e. stays_held m n bytes q kept free e;
   adds = λ q kept held. elim (get_before m n bytes q kept held) [
     | inl before ↦ inl before
     | inr same ↦ inr (subst (λ p. (id_in p ≡ Some id) ⊎ (p ≡ name.Domain)) (sym same.0) carries)
@@ -163,7 +163,7 @@ module _ (spelled : Spelled) (m : Held) (h : History) (n : Name) (bytes : List �
   schema_grows k other same = get_apart m n bytes (name.Schema k) other ∙ stands.schemas k ∙ ap (option_map (λ s. schema_object s.attrs)) (sym same)
 
   -- a delete goes on standing where it is not the one that is put
-  delete_grows : (f : FragKey) → (name.Commit f Del ≡ n → ⊥) → erase_of (h ++ more) f ≡ erase_of h f → map.get later (name.Commit f Del) ≡ option_map (λ x. cond_object x.cond) (erase_of (h ++ more) f)
+  delete_grows : (f : FragKey) → (name.Commit f Del ≡ n → ⊥) → deletion_of (h ++ more) f ≡ deletion_of h f → map.get later (name.Commit f Del) ≡ option_map (λ x. cond_object x.cond) (deletion_of (h ++ more) f)
   delete_grows f other same = get_apart m n bytes (name.Commit f Del) other ∙ stands.deletes f ∙ ap (option_map (λ x. cond_object x.cond)) (sym same)
 
   -- a frame stays short where what is put is so
@@ -196,7 +196,7 @@ stands_put spelled m h f part bytes free short stands = subst (Stands spelled (m
   history = subst IsHistory (sym (append-nil h)) stands.history;
   frame = frame_grows spelled m h (name.Part f part) bytes [] free stands (λ e. cc) refl;
   schemas = λ k. schema_grows spelled m h (name.Part f part) bytes [] free stands k (λ e. cc) (ap (λ g. schema_with g k) (append-nil h));
-  deletes = λ g. delete_grows spelled m h (name.Part f part) bytes [] free stands g (λ e. cc) (ap (λ k. erase_of k g) (append-nil h));
+  deletes = λ g. delete_grows spelled m h (name.Part f part) bytes [] free stands g (λ e. cc) (ap (λ k. deletion_of k g) (append-nil h));
   short_frame = short_frame_grows spelled m h (name.Part f part) bytes [] free stands short;
   short_schemas = short_schemas_grow spelled m h (name.Part f part) bytes [] free stands short;
   short_deletes = short_deletes_grow spelled m h (name.Part f part) bytes [] free stands short;
@@ -229,7 +229,7 @@ stands_frame spelled m h frame free is short stands = record {
   history = IsHistory-push h (Framed frame) stands.history (record { first = first_deed spelled m h free stands; is_frame = is });
   frame = get_put m name.Domain (frame_object frame) ∙ ap (λ g. option_map frame_object (frame_in (g ++ Framed frame ∷ []))) (sym (first_deed spelled m h free stands));
   schemas = λ k. schema_grows spelled m h name.Domain (frame_object frame) (Framed frame ∷ []) free stands k (λ e. cc) (schema_with-undeclared h (Framed frame ∷ []) k refl);
-  deletes = λ f. delete_grows spelled m h name.Domain (frame_object frame) (Framed frame ∷ []) free stands f (λ e. cc) (erase_of-unerased h (Framed frame ∷ []) f refl);
+  deletes = λ f. delete_grows spelled m h name.Domain (frame_object frame) (Framed frame ∷ []) free stands f (λ e. cc) (deletion_of-unerased h (Framed frame ∷ []) f refl);
   short_frame = short_frame_grows spelled m h name.Domain (frame_object frame) (Framed frame ∷ []) free stands short;
   short_schemas = short_schemas_grow spelled m h name.Domain (frame_object frame) (Framed frame ∷ []) free stands short;
   short_deletes = short_deletes_grow spelled m h name.Domain (frame_object frame) (Framed frame ∷ []) free stands short;
@@ -263,7 +263,7 @@ stands_schema spelled m h s free follows short stands = record {
             (λ e. true≢false (sym (key_itself s.key) ∙ ap (key_eq s.key) (sym (same_key k e)) ∙ other))
             (schema_with-or h (Declared s ∷ []) k ∙ ap (λ b. or_else (schema_with h k) (cond b (Some s) None)) other ∙ or_none (schema_with h k))
       ] refl;
-  deletes = λ f. delete_grows spelled m h (name.Schema s.key) (schema_object s.attrs) (Declared s ∷ []) free stands f (λ e. cc) (erase_of-unerased h (Declared s ∷ []) f refl);
+  deletes = λ f. delete_grows spelled m h (name.Schema s.key) (schema_object s.attrs) (Declared s ∷ []) free stands f (λ e. cc) (deletion_of-unerased h (Declared s ∷ []) f refl);
   short_frame = short_frame_grows spelled m h (name.Schema s.key) (schema_object s.attrs) (Declared s ∷ []) free stands short;
   short_schemas = short_schemas_grow spelled m h (name.Schema s.key) (schema_object s.attrs) (Declared s ∷ []) free stands short;
   short_deletes = short_deletes_grow spelled m h (name.Schema s.key) (schema_object s.attrs) (Declared s ∷ []) free stands short;
@@ -348,7 +348,7 @@ module _ (spelled : Spelled) (m : Held) (h : History) (w : Written) (frame : Fra
     history = is_history;
     frame = frame_grows spelled m h (wrt_of own) [] come free stands (λ e. cc) refl;
     schemas = λ k. schema_grows spelled m h (wrt_of own) [] come free stands k (λ e. cc) (schema_with-undeclared h come k refl);
-    deletes = λ f. delete_grows spelled m h (wrt_of own) [] come free stands f (λ e. cc) (erase_of-unerased h come f refl);
+    deletes = λ f. delete_grows spelled m h (wrt_of own) [] come free stands f (λ e. cc) (deletion_of-unerased h come f refl);
     short_frame = short_frame_grows spelled m h (wrt_of own) [] come free stands short_nothing;
     short_schemas = short_schemas_grow spelled m h (wrt_of own) [] come free stands short_nothing;
     short_deletes = short_deletes_grow spelled m h (wrt_of own) [] come free stands short_nothing;
@@ -360,29 +360,29 @@ module _ (spelled : Spelled) (m : Held) (h : History) (w : Written) (frame : Fra
 -- ---- a delete
 
 -- a delete whose object was not held is the one under its name
-erased_last : (spelled : Spelled) (m : Held) (h : History) (x : Erasure) → (Holds m (del_of x.key) → ⊥) → Stands spelled m h → erase_of (h ++ Erased x ∷ []) (frag_of x.key) ≡ Some x
+erased_last : (spelled : Spelled) (m : Held) (h : History) (x : Deletion) → (Holds m (del_of x.key) → ⊥) → Stands spelled m h → deletion_of (h ++ Erased x ∷ []) (frag_of x.key) ≡ Some x
 erased_last spelled m h x free stands =
-    erase_of-or h (Erased x ∷ []) (frag_of x.key)
-    ∙ ap (λ o. or_else o (cond (frag_eq (frag_of x.key) (frag_of x.key)) (Some x) None)) (unerased (erase_of h (frag_of x.key)) (sym (stands.deletes (frag_of x.key)) ∙ get_free m (del_of x.key) free))
+    deletion_of-or h (Erased x ∷ []) (frag_of x.key)
+    ∙ ap (λ o. or_else o (cond (frag_eq (frag_of x.key) (frag_of x.key)) (Some x) None)) (unerased (deletion_of h (frag_of x.key)) (sym (stands.deletes (frag_of x.key)) ∙ get_free m (del_of x.key) free))
     ∙ ap (λ b. cond b (Some x) None) (frag_itself (frag_of x.key))
   where
-    unerased : (o : Option Erasure) → option_map (λ y. cond_object y.cond) o ≡ None → o ≡ None
+    unerased : (o : Option Deletion) → option_map (λ y. cond_object y.cond) o ≡ None → o ≡ None
     unerased None e = refl
     unerased (Some y) e = absurd (none-some (cond_object y.cond) (sym e))
 
 -- the delete that is put is a deed
-pub stands_delete : (spelled : Spelled) (m : Held) (h : History) (x : Erasure) → (Holds m (del_of x.key) → ⊥) → EraseFollows h x → IsShort (cond_object x.cond) → Stands spelled m h
+pub stands_delete : (spelled : Spelled) (m : Held) (h : History) (x : Deletion) → (Holds m (del_of x.key) → ⊥) → DeletionFollows h x → IsShort (cond_object x.cond) → Stands spelled m h
     → Stands spelled (map.insert m (del_of x.key) (cond_object x.cond)) (h ++ Erased x ∷ [])
 stands_delete spelled m h x free follows short stands = record {
   history = IsHistory-push h (Erased x) stands.history follows;
   frame = frame_grows spelled m h (del_of x.key) (cond_object x.cond) (Erased x ∷ []) free stands (λ e. cc) refl;
   schemas = λ k. schema_grows spelled m h (del_of x.key) (cond_object x.cond) (Erased x ∷ []) free stands k (λ e. cc) (schema_with-undeclared h (Erased x ∷ []) k refl);
   deletes = λ f. elim (frag_eq (frag_of x.key) f) as (λ b. frag_eq (frag_of x.key) f ≡ b
-      → map.get (map.insert m (del_of x.key) (cond_object x.cond)) (name.Commit f Del) ≡ option_map (λ y. cond_object y.cond) (erase_of (h ++ Erased x ∷ []) f)) [
+      → map.get (map.insert m (del_of x.key) (cond_object x.cond)) (name.Commit f Del) ≡ option_map (λ y. cond_object y.cond) (deletion_of (h ++ Erased x ∷ []) f)) [
         | true ↦ λ same. at_name f (frag_same (frag_of x.key) f same)
         | false ↦ λ other. delete_grows spelled m h (del_of x.key) (cond_object x.cond) (Erased x ∷ []) free stands f
             (λ e. true≢false (sym (frag_itself (frag_of x.key)) ∙ ap (frag_eq (frag_of x.key)) (sym (same_name f e)) ∙ other))
-            (erase_of-or h (Erased x ∷ []) f ∙ ap (λ b. or_else (erase_of h f) (cond b (Some x) None)) other ∙ or_none (erase_of h f))
+            (deletion_of-or h (Erased x ∷ []) f ∙ ap (λ b. or_else (deletion_of h f) (cond b (Some x) None)) other ∙ or_none (deletion_of h f))
       ] refl;
   short_frame = short_frame_grows spelled m h (del_of x.key) (cond_object x.cond) (Erased x ∷ []) free stands short;
   short_schemas = short_schemas_grow spelled m h (del_of x.key) (cond_object x.cond) (Erased x ∷ []) free stands short;
@@ -394,9 +394,9 @@ stands_delete spelled m h x free follows short stands = record {
     same_name : (f : FragKey) → name.Commit f Del ≡ del_of x.key → f ≡ frag_of x.key
     same_name f e = cc
 
-    at_name : (f : FragKey) → frag_of x.key ≡ f → map.get (map.insert m (del_of x.key) (cond_object x.cond)) (name.Commit f Del) ≡ option_map (λ y. cond_object y.cond) (erase_of (h ++ Erased x ∷ []) f)
+    at_name : (f : FragKey) → frag_of x.key ≡ f → map.get (map.insert m (del_of x.key) (cond_object x.cond)) (name.Commit f Del) ≡ option_map (λ y. cond_object y.cond) (deletion_of (h ++ Erased x ∷ []) f)
     at_name f same =
-        subst (λ g. map.get (map.insert m (del_of x.key) (cond_object x.cond)) (name.Commit g Del) ≡ option_map (λ y. cond_object y.cond) (erase_of (h ++ Erased x ∷ []) g)) same
+        subst (λ g. map.get (map.insert m (del_of x.key) (cond_object x.cond)) (name.Commit g Del) ≡ option_map (λ y. cond_object y.cond) (deletion_of (h ++ Erased x ∷ []) g)) same
         (get_put m (del_of x.key) (cond_object x.cond) ∙ ap (option_map (λ y. cond_object y.cond)) (sym (erased_last spelled m h x free stands)))
 
 -- ---- where a call leads

@@ -11,15 +11,15 @@ use Rattle.ts_base.specs.declared.keys.Key.{Key}
 use Rattle.ts_base.specs.declared.names.Name.{Name}
 use Rattle.ts_base.specs.declared.names.Prefix.{Prefix}
 use Rattle.ts_base.specs.declared.names.Prefix.TheVariants.{Commits, Schemas}
-use Rattle.ts_model.proofs.HistoryLaws.{absent_from_new, erases-append, frame_in-append, keys-append, new_from_absent, schema_with-append, writes-append}
+use Rattle.ts_model.proofs.HistoryLaws.{absent_from_new, deletions-append, frame_in-append, keys-append, new_from_absent, schema_with-append, writes-append}
 use Rattle.ts_model.proofs.Traces.{schemas_found-stays}
 use Rattle.ts_model.specs.Commands.{frame_made}
-use Rattle.ts_model.specs.Deeds.{History, IsNewKey, erases, frame_in, keys, schema_with, writes}
+use Rattle.ts_model.specs.Deeds.{History, IsNewKey, deletions, frame_in, keys, schema_with, writes}
 use Rattle.ts_law.specs.Ends.{HasDeclared, IsTrueEnd, IsTrueRefusal, ListedAt}
-use Rattle.ts_model.specs.Forms.{Forms, Spelled, Tracking}
+use Rattle.ts_model.specs.Codecs.{Codec, Spelled, Tracking}
 use Rattle.ts_law.specs.Fresh.{id_in}
-use Rattle.ts_model.specs.Jobs.{erasure_as, key_of, schema_of_job, written_as}
-use Rattle.ts_law.specs.Kept.{AreErasures, AreOpen, AreSchemas, Clean, Erasing, Fetching, Gathering, HasListed, HasNear, IsOpen, Near, OnWay, Opening, ReadsAt, ReadsIn, Works}
+use Rattle.ts_model.specs.Jobs.{deletion_as, key_of, schema_of_job, written_as}
+use Rattle.ts_law.specs.Kept.{AreDeletions, AreOpen, AreSchemas, Clean, GettingDeletes, Fetching, Gathering, HasListed, HasLooked, IsOpen, LooksInto, OnWay, Opening, ReadsAt, ReadsIn, Works}
 use Rattle.ts_law.specs.Stands.{HoldsIn, WentInto}
 use Rattle.ts_law.proofs.Grows.{holds_on_in}
 use Rattle.ts_model.specs.States.{keys_named, list_schemas}
@@ -30,7 +30,7 @@ use Rattle.ts_model.specs.declared.answers.Refusal.{Refusal}
 use Rattle.ts_model.specs.declared.commands.Command.{Command}
 use Rattle.ts_model.specs.declared.commands.Command.TheVariants.{Create, Delete, Evolve, Read, Write}
 use Rattle.ts_model.specs.declared.commands.Job.{Job}
-use Rattle.ts_model.specs.declared.deeds.Erasure.{Erasure}
+use Rattle.ts_model.specs.declared.deeds.Deletion.{Deletion}
 use Rattle.ts_model.specs.declared.deeds.Written.{Written}
 use Rattle.ts_model.specs.declared.states.Listed.{Listed}
 use Rattle.ts_model.specs.declared.states.Opened.{Opened}
@@ -63,8 +63,8 @@ module _ (m m' : Held) (h h' : History) (id : ℕ) (keeps : Keeps m m' h h' id) 
   write_stays w at = rw (keeps.grows, writes-append h keeps.more) (Contains-append_left (writes h) (writes keeps.more) w at)
 
   -- a delete stays
-  pub erase_stays : (x : Erasure) → Contains (erases h) x → Contains (erases h') x
-  erase_stays x at = rw (keeps.grows, erases-append h keeps.more) (Contains-append_left (erases h) (erases keeps.more) x at)
+  pub deletion_stays : (x : Deletion) → Contains (deletions h) x → Contains (deletions h') x
+  deletion_stays x at = rw (keeps.grows, deletions-append h keeps.more) (Contains-append_left (deletions h) (deletions keeps.more) x at)
 
   -- a new key of another job stays new
   pub new_stays : (k : Key) → (k.id ≡ id → ⊥) → IsNewKey h k → IsNewKey h' k
@@ -90,13 +90,13 @@ module _ (m m' : Held) (h h' : History) (id : ℕ) (keeps : Keeps m m' h h' id) 
   -- a clean job stays clean by the calls of others
   pub clean_stays : (job : Job) → (job.id ≡ id → ⊥) → Clean m h job → Clean m' h' job
   clean_stays job other clean = record {
-    free = λ n carries. absent_stays n job.id carries other (clean.free n carries);
+    free = λ n carries apart. absent_stays n job.id carries other (clean.free n carries apart);
     undone = new_stays (key_of job) other clean.undone;
   }
 
   -- what a fragment holds it holds still
   abbrev pub in_stays : (spelled : Spelled) (g : History) (f : FragKey) (p : Piece) → HoldsIn spelled g m f p → HoldsIn spelled g m' f p
-  in_stays spelled g f p is = holds_on_in spelled g m m' f p (λ part bytes held. keeps.keeps (name.Part f part) bytes held) is
+  in_stays spelled g f p is = holds_on_in spelled g m m' f p (λ part bytes held. keeps.keeps (name.Part f part) bytes tt held) is
 
   -- what went into a fragment is in it still
   pub went_stays : (spelled : Spelled) (g : History) (f : FragKey) (k : Key) → WentInto spelled g m f k → WentInto spelled g m' f k
@@ -139,27 +139,28 @@ module _ (spelled : Spelled) (past : History) (jobs : List Job) (seen : List Tol
   Unlisted = e.job ≡ Some number → e.call ≡ list_schemas → ⊥
 
   -- what a read listed stays
-  abbrev pub near_stays : (from to : ℕ) (near deletes : List FragKey) → Near spelled past jobs seen m number from to near deletes → Near spelled past jobs (seen ++ e ∷ []) m' number from to near deletes
-  near_stays from to near deletes is = record {
+  abbrev pub near_stays : (from to : ℕ) (fragments delete_names : List FragKey) → LooksInto spelled past jobs seen m number from to fragments delete_names → LooksInto spelled past jobs (seen ++ e ∷ []) m' number from to fragments delete_names
+  near_stays from to fragments delete_names is = record {
     commits = listed_stays seen e number Commits is.commits;
     whole = λ f at. let own = is.whole f at in (own.0, in_stays m m' (history_told jobs past seen) (history_told jobs past (seen ++ e ∷ [])) id keeps spelled (history_told jobs past (is.commits).before) f own.0 own.1, own.2);
     covered = λ w at within. let own = is.covered w at within in (own.0, own.1, went_stays m m' (history_told jobs past seen) (history_told jobs past (seen ++ e ∷ [])) id keeps spelled (history_told jobs past (is.commits).before) own.0 w.key own.2);
     erased = is.erased;
-    erasing = is.erasing;
+    deletes_found = is.deletes_found;
   }
 
   -- what a job listed before the schemas stays
-  pub has_near_stays : (command : Command) (listed : Listed) → HasNear spelled past jobs seen m number command listed → HasNear spelled past jobs (seen ++ e ∷ []) m' number command listed
+  pub has_near_stays : (command : Command) (listed : Listed) → HasLooked spelled past jobs seen m number command listed → HasLooked spelled past jobs (seen ++ e ∷ []) m' number command listed
   has_near_stays (Create f) listed is = is
   has_near_stays (Evolve change) listed is = is
   has_near_stays (Write w) listed is = is
-  has_near_stays (Read from to query) listed is = near_stays from to listed.near listed.deletes is
+  has_near_stays (Read from to query) listed is = near_stays from to listed.fragments listed.delete_names is
   has_near_stays (Delete text) listed is = is
 
   -- the schema that a job works in stays
   abbrev pub works_stays : (job : Job) (there : Schema) → Unlisted → Works past jobs seen number job there → Works past jobs (seen ++ e ∷ []) number job there
   works_stays job there unlisted is = record {
     schemas = listed_stays seen e number Schemas is.schemas;
+    undone = is.undone;
     holds = is.holds;
     found = is.found;
     is_found = schemas_found-stays number seen e unlisted ∙ is.is_found;
@@ -168,10 +169,10 @@ module _ (spelled : Spelled) (past : History) (jobs : List Job) (seen : List Tol
   }
 
   -- what a read listed, and then the schemas, stays
-  abbrev pub reads_at_stays : (job : Job) (from to : ℕ) (near deletes : List FragKey) (there : Schema) → Unlisted
-      → ReadsAt spelled past jobs seen m number job from to near deletes there → ReadsAt spelled past jobs (seen ++ e ∷ []) m' number job from to near deletes there
-  reads_at_stays job from to near deletes there unlisted is = record {
-    listed = near_stays from to near deletes is.listed;
+  abbrev pub reads_at_stays : (job : Job) (from to : ℕ) (fragments delete_names : List FragKey) (there : Schema) → Unlisted
+      → ReadsAt spelled past jobs seen m number job from to fragments delete_names there → ReadsAt spelled past jobs (seen ++ e ∷ []) m' number job from to fragments delete_names there
+  reads_at_stays job from to fragments delete_names there unlisted is = record {
+    listed = near_stays from to fragments delete_names is.listed;
     works = works_stays job there unlisted is.works;
     between = is.between;
     order = is.order;
@@ -183,7 +184,7 @@ module _ (spelled : Spelled) (past : History) (jobs : List Job) (seen : List Tol
   has_listed_stays job (Create f) listed there unlisted is = is
   has_listed_stays job (Evolve change) listed there unlisted is = works_stays job there unlisted is
   has_listed_stays job (Write w) listed there unlisted is = works_stays job there unlisted is
-  has_listed_stays job (Read from to query) listed there unlisted is = reads_at_stays job from to listed.near listed.deletes there unlisted is
+  has_listed_stays job (Read from to query) listed there unlisted is = reads_at_stays job from to listed.fragments listed.delete_names there unlisted is
   has_listed_stays job (Delete text) listed there unlisted is = works_stays job there unlisted is
 
   -- what a read knows stays
@@ -191,14 +192,14 @@ module _ (spelled : Spelled) (past : History) (jobs : List Job) (seen : List Tol
   reads_in_stays job r unlisted is = record {
     query = is.query;
     reads = is.reads;
-    at = reads_at_stays job r.from r.to r.near r.deletes r.there unlisted is.at;
+    at = reads_at_stays job r.from r.to r.fragments r.delete_names r.there unlisted is.at;
     framed = is.framed;
     is_ready = is.is_ready;
   }
 
-  module _ {F : Type 0} (forms : Forms F) where
+  module _ {F : Type 0} (codec : Codec F) where
     -- an open fragment stays open
-    pub open_stays : (g : History) (frame : Frame) (from to : ℕ) (o : Opened) → IsOpen forms spelled g m frame from to o → IsOpen forms spelled g m' frame from to o
+    pub open_stays : (g : History) (frame : Frame) (from to : ℕ) (o : Opened) → IsOpen codec spelled g m frame from to o → IsOpen codec spelled g m' frame from to o
     open_stays g frame from to o is = record {
       piece = is.piece;
       holds = in_stays m m' (history_told jobs past seen) (history_told jobs past (seen ++ e ∷ [])) id keeps spelled g o.frag is.piece is.holds;
@@ -209,7 +210,7 @@ module _ (spelled : Spelled) (past : History) (jobs : List Job) (seen : List Tol
     }
 
     -- open fragments stay open
-    pub are_open_stays : (g : History) (r : Reading) (opened : List Opened) → AreOpen forms spelled g m r opened → AreOpen forms spelled g m' r opened
+    pub are_open_stays : (g : History) (r : Reading) (opened : List Opened) → AreOpen codec spelled g m r opened → AreOpen codec spelled g m' r opened
     are_open_stays g r opened is = record {
       frags = is.frags;
       each = λ o at. open_stays g r.frame r.from r.to o (is.each o at);
@@ -223,15 +224,15 @@ module _ (spelled : Spelled) (past : History) (jobs : List Job) (seen : List Tol
     }
 
     -- the deletes of a read stay
-    pub are_erasures_stays : (deletes : List FragKey) (erased : List Erasure) → AreErasures (history_told jobs past seen) deletes erased → AreErasures (history_told jobs past (seen ++ e ∷ [])) deletes erased
-    are_erasures_stays deletes erased is = record {
+    pub are_deletions_stays : (deletes : List FragKey) (erased : List Deletion) → AreDeletions (history_told jobs past seen) deletes erased → AreDeletions (history_told jobs past (seen ++ e ∷ [])) deletes erased
+    are_deletions_stays deletes erased is = record {
       names_are = is.names_are;
-      each = λ x at. erase_stays m m' (history_told jobs past seen) (history_told jobs past (seen ++ e ∷ [])) id keeps x (is.each x at);
+      each = λ x at. deletion_stays m m' (history_told jobs past seen) (history_told jobs past (seen ++ e ∷ [])) id keeps x (is.each x at);
     }
 
     -- a read that opens goes on as it was
     abbrev pub opening_stays : (job : Job) (r : Reading) (opened : List Opened) → Unlisted
-        → Opening forms spelled past jobs seen m number job r opened → Opening forms spelled past jobs (seen ++ e ∷ []) m' number job r opened
+        → Opening codec spelled past jobs seen m number job r opened → Opening codec spelled past jobs (seen ++ e ∷ []) m' number job r opened
     opening_stays job r opened unlisted is = record {
       reads = reads_in_stays job r unlisted is.reads;
       are_open = are_open_stays (history_told jobs past ((((is.reads).at).listed).commits).before) r opened is.are_open;
@@ -239,7 +240,7 @@ module _ (spelled : Spelled) (past : History) (jobs : List Job) (seen : List Tol
 
     -- a read that gathers schemas goes on as it was
     abbrev pub gathering_stays : (job : Job) (r : Reading) (opened : List Opened) (schemas : List Schema) → Unlisted
-        → Gathering forms spelled past jobs seen m number job r opened schemas → Gathering forms spelled past jobs (seen ++ e ∷ []) m' number job r opened schemas
+        → Gathering codec spelled past jobs seen m number job r opened schemas → Gathering codec spelled past jobs (seen ++ e ∷ []) m' number job r opened schemas
     gathering_stays job r opened schemas unlisted is = record {
       opens = opening_stays job r opened unlisted is.opens;
       all = is.all;
@@ -247,19 +248,19 @@ module _ (spelled : Spelled) (past : History) (jobs : List Job) (seen : List Tol
     }
 
     -- a read that gets deletes goes on as it was
-    abbrev pub erasing_stays : (job : Job) (r : Reading) (opened : List Opened) (schemas : List Schema) → Unlisted
-        → Erasing forms spelled past jobs seen m number job r opened schemas → Erasing forms spelled past jobs (seen ++ e ∷ []) m' number job r opened schemas
-    erasing_stays job r opened schemas unlisted is = record {
+    abbrev pub getting_deletes_stays : (job : Job) (r : Reading) (opened : List Opened) (schemas : List Schema) → Unlisted
+        → GettingDeletes codec spelled past jobs seen m number job r opened schemas → GettingDeletes codec spelled past jobs (seen ++ e ∷ []) m' number job r opened schemas
+    getting_deletes_stays job r opened schemas unlisted is = record {
       gathers = gathering_stays job r opened schemas unlisted is.gathers;
       all_schemas = is.all_schemas;
-      erases = are_erasures_stays r.deletes r.erased is.erases;
+      deletions = are_deletions_stays r.delete_names r.deletions is.deletions;
     }
 
     -- a read that fetches goes on as it was
     abbrev pub fetching_stays : (job : Job) (r : Reading) (opened : List Opened) (schemas : List Schema) (next : ℕ) (got : List Version) → Unlisted
-        → Fetching forms spelled past jobs seen m number job r opened schemas next got → Fetching forms spelled past jobs (seen ++ e ∷ []) m' number job r opened schemas next got
+        → Fetching codec spelled past jobs seen m number job r opened schemas next got → Fetching codec spelled past jobs (seen ++ e ∷ []) m' number job r opened schemas next got
     fetching_stays job r opened schemas next got unlisted is = record {
-      erasing = erasing_stays job r opened schemas unlisted is.erasing;
+      deletes_found = getting_deletes_stays job r opened schemas unlisted is.deletes_found;
       all_deletes = is.all_deletes;
       found = is.found;
     }
@@ -297,6 +298,7 @@ module _ (past : History) (jobs : List Job) (seen : List Told) (e : Told) (m m' 
       evolves = is.evolves;
       schemas = listed_stays seen e number Schemas is.schemas;
       there = is.there;
+      undone = is.undone;
       holds = is.holds;
       declared = declared_stays (evolved_attrs (is.there).attrs is.change) is.declared;
     },
@@ -308,6 +310,7 @@ module _ (past : History) (jobs : List Job) (seen : List Told) (e : Told) (m m' 
       writes_them = is.writes_them;
       schemas = listed_stays seen e number Schemas is.schemas;
       there = is.there;
+      undone = is.undone;
       holds = is.holds;
       frame = is.frame;
       framed = frame_stays m m' (history_told jobs past seen) (history_told jobs past (seen ++ e ∷ [])) id keeps is.frame is.framed;
@@ -323,12 +326,13 @@ module _ (past : History) (jobs : List Job) (seen : List Told) (e : Told) (m m' 
       deletes = is.deletes;
       schemas = listed_stays seen e number Schemas is.schemas;
       there = is.there;
+      undone = is.undone;
       holds = is.holds;
       frame = is.frame;
       framed = frame_stays m m' (history_told jobs past seen) (history_told jobs past (seen ++ e ∷ [])) id keeps is.frame is.framed;
       condition = is.condition;
       says = is.says;
-      erased = erase_stays m m' (history_told jobs past seen) (history_told jobs past (seen ++ e ∷ [])) id keeps (erasure_as job is.condition) is.erased;
+      erased = deletion_stays m m' (history_told jobs past seen) (history_told jobs past (seen ++ e ∷ [])) id keeps (deletion_as job is.condition) is.erased;
     },
   )
   end_stays (outcome.Read answer) other (from, to, query, reads, is) = (

@@ -1,5 +1,5 @@
 -- The definitions on worked rows: each row computes, so that a reader can see what a definition says.
-use Rattle.std.proofs.Common.{Ok, Err, inl, inr, ap, ◌∙◌, arith, ◌≡◌, ℕ, ℤ, ◌+◌, ◌*◌, ◌^◌, true, false, List, [], ◌∷◌, ◌++◌, Option, Some, None, refl}
+use Rattle.std.proofs.Common.{Ok, Err, inl, inr, ap, ◌∙◌, arith, ◌≡◌, ℕ, ℤ, Bool, ◌+◌, ◌*◌, ◌^◌, true, false, List, [], ◌∷◌, ◌++◌, Option, Some, None, refl}
 use Rattle.std.specs.Prelude.{pos, map}
 use Rattle.std.proofs.lemmas.Option.{same_Some}
 use Rattle.ts_base.specs.Held.{Held}
@@ -9,10 +9,10 @@ use Rattle.ts_store.specs.declared.journal.Entry.{Entry}
 use Rattle.ts_base.specs.declared.names.Prefix.TheVariants.{Schemas}
 use Rattle.ts_store.specs.Calls.{names_under}
 use Rattle.ts_store.specs.Journals.{entry}
-use Rattle.ts_model.specs.Forms.{Forms}
+use Rattle.ts_model.specs.Codecs.{Codec}
 use Rattle.ts_model.proofs.ListLemmas.{Contains-here, Contains-only}
 use Rattle.ts_law.specs.Histories.{found_by, deed_entered, history_of}
-use Rattle.ts_law.specs.Rows.{Found, IsNear, IsLookOf}
+use Rattle.ts_law.specs.Courses.{Found, IsLookedInto, IsLookOf}
 use Rattle.ts_base.specs.declared.heads.Cell.{Cell}
 use Rattle.ts_base.specs.declared.heads.Stop.TheVariants.{Never}
 use Rattle.ts_base.specs.declared.values.Val.{Val}
@@ -39,7 +39,7 @@ use Rattle.ts_model.specs.declared.deeds.Deed.{Deed}
 use Rattle.ts_model.specs.declared.deeds.Deed.TheVariants.{Framed, Declared, Wrote, Erased}
 use Rattle.ts_model.specs.Deeds.{History, schema_there}
 use Rattle.ts_model.specs.Answers.{shown_at, shown_inside}
-use Rattle.ts_model.specs.Queries.{attr_field, erasing_in, ready_in, passes, items_at, fields_of}
+use Rattle.ts_model.specs.Queries.{attr_field, delete_condition, ready_in, passes, items_at, fields_of}
 use Rattle.ts_cond.specs.declared.nodes.CondOp.TheVariants as op
 use Rattle.ts_cond.specs.declared.query.NamedBox.{NamedBox}
 use Rattle.ts_cond.specs.declared.query.Query.{Query}
@@ -49,7 +49,8 @@ use Rattle.ts_domain.specs.declared.orders.Layout.TheVariants as layout
 use Rattle.ts_model.specs.Commands.{laid}
 use Rattle.ts_model.specs.States.{Exchange, commit_of, get_schema, get_frame, list_schemas, schemas_in}
 use Rattle.ts_model.specs.Told.{Told, history_told}
-use Rattle.ts_law.specs.Fresh.{jobs_of}
+use Rattle.ts_model.specs.declared.commands.Line.{Line}
+use Rattle.ts_law.specs.Fresh.{in_lane_order, command_at, id_of}
 
 -- ---- an array of one dimension, whose schema got a second attribute at the time 3
 
@@ -346,7 +347,7 @@ sparse_shows : shown_inside evolved frame second some 0 9 (pos 4 ∷ []) ≡ Non
 sparse_shows = refl
 
 -- a delete from a dense array is refused, whatever its text is
-dense_delete : erasing_in line first.attrs [] ≡ Err refusal.DenseArray
+dense_delete : delete_condition line first.attrs [] ≡ Err refusal.DenseArray
 dense_delete = refl
 
 -- ---- what calls do
@@ -403,9 +404,25 @@ stray_is_none = refl
 skipped_put_tells_not : (m : Held) → history_of (with_deeds []) m (a_write ∷ []) (listing_in 0 ∷ commit_entry fate.FailedSkipped ∷ []) ≡ with_deeds []
 skipped_put_tells_not m = refl
 
--- the identifiers of a script's commands: the seed, the lane 0, and the number of the command from 1
-ids : map (λ job. job.id) (jobs_of 7 (record { command = Read 0 5 all_of_it; at = 1 } ∷ record { command = Read 0 9 all_of_it; at = 9 } ∷ [])) ≡ (7 * 2 ^ 64 + 1) ∷ (7 * 2 ^ 64 + 2) ∷ []
+-- a read in a lane: it has a stamp of its own, or it ends at the number that the clock gives
+abbrev read_in : ℕ → Option ℕ → Bool → Line
+read_in lane at to_stamp = record { lane = lane; command = Read 0 0 all_of_it; at = at; to_stamp = to_stamp }
+
+-- the identifiers of a script's commands in lane order: the seed, the lane, and the number of the command there from 1
+ids : map (λ item. id_of 7 (item.line).lane item.number) (in_lane_order (read_in 7 None false ∷ read_in 0 (Some 5) false ∷ read_in 7 None true ∷ read_in 0 None true ∷ []))
+    ≡ (7 * 2 ^ 64 + 1) ∷ (7 * 2 ^ 64 + 2) ∷ (7 * 2 ^ 64 + 7 * 2 ^ 32 + 1) ∷ (7 * 2 ^ 64 + 7 * 2 ^ 32 + 2) ∷ []
 ids = refl
+
+-- a line of a lane that there is not is none of them
+no_ninth_lane : in_lane_order (read_in 8 None false ∷ []) ≡ []
+no_ninth_lane = refl
+
+-- a read ends at its stamp where it asks for that
+ends_at_stamp : command_at (read_in 0 None true) 7 ≡ Read 0 7 all_of_it
+ends_at_stamp = refl
+
+ends_where_it_says : command_at (read_in 0 None false) 7 ≡ Read 0 0 all_of_it
+ends_where_it_says = refl
 
 -- ---- what a job may look at
 
@@ -414,27 +431,27 @@ abbrev told_schemas : List Exchange
 told_schemas = record { call = list_schemas; reply = reply.Names (name.Schema first.key ∷ []) } ∷ []
 
 -- it may get the schema there
-write_looks : {F : Type 0} (forms : Forms F) (found : Found) → IsLookOf forms a_write found told_schemas (get_schema first.key)
-write_looks forms found = inl (first.key, record { names = name.Schema first.key ∷ []; listed = Contains-here _ []; newest = refl }, refl)
+write_looks : {F : Type 0} (codec : Codec F) (found : Found) → IsLookOf codec a_write found told_schemas (get_schema first.key)
+write_looks codec found = inl (first.key, record { names = name.Schema first.key ∷ []; listed = Contains-here _ []; newest = refl }, refl)
 
 -- but not another schema
-write_looks_not : {F : Type 0} (forms : Forms F) (found : Found) → IsLookOf forms a_write found told_schemas (get_schema second.key) → ⊥
-write_looks_not forms found (inl (k, is, same)) =
+write_looks_not : {F : Type 0} (codec : Codec F) (found : Found) → IsLookOf codec a_write found told_schemas (get_schema second.key) → ⊥
+write_looks_not codec found (inl (k, is, same)) =
     let one : reply.Names (name.Schema first.key ∷ []) ≡ reply.Names is.names = ap (λ x. x.reply) (Contains-only _ _ is.listed) in
     let names : name.Schema first.key ∷ [] ≡ is.names = cc in
     let key : k ≡ second.key = cc in
     let there : Some first.key ≡ Some k = ap (λ ns. schema_at (schemas_in ns) 5) names ∙ is.newest in
     let apart : 1 ≡ 3 = ap (λ q. q.t) (same_Some first.key k there ∙ key) in
     absurd (omega (arith, apart))
-write_looks_not forms found (inr (s, is, got, same)) = cc
+write_looks_not codec found (inr (s, is, got, same)) = cc
 
 -- nor the frame before it has that schema
-write_looks_not_yet : {F : Type 0} (forms : Forms F) (found : Found) → IsLookOf forms a_write found told_schemas get_frame → ⊥
-write_looks_not_yet forms found (inl (k, is, same)) = cc
-write_looks_not_yet forms found (inr (s, is, (bytes, got, spells), same)) =
+write_looks_not_yet : {F : Type 0} (codec : Codec F) (found : Found) → IsLookOf codec a_write found told_schemas get_frame → ⊥
+write_looks_not_yet codec found (inl (k, is, same)) = cc
+write_looks_not_yet codec found (inr (s, is, (bytes, got, spells), same)) =
     let one : reply.Names (name.Schema first.key ∷ []) ≡ reply.Bytes bytes = ap (λ x. x.reply) (Contains-only _ _ got) in
     cc
 
 -- a fragment whose span lies behind the interval is not near
-far_is_not_near : (trace : List Exchange) → IsNear trace 0 5 (record { t1 = 6; t2 = 7; id = 9; v = 1 }) → ⊥
+far_is_not_near : (trace : List Exchange) → IsLookedInto trace 0 5 (record { t1 = 6; t2 = 7; id = 9; v = 1 }) → ⊥
 far_is_not_near trace (names, told, among, in_time) = cc

@@ -1,7 +1,11 @@
 -- What the end of a job tells of the history.
-use Rattle.std.specs.Prelude.{◌≡◌, ℕ, List, ◌∷◌, ◌++◌, Some, Ok, Contains, ⊤, ◌⊎◌}
+use Rattle.std.specs.Prelude.{◌≡◌, ℕ, List, ◌∷◌, ◌++◌, Some, Ok, Contains, filter, ⊤, ◌⊎◌, map as list_map}
 use Rattle.ts_base.specs.declared.names.Prefix.{Prefix}
+use Rattle.ts_base.specs.declared.keys.FragKey.{FragKey}
 use Rattle.ts_base.specs.declared.heads.Cell.{Cell}
+use Rattle.ts_base.specs.declared.heads.Head.{Head}
+use Rattle.ts_base.specs.declared.heads.Piece.{Piece}
+use Rattle.ts_base.specs.Held.{Held}
 use Rattle.ts_model.specs.declared.commands.Command.{Command}
 use Rattle.ts_model.specs.declared.commands.Job.{Job}
 use Rattle.ts_model.specs.declared.commands.FrameIn.{FrameIn}
@@ -18,12 +22,17 @@ use Rattle.ts_model.specs.declared.commands.Command.TheVariants.{Create, Evolve,
 use Rattle.ts_base.specs.declared.names.CommitKind.{CommitKind}
 use Rattle.ts_base.specs.declared.names.CommitKind.TheVariants.{Wrt, Del}
 use Rattle.ts_base.specs.declared.names.Prefix.TheVariants.{Commits, Schemas}
-use Rattle.ts_model.specs.Told.{Told, history_told}
+use Rattle.ts_store.specs.Calls.{names_under}
+use Rattle.ts_commit.specs.Selections.{clipped_names}
+use Rattle.ts_model.specs.Told.{Told, held_told, history_told}
+use Rattle.ts_model.specs.States.{committed_in, meets}
+use Rattle.ts_model.specs.Codecs.{Spelled}
+use Rattle.ts_law.specs.Stands.{HoldsIn}
 use Rattle.ts_cond.specs.declared.query.Query.{Query}
 use Rattle.ts_cond.specs.Tests.{Condition}
-use Rattle.ts_model.specs.Queries.{erasing_in}
-use Rattle.ts_model.specs.Jobs.{key_of, frag_of_job, schema_of_job, written_as, erasure_as}
-use Rattle.ts_model.specs.Deeds.{History, frame_in, writes, erases, schema_with, schema_there, IsNewKey}
+use Rattle.ts_model.specs.Queries.{delete_condition}
+use Rattle.ts_model.specs.Jobs.{key_of, frag_of_job, schema_of_job, written_as, deletion_as}
+use Rattle.ts_model.specs.Deeds.{History, frame_in, writes, deletions, schema_with, schema_there, IsNewKey}
 use Rattle.ts_model.specs.Commands.{frame_made, laid}
 use Rattle.ts_model.specs.Answers.{IsAnswer}
 use Rattle.ts_base.specs.declared.names.Name.TheVariants as name
@@ -64,12 +73,13 @@ pub record IsCreated (h : History) (job : Job) : Type 0 where
   pub framed : frame_in h ≡ Some (frame_made made)
   pub declared : HasDeclared h job made.attrs
 
--- the schema of an evolve is one that the change makes of another, which holds at its stamp of those that it listed
+-- the schema of an evolve is one that the change makes of another, which holds at its stamp of those that it listed before it declared its own
 pub record IsEvolved (jobs : List Job) (past : History) (told : List Told) (number : ℕ) (job : Job) : Type 0 where
   pub change : Evolution
   pub evolves : job.command ≡ Evolve change
   pub schemas : ListedAt told number Schemas
   pub there : Schema
+  pub undone : IsUndone (history_told jobs past schemas.before) job
   pub holds : schema_there (history_told jobs past schemas.before) job.at ≡ Some there
   pub declared : HasDeclared (history_told jobs past told) job (evolved_attrs there.attrs change)
 
@@ -79,6 +89,7 @@ pub record IsWritten (jobs : List Job) (past : History) (told : List Told) (numb
   pub writes_them : job.command ≡ Write cells_in
   pub schemas : ListedAt told number Schemas
   pub there : Schema
+  pub undone : IsUndone (history_told jobs past schemas.before) job
   pub holds : schema_there (history_told jobs past schemas.before) job.at ≡ Some there
   pub frame : Frame
   pub framed : frame_in (history_told jobs past told) ≡ Some frame
@@ -92,12 +103,13 @@ pub record IsDeleted (jobs : List Job) (past : History) (told : List Told) (numb
   pub deletes : job.command ≡ Delete text
   pub schemas : ListedAt told number Schemas
   pub there : Schema
+  pub undone : IsUndone (history_told jobs past schemas.before) job
   pub holds : schema_there (history_told jobs past schemas.before) job.at ≡ Some there
   pub frame : Frame
   pub framed : frame_in (history_told jobs past told) ≡ Some frame
   pub condition : Condition
-  pub says : erasing_in frame there.attrs text ≡ Ok condition
-  pub erased : Contains (erases (history_told jobs past told)) (erasure_as job condition)
+  pub says : delete_condition frame there.attrs text ≡ Ok condition
+  pub erased : Contains (deletions (history_told jobs past told)) (deletion_as job condition)
 
 -- the kind of the commit by which a command's deed comes: a `.del` for a delete, else a `.wrt`
 abbrev pub kind_of : Command → CommitKind
@@ -122,3 +134,24 @@ IsTrueEnd jobs past told number job (outcome.Deleted f) = (f ≡ frag_of_job job
 IsTrueEnd jobs past told number job (outcome.Read answer) = (from : ℕ) × (to : ℕ) × (query : Query) × (job.command ≡ Read from to query) × AnswersAt jobs past told number from to query answer
 IsTrueEnd jobs past told number job (outcome.Refused r) = IsTrueRefusal (history_told jobs past told) job r
 IsTrueEnd jobs past told number job outcome.OutOfMemory = ⊤
+
+-- ---- what an end tells of the objects
+
+-- the heads of the fragments that are committed in a map and whose span meets [a, b]
+pub record AreHeads (spelled : Spelled) (h : History) (m : Held) (a b : ℕ) (heads : List Head) : Type 0 where
+  pub frags : list_map (λ head. head.frag) heads ≡ filter (meets a b) (committed_in (names_under Commits m))
+  pub each : (head : Head) → Contains heads head → (p : Piece) × HoldsIn spelled h m head.frag p × (p.head ≡ head)
+
+-- the clipped fragments of a read of [a, b] that lists these objects: those that it cannot use, and that a write went into which is in none that it can use
+pub record AreClipped (spelled : Spelled) (h : History) (m : Held) (a b : ℕ) (clipped : List FragKey) : Type 0 where
+  pub heads : List Head
+  pub are_heads : AreHeads spelled h m a b heads
+  pub clipped_is : clipped ≡ clipped_names a b heads
+
+-- what an end tells of the history and of the objects, where a map was held at the beginning: the clipped fragments of an answer are those of the objects at its listing of the commits, and a job that ended for want of memory did nothing
+abbrev pub IsTrueOver : Spelled → Held → List Job → History → List Told → ℕ → Job → Outcome → Type 0
+IsTrueOver spelled opening jobs past told number job (outcome.Read answer) =
+    (from : ℕ) × (to : ℕ) × (query : Query) × (job.command ≡ Read from to query)
+    × ((is : AnswersAt jobs past told number from to query answer) × AreClipped spelled (history_told jobs past (is.commits).before) (held_told opening (is.commits).before) from to answer.clipped)
+IsTrueOver spelled opening jobs past told number job outcome.OutOfMemory = IsUndone (history_told jobs past told) job
+IsTrueOver spelled opening jobs past told number job end = IsTrueEnd jobs past told number job end

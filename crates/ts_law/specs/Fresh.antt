@@ -1,7 +1,9 @@
--- Identifiers that nothing carries, and those of the jobs of a run.
-use Rattle.std.specs.Prelude.{◌≡◌, ℕ, ◌+◌, ◌*◌, ◌/◌, ◌^◌, List, [], ◌∷◌, Option, Some, None, length, slice_get, IsTrue, Contains, ◌⊎◌}
+-- Identifiers that nothing carries, and the jobs of a run: those of the lines of its script.
+use Rattle.std.specs.Prelude.{◌≡◌, ℕ, zero, suc, ◌+◌, ◌*◌, ◌/◌, ◌^◌, ◌<◌, Bool, true, nat_eq, if◌then◌else◌, List, [], ◌∷◌, ◌++◌, Option, Some, None, length, slice_get, IsTrue, IfSome, Contains, ◌⊎◌}
 use Rattle.ts_base.specs.declared.keys.Key.{Key}
 use Rattle.ts_base.specs.declared.names.Name.{Name}
+use Rattle.ts_model.specs.declared.commands.Command.{Command}
+use Rattle.ts_model.specs.declared.commands.Command.TheVariants.{Read}
 use Rattle.ts_model.specs.declared.commands.Job.{Job}
 use Rattle.ts_model.specs.declared.commands.Line.{Line}
 use Rattle.ts_base.specs.Held.{Held}
@@ -35,27 +37,65 @@ IsFreshSeed m h seed = (id : ℕ) → id / 2 ^ 64 ≡ seed → IsCarried m h id 
 abbrev pub id_of : ℕ → ℕ → ℕ → ℕ
 id_of seed lane number = seed * 2 ^ 64 + lane * 2 ^ 32 + number
 
--- the job of a line, with an identifier; it is stopped nowhere
-abbrev pub job_from : ℕ → Line → Job
-job_from id line = record { command = line.command; at = line.at; id = id; stop = Never }
+-- ---- the lines of a script
 
--- a job is that of a line, with an identifier: it has the line's command and stamp, and is stopped nowhere
-pub record IsJobOf (id : ℕ) (line : Line) (job : Job) : Type 0 where
+-- a line with the number that it has in its lane
+pub record Numbered : Type 0 where
+  pub number : ℕ
+  pub line : Line
+
+-- the lines of a lane, numbered from a number on
+abbrev pub lines_in : ℕ → ℕ → List Line → List Numbered
+lines_in lane number [] = []
+lines_in lane number (line ∷ lines) = if nat_eq line.lane lane then record { number = number; line = line } ∷ lines_in lane (number + 1) lines else lines_in lane number lines
+
+-- the lines of so many lanes from a lane on, lane by lane, numbered from 1 in each
+abbrev pub by_lanes : ℕ → ℕ → List Line → List Numbered
+by_lanes zero lane lines = []
+by_lanes (suc count) lane lines = lines_in lane 1 lines ++ by_lanes count (lane + 1) lines
+
+-- the lines of a script in lane order: those of lane 0, numbered from 1, then those of lane 1, and so on to lane 7
+abbrev pub in_lane_order : List Line → List Numbered
+in_lane_order lines = by_lanes 8 0 lines
+
+-- the lane of a line, and 0 where there is none
+abbrev pub lane_of : Option Numbered → ℕ
+lane_of (Some item) = item.line.lane
+lane_of None = 0
+
+-- the lane of each job, by its number among all: that of its line
+abbrev pub lanes_of : List Numbered → ℕ → ℕ
+lanes_of items number = lane_of (slice_get items number)
+
+-- ---- the jobs of the lines
+
+-- a command whose interval ends at the stamp where that is asked for, as it can be of a read
+abbrev pub ends_at : Bool → ℕ → Command → Command
+ends_at true at (Read from to query) = Read from at query
+ends_at _ at command = command
+
+-- the command of a line at its stamp
+abbrev pub command_at : Line → ℕ → Command
+command_at line at = ends_at line.to_stamp at line.command
+
+-- a stamp that the command of a line may have: the line's own, or where it has none a number that the clock may give
+pub record IsStampOf (gives : ℕ → Bool) (line : Line) (at : ℕ) : Type 0 where
+  pub own : IfSome line.at (λ own. at ≡ own)
+  pub clock : line.at ≡ None → IsTrue (gives at)
+  pub width : at < 2 ^ 64
+
+-- the job of a line at a stamp, with an identifier; it is stopped nowhere
+abbrev pub job_from : ℕ → Line → ℕ → Job
+job_from id line at = record { command = command_at line at; at = at; id = id; stop = Never }
+
+-- a job is that of a line, with an identifier: it has a stamp of the line, the line's command at that stamp, and is stopped nowhere
+pub record IsJobOf (gives : ℕ → Bool) (id : ℕ) (line : Line) (job : Job) : Type 0 where
   pub id_is : job.id ≡ id
-  pub command : job.command ≡ line.command
-  pub stamp : job.at ≡ line.at
+  pub stamp : IsStampOf gives line job.at
+  pub command : job.command ≡ command_at line job.at
   pub stop : job.stop ≡ Never
 
--- the jobs are those of the lines of a lane, whose commands are numbered from 1
-pub record AreJobsOf (seed lane : ℕ) (lines : List Line) (jobs : List Job) : Type 0 where
-  pub one_each : length jobs ≡ length lines
-  pub each : (i : ℕ) (line : Line) (job : Job) → slice_get lines i ≡ Some line → slice_get jobs i ≡ Some job → IsJobOf (id_of seed lane (1 + i)) line job
-
--- the jobs of the lines of a lane, whose commands are numbered from 1
-abbrev pub jobs_from : ℕ → ℕ → ℕ → List Line → List Job
-jobs_from seed lane number [] = []
-jobs_from seed lane number (line ∷ lines) = job_from (id_of seed lane number) line ∷ jobs_from seed lane (number + 1) lines
-
--- the jobs of the lines of the one lane
-abbrev pub jobs_of : ℕ → List Line → List Job
-jobs_of seed lines = jobs_from seed 0 1 lines
+-- the jobs are those of the lines, one each, by an identifier of the seed, the lane and the number in it
+pub record AreJobsOf (gives : ℕ → Bool) (seed : ℕ) (items : List Numbered) (jobs : List Job) : Type 0 where
+  pub one_each : length jobs ≡ length items
+  pub each : (i : ℕ) (item : Numbered) (job : Job) → slice_get items i ≡ Some item → slice_get jobs i ≡ Some job → IsJobOf gives (id_of seed item.line.lane item.number) item.line job

@@ -15,11 +15,14 @@ use Rattle.ts_model.specs.declared.commands.WriteIn.{WriteIn}
 use Rattle.ts_model.specs.declared.answers.Outcome.{Outcome}
 use Rattle.ts_model.specs.declared.deeds.Written.{Written}
 use Rattle.ts_model.specs.declared.states.State.{State}
+use Rattle.ts_model.specs.declared.states.Creating.{Creating}
+use Rattle.ts_model.specs.declared.states.Seeking.{Seeking}
+use Rattle.ts_model.specs.declared.states.Collecting.{Collecting}
 use Rattle.ts_model.specs.declared.states.NewObject.{NewObject}
 use Rattle.ts_model.specs.declared.states.Opened.{Opened}
 use Rattle.ts_model.specs.declared.states.Reading.{Reading}
 use Rattle.ts_model.specs.declared.states.Listed.{Listed}
-use Rattle.ts_model.specs.declared.deeds.Erasure.{Erasure}
+use Rattle.ts_model.specs.declared.deeds.Deletion.{Deletion}
 use Rattle.ts_schema.specs.declared.frames.Frame.{Frame}
 use Rattle.ts_schema.specs.declared.schemas.Schema.{Schema}
 use Rattle.ts_schema.specs.declared.evolution.Evolution.{Evolution}
@@ -28,7 +31,10 @@ use Rattle.ts_base.specs.Held.{Held}
 use Rattle.ts_schema.specs.Evolutions.{evolved_attrs, evolution_fault, schema_at}
 use Rattle.ts_schema.specs.Parts.{IsShort}
 use Rattle.ts_model.specs.declared.commands.Command.TheVariants.{Create, Evolve, Write, Read, Delete}
-use Rattle.ts_model.specs.declared.states.State.TheVariants.{PutsFrame, ComparesFrame, ListsDeclared, Puts, ListsCommits, ListsSchemas, GetsSchema, GetsFrame, GetsHeads, GetsSchemas, GetsDeletes, Fetches, Over}
+use Rattle.ts_model.specs.declared.states.State.TheVariants.{Creates, Seeks, Puts, Collects, Over}
+use Rattle.ts_model.specs.declared.states.Creating.TheVariants.{PutsFrame, ComparesFrame, ListsDeclared}
+use Rattle.ts_model.specs.declared.states.Seeking.TheVariants.{ListsCommits, ListsSchemas, GetsSchema, GetsFrame}
+use Rattle.ts_model.specs.declared.states.Collecting.TheVariants.{GetsHeads, GetsSchemas, GetsDeletes, Fetches}
 use Rattle.ts_base.specs.declared.names.Prefix.TheVariants.{Commits, Schemas}
 use Rattle.ts_model.specs.Told.{Told, trace_of, IsShortCall, schemas_found, history_told}
 use Rattle.ts_law.specs.Fresh.{id_in}
@@ -36,16 +42,16 @@ use Rattle.ts_cond.specs.declared.query.Query.{Query}
 use Rattle.ts_cond.specs.Tests.{Condition}
 use Rattle.ts_domain.specs.declared.boxes.SubBox.{SubBox}
 use Rattle.ts_domain.specs.Boxes.{is_in_box}
-use Rattle.ts_model.specs.Queries.{ready_in, erasing_in}
+use Rattle.ts_model.specs.Queries.{ready_in, delete_condition}
 use Rattle.ts_model.specs.Driven.{MayAsk}
-use Rattle.ts_model.specs.States.{delete_object_of, schema_object_of, write_objects, keys_named, want_of, state_of}
-use Rattle.ts_model.specs.Forms.{Forms, Spelled, Tracking}
+use Rattle.ts_model.specs.States.{delete_object_of, schema_object_of, write_objects, keys_named, want_of, lease_of, state_of}
+use Rattle.ts_model.specs.Codecs.{Codec, Spelled, Tracking}
 use Rattle.ts_model.specs.Jobs.{key_of, frag_of_job, AreFit, AreApart, looked_at, job_with}
 use Rattle.ts_law.specs.Stands.{HoldsIn, WentInto, Stands}
 use Rattle.ts_law.specs.Origins.{last_version, newest_at, wrote_in}
 use Rattle.ts_commit.specs.Selections.{is_usable}
 use Rattle.ts_law.specs.Ends.{ListedAt, IsUndone, IsTrueEnd}
-use Rattle.ts_model.specs.Deeds.{History, frame_in, writes, erases, schema_with, schema_there}
+use Rattle.ts_model.specs.Deeds.{History, frame_in, writes, deletions, schema_with, schema_there}
 use Rattle.ts_model.specs.Commands.{frame_made, create_refusal, laid}
 use Rattle.ts_store.specs.declared.call.Call.TheVariants as call
 use Rattle.ts_model.specs.declared.answers.Outcome.TheVariants as outcome
@@ -53,14 +59,15 @@ use Rattle.std.specs.FinMap as map
 
 -- ---- what a job found so far
 
--- no object that is held carries the identifier of a job, and no deed has its key
+-- no object that is held carries the identifier of a job, its own lease aside, and no deed has its key
 pub record Clean (m : Held) (h : History) (job : Job) : Type 0 where
-  pub free : (n : Name) → id_in n ≡ Some job.id → map.get m n ≡ None
+  pub free : (n : Name) → id_in n ≡ Some job.id → (lease_of job ≡ Some n → ⊥) → map.get m n ≡ None
   pub undone : IsUndone h job
 
--- the schema that a job works in: at its listing of the schemas it was the one that held where the job looks, and it is a deed
+-- the schema that a job works in: at its listing of the schemas it was the one that held where the job looks, and it is a deed; no deed of the job was there
 pub record Works (past : History) (jobs : List Job) (seen : List Told) (number : ℕ) (job : Job) (there : Schema) : Type 0 where
   pub schemas : ListedAt seen number Schemas
+  pub undone : IsUndone (history_told jobs past schemas.before) job
   pub holds : schema_there (history_told jobs past schemas.before) (looked_at job) ≡ Some there
   pub found : List Key
   pub is_found : schemas_found (trace_of number seen) ≡ Some found
@@ -68,27 +75,27 @@ pub record Works (past : History) (jobs : List Job) (seen : List Told) (number :
   pub declared : schema_with (history_told jobs past seen) there.key ≡ Some there
 
 -- what a read listed: the fragments and the deletes that it looks into
-pub record Near (spelled : Spelled) (past : History) (jobs : List Job) (seen : List Told) (m : Held) (number from to : ℕ) (near deletes : List FragKey) : Type 0 where
+pub record LooksInto (spelled : Spelled) (past : History) (jobs : List Job) (seen : List Told) (m : Held) (number from to : ℕ) (fragments delete_names : List FragKey) : Type 0 where
   pub commits : ListedAt seen number Commits
   -- each fragment holds writes of the history at the listing, and the read can use it
-  pub whole : (f : FragKey) → Contains near f → (p : Piece) × HoldsIn spelled (history_told jobs past commits.before) m f p × (is_usable from to p.head ≡ true)
+  pub whole : (f : FragKey) → Contains fragments f → (p : Piece) × HoldsIn spelled (history_told jobs past commits.before) m f p × (is_usable from to p.head ≡ true)
   -- each write in the interval went into one of them
   pub covered : (w : Written) → Contains (writes (history_told jobs past commits.before)) w → is_within from to w.key ≡ true
-      → (f : FragKey) × Contains near f × WentInto spelled (history_told jobs past commits.before) m f w.key
+      → (f : FragKey) × Contains fragments f × WentInto spelled (history_told jobs past commits.before) m f w.key
   -- each delete is one of that history, and stamped in the interval
-  pub erased : (f : FragKey) → Contains deletes f → (e : Erasure) × Contains (erases (history_told jobs past commits.before)) e × (frag_of e.key ≡ f) × (is_within from to e.key ≡ true)
+  pub erased : (f : FragKey) → Contains delete_names f → (e : Deletion) × Contains (deletions (history_told jobs past commits.before)) e × (frag_of e.key ≡ f) × (is_within from to e.key ≡ true)
   -- each delete of that history in the interval is among them
-  pub erasing : (e : Erasure) → Contains (erases (history_told jobs past commits.before)) e → is_within from to e.key ≡ true → Contains deletes (frag_of e.key)
+  pub deletes_found : (e : Deletion) → Contains (deletions (history_told jobs past commits.before)) e → is_within from to e.key ≡ true → Contains delete_names (frag_of e.key)
 
 -- what a job listed before the schemas: a read the commits, another job nothing
-abbrev pub HasNear : Spelled → History → List Job → List Told → Held → ℕ → Command → Listed → Type 0
-HasNear spelled past jobs seen m number (Create f) listed = ⊥
-HasNear spelled past jobs seen m number (Read from to query) listed = Near spelled past jobs seen m number from to listed.near listed.deletes
-HasNear spelled past jobs seen m number _ listed = ⊤
+abbrev pub HasLooked : Spelled → History → List Job → List Told → Held → ℕ → Command → Listed → Type 0
+HasLooked spelled past jobs seen m number (Create f) listed = ⊥
+HasLooked spelled past jobs seen m number (Read from to query) listed = LooksInto spelled past jobs seen m number from to listed.fragments listed.delete_names
+HasLooked spelled past jobs seen m number _ listed = ⊤
 
 -- a read that listed the commits, and later the schemas
-pub record ReadsAt (spelled : Spelled) (past : History) (jobs : List Job) (seen : List Told) (m : Held) (number : ℕ) (job : Job) (from to : ℕ) (near deletes : List FragKey) (there : Schema) : Type 0 where
-  pub listed : Near spelled past jobs seen m number from to near deletes
+pub record ReadsAt (spelled : Spelled) (past : History) (jobs : List Job) (seen : List Told) (m : Held) (number : ℕ) (job : Job) (from to : ℕ) (fragments delete_names : List FragKey) (there : Schema) : Type 0 where
+  pub listed : LooksInto spelled past jobs seen m number from to fragments delete_names
   pub works : Works past jobs seen number job there
   pub between : List Told
   pub order : (works.schemas).before ≡ (listed.commits).before ++ (listed.commits).listing ∷ between
@@ -96,30 +103,30 @@ pub record ReadsAt (spelled : Spelled) (past : History) (jobs : List Job) (seen 
 -- what a job listed before it gets the schema there
 abbrev pub HasListed : Spelled → History → List Job → List Told → Held → ℕ → Job → Command → Listed → Schema → Type 0
 HasListed spelled past jobs seen m number job (Create f) listed there = ⊥
-HasListed spelled past jobs seen m number job (Read from to query) listed there = ReadsAt spelled past jobs seen m number job from to listed.near listed.deletes there
+HasListed spelled past jobs seen m number job (Read from to query) listed there = ReadsAt spelled past jobs seen m number job from to listed.fragments listed.delete_names there
 HasListed spelled past jobs seen m number job _ listed there = Works past jobs seen number job there
 
 -- a read that has the schema there and the frame
 pub record ReadsIn (spelled : Spelled) (past : History) (jobs : List Job) (seen : List Told) (m : Held) (number : ℕ) (job : Job) (r : Reading) : Type 0 where
   pub query : Query
   pub reads : job.command ≡ Read r.from r.to query
-  pub at : ReadsAt spelled past jobs seen m number job r.from r.to r.near r.deletes r.there
+  pub at : ReadsAt spelled past jobs seen m number job r.from r.to r.fragments r.delete_names r.there
   pub framed : frame_in (history_told jobs past ((at.works).schemas).before) ≡ Some r.frame
   pub is_ready : ready_in r.frame (r.there).attrs query ≡ Ok r.ready
 
 -- an open fragment, which a read of the interval can use: its head is that of its piece, and its object is that of the part with the head
-pub record IsOpen {F : Type 0} (forms : Forms F) (spelled : Spelled) (g : History) (m : Held) (frame : Frame) (from to : ℕ) (o : Opened) : Type 0 where
+pub record IsOpen {F : Type 0} (codec : Codec F) (spelled : Spelled) (g : History) (m : Held) (frame : Frame) (from to : ℕ) (o : Opened) : Type 0 where
   pub piece : Piece
   pub holds : HoldsIn spelled g m o.frag piece
   pub same_frame : holds.frame ≡ frame
   pub usable : is_usable from to piece.head ≡ true
   pub head : o.head ≡ piece.head
-  pub object : (holds.spells).look (forms.head_part frame) ≡ Some o.object
+  pub object : (holds.spells).look (codec.head_part frame) ≡ Some o.object
 
 -- the first fragments of a read are open
-pub record AreOpen {F : Type 0} (forms : Forms F) (spelled : Spelled) (g : History) (m : Held) (r : Reading) (opened : List Opened) : Type 0 where
-  pub frags : list_map (λ o. o.frag) opened ≡ take (length opened) r.near
-  pub each : (o : Opened) → Contains opened o → IsOpen forms spelled g m r.frame r.from r.to o
+pub record AreOpen {F : Type 0} (codec : Codec F) (spelled : Spelled) (g : History) (m : Held) (r : Reading) (opened : List Opened) : Type 0 where
+  pub frags : list_map (λ o. o.frag) opened ≡ take (length opened) r.fragments
+  pub each : (o : Opened) → Contains opened o → IsOpen codec spelled g m r.frame r.from r.to o
 
 -- the further schemas of a read are those of these keys, as far as it got them, and each is a deed
 pub record AreSchemas (h : History) (keys : List Key) (schemas : List Schema) : Type 0 where
@@ -138,32 +145,32 @@ abbrev pub heads_of : List Opened → List Head
 heads_of opened = list_map (λ o. o.head) opened
 
 -- the deletes that a read got are those under the first of these names, and each is a deed
-pub record AreErasures (h : History) (deletes : List FragKey) (erased : List Erasure) : Type 0 where
-  pub names_are : list_map (λ e. frag_of e.key) erased ≡ take (length erased) deletes
-  pub each : (e : Erasure) → Contains erased e → Contains (erases h) e
+pub record AreDeletions (h : History) (delete_names : List FragKey) (erased : List Deletion) : Type 0 where
+  pub names_are : list_map (λ e. frag_of e.key) erased ≡ take (length erased) delete_names
+  pub each : (e : Deletion) → Contains erased e → Contains (deletions h) e
 
 -- a read of which the first fragments are open
-pub record Opening {F : Type 0} (forms : Forms F) (spelled : Spelled) (past : History) (jobs : List Job) (seen : List Told) (m : Held) (number : ℕ) (job : Job) (r : Reading) (opened : List Opened) : Type 0 where
+pub record Opening {F : Type 0} (codec : Codec F) (spelled : Spelled) (past : History) (jobs : List Job) (seen : List Told) (m : Held) (number : ℕ) (job : Job) (r : Reading) (opened : List Opened) : Type 0 where
   pub reads : ReadsIn spelled past jobs seen m number job r
-  pub are_open : AreOpen forms spelled (history_told jobs past (((reads.at).listed).commits).before) m r opened
+  pub are_open : AreOpen codec spelled (history_told jobs past (((reads.at).listed).commits).before) m r opened
 
 -- a read of which all fragments are open, and which has some of their schemas
-pub record Gathering {F : Type 0} (forms : Forms F) (spelled : Spelled) (past : History) (jobs : List Job) (seen : List Told) (m : Held) (number : ℕ) (job : Job) (r : Reading) (opened : List Opened) (schemas : List Schema) : Type 0 where
-  pub opens : Opening forms spelled past jobs seen m number job r opened
-  pub all : length opened ≡ length r.near
+pub record Gathering {F : Type 0} (codec : Codec F) (spelled : Spelled) (past : History) (jobs : List Job) (seen : List Told) (m : Held) (number : ℕ) (job : Job) (r : Reading) (opened : List Opened) (schemas : List Schema) : Type 0 where
+  pub opens : Opening codec spelled past jobs seen m number job r opened
+  pub all : length opened ≡ length r.fragments
   pub gathered : AreSchemas (history_told jobs past seen) (keys_named r opened) schemas
 
 -- a read that has all schemas of its fragments, and some of the deletes
-pub record Erasing {F : Type 0} (forms : Forms F) (spelled : Spelled) (past : History) (jobs : List Job) (seen : List Told) (m : Held) (number : ℕ) (job : Job) (r : Reading) (opened : List Opened) (schemas : List Schema) : Type 0 where
-  pub gathers : Gathering forms spelled past jobs seen m number job r opened schemas
+pub record GettingDeletes {F : Type 0} (codec : Codec F) (spelled : Spelled) (past : History) (jobs : List Job) (seen : List Told) (m : Held) (number : ℕ) (job : Job) (r : Reading) (opened : List Opened) (schemas : List Schema) : Type 0 where
+  pub gathers : Gathering codec spelled past jobs seen m number job r opened schemas
   pub all_schemas : length schemas ≡ length (keys_named r opened)
-  pub erases : AreErasures (history_told jobs past seen) r.deletes r.erased
+  pub deletions : AreDeletions (history_told jobs past seen) r.delete_names r.deletions
 
 -- a read that fetches: it has all schemas of its fragments and all deletes, and it got the versions in the fragments before the next one
-pub record Fetching {F : Type 0} (forms : Forms F) (spelled : Spelled) (past : History) (jobs : List Job) (seen : List Told) (m : Held) (number : ℕ) (job : Job) (r : Reading) (opened : List Opened) (schemas : List Schema) (next : ℕ) (got : List Version) : Type 0 where
-  pub erasing : Erasing forms spelled past jobs seen m number job r opened schemas
-  pub all_deletes : length r.erased ≡ length r.deletes
-  pub found : AreGot (history_told jobs past ((((((erasing.gathers).opens).reads).at).listed).commits).before) r.from r.to (r.ready).sub (heads_of (take next opened)) got
+pub record Fetching {F : Type 0} (codec : Codec F) (spelled : Spelled) (past : History) (jobs : List Job) (seen : List Told) (m : Held) (number : ℕ) (job : Job) (r : Reading) (opened : List Opened) (schemas : List Schema) (next : ℕ) (got : List Version) : Type 0 where
+  pub deletes_found : GettingDeletes codec spelled past jobs seen m number job r opened schemas
+  pub all_deletes : length r.deletions ≡ length r.delete_names
+  pub found : AreGot (history_told jobs past ((((((deletes_found.gathers).opens).reads).at).listed).commits).before) r.from r.to (r.ready).sub (heads_of (take next opened)) got
 
 -- the fetch of a fragment, which the read can use, has come so far on its parts
 pub record OnWay {F : Type 0} (spelled : Spelled) (tracks : Tracking F) (g : History) (m : Held) (r : Reading) (frag : FragKey) (fetch : F) (c : Call) : Type 0 where
@@ -176,57 +183,69 @@ pub record OnWay {F : Type 0} (spelled : Spelled) (tracks : Tracking F) (g : His
 -- ---- what a job puts
 
 -- what the job's last put makes of it: by its end
-abbrev pub Aims : {F : Type 0} → Forms F → History → List Job → List Told → ℕ → Job → List NewObject → Outcome → Type 0
-Aims forms past jobs seen number job objects outcome.Created =
+abbrev pub Aims : {F : Type 0} → Codec F → History → List Job → List Told → ℕ → Job → List NewObject → Outcome → Type 0
+Aims codec past jobs seen number job objects outcome.Created =
     (f : FrameIn) × (job.command ≡ Create f) × (objects ≡ schema_object_of job f.attrs ∷ []) × (create_refusal f ≡ None) × (frame_in (history_told jobs past seen) ≡ Some (frame_made f))
-Aims forms past jobs seen number job objects (outcome.Evolved k) =
+Aims codec past jobs seen number job objects (outcome.Evolved k) =
     (change : Evolution) × (frame : Frame) × (there : Schema) × (job.command ≡ Evolve change) × (k ≡ key_of job) × (objects ≡ schema_object_of job (evolved_attrs there.attrs change) ∷ [])
     × (frame_in (history_told jobs past seen) ≡ Some frame) × (evolution_fault frame.domain there.attrs change ≡ None) × Works past jobs seen number job there
-Aims forms past jobs seen number job objects (outcome.Written f) =
-    (w : WriteIn) × (frame : Frame) × (there : Schema) × (cells : List Cell) × (job.command ≡ Write w) × (f ≡ frag_of_job job) × (objects ≡ write_objects forms frame there job cells)
+Aims codec past jobs seen number job objects (outcome.Written f) =
+    (w : WriteIn) × (frame : Frame) × (there : Schema) × (cells : List Cell) × (job.command ≡ Write w) × (f ≡ frag_of_job job) × (objects ≡ write_objects codec frame there job cells)
     × (frame_in (history_told jobs past seen) ≡ Some frame) × (laid frame there.attrs w ≡ Ok cells) × Works past jobs seen number job there
-Aims forms past jobs seen number job objects (outcome.Deleted f) =
+Aims codec past jobs seen number job objects (outcome.Deleted f) =
     (text : List ℕ) × (frame : Frame) × (there : Schema) × (condition : Condition) × (job.command ≡ Delete text) × (f ≡ frag_of_job job) × (objects ≡ delete_object_of job condition ∷ [])
-    × (frame_in (history_told jobs past seen) ≡ Some frame) × (erasing_in frame there.attrs text ≡ Ok condition) × Works past jobs seen number job there
-Aims forms past jobs seen number job objects _ = ⊥
+    × (frame_in (history_told jobs past seen) ≡ Some frame) × (delete_condition frame there.attrs text ≡ Ok condition) × Works past jobs seen number job there
+Aims codec past jobs seen number job objects _ = ⊥
 
 -- a job that puts objects: it put those before a place, and none from there on is held; no deed has its key
-pub record Putting {F : Type 0} (forms : Forms F) (past : History) (jobs : List Job) (seen : List Told) (m : Held) (number : ℕ) (job : Job) (objects : List NewObject) (next : ℕ) (end : Outcome) : Type 0 where
+pub record Putting {F : Type 0} (codec : Codec F) (past : History) (jobs : List Job) (seen : List Told) (m : Held) (number : ℕ) (job : Job) (objects : List NewObject) (next : ℕ) (end : Outcome) : Type 0 where
   pub held : (i : ℕ) (o : NewObject) → i < next → slice_get objects i ≡ Some o → map.get m o.name ≡ Some o.bytes
   pub short : (i : ℕ) (o : NewObject) → i < next → slice_get objects i ≡ Some o → IsShort o.bytes
   pub free : (i : ℕ) (o : NewObject) → next ≤ i → slice_get objects i ≡ Some o → map.get m o.name ≡ None
   pub some : next < length objects
   pub undone : IsUndone (history_told jobs past seen) job
-  pub aims : Aims forms past jobs seen number job objects end
+  pub aims : Aims codec past jobs seen number job objects end
 
 -- ---- claims
 
--- what a job's state says is true
-abbrev pub Claims : {F : Type 0} → Forms F → Spelled → Tracking F → History → List Job → List Told → Held → ℕ → Job → State F → Type 0
-Claims forms spelled tracks past jobs seen m number job PutsFrame =
+-- what the state of a create that has not come to its puts says is true
+abbrev pub CreateClaims : History → List Job → List Told → Held → Job → Creating → Type 0
+CreateClaims past jobs seen m job PutsFrame =
     Clean m (history_told jobs past seen) job × ((f : FrameIn) × (job.command ≡ Create f) × (create_refusal f ≡ None))
-Claims forms spelled tracks past jobs seen m number job ComparesFrame =
+CreateClaims past jobs seen m job ComparesFrame =
     Clean m (history_told jobs past seen) job × ((f : FrameIn) × (job.command ≡ Create f) × (create_refusal f ≡ None)) × ((frame : Frame) × (frame_in (history_told jobs past seen) ≡ Some frame))
-Claims forms spelled tracks past jobs seen m number job ListsDeclared =
+CreateClaims past jobs seen m job ListsDeclared =
     Clean m (history_told jobs past seen) job × ((f : FrameIn) × (job.command ≡ Create f) × (create_refusal f ≡ None) × (frame_in (history_told jobs past seen) ≡ Some (frame_made f)))
-Claims forms spelled tracks past jobs seen m number job (Puts objects next end) = Putting forms past jobs seen m number job objects next end
-Claims forms spelled tracks past jobs seen m number job ListsCommits = Clean m (history_told jobs past seen) job × ((from : ℕ) × (to : ℕ) × (query : Query) × (job.command ≡ Read from to query))
-Claims forms spelled tracks past jobs seen m number job (ListsSchemas listed) = Clean m (history_told jobs past seen) job × HasNear spelled past jobs seen m number job.command listed
-Claims forms spelled tracks past jobs seen m number job (GetsSchema listed there) =
+
+-- what the state of a job that seeks its schema and the frame says is true
+abbrev pub SeekClaims : Spelled → History → List Job → List Told → Held → ℕ → Job → Seeking → Type 0
+SeekClaims spelled past jobs seen m number job ListsCommits = Clean m (history_told jobs past seen) job × ((from : ℕ) × (to : ℕ) × (query : Query) × (job.command ≡ Read from to query))
+SeekClaims spelled past jobs seen m number job (ListsSchemas listed) = Clean m (history_told jobs past seen) job × HasLooked spelled past jobs seen m number job.command listed
+SeekClaims spelled past jobs seen m number job (GetsSchema listed there) =
     Clean m (history_told jobs past seen) job × ((s : Schema) × (s.key ≡ there) × HasListed spelled past jobs seen m number job job.command listed s)
-Claims forms spelled tracks past jobs seen m number job (GetsFrame listed there) =
+SeekClaims spelled past jobs seen m number job (GetsFrame listed there) =
     Clean m (history_told jobs past seen) job × HasListed spelled past jobs seen m number job job.command listed there
-Claims forms spelled tracks past jobs seen m number job (GetsHeads r opened) =
-    Clean m (history_told jobs past seen) job × Opening forms spelled past jobs seen m number job r opened × (r.erased ≡ [])
-Claims forms spelled tracks past jobs seen m number job (GetsSchemas r opened keys schemas) =
-    Clean m (history_told jobs past seen) job × (keys ≡ keys_named r opened) × Gathering forms spelled past jobs seen m number job r opened schemas × (r.erased ≡ [])
-Claims forms spelled tracks past jobs seen m number job (GetsDeletes r opened schemas) =
-    Clean m (history_told jobs past seen) job × Erasing forms spelled past jobs seen m number job r opened schemas
-Claims forms spelled tracks past jobs seen m number job (Fetches r opened schemas next frag got fetch c) =
-    Clean m (history_told jobs past seen) job × (slice_get r.near next ≡ Some frag)
-    × ((fetches : Fetching forms spelled past jobs seen m number job r opened schemas next got)
-    × OnWay spelled tracks (history_told jobs past (((((((fetches.erasing).gathers).opens).reads).at).listed).commits).before) m r frag fetch c)
-Claims forms spelled tracks past jobs seen m number job (Over end) = IsTrueEnd jobs past seen number job end
+
+-- what the state of a read that collects says is true
+abbrev pub CollectClaims : {F : Type 0} → Codec F → Spelled → Tracking F → History → List Job → List Told → Held → ℕ → Job → Collecting F → Type 0
+CollectClaims codec spelled tracks past jobs seen m number job (GetsHeads r opened) =
+    Clean m (history_told jobs past seen) job × Opening codec spelled past jobs seen m number job r opened × (r.deletions ≡ [])
+CollectClaims codec spelled tracks past jobs seen m number job (GetsSchemas r opened keys schemas) =
+    Clean m (history_told jobs past seen) job × (keys ≡ keys_named r opened) × Gathering codec spelled past jobs seen m number job r opened schemas × (r.deletions ≡ [])
+CollectClaims codec spelled tracks past jobs seen m number job (GetsDeletes r opened schemas) =
+    Clean m (history_told jobs past seen) job × GettingDeletes codec spelled past jobs seen m number job r opened schemas
+CollectClaims codec spelled tracks past jobs seen m number job (Fetches r opened schemas next frag got fetch c) =
+    Clean m (history_told jobs past seen) job × (slice_get r.fragments next ≡ Some frag)
+    × ((fetches : Fetching codec spelled past jobs seen m number job r opened schemas next got)
+    × OnWay spelled tracks (history_told jobs past (((((((fetches.deletes_found).gathers).opens).reads).at).listed).commits).before) m r frag fetch c)
+
+-- what a job's state says is true
+abbrev pub Claims : {F : Type 0} → Codec F → Spelled → Tracking F → History → List Job → List Told → Held → ℕ → Job → State F → Type 0
+Claims codec spelled tracks past jobs seen m number job (Creates s) = CreateClaims past jobs seen m job s
+Claims codec spelled tracks past jobs seen m number job (Seeks s) = SeekClaims spelled past jobs seen m number job s
+Claims codec spelled tracks past jobs seen m number job (Puts objects next end) = Putting codec past jobs seen m number job objects next end
+Claims codec spelled tracks past jobs seen m number job (Collects s) = CollectClaims codec spelled tracks past jobs seen m number job s
+Claims codec spelled tracks past jobs seen m number job (Over end) = IsTrueEnd jobs past seen number job end
 
 -- ---- what is kept
 
@@ -236,26 +255,26 @@ pub record IsOfJobs (jobs : List Job) (e : Told) : Type 0 where
   pub puts : (n : Name) (bytes : List ℕ) (id : ℕ) → e.call ≡ call.Put n bytes → id_in n ≡ Some id → IsSome (job_with jobs id)
 
 -- what is kept after these calls, of which `dead` are the jobs that were dropped: from a past history to the objects that are held now
-pub record Kept {F : Type 0} (forms : Forms F) (spelled : Spelled) (tracks : Tracking F) (past : History) (jobs : List Job) (dead : List ℕ) (seen : List Told) (m : Held) : Type 0 where
+pub record Kept {F : Type 0} (codec : Codec F) (spelled : Spelled) (tracks : Tracking F) (past : History) (jobs : List Job) (dead : List ℕ) (seen : List Told) (m : Held) : Type 0 where
   pub stands : Stands spelled m (history_told jobs past seen)
   pub apart : AreApart jobs
   pub fit : AreFit jobs
   pub known : All (IsOfJobs jobs) seen
-  pub claims : (number : ℕ) (job : Job) → slice_get jobs number ≡ Some job → (Contains dead number → ⊥) → Claims forms spelled tracks past jobs seen m number job (state_of forms job (trace_of number seen))
+  pub claims : (number : ℕ) (job : Job) → slice_get jobs number ≡ Some job → (Contains dead number → ⊥) → Claims codec spelled tracks past jobs seen m number job (state_of codec job (trace_of number seen))
 
 -- ---- which calls may come
 
 -- the call is one that a job may make which was not dropped
-pub record IsAllowed {F : Type 0} (forms : Forms F) (jobs : List Job) (dead : List ℕ) (seen : List Told) (e : Told) : Type 0 where
+pub record IsAllowed {F : Type 0} (codec : Codec F) (jobs : List Job) (dead : List ℕ) (seen : List Told) (e : Told) : Type 0 where
   pub number : ℕ
   pub job : Job
   pub own : e.job ≡ Some number
   pub is_job : slice_get jobs number ≡ Some job
   pub alive : Contains dead number → ⊥
-  pub asked : MayAsk forms job (state_of forms job (trace_of number seen)) e.call
+  pub asked : MayAsk codec job (state_of codec job (trace_of number seen)) e.call
   pub short : IsShortCall e.call
 
 -- each of these calls may come after those before it
-abbrev pub AreAllowed : {F : Type 0} → Forms F → List Job → List ℕ → List Told → List Told → Type 0
-AreAllowed forms jobs dead seen [] = ⊤
-AreAllowed forms jobs dead seen (e ∷ es) = IsAllowed forms jobs dead seen e × AreAllowed forms jobs dead (seen ++ e ∷ []) es
+abbrev pub AreAllowed : {F : Type 0} → Codec F → List Job → List ℕ → List Told → List Told → Type 0
+AreAllowed codec jobs dead seen [] = ⊤
+AreAllowed codec jobs dead seen (e ∷ es) = IsAllowed codec jobs dead seen e × AreAllowed codec jobs dead (seen ++ e ∷ []) es

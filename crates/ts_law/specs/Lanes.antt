@@ -4,7 +4,7 @@ use Rattle.ts_model.specs.declared.commands.Job.{Job}
 use Rattle.ts_model.specs.Driven.{AskedFrom}
 use Rattle.ts_model.specs.Told.{Told, trace_of}
 use Rattle.ts_model.specs.States.{begun}
-use Rattle.ts_model.specs.Forms.{Forms}
+use Rattle.ts_model.specs.Codecs.{Codec}
 
 -- the lane of a call that no job made
 abbrev pub nobodys_lane : ℕ
@@ -15,9 +15,9 @@ abbrev pub lane_by : (ℕ → ℕ) → Option ℕ → ℕ
 lane_by lanes (Some number) = lanes number
 lane_by lanes None = nobodys_lane
 
--- each job has this lane
-abbrev pub one_lane : ℕ → ℕ → ℕ
-one_lane lane number = lane
+-- each job has one and the same lane, so that all come one after the other
+abbrev pub one_lane : ℕ → ℕ
+one_lane number = 0
 
 -- each job has the lane of its number
 abbrev pub own_lane : ℕ → ℕ
@@ -41,7 +41,7 @@ InTurn lanes [] = ⊤
 InTurn lanes (e ∷ told) = All (IsBefore lanes e) told × InTurn lanes told
 
 -- the calls of jobs in lanes: each is one of these jobs', each job makes just calls that it may make, and the jobs of a lane come one after the other
-pub record AreInLanes {F : Type 0} (forms : Forms F) (lanes : ℕ → ℕ) (jobs : List Job) (told : List Told) : Type 0 where
+pub record AreInLanes {F : Type 0} (codec : Codec F) (lanes : ℕ → ℕ) (jobs : List Job) (told : List Told) : Type 0 where
   pub within : All (IsWithin jobs) told
-  pub asked : (number : ℕ) (job : Job) → slice_get jobs number ≡ Some job → AskedFrom forms job (begun job.command) (trace_of number told)
+  pub asked : (number : ℕ) (job : Job) → slice_get jobs number ≡ Some job → AskedFrom codec job (begun job.command) (trace_of number told)
   pub in_turn : InTurn lanes told

@@ -1,6 +1,6 @@
 pub mod Origins
 pub mod Stands
-pub mod Rows
+pub mod Courses
 pub mod Fresh
 pub mod Lanes
 pub mod Histories

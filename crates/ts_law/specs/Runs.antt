@@ -13,31 +13,31 @@ use Rattle.ts_model.specs.Told.{Told, trace_of, Suits, Replied, entries_of, hist
 use Rattle.ts_law.specs.Fresh.{IsFreshSeed}
 use Rattle.ts_law.specs.Lanes.{lane_by, IsOwned, AreInLanes}
 use Rattle.ts_law.specs.Histories.{history_of}
-use Rattle.ts_model.specs.Forms.{Forms, Spelled}
+use Rattle.ts_model.specs.Codecs.{Codec, Spelled}
 use Rattle.ts_law.specs.Stands.{Stands}
-use Rattle.ts_law.specs.Ends.{IsTrueEnd}
+use Rattle.ts_law.specs.Ends.{IsTrueOver}
 use Rattle.ts_model.specs.Deeds.{History}
-use Rattle.ts_law.specs.Rows.{IsSegment}
+use Rattle.ts_law.specs.Courses.{IsSegment}
 
 -- the calls with their replies, whoever made them
 abbrev pub exchanges : List Told → List Exchange
 exchanges told = list_map (λ e. record { call = e.call; reply = e.reply }) told
 
 -- each job was driven by its own calls, to its end or to its stop
-pub record AreDriven {F : Type 0} (forms : Forms F) (jobs : List Job) (results : List (Driven Outcome)) (told : List Told) : Type 0 where
+pub record AreDriven {F : Type 0} (codec : Codec F) (jobs : List Job) (results : List (Driven Outcome)) (told : List Told) : Type 0 where
   pub one_each : length results ≡ length jobs
-  pub driven : (number : ℕ) (job : Job) (result : Driven Outcome) → slice_get jobs number ≡ Some job → slice_get results number ≡ Some result → IsDriven forms job (trace_of number told) result
+  pub driven : (number : ℕ) (job : Job) (result : Driven Outcome) → slice_get jobs number ≡ Some job → slice_get results number ≡ Some result → IsDriven codec job (trace_of number told) result
 
--- each job made the calls of its row, and ended by them, or where it was stopped
-abbrev pub AreSegments : {F : Type 0} → Forms F → List Job → List (Driven Outcome) → List Told → Type 0
-AreSegments forms jobs results told =
-    (number : ℕ) (job : Job) (result : Driven Outcome) → slice_get jobs number ≡ Some job → slice_get results number ≡ Some result → IsSegment forms job (trace_of number told) result
+-- each job made the calls of its course, and ended by them, or where it was stopped
+abbrev pub AreSegments : {F : Type 0} → Codec F → List Job → List (Driven Outcome) → List Told → Type 0
+AreSegments codec jobs results told =
+    (number : ℕ) (job : Job) (result : Driven Outcome) → slice_get jobs number ≡ Some job → slice_get results number ≡ Some result → IsSegment codec job (trace_of number told) result
 
 -- each first part of what was told leaves objects that stand for its history, and so does each first part of the journal; what each end tells of the history is true; a job that was stopped has no end
 pub record IsTrueRun (spelled : Spelled) (lanes : ℕ → ℕ) (jobs : List Job) (h : History) (m : Held) (told : List Told) (results : List (Driven Outcome)) : Type 0 where
   pub stands : (front back : List Told) → told ≡ front ++ back → Stands spelled (held_after m (entries_of (lane_by lanes) front)) (history_told jobs h front)
   pub journal : (front back : List Entry) → entries_of (lane_by lanes) told ≡ front ++ back → Stands spelled (held_after m front) (history_of h m jobs front)
-  pub answers : (number : ℕ) (job : Job) (end : Outcome) → slice_get jobs number ≡ Some job → slice_get results number ≡ Some (Done end) → IsTrueEnd jobs h told number job end
+  pub answers : (number : ℕ) (job : Job) (end : Outcome) → slice_get jobs number ≡ Some job → slice_get results number ≡ Some (Done end) → IsTrueOver spelled m jobs h told number job end
 
 -- what a run is over a store that held m
 pub record IsRunOver (spelled : Spelled) (seed : ℕ) (lanes : ℕ → ℕ) (jobs : List Job) (m : Held) (later : Option Held) (journal : List Entry) (told : List Told) (results : List (Driven Outcome)) : Type 0 where
@@ -49,7 +49,7 @@ pub record IsRunOver (spelled : Spelled) (seed : ℕ) (lanes : ℕ → ℕ) (job
   pub true_run : (h : History) → Stands spelled m h → IsFreshSeed m h seed → IsTrueRun spelled lanes jobs h m told results
 
 -- the jobs ran in these lanes over a store, made the entries of the journal, and came out so; `held` is what a store holds, where it tells that, and `made` says that just these calls were made of it
-pub record IsRun {F S : Type 0} (forms : Forms F) (spelled : Spelled) (held : S → Option Held) (made : S → List Exchange → S → Type 0) (seed : ℕ) (lanes : ℕ → ℕ) (jobs : List Job) (store later : S) (journal : List Entry) (results : List (Driven Outcome)) : Type 0 where
+pub record IsRun {F S : Type 0} (codec : Codec F) (spelled : Spelled) (held : S → Option Held) (made : S → List Exchange → S → Type 0) (seed : ℕ) (lanes : ℕ → ℕ) (jobs : List Job) (store later : S) (journal : List Entry) (results : List (Driven Outcome)) : Type 0 where
   pub told : List Told
   -- each call is one that a job made
   pub owned : All IsOwned told
@@ -60,10 +60,10 @@ pub record IsRun {F S : Type 0} (forms : Forms F) (spelled : Spelled) (held : S 
   -- each reply suits its call: it tells of a failure just where the journal does
   pub suit : All Suits told
   -- each job makes just calls that it may make, and those of a lane come one after the other
-  pub in_lanes : AreInLanes forms lanes jobs told
+  pub in_lanes : AreInLanes codec lanes jobs told
   -- each comes out by the replies to its calls
-  pub driven : AreDriven forms jobs results told
-  -- each job makes the calls of its row, and ends by them, or where it is stopped
-  pub segments : AreSegments forms jobs results told
+  pub driven : AreDriven codec jobs results told
+  -- each job makes the calls of its course, and ends by them, or where it is stopped
+  pub segments : AreSegments codec jobs results told
   -- over a store that told what it held
   pub over : IfSome (held store) (λ m. IsRunOver spelled seed lanes jobs m (held later) journal told results)

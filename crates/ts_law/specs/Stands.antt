@@ -1,7 +1,8 @@
 -- A map of objects stands for a history.
-use Rattle.std.specs.Prelude.{◌≡◌, ℕ, true, List, Some, option_map, IsTrue, Contains}
+use Rattle.std.specs.Prelude.{◌≡◌, ℕ, true, List, Some, option_map, IsTrue, Contains, ⊤}
 use Rattle.ts_base.specs.declared.keys.Key.{Key}
 use Rattle.ts_base.specs.declared.keys.FragKey.{FragKey}
+use Rattle.ts_base.specs.declared.names.Name.{Name}
 use Rattle.ts_base.specs.declared.names.Part.{Part}
 use Rattle.ts_base.specs.declared.heads.Piece.{Piece}
 use Rattle.ts_model.specs.declared.deeds.Written.{Written}
@@ -15,11 +16,16 @@ use Rattle.ts_schema.specs.FrameTexts.{frame_object}
 use Rattle.ts_schema.specs.SchemaTexts.{schema_object}
 use Rattle.ts_schema.specs.Parts.{Look, IsShort}
 use Rattle.ts_law.specs.Origins.{HoldsWrites, IsReadable}
-use Rattle.ts_model.specs.Forms.{Spelled}
+use Rattle.ts_model.specs.Codecs.{Spelled}
 use Rattle.ts_cond.specs.CondTexts.{cond_object}
-use Rattle.ts_model.specs.Deeds.{History, frame_in, writes, schema_with, erase_of, IsHistory}
+use Rattle.ts_model.specs.Deeds.{History, frame_in, writes, schema_with, deletion_of, IsHistory}
 use Rattle.ts_base.specs.declared.names.Name.TheVariants as name
 use Rattle.std.specs.FinMap as map
+
+-- the name is none of a lease
+abbrev pub IsNoLease : Name → Type 0
+IsNoLease (name.Lease k mode) = ⊥
+IsNoLease n = ⊤
 
 -- a fragment is committed while its `.wrt` is held
 abbrev pub IsCommitted : Held → FragKey → Type 0
@@ -57,7 +63,7 @@ pub record Stands (spelled : Spelled) (m : Held) (h : History) : Type 0 where
   -- the schemas that are held are those of the history, each spelling its attributes
   pub schemas : (k : Key) → map.get m (name.Schema k) ≡ option_map (λ s. schema_object s.attrs) (schema_with h k)
   -- the deletes that are held are those of the history, each spelling its condition
-  pub deletes : (f : FragKey) → map.get m (name.Commit f Del) ≡ option_map (λ e. cond_object e.cond) (erase_of h f)
+  pub deletes : (f : FragKey) → map.get m (name.Commit f Del) ≡ option_map (λ e. cond_object e.cond) (deletion_of h f)
   -- each is so short that one get can ask for all of it
   pub short_frame : (bytes : List ℕ) → map.get m name.Domain ≡ Some bytes → IsShort bytes
   pub short_schemas : (k : Key) (bytes : List ℕ) → map.get m (name.Schema k) ≡ Some bytes → IsShort bytes

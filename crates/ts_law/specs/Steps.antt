@@ -8,17 +8,21 @@ use Rattle.ts_base.specs.Held.{Held}
 use Rattle.ts_law.specs.Kept.{Claims}
 use Rattle.ts_model.specs.Told.{Told, after_told, IsShortCall, IsReplied, history_told}
 use Rattle.ts_law.specs.Fresh.{id_in}
+use Rattle.ts_law.specs.Stands.{Stands, IsNoLease}
 use Rattle.ts_model.specs.States.{asks, goes_on}
-use Rattle.ts_model.specs.Forms.{Forms, Spelled, Tracking}
+use Rattle.ts_model.specs.Codecs.{Codec, Spelled, Tracking}
 use Rattle.ts_model.specs.Jobs.{IsFit, AreApart}
-use Rattle.ts_law.specs.Stands.{Stands}
 use Rattle.ts_model.specs.Deeds.{History, keys}
 use Rattle.ts_base.specs.declared.names.Name.TheVariants as name
 use Rattle.std.specs.FinMap as map
 
--- a call of the job with an identifier leads from m and h to these: what is held stays, what comes carries the identifier or is the frame, and the history grows by deeds of that identifier
+-- the objects on which another job may rely to stay: all but leases
+abbrev pub Stays : Name → Type 0
+Stays n = IsNoLease n
+
+-- a call of the job with an identifier leads from m and h to these: what is held stays, but perhaps leases; what comes carries the identifier or is the frame, and the history grows by deeds of that identifier
 pub record Keeps (m m' : Held) (h h' : History) (id : ℕ) : Type 0 where
-  pub keeps : (n : Name) (bytes : List ℕ) → map.get m n ≡ Some bytes → map.get m' n ≡ Some bytes
+  pub keeps : (n : Name) (bytes : List ℕ) → Stays n → map.get m n ≡ Some bytes → map.get m' n ≡ Some bytes
   pub adds : (n : Name) (bytes : List ℕ) → map.get m' n ≡ Some bytes → (map.get m n ≡ Some bytes) ⊎ ((id_in n ≡ Some id) ⊎ (n ≡ name.Domain))
   pub more : History
   pub grows : h' ≡ h ++ more
@@ -30,12 +34,12 @@ pub record Leads (spelled : Spelled) (past : History) (jobs : List Job) (seen : 
   pub leaves : Keeps m (after_told m e) (history_told jobs past seen) (history_told jobs past (seen ++ e ∷ [])) id
 
 -- and the claims of the job itself are those of where it comes
-pub record Advances {F : Type 0} (forms : Forms F) (spelled : Spelled) (tracks : Tracking F) (past : History) (jobs : List Job) (seen : List Told) (e : Told) (m : Held) (number : ℕ) (job : Job) (s : State F) : Type 0 where
+pub record Advances {F : Type 0} (codec : Codec F) (spelled : Spelled) (tracks : Tracking F) (past : History) (jobs : List Job) (seen : List Told) (e : Told) (m : Held) (number : ℕ) (job : Job) (s : State F) : Type 0 where
   pub leads : Leads spelled past jobs seen e m job.id
-  pub own : Claims forms spelled tracks past jobs (seen ++ e ∷ []) (after_told m e) number job (goes_on forms job s (record { call = e.call; reply = e.reply }))
+  pub own : Claims codec spelled tracks past jobs (seen ++ e ∷ []) (after_told m e) number job (goes_on codec job s (record { call = e.call; reply = e.reply }))
 
 -- a call of a job that comes after these, in a state whose claims hold
-pub record Comes {F : Type 0} (forms : Forms F) (spelled : Spelled) (tracks : Tracking F) (past : History) (jobs : List Job) (seen : List Told) (e : Told) (m : Held) (number : ℕ) (job : Job) (s : State F) : Type 0 where
+pub record Comes {F : Type 0} (codec : Codec F) (spelled : Spelled) (tracks : Tracking F) (past : History) (jobs : List Job) (seen : List Told) (e : Told) (m : Held) (number : ℕ) (job : Job) (s : State F) : Type 0 where
   pub stands : Stands spelled m (history_told jobs past seen)
   pub apart : AreApart jobs
   pub fit : IsFit job
@@ -43,5 +47,5 @@ pub record Comes {F : Type 0} (forms : Forms F) (spelled : Spelled) (tracks : Tr
   pub is_job : slice_get jobs number ≡ Some job
   pub replied : IsReplied m e
   pub short : IsShortCall e.call
-  pub asked : asks forms job s ≡ Some e.call
-  pub claims : Claims forms spelled tracks past jobs seen m number job s
+  pub asked : asks codec job s ≡ Some e.call
+  pub claims : Claims codec spelled tracks past jobs seen m number job s

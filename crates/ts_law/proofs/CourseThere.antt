@@ -14,14 +14,15 @@ use Rattle.ts_store.specs.declared.call.Call.{Call}
 use Rattle.ts_store.specs.declared.call.Reply.{Reply}
 use Rattle.ts_model.specs.declared.commands.Job.{Job}
 use Rattle.ts_model.specs.declared.answers.Outcome.{Outcome}
-use Rattle.ts_model.specs.declared.states.State.TheVariants.{ListsSchemas, GetsSchema, GetsFrame}
-use Rattle.ts_model.specs.Forms.{Forms}
+use Rattle.ts_model.specs.declared.states.State.TheVariants.{Seeks}
+use Rattle.ts_model.specs.declared.states.Seeking.TheVariants.{ListsSchemas, GetsSchema, GetsFrame}
+use Rattle.ts_model.specs.Codecs.{Codec}
 use Rattle.ts_model.specs.Jobs.{looked_at}
 use Rattle.ts_model.specs.States.{Exchange, goes, ended, get_schema, get_frame, list_schemas, schemas_in, made_by, works as comes_to}
-use Rattle.ts_law.specs.Rows.{Found, IsSchemaIn, IsFrameIn, SaysThere, GotSchema, IsKeyThere, IsGot, LooksThere, IsLookOf, lets_on}
+use Rattle.ts_law.specs.Courses.{Found, IsSchemaIn, IsFrameIn, SaysThere, GotSchema, IsKeyThere, IsGot, LooksThere, IsLookOf, lets_on}
 use Rattle.ts_model.specs.declared.states.Listed.{Listed}
-use Rattle.ts_law.proofs.RowCalls.{Goes, Follows, follows_on, follows_refused, follows_ended, goes_none, goes_by}
-use Rattle.ts_law.proofs.RowGrows.{AreAmong, among_more, schema_stays, key_stays}
+use Rattle.ts_law.proofs.CourseCalls.{Goes, Follows, follows_on, follows_refused, follows_ended, goes_none, goes_by}
+use Rattle.ts_law.proofs.CourseGrows.{AreAmong, among_more, schema_stays, key_stays}
 use Rattle.ts_domain.specs.declared.orders.Order.TheVariants as order
 use Rattle.ts_base.specs.declared.names.Name.TheVariants as name
 use Rattle.ts_store.specs.declared.call.Reply.TheVariants as reply
@@ -46,14 +47,14 @@ abbrev pub OfBytes : (List ℕ → Type 0) → Reply → Type 0
 OfBytes P (reply.Bytes bytes) = P bytes
 OfBytes P r = ⊤
 
-module _ {F : Type 0} (forms : Forms F) (job : Job) (no_create : made_by job.command ≡ None)
-    (may_look : (found : Found) (seen : List Exchange) (c : Call) → LooksThere job seen c → IsLookOf forms job found seen c)
+module _ {F : Type 0} (codec : Codec F) (job : Job) (no_create : made_by job.command ≡ None)
+    (may_look : (found : Found) (seen : List Exchange) (c : Call) → LooksThere job seen c → IsLookOf codec job found seen c)
     (says_list : (found : Found) (r : Reply) → SaysThere found job.command list_schemas r)
     (says_schema : (found : Found) (k : Key) (r : Reply) → OfBytes (λ bytes. IsSchemaIn found.there k (schema_of bytes)) r → SaysThere found job.command (get_schema k) r)
     (says_frame : (found : Found) (r : Reply) → OfBytes (λ bytes. IsFrameIn found.frame (frame_of bytes)) r → SaysThere found job.command get_frame r)
     (tail : Found → List Call) (early : List Exchange) (looked : Listed)
     (works_go : (there : Schema) (frame : Frame) (seen : List Exchange) (x : Exchange) (xs : List Exchange) (end : Outcome) → AreAmong early seen → IsGot job (found_as there frame) (seen ++ x ∷ []) → SaysThere (found_as there frame) job.command x.call x.reply
-    → IsTrue (lets_on x.call x.reply) → IsLookOf forms job (found_as there frame) seen x.call → Follows forms job seen (found_as there frame) (tail (found_as there frame)) x xs end (comes_to forms job job.command looked frame there)) where
+    → IsTrue (lets_on x.call x.reply) → IsLookOf codec job (found_as there frame) seen x.call → Follows codec job seen (found_as there frame) (tail (found_as there frame)) x xs end (comes_to codec job job.command looked frame there)) where
   -- a job got the schema there
   record GotThere (seen : List Exchange) (there : Schema) : Type 0 where
     key : IsKeyThere job seen there.key
@@ -80,23 +81,23 @@ module _ {F : Type 0} (forms : Forms F) (job : Job) (no_create : made_by job.com
   silent_frame found at bytes is = rw is tt
 
   -- the get of the frame is a look
-  looks_frame : (seen : List Exchange) (there : Schema) (found : Found) → GotThere seen there → IsLookOf forms job found seen get_frame
+  looks_frame : (seen : List Exchange) (there : Schema) (found : Found) → GotThere seen there → IsLookOf codec job found seen get_frame
   looks_frame seen there found have = may_look found seen get_frame (inr (there, have.key, have.spelled, refl))
 
   -- so is that of the schema there
-  looks_schema : (seen : List Exchange) (k : Key) (found : Found) → IsKeyThere job seen k → IsLookOf forms job found seen (get_schema k)
+  looks_schema : (seen : List Exchange) (k : Key) (found : Found) → IsKeyThere job seen k → IsLookOf codec job found seen (get_schema k)
   looks_schema seen k found is = may_look found seen (get_schema k) (inl (k, is, refl))
 
   -- the get of the frame says which it is
   frame_found : (there : Schema) (seen xs : List Exchange) (end : Outcome) → AreAmong early seen
-      → (frame : Frame) × (GotThere seen there → Goes forms job seen (found_as there frame) (tail (found_as there frame)) xs end (GetsFrame looked there))
-  frame_found there seen [] end since = (no_frame, λ have. goes_none forms job seen (found_as there no_frame) (tail (found_as there no_frame)) end (GetsFrame looked there) (λ o q. cc))
+      → (frame : Frame) × (GotThere seen there → Goes codec job seen (found_as there frame) (tail (found_as there frame)) xs end (Seeks (GetsFrame looked there)))
+  frame_found there seen [] end since = (no_frame, λ have. goes_none codec job seen (found_as there no_frame) (tail (found_as there no_frame)) end (Seeks (GetsFrame looked there)) (λ o q. cc))
   frame_found there seen (x ∷ xs) end since =
       let (frame, follows) = by_reply x.reply in
-      (frame, λ have. goes_by forms job seen (found_as there frame) (tail (found_as there frame)) x xs end (GetsFrame looked there) get_frame refl (λ same. follows have))
+      (frame, λ have. goes_by codec job seen (found_as there frame) (tail (found_as there frame)) x xs end (Seeks (GetsFrame looked there)) get_frame refl (λ same. follows have))
     where
       FrameFor : Reply → Type 0
-      FrameFor r = (frame : Frame) × (GotThere seen there → Follows forms job seen (found_as there frame) (tail (found_as there frame)) (record { call = get_frame; reply = r }) xs end (goes forms job (GetsFrame looked there) r))
+      FrameFor r = (frame : Frame) × (GotThere seen there → Follows codec job seen (found_as there frame) (tail (found_as there frame)) (record { call = get_frame; reply = r }) xs end (goes codec job (Seeks (GetsFrame looked there)) r))
 
       by_frame : (bytes : List ℕ) (f : Result Frame ℕ) → frame_of bytes ≡ f → FrameFor (reply.Bytes bytes)
       by_frame bytes (Ok frame) is = (
@@ -106,14 +107,14 @@ module _ {F : Type 0} (forms : Forms F) (job : Job) (no_create : made_by job.com
       )
       by_frame bytes (Err at) is = (
         no_frame,
-        λ have. rw is (follows_refused forms job seen (found_as there no_frame) (tail (found_as there no_frame)) (tail (found_as there no_frame)) (record { call = get_frame; reply = reply.Bytes bytes }) xs end (refusal.Damaged name.Domain at)
+        λ have. rw is (follows_refused codec job seen (found_as there no_frame) (tail (found_as there no_frame)) (tail (found_as there no_frame)) (record { call = get_frame; reply = reply.Bytes bytes }) xs end (refusal.Damaged name.Domain at)
             (says_frame (found_as there no_frame) (reply.Bytes bytes) (silent_frame (found_as there no_frame) at bytes is)) (inl (looks_frame seen there (found_as there no_frame) have, refl))
             (inl (bytes, Contains-push seen (record { call = get_frame; reply = reply.Bytes bytes }), is))),
       )
 
-      other : (r : Reply) → OfBytes (λ bytes. IsFrameIn no_frame (frame_of bytes)) r → GotThere seen there → Follows forms job seen (found_as there no_frame) (tail (found_as there no_frame)) (record { call = get_frame; reply = r }) xs end (ended get_frame r)
+      other : (r : Reply) → OfBytes (λ bytes. IsFrameIn no_frame (frame_of bytes)) r → GotThere seen there → Follows codec job seen (found_as there no_frame) (tail (found_as there no_frame)) (record { call = get_frame; reply = r }) xs end (ended get_frame r)
       other r quiet have =
-          follows_ended forms job seen (found_as there no_frame) (tail (found_as there no_frame)) (tail (found_as there no_frame)) get_frame r xs end tt (says_frame (found_as there no_frame) r quiet) (inl (looks_frame seen there (found_as there no_frame) have, refl))
+          follows_ended codec job seen (found_as there no_frame) (tail (found_as there no_frame)) (tail (found_as there no_frame)) get_frame r xs end tt (says_frame (found_as there no_frame) r quiet) (inl (looks_frame seen there (found_as there no_frame) have, refl))
 
       by_reply : (r : Reply) → FrameFor r
       by_reply (reply.Bytes bytes) = by_frame bytes (frame_of bytes) refl
@@ -121,15 +122,15 @@ module _ {F : Type 0} (forms : Forms F) (job : Job) (no_create : made_by job.com
 
   -- the get of the schema there says which it is
   schema_found : (k : Key) (seen xs : List Exchange) (end : Outcome) → AreAmong early seen
-      → (there : Schema) × (frame : Frame) × (IsKeyThere job seen k → Goes forms job seen (found_as there frame) (tail (found_as there frame)) xs end (GetsSchema looked k))
-  schema_found k seen [] end since = (no_schema, no_frame, λ listed. goes_none forms job seen (found_as no_schema no_frame) (tail (found_as no_schema no_frame)) end (GetsSchema looked k) (λ o q. cc))
+      → (there : Schema) × (frame : Frame) × (IsKeyThere job seen k → Goes codec job seen (found_as there frame) (tail (found_as there frame)) xs end (Seeks (GetsSchema looked k)))
+  schema_found k seen [] end since = (no_schema, no_frame, λ listed. goes_none codec job seen (found_as no_schema no_frame) (tail (found_as no_schema no_frame)) end (Seeks (GetsSchema looked k)) (λ o q. cc))
   schema_found k seen (x ∷ xs) end since =
       let (there, frame, follows) = by_reply x.reply in
-      (there, frame, λ listed. goes_by forms job seen (found_as there frame) (tail (found_as there frame)) x xs end (GetsSchema looked k) (get_schema k) refl (λ same. follows listed))
+      (there, frame, λ listed. goes_by codec job seen (found_as there frame) (tail (found_as there frame)) x xs end (Seeks (GetsSchema looked k)) (get_schema k) refl (λ same. follows listed))
     where
       SchemaFor : Reply → Type 0
       SchemaFor r = (there : Schema) × (frame : Frame)
-          × (IsKeyThere job seen k → Follows forms job seen (found_as there frame) (tail (found_as there frame)) (record { call = get_schema k; reply = r }) xs end (goes forms job (GetsSchema looked k) r))
+          × (IsKeyThere job seen k → Follows codec job seen (found_as there frame) (tail (found_as there frame)) (record { call = get_schema k; reply = r }) xs end (goes codec job (Seeks (GetsSchema looked k)) r))
 
       by_attrs : (bytes : List ℕ) (a : Result (List Attr) ℕ) → schema_of bytes ≡ a → SchemaFor (reply.Bytes bytes)
       by_attrs bytes (Ok attrs) is =
@@ -138,7 +139,7 @@ module _ {F : Type 0} (forms : Forms F) (job : Job) (no_create : made_by job.com
           let (frame, later) = frame_found there (seen ++ y ∷ []) xs end (λ z at. among_more seen y z (since z at)) in (
             there,
             frame,
-            λ listed. rw is (follows_on forms job seen (found_as there frame) (tail (found_as there frame)) (tail (found_as there frame)) y xs end (GetsFrame looked there)
+            λ listed. rw is (follows_on codec job seen (found_as there frame) (tail (found_as there frame)) (tail (found_as there frame)) y xs end (Seeks (GetsFrame looked there))
                 (says_schema (found_as there frame) k (reply.Bytes bytes) (rw is refl)) refl (inl (looks_schema seen k (found_as there frame) listed, refl))
                 (later (record { key = key_stays job seen (seen ++ y ∷ []) k (among_more seen y) listed; spelled = (bytes, Contains-push seen y, is) }))),
           )
@@ -146,13 +147,13 @@ module _ {F : Type 0} (forms : Forms F) (job : Job) (no_create : made_by job.com
           let y : Exchange = record { call = get_schema k; reply = reply.Bytes bytes } in (
             no_schema,
             no_frame,
-            λ listed. rw is (follows_refused forms job seen (found_as no_schema no_frame) (tail (found_as no_schema no_frame)) (tail (found_as no_schema no_frame)) y xs end (refusal.Damaged (name.Schema k) at)
+            λ listed. rw is (follows_refused codec job seen (found_as no_schema no_frame) (tail (found_as no_schema no_frame)) (tail (found_as no_schema no_frame)) y xs end (refusal.Damaged (name.Schema k) at)
                 (says_schema (found_as no_schema no_frame) k (reply.Bytes bytes) (silent_schema (found_as no_schema no_frame) k at bytes is)) (inl (looks_schema seen k (found_as no_schema no_frame) listed, refl)) (inl (bytes, Contains-push seen y, is))),
           )
 
-      other : (r : Reply) → OfBytes (λ bytes. IsSchemaIn no_schema k (schema_of bytes)) r → IsKeyThere job seen k → Follows forms job seen (found_as no_schema no_frame) (tail (found_as no_schema no_frame)) (record { call = get_schema k; reply = r }) xs end (ended (get_schema k) r)
+      other : (r : Reply) → OfBytes (λ bytes. IsSchemaIn no_schema k (schema_of bytes)) r → IsKeyThere job seen k → Follows codec job seen (found_as no_schema no_frame) (tail (found_as no_schema no_frame)) (record { call = get_schema k; reply = r }) xs end (ended (get_schema k) r)
       other r quiet listed =
-          follows_ended forms job seen (found_as no_schema no_frame) (tail (found_as no_schema no_frame)) (tail (found_as no_schema no_frame)) (get_schema k) r xs end tt (says_schema (found_as no_schema no_frame) k r quiet) (inl (looks_schema seen k (found_as no_schema no_frame) listed, refl))
+          follows_ended codec job seen (found_as no_schema no_frame) (tail (found_as no_schema no_frame)) (tail (found_as no_schema no_frame)) (get_schema k) r xs end tt (says_schema (found_as no_schema no_frame) k r quiet) (inl (looks_schema seen k (found_as no_schema no_frame) listed, refl))
 
       by_reply : (r : Reply) → SchemaFor r
       by_reply (reply.Bytes bytes) = by_attrs bytes (schema_of bytes) refl
@@ -160,14 +161,14 @@ module _ {F : Type 0} (forms : Forms F) (job : Job) (no_create : made_by job.com
 
   -- the listing of the schemas comes first
   pub schemas_found : (seen xs : List Exchange) (end : Outcome) → AreAmong early seen
-      → (there : Schema) × (frame : Frame) × Goes forms job seen (found_as there frame) (list_schemas ∷ tail (found_as there frame)) xs end (ListsSchemas looked)
-  schemas_found seen [] end since = (no_schema, no_frame, goes_none forms job seen (found_as no_schema no_frame) (list_schemas ∷ tail (found_as no_schema no_frame)) end (ListsSchemas looked) (λ o q. cc))
+      → (there : Schema) × (frame : Frame) × Goes codec job seen (found_as there frame) (list_schemas ∷ tail (found_as there frame)) xs end (Seeks (ListsSchemas looked))
+  schemas_found seen [] end since = (no_schema, no_frame, goes_none codec job seen (found_as no_schema no_frame) (list_schemas ∷ tail (found_as no_schema no_frame)) end (Seeks (ListsSchemas looked)) (λ o q. cc))
   schemas_found seen (x ∷ xs) end since =
       let (there, frame, follows) = by_reply x.reply in
-      (there, frame, goes_by forms job seen (found_as there frame) (list_schemas ∷ tail (found_as there frame)) x xs end (ListsSchemas looked) list_schemas refl (λ same. follows))
+      (there, frame, goes_by codec job seen (found_as there frame) (list_schemas ∷ tail (found_as there frame)) x xs end (Seeks (ListsSchemas looked)) list_schemas refl (λ same. follows))
     where
       ListedFor : Reply → Type 0
-      ListedFor r = (there : Schema) × (frame : Frame) × Follows forms job seen (found_as there frame) (list_schemas ∷ tail (found_as there frame)) (record { call = list_schemas; reply = r }) xs end (goes forms job (ListsSchemas looked) r)
+      ListedFor r = (there : Schema) × (frame : Frame) × Follows codec job seen (found_as there frame) (list_schemas ∷ tail (found_as there frame)) (record { call = list_schemas; reply = r }) xs end (goes codec job (Seeks (ListsSchemas looked)) r)
 
       by_key : (names : List Name) (k : Option Key) → schema_at (schemas_in names) (looked_at job) ≡ k → ListedFor (reply.Names names)
       by_key names (Some k) is =
@@ -175,17 +176,17 @@ module _ {F : Type 0} (forms : Forms F) (job : Job) (no_create : made_by job.com
           let (there, frame, later) = schema_found k (seen ++ y ∷ []) xs end (λ z at. among_more seen y z (since z at)) in (
             there,
             frame,
-            rw is (follows_on forms job seen (found_as there frame) (list_schemas ∷ tail (found_as there frame)) (tail (found_as there frame)) y xs end (GetsSchema looked k)
+            rw is (follows_on codec job seen (found_as there frame) (list_schemas ∷ tail (found_as there frame)) (tail (found_as there frame)) y xs end (Seeks (GetsSchema looked k))
                 (says_list (found_as there frame) (reply.Names names)) refl (inr refl) (later (record { names = names; listed = Contains-push seen y; newest = is }))),
           )
       by_key names None is = (
         no_schema,
         no_frame,
-        rw is (follows_refused forms job seen (found_as no_schema no_frame) (list_schemas ∷ tail (found_as no_schema no_frame)) (tail (found_as no_schema no_frame)) (record { call = list_schemas; reply = reply.Names names }) xs end
+        rw is (follows_refused codec job seen (found_as no_schema no_frame) (list_schemas ∷ tail (found_as no_schema no_frame)) (tail (found_as no_schema no_frame)) (record { call = list_schemas; reply = reply.Names names }) xs end
             (refusal.NoSchema (looked_at job)) (says_list (found_as no_schema no_frame) (reply.Names names)) (inr refl) (no_create, names, refl, refl, is)),
       )
 
       by_reply : (r : Reply) → ListedFor r
       by_reply (reply.Names names) = by_key names (schema_at (schemas_in names) (looked_at job)) refl
       by_reply r =
-          (no_schema, no_frame, follows_ended forms job seen (found_as no_schema no_frame) (list_schemas ∷ tail (found_as no_schema no_frame)) (tail (found_as no_schema no_frame)) list_schemas r xs end tt (says_list (found_as no_schema no_frame) r) (inr refl))
+          (no_schema, no_frame, follows_ended codec job seen (found_as no_schema no_frame) (list_schemas ∷ tail (found_as no_schema no_frame)) (tail (found_as no_schema no_frame)) list_schemas r xs end tt (says_list (found_as no_schema no_frame) r) (inr refl))

@@ -9,9 +9,9 @@ use Rattle.ts_schema.specs.declared.schemas.Schema.{Schema}
 use Rattle.ts_store.specs.declared.call.Call.{Call}
 use Rattle.ts_store.specs.declared.call.Reply.{Reply}
 use Rattle.ts_model.specs.declared.commands.Job.{Job}
-use Rattle.ts_model.specs.Forms.{Forms}
+use Rattle.ts_model.specs.Codecs.{Codec}
 use Rattle.ts_model.specs.States.{Exchange}
-use Rattle.ts_law.specs.Rows.{Found, GotSchema, IsKeyThere, IsGot, IsOpened, IsFetched, IsUnderWay, IsListedIn}
+use Rattle.ts_law.specs.Courses.{Found, GotSchema, IsKeyThere, IsGot, IsOpened, IsFetched, IsUnderWay, IsListedIn}
 
 -- the calls of the first list are calls of the second
 abbrev pub AreAmong : List Exchange → List Exchange → Type 0
@@ -43,9 +43,9 @@ got_stays job found a b among got = record {
 pub listed_stays : (kind : List Name → List FragKey) (a b : List Exchange) (from to : ℕ) (f : FragKey) → AreAmong a b → IsListedIn kind a from to f → IsListedIn kind b from to f
 listed_stays kind a b from to f among (names, told, has, in_time) = (names, among _ told, has, in_time)
 
-module _ {F : Type 0} (forms : Forms F) where
+module _ {F : Type 0} (codec : Codec F) where
   -- a fragment that was opened
-  pub opened_stays : (job : Job) (found : Found) (a b : List Exchange) (frag : FragKey) (opening : Result F ℕ) → AreAmong a b → IsOpened forms job found a frag opening → IsOpened forms job found b frag opening
+  pub opened_stays : (job : Job) (found : Found) (a b : List Exchange) (frag : FragKey) (opening : Result F ℕ) → AreAmong a b → IsOpened codec job found a frag opening → IsOpened codec job found b frag opening
   opened_stays job found a b frag opening among is = record {
     from = is.from;
     to = is.to;
@@ -62,12 +62,12 @@ module _ {F : Type 0} (forms : Forms F) where
   }
 
   -- how far a fetch came
-  pub fetched_stays : (a b : List Exchange) (f : F) (c : Call) (replies : List Reply) (g : F) (d : Call) → AreAmong a b → IsFetched forms a f c replies g d → IsFetched forms b f c replies g d
+  pub fetched_stays : (a b : List Exchange) (f : F) (c : Call) (replies : List Reply) (g : F) (d : Call) → AreAmong a b → IsFetched codec a f c replies g d → IsFetched codec b f c replies g d
   fetched_stays a b f c [] g d among is = is
   fetched_stays a b f c (r ∷ replies) g d among (told, h, e, asks, more) = (among _ told, h, e, asks, fetched_stays a b h e replies g d among more)
 
   -- a fetch that is under way
-  pub way_stays : (job : Job) (found : Found) (a b : List Exchange) (frag : FragKey) (fetch : F) (c : Call) → AreAmong a b → IsUnderWay forms job found a frag fetch c → IsUnderWay forms job found b frag fetch c
+  pub way_stays : (job : Job) (found : Found) (a b : List Exchange) (frag : FragKey) (fetch : F) (c : Call) → AreAmong a b → IsUnderWay codec job found a frag fetch c → IsUnderWay codec job found b frag fetch c
   way_stays job found a b frag fetch c among way = record {
     first = way.first;
     opened = opened_stays job found a b frag (Ok way.first) among way.opened;

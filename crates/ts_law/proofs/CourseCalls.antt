@@ -1,0 +1,302 @@
+-- Calls of a job along its course, and what follows where a state leads.
+use Rattle.std.proofs.Common.{length, ◌≡◌, ℕ, suc, zero, Bool, true, false, cond, ◌⊎◌, List, [], ◌∷◌, ◌++◌, drop, Option, Some, None, IsTrue, refl, sym, ◌∙◌, ap, inl, inr, subst, slice_get, append_assoc}
+use Rattle.std.specs.Prelude.{Contains, ⊤, option_map, nat_lt, map as list_map}
+use Rattle.std.proofs.lemmas.Bool.{ltb-false}
+use Rattle.std.proofs.Math.ListN.{drop_of_length-le}
+use Rattle.std.proofs.lemmas.Option.{same_Some, none-some}
+use Rattle.std.proofs.lemmas.List.{append-nil}
+use Rattle.std.proofs.lemmas.List.Elements.{All-nil, All-cons}
+use Rattle.ts_base.specs.declared.names.Name.{Name}
+use Rattle.ts_schema.specs.declared.evolution.Evolution.{Evolution}
+use Rattle.ts_store.specs.declared.call.Call.{Call}
+use Rattle.ts_store.specs.declared.call.Reply.{Reply}
+use Rattle.ts_model.specs.declared.commands.FrameIn.{FrameIn}
+use Rattle.ts_model.specs.declared.commands.WriteIn.{WriteIn}
+use Rattle.ts_model.specs.declared.commands.Job.{Job}
+use Rattle.ts_model.specs.declared.answers.Outcome.{Outcome}
+use Rattle.ts_model.specs.declared.answers.Refusal.{Refusal}
+use Rattle.ts_model.specs.declared.states.State.{State}
+use Rattle.ts_model.specs.declared.states.NewObject.{NewObject}
+use Rattle.ts_model.specs.declared.states.State.TheVariants.{Puts, Over}
+use Rattle.ts_model.specs.declared.commands.Command.TheVariants.{Create, Evolve, Write, Read, Delete}
+use Rattle.ts_model.specs.Codecs.{Codec, is_look}
+use Rattle.ts_model.specs.Jobs.{key_of, frag_of_job}
+use Rattle.ts_model.specs.States.{Exchange, asks, goes, ended, refuse, place_of, put_of, putting, on_made}
+use Rattle.ts_model.proofs.Lacks.{ends_on}
+use Rattle.ts_model.specs.Driven.{AskedFrom, EndsFrom}
+use Rattle.ts_law.specs.Courses.{Found, SaysThere, IsGot, AreFound, IsLookOf, Looks, IsNext, lets_on, Along, EndsAt, refused_in, IsCause}
+use Rattle.ts_law.proofs.CourseGrows.{among_more, got_stays}
+use Rattle.ts_model.proofs.Asked.{next_call}
+use Rattle.ts_model.proofs.ListLemmas.{Contains-here, Contains-there}
+use Rattle.ts_cond.specs.declared.query.Query.{Query}
+use Rattle.ts_base.specs.declared.names.Name.TheVariants as name
+use Rattle.ts_store.specs.declared.call.Call.TheVariants as call
+use Rattle.ts_store.specs.declared.call.Reply.TheVariants as reply
+use Rattle.ts_model.specs.declared.answers.Outcome.TheVariants as outcome
+use Rattle.ts_model.specs.declared.answers.Refusal.TheVariants as refusal
+
+-- ---- courses
+
+-- the last call comes where it may
+at_last : (looks : Looks) (seen : List Exchange) (course rest : List Call) (x : Exchange) → IsNext looks seen course x.call rest → EndsAt looks seen course (x ∷ []) x
+at_last looks seen course rest x next = record {
+  front = [];
+  left = course;
+  rest = rest;
+  parts = refl;
+  along = refl;
+  next = subst (λ t. IsNext looks t course x.call rest) (sym (append-nil seen)) next;
+}
+
+-- a call more before calls that went along the rest of a course up to the last one
+at_cons : (looks : Looks) (seen : List Exchange) (course rest : List Call) (x : Exchange) (xs : List Exchange) (last : Exchange) → IsTrue (lets_on x.call x.reply) → IsNext looks seen course x.call rest → EndsAt looks (seen ++ x ∷ []) rest xs last
+    → EndsAt looks seen course (x ∷ xs) last
+at_cons looks seen course rest x xs last on next h = record {
+  front = x ∷ h.front;
+  left = h.left;
+  rest = h.rest;
+  parts = ap (λ ys. x ∷ ys) h.parts;
+  along = (on, (rest, next, h.along));
+  next = subst (λ t. IsNext looks t h.left last.call h.rest) (append_assoc seen (x ∷ []) h.front) h.next;
+}
+
+-- a put of a new object lets a job go on
+lets_put : (n : Name) (bytes : List ℕ) → IsTrue (lets_on (call.Put n bytes) reply.Made)
+lets_put name.Domain bytes = refl
+lets_put _ bytes = refl
+
+-- bytes that a get is told let a job go on
+pub lets_bytes : (c : Call) (bytes : List ℕ) → IsTrue (is_look c) → IsTrue (lets_on c (reply.Bytes bytes))
+lets_bytes (call.Get n from len) bytes look = refl
+lets_bytes (call.Size n) bytes look = refl
+lets_bytes (call.Put n b) bytes look = cc
+lets_bytes (call.Remove n) bytes look = cc
+lets_bytes (call.List p) bytes look = cc
+
+-- so does a length that a size is told
+pub lets_length : (c : Call) (size : ℕ) → IsTrue (is_look c) → IsTrue (lets_on c (reply.Length size))
+lets_length (call.Get n from len) size look = refl
+lets_length (call.Size n) size look = refl
+lets_length (call.Put n b) size look = cc
+lets_length (call.Remove n) size look = cc
+lets_length (call.List p) size look = cc
+
+-- the call that is asked is this one
+call_is : (c d : Call) → Some c ≡ Some d → d ≡ c
+call_is c d e = sym (same_Some c d e)
+
+-- the reply does not say that the frame was there already
+abbrev pub LeavesFrame : Call → Reply → Type 0
+LeavesFrame (call.Put name.Domain bytes) reply.Taken = ⊥
+LeavesFrame c r = ⊤
+
+-- a put of another object leaves it so
+leaves_frame : (n : Name) (bytes : List ℕ) (r : Reply) → (n ≡ name.Domain → ⊥) → LeavesFrame (call.Put n bytes) r
+leaves_frame name.Domain bytes reply.Taken other = absurd (other refl)
+leaves_frame name.Domain bytes r other = tt
+leaves_frame n bytes r other = tt
+
+-- a get or a size leaves it so
+pub look_leaves : (c : Call) (r : Reply) → IsTrue (is_look c) → LeavesFrame c r
+look_leaves (call.Get n from len) r look = tt
+look_leaves (call.Size n) r look = tt
+look_leaves (call.Put n b) r look = cc
+look_leaves (call.Remove n) r look = cc
+look_leaves (call.List p) r look = cc
+
+-- an object that was there already is then not the frame
+taken_elsewhere : (n : Name) (bytes : List ℕ) → LeavesFrame (call.Put n bytes) reply.Taken → n ≡ name.Domain → ⊥
+taken_elsewhere n bytes leaves same = subst (λ m. LeavesFrame (call.Put m bytes) reply.Taken) same leaves
+
+-- ---- lists
+
+-- an item behind a place is one of the list
+pub dropped : {X : Type 0} (xs : List X) (i : ℕ) (x : X) → Contains (drop i xs) x → Contains xs x
+dropped xs zero x at = at
+dropped [] (suc i) x at = at
+dropped (y ∷ xs) (suc i) x at = Contains-there y xs x (dropped xs i x at)
+
+-- the items from the place of one on
+drop_item : {X : Type 0} (xs : List X) (i : ℕ) (x : X) → slice_get xs i ≡ Some x → drop i xs ≡ x ∷ drop (suc i) xs
+drop_item [] i x is = absurd (none-some x is)
+drop_item (y ∷ xs) zero x is = ap (λ z. z ∷ xs) (same_Some y x is)
+drop_item (y ∷ xs) (suc i) x is = drop_item xs i x is
+
+-- nothing is left past the end
+drop_past : {X : Type 0} (xs : List X) (i : ℕ) → nat_lt i (length xs) ≡ false → drop i xs ≡ []
+drop_past xs i is = drop_of_length-le xs (ltb-false i (length xs) is)
+
+-- an item at a place is one of the list
+pub item_in : {X : Type 0} (xs : List X) (i : ℕ) (x : X) → slice_get xs i ≡ Some x → Contains xs x
+item_in [] i x is = absurd (none-some x is)
+item_in (y ∷ xs) zero x is = subst (Contains (y ∷ xs)) (same_Some y x is) (Contains-here y xs)
+item_in (y ∷ xs) (suc i) x is = Contains-there y xs x (item_in xs i x is)
+
+-- ---- ends
+
+module _ {F : Type 0} (codec : Codec F) (job : Job) where
+  -- how calls after those before may end along a course, where these are all calls of the job
+  abbrev EndsIn : List Exchange → List Exchange → Found → List Call → List Exchange → Outcome → Type 0
+  EndsIn whole seen found course xs (outcome.Refused r) = (last : Exchange) × EndsAt (IsLookOf codec job found) seen course xs last × IsCause codec job found whole last r
+  EndsIn whole seen found course xs outcome.OutOfMemory = ((left : List Call) × Along (IsLookOf codec job found) seen course xs left) ⊎ ((last : Exchange) × EndsAt (IsLookOf codec job found) seen course xs last)
+  EndsIn whole seen found course xs outcome.Created = Along (IsLookOf codec job found) seen course xs [] × ((f : FrameIn) × (job.command ≡ Create f))
+  EndsIn whole seen found course xs (outcome.Evolved k) =
+      Along (IsLookOf codec job found) seen course xs [] × ((change : Evolution) × (job.command ≡ Evolve change)) × (k ≡ key_of job) × IsGot job found whole × (refused_in found job.command ≡ None)
+  EndsIn whole seen found course xs (outcome.Written f) =
+      Along (IsLookOf codec job found) seen course xs [] × ((w : WriteIn) × (job.command ≡ Write w)) × (f ≡ frag_of_job job) × IsGot job found whole × (refused_in found job.command ≡ None)
+  EndsIn whole seen found course xs (outcome.Deleted f) =
+      Along (IsLookOf codec job found) seen course xs [] × ((text : List ℕ) × (job.command ≡ Delete text)) × (f ≡ frag_of_job job) × IsGot job found whole × (refused_in found job.command ≡ None)
+  EndsIn whole seen found course xs (outcome.Read answer) =
+      Along (IsLookOf codec job found) seen course xs [] × ((from : ℕ) × (to : ℕ) × (query : Query) × (job.command ≡ Read from to query)) × IsGot job found whole × (refused_in found job.command ≡ None)
+
+  -- how the last calls may end along a course
+  abbrev pub Ends : List Exchange → Found → List Call → List Exchange → Outcome → Type 0
+  Ends seen found course xs end = EndsIn (seen ++ xs) seen found course xs end
+
+  -- what a job that ends well must be
+  abbrev pub Well : List Exchange → Found → Outcome → Type 0
+  Well whole found outcome.Created = (f : FrameIn) × (job.command ≡ Create f)
+  Well whole found (outcome.Evolved k) = ((change : Evolution) × (job.command ≡ Evolve change)) × (k ≡ key_of job) × IsGot job found whole × (refused_in found job.command ≡ None)
+  Well whole found (outcome.Written f) = ((w : WriteIn) × (job.command ≡ Write w)) × (f ≡ frag_of_job job) × IsGot job found whole × (refused_in found job.command ≡ None)
+  Well whole found (outcome.Deleted f) = ((text : List ℕ) × (job.command ≡ Delete text)) × (f ≡ frag_of_job job) × IsGot job found whole × (refused_in found job.command ≡ None)
+  Well whole found (outcome.Read answer) = ((from : ℕ) × (to : ℕ) × (query : Query) × (job.command ≡ Read from to query)) × IsGot job found whole × (refused_in found job.command ≡ None)
+  Well whole found _ = ⊥
+
+  -- a job that can end well can after a call more
+  well_stays : (seen : List Exchange) (found : Found) (x : Exchange) (o : Outcome) → Well seen found o → Well (seen ++ x ∷ []) found o
+  well_stays seen found x outcome.Created is = is
+  well_stays seen found x (outcome.Evolved k) is = (is.0, is.1, got_stays job found seen (seen ++ x ∷ []) (among_more seen x) is.2, is.3)
+  well_stays seen found x (outcome.Written f) is = (is.0, is.1, got_stays job found seen (seen ++ x ∷ []) (among_more seen x) is.2, is.3)
+  well_stays seen found x (outcome.Deleted f) is = (is.0, is.1, got_stays job found seen (seen ++ x ∷ []) (among_more seen x) is.2, is.3)
+  well_stays seen found x (outcome.Read answer) is = (is.0, got_stays job found seen (seen ++ x ∷ []) (among_more seen x) is.1, is.2)
+  well_stays seen found x _ is = absurd is
+
+  -- a job that ends well at the end of its course ends along it
+  well_ended : (seen : List Exchange) (found : Found) (course : List Call) (xs : List Exchange) (o : Outcome) → Well (seen ++ xs) found o → Along (IsLookOf codec job found) seen course xs [] → Ends seen found course xs o
+  well_ended seen found course xs outcome.Created is along = (along, is)
+  well_ended seen found course xs (outcome.Evolved k) is along = (along, is.0, is.1, is.2, is.3)
+  well_ended seen found course xs (outcome.Written f) is along = (along, is.0, is.1, is.2, is.3)
+  well_ended seen found course xs (outcome.Deleted f) is along = (along, is.0, is.1, is.2, is.3)
+  well_ended seen found course xs (outcome.Read answer) is along = (along, is.0, is.1, is.2)
+  well_ended seen found course xs _ is along = absurd is
+
+  -- a call that lets the job go on, before calls along the rest of the course
+  ends_before : (whole seen : List Exchange) (found : Found) (course rest : List Call) (x : Exchange) (xs : List Exchange) (end : Outcome) → IsTrue (lets_on x.call x.reply) → IsNext (IsLookOf codec job found) seen course x.call rest
+      → EndsIn whole (seen ++ x ∷ []) found rest xs end → EndsIn whole seen found course (x ∷ xs) end
+  ends_before whole seen found course rest x xs outcome.Created on next h = ((on, (rest, next, h.0)), h.1)
+  ends_before whole seen found course rest x xs (outcome.Evolved k) on next h = ((on, (rest, next, h.0)), h.1, h.2, h.3, h.4)
+  ends_before whole seen found course rest x xs (outcome.Written f) on next h = ((on, (rest, next, h.0)), h.1, h.2, h.3, h.4)
+  ends_before whole seen found course rest x xs (outcome.Deleted f) on next h = ((on, (rest, next, h.0)), h.1, h.2, h.3, h.4)
+  ends_before whole seen found course rest x xs (outcome.Read answer) on next h = ((on, (rest, next, h.0)), h.1, h.2, h.3)
+  ends_before whole seen found course rest x xs (outcome.Refused r) on next h = (h.0, at_cons (IsLookOf codec job found) seen course rest x xs h.0 on next h.1, h.2)
+  ends_before whole seen found course rest x xs outcome.OutOfMemory on next (inl h) = inl (h.0, (on, (rest, next, h.1)))
+  ends_before whole seen found course rest x xs outcome.OutOfMemory on next (inr h) = inr (h.0, at_cons (IsLookOf codec job found) seen course rest x xs h.0 on next h.1)
+
+  ends_cons : (seen : List Exchange) (found : Found) (course rest : List Call) (x : Exchange) (xs : List Exchange) (end : Outcome) → IsTrue (lets_on x.call x.reply) → IsNext (IsLookOf codec job found) seen course x.call rest
+      → Ends (seen ++ x ∷ []) found rest xs end → Ends seen found course (x ∷ xs) end
+  ends_cons seen found course rest x xs end on next h =
+      ends_before (seen ++ x ∷ xs) seen found course rest x xs end on next (subst (λ whole. EndsIn whole (seen ++ x ∷ []) found rest xs end) (append_assoc seen (x ∷ []) xs) h)
+
+  -- ---- a job that is over
+
+  -- a job that is over has one end
+  over_is : (o end : Outcome) → ◌≡◌ {A = State F} (Over o) (Over end) → end ≡ o
+  over_is o end e = cc
+
+  -- a job that is over asks nothing, and has ended so, or for want of memory
+  pub over_ends : (o : Outcome) (xs : List Exchange) (end : Outcome) → AskedFrom codec job (Over o) xs → EndsFrom codec job (Over o) xs end → (xs ≡ []) × ((end ≡ o) ⊎ (end ≡ outcome.OutOfMemory))
+  over_ends o [] end a (inl e) = (refl, inl (over_is o end e))
+  over_ends o [] end a (inr e) = (refl, inr e.0)
+  over_ends o (x ∷ xs) end a e = absurd (none-some x.call (next_call codec job (Over o) x.call a.0))
+
+  -- ---- where states lead
+
+  -- the call may come along a course after those before
+  abbrev pub Next : List Exchange → Found → List Call → Call → List Call → Type 0
+  Next seen found course c rest = IsNext (IsLookOf codec job found) seen course c rest
+
+  -- the calls from a state on say what was found, and end along the course
+  abbrev pub Goes : List Exchange → Found → List Call → List Exchange → Outcome → State F → Type 0
+  Goes seen found course xs end s = AskedFrom codec job s xs → EndsFrom codec job s xs end → AreFound job found xs × Ends seen found course xs end
+
+  -- so do the calls after one more, which leads to a state
+  abbrev pub Follows : List Exchange → Found → List Call → Exchange → List Exchange → Outcome → State F → Type 0
+  Follows seen found course x xs end s = AskedFrom codec job s xs → EndsFrom codec job s xs end → AreFound job found (x ∷ xs) × Ends seen found course (x ∷ xs) end
+
+  -- one that leads on
+  pub follows_on : (seen : List Exchange) (found : Found) (course rest : List Call) (x : Exchange) (xs : List Exchange) (end : Outcome) (s : State F) → SaysThere found job.command x.call x.reply → IsTrue (lets_on x.call x.reply) → Next seen found course x.call rest → Goes (seen ++ x ∷ []) found rest xs end s → Follows seen found course x xs end s
+  follows_on seen found course rest x xs end s says on next goes_on a e =
+      let h = goes_on a e in
+      (All-cons (λ y. SaysThere found job.command y.call y.reply) x xs says h.0, ends_cons seen found course rest x xs end on next h.1)
+
+  -- one by which the job ends
+  pub follows_over : (seen : List Exchange) (found : Found) (course rest : List Call) (x : Exchange) (xs : List Exchange) (end o : Outcome) → SaysThere found job.command x.call x.reply → Next seen found course x.call rest → Ends seen found course (x ∷ []) o → Follows seen found course x xs end (Over o)
+  follows_over seen found course rest x xs end o says next h a e =
+      let over = over_ends o xs end a e in
+      subst (λ ys. AreFound job found (x ∷ ys) × Ends seen found course (x ∷ ys) end) (sym over.0)
+      (All-cons (λ y. SaysThere found job.command y.call y.reply) x [] says (All-nil (λ y. SaysThere found job.command y.call y.reply)), by_end over.1)
+    where
+      by_end : (end ≡ o) ⊎ (end ≡ outcome.OutOfMemory) → Ends seen found course (x ∷ []) end
+      by_end (inl q) = subst (Ends seen found course (x ∷ [])) (sym q) h
+      by_end (inr q) = subst (Ends seen found course (x ∷ [])) (sym q) (inr (x, at_last (IsLookOf codec job found) seen course rest x next))
+
+  -- one by which it ends for want of memory
+  pub follows_none : (seen : List Exchange) (found : Found) (course rest : List Call) (x : Exchange) (xs : List Exchange) (end : Outcome) → SaysThere found job.command x.call x.reply → Next seen found course x.call rest → Follows seen found course x xs end (Over outcome.OutOfMemory)
+  follows_none seen found course rest x xs end says next = follows_over seen found course rest x xs end outcome.OutOfMemory says next (inr (x, at_last (IsLookOf codec job found) seen course rest x next))
+
+  -- one whose refusal has its cause
+  pub follows_refused : (seen : List Exchange) (found : Found) (course rest : List Call) (x : Exchange) (xs : List Exchange) (end : Outcome) (r : Refusal) → SaysThere found job.command x.call x.reply → Next seen found course x.call rest → IsCause codec job found (seen ++ x ∷ []) x r → Follows seen found course x xs end (refuse r)
+  follows_refused seen found course rest x xs end r says next cause = follows_over seen found course rest x xs end (outcome.Refused r) says next (x, at_last (IsLookOf codec job found) seen course rest x next, cause)
+
+  -- one whose reply does not let the job go on
+  pub follows_ended : (seen : List Exchange) (found : Found) (course rest : List Call) (c : Call) (r : Reply) (xs : List Exchange) (end : Outcome) → LeavesFrame c r → SaysThere found job.command c r → Next seen found course c rest → Follows seen found course (record { call = c; reply = r }) xs end (ended c r)
+  follows_ended seen found course rest c reply.Failed xs end leaves says next = follows_refused seen found course rest (record { call = c; reply = reply.Failed }) xs end (refusal.StoreFault (place_of c)) says next (refl, refl)
+  follows_ended seen found course rest (call.Put n bytes) reply.Taken xs end leaves says next = follows_refused seen found course rest (record { call = call.Put n bytes; reply = reply.Taken }) xs end (refusal.Taken n) says next (taken_elsewhere n bytes leaves, bytes, refl)
+  follows_ended seen found course rest (call.Get n from len) reply.Absent xs end leaves says next = follows_refused seen found course rest (record { call = call.Get n from len; reply = reply.Absent }) xs end (refusal.Missing n) says next (refl, refl)
+  follows_ended seen found course rest (call.Size n) reply.Absent xs end leaves says next = follows_refused seen found course rest (record { call = call.Size n; reply = reply.Absent }) xs end (refusal.Missing n) says next (refl, refl)
+  follows_ended seen found course rest (call.Put n bytes) r xs end leaves says next = follows_none seen found course rest (record { call = call.Put n bytes; reply = r }) xs end says next
+  follows_ended seen found course rest (call.Get n from len) r xs end leaves says next = follows_none seen found course rest (record { call = call.Get n from len; reply = r }) xs end says next
+  follows_ended seen found course rest (call.Size n) r xs end leaves says next = follows_none seen found course rest (record { call = call.Size n; reply = r }) xs end says next
+  follows_ended seen found course rest (call.Remove n) r xs end leaves says next = follows_none seen found course rest (record { call = call.Remove n; reply = r }) xs end says next
+  follows_ended seen found course rest (call.List p) r xs end leaves says next = follows_none seen found course rest (record { call = call.List p; reply = r }) xs end says next
+
+  -- a job that makes no call, and is not over, ends for want of memory
+  pub goes_none : (seen : List Exchange) (found : Found) (course : List Call) (end : Outcome) (s : State F) → ((o : Outcome) → s ≡ Over o → ⊥) → Goes seen found course [] end s
+  goes_none seen found course end s not_over a (inl e) = absurd (not_over end e)
+  goes_none seen found course end s not_over a (inr e) = (All-nil (λ y. SaysThere found job.command y.call y.reply), subst (Ends seen found course []) (sym e.0) (inl (course, refl)))
+
+  -- a call that a state asks, and what follows from where it leads
+  pub goes_by : (seen : List Exchange) (found : Found) (course : List Call) (x : Exchange) (xs : List Exchange) (end : Outcome) (s : State F) (c : Call) → asks codec job s ≡ Some c → (x.call ≡ c → Follows seen found course (record { call = c; reply = x.reply }) xs end (goes codec job s x.reply)) → Goes seen found course (x ∷ xs) end s
+  goes_by seen found course x xs end s c is follows a e =
+      subst (λ d. AreFound job found (record { call = d; reply = x.reply } ∷ xs) × Ends seen found course (record { call = d; reply = x.reply } ∷ xs) end) (sym (call_is c x.call (sym is ∙ next_call codec job s x.call a.0))) (follows (call_is c x.call (sym is ∙ next_call codec job s x.call a.0)) a.1 (ends_on codec job s x xs end e))
+
+  -- ---- puts
+
+  -- after a call, objects are put from a place on
+  pub follows_putting : (seen : List Exchange) (found : Found) (course : List Call) (x : Exchange) (xs : List Exchange) (end : Outcome) (objects : List NewObject) (next : ℕ) (o : Outcome) → Well (seen ++ x ∷ []) found o → SaysThere found job.command x.call x.reply → IsTrue (lets_on x.call x.reply) → Next seen found course x.call (list_map put_of (drop next objects))
+      → Goes (seen ++ x ∷ []) found (list_map put_of (drop next objects)) xs end (Puts objects next o) → Follows seen found course x xs end (putting objects next o)
+  follows_putting seen found course x xs end objects next o well says on following goes_on = by_count (nat_lt next (length objects)) refl
+    where
+      by_count : (b : Bool) → nat_lt next (length objects) ≡ b → Follows seen found course x xs end (cond b (Puts objects next o) (Over o))
+      by_count true is = follows_on seen found course (list_map put_of (drop next objects)) x xs end (Puts objects next o) says on following goes_on
+      by_count false is =
+          let none : Next seen found course x.call [] = subst (λ os. Next seen found course x.call (list_map put_of os)) (drop_past objects next is) following in
+          follows_over seen found course [] x xs end o says none (well_ended seen found course (x ∷ []) o well (on, ([], none, refl)))
+
+  -- a job that puts objects goes along their puts
+  pub puts_go : (seen : List Exchange) (found : Found) (objects : List NewObject) (o : Outcome) → Well seen found o → ((ob : NewObject) → Contains objects ob → ob.name ≡ name.Domain → ⊥) → ((ob : NewObject) → Contains objects ob → (r : Reply) → SaysThere found job.command (put_of ob) r)
+      → (xs : List Exchange) (end : Outcome) (next : ℕ) → Goes seen found (list_map put_of (drop next objects)) xs end (Puts objects next o)
+  puts_go seen found objects o well elsewhere silent [] end next = goes_none seen found (list_map put_of (drop next objects)) end (Puts objects next o) (λ e q. cc)
+  puts_go seen found objects o well elsewhere silent (x ∷ xs) end next = by_item (slice_get objects next) refl (λ y. puts_go (seen ++ y ∷ []) found objects o (well_stays seen found y o well) elsewhere silent xs end (suc next))
+    where
+      by_item : (i : Option NewObject) → slice_get objects next ≡ i → ((y : Exchange) → Goes (seen ++ y ∷ []) found (list_map put_of (drop (suc next) objects)) xs end (Puts objects (suc next) o)) → Goes seen found (list_map put_of (drop next objects)) (x ∷ xs) end (Puts objects next o)
+      by_item None is goes_on = λ a e. absurd (none-some x.call (sym (ap (option_map put_of) is) ∙ next_call codec job (Puts objects next o) x.call a.0))
+      by_item (Some ob) is goes_on =
+          let left : drop next objects ≡ ob ∷ drop (suc next) objects = drop_item objects next ob is in
+          goes_by seen found (list_map put_of (drop next objects)) x xs end (Puts objects next o) (put_of ob) (ap (option_map put_of) is)
+          (λ same. subst (λ os. Follows seen found (list_map put_of os) (record { call = put_of ob; reply = x.reply }) xs end (goes codec job (Puts objects next o) x.reply)) (sym left) (rw is (by_reply x.reply)))
+        where
+          by_reply : (r : Reply) → Follows seen found (put_of ob ∷ list_map put_of (drop (suc next) objects)) (record { call = put_of ob; reply = r }) xs end (on_made (put_of ob) (putting objects (suc next) o) r)
+          by_reply reply.Made =
+              follows_putting seen found (put_of ob ∷ list_map put_of (drop (suc next) objects)) (record { call = put_of ob; reply = reply.Made }) xs end objects (suc next) o (well_stays seen found (record { call = put_of ob; reply = reply.Made }) o well) (silent ob (item_in objects next ob is) reply.Made) (lets_put ob.name ob.bytes) (inr refl) (goes_on (record { call = put_of ob; reply = reply.Made }))
+          by_reply r = follows_ended seen found (put_of ob ∷ list_map put_of (drop (suc next) objects)) (list_map put_of (drop (suc next) objects)) (put_of ob) r xs end (leaves_frame ob.name ob.bytes r (elsewhere ob (item_in objects next ob is))) (silent ob (item_in objects next ob is) r) (inr refl)

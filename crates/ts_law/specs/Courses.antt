@@ -1,0 +1,324 @@
+-- The course of each job: the puts and listings that it makes, in order, what it may look at between them, and how it may end.
+use Rattle.std.specs.Prelude.{◌≡◌, ◌≢◌, ℕ, Bool, true, false, cond, List, [], ◌∷◌, ◌++◌, Option, Some, None, option_map, length, nat_lt, Result, Ok, Err, IsTrue, All, Contains, ⊤, ◌⊎◌, map as list_map}
+use Rattle.ts_base.specs.declared.keys.Key.{Key}
+use Rattle.ts_base.specs.declared.keys.FragKey.{FragKey}
+use Rattle.ts_base.specs.declared.names.Name.{Name}
+use Rattle.ts_base.specs.declared.names.Part.{Part}
+use Rattle.ts_base.specs.declared.heads.Cell.{Cell}
+use Rattle.ts_base.specs.declared.heads.Head.{Head}
+use Rattle.ts_store.specs.declared.call.Call.{Call}
+use Rattle.ts_store.specs.declared.call.Reply.{Reply}
+use Rattle.ts_model.specs.declared.commands.Command.{Command}
+use Rattle.ts_model.specs.declared.commands.Job.{Job}
+use Rattle.ts_model.specs.declared.commands.FrameIn.{FrameIn}
+use Rattle.ts_model.specs.declared.commands.WriteIn.{WriteIn}
+use Rattle.ts_model.specs.declared.answers.Outcome.{Outcome}
+use Rattle.ts_model.specs.declared.answers.Refusal.{Refusal}
+use Rattle.ts_model.specs.declared.answers.Driven.{Driven}
+use Rattle.ts_schema.specs.declared.frames.Frame.{Frame}
+use Rattle.ts_schema.specs.declared.schemas.Schema.{Schema}
+use Rattle.ts_schema.specs.declared.attrs.Attr.{Attr}
+use Rattle.ts_schema.specs.declared.evolution.Evolution.{Evolution}
+use Rattle.ts_schema.specs.declared.faults.SchemaFault.{SchemaFault}
+use Rattle.ts_schema.specs.declared.wants.Want.{Want}
+use Rattle.std.specs.Result.{result_err}
+use Rattle.ts_schema.specs.Evolutions.{evolved_attrs, evolution_fault, schema_at}
+use Rattle.ts_schema.specs.FrameTexts.{frame_of}
+use Rattle.ts_schema.specs.SchemaTexts.{schema_of}
+use Rattle.ts_model.specs.declared.commands.Command.TheVariants.{Create, Evolve, Write, Read, Delete}
+use Rattle.ts_model.specs.Stops.{cuts, Uncut}
+use Rattle.ts_model.specs.States.{schemas_in, place_of, get_all, put_of, made_by, frame_put, schema_object_of, write_objects, is_own_frame, get_frame, list_schemas, list_commits, get_schema, get_delete, committed_in, deletes_in, meets, delete_object_of, wanted, Exchange}
+use Rattle.ts_model.specs.Codecs.{Codec, Asks, Breaks, is_look}
+use Rattle.ts_model.specs.Jobs.{key_of, frag_of_job, refused_before, looked_at}
+use Rattle.ts_model.specs.Commands.{laid}
+use Rattle.ts_model.specs.Queries.{box_of, delete_condition, ready_in}
+use Rattle.ts_cond.specs.CondTexts.{cond_of}
+use Rattle.ts_cond.specs.Tests.{Condition}
+use Rattle.ts_cond.specs.declared.query.Query.{Query}
+use Rattle.ts_base.specs.declared.names.CommitKind.TheVariants.{Del}
+use Rattle.ts_base.specs.declared.names.Name.TheVariants as name
+use Rattle.ts_base.specs.declared.names.Place.TheVariants as place
+use Rattle.ts_store.specs.declared.call.Call.TheVariants as call
+use Rattle.ts_store.specs.declared.call.Reply.TheVariants as reply
+use Rattle.ts_model.specs.declared.answers.Outcome.TheVariants as outcome
+use Rattle.ts_model.specs.declared.answers.Refusal.TheVariants as refusal
+use Rattle.ts_model.specs.declared.answers.Driven.TheVariants as driven
+
+-- ---- courses
+
+-- what a job found: whether the frame was there already, the schema that it works in, and the frame
+pub record Found : Type 0 where
+  pub taken : Bool
+  pub there : Schema
+  pub frame : Frame
+
+-- the put of an evolve, where no fault stands against its change
+abbrev pub evolve_puts : Job → Found → Evolution → Option SchemaFault → List Call
+evolve_puts job found change None = put_of (schema_object_of job (evolved_attrs (found.there).attrs change)) ∷ []
+evolve_puts job found change (Some fault) = []
+
+-- the puts of a write, where no refusal stands against its cells
+abbrev pub cell_puts : {F : Type 0} → Codec F → Job → Found → Result (List Cell) Refusal → List Call
+cell_puts codec job found (Ok cells) = list_map put_of (write_objects codec found.frame found.there job cells)
+cell_puts codec job found (Err r) = []
+
+-- the put of a delete, where no refusal stands against its condition
+abbrev pub delete_puts : Job → Result Condition Refusal → List Call
+delete_puts job (Ok condition) = put_of (delete_object_of job condition) ∷ []
+delete_puts job (Err r) = []
+
+-- the puts and listings of a job, in order
+abbrev pub course_by : {F : Type 0} → Codec F → Job → Found → Command → List Call
+course_by codec job found (Create f) = frame_put f ∷ (cond found.taken (list_schemas ∷ []) [] ++ put_of (schema_object_of job f.attrs) ∷ [])
+course_by codec job found (Evolve change) = list_schemas ∷ evolve_puts job found change (evolution_fault (found.frame).domain (found.there).attrs change)
+course_by codec job found (Write w) = list_schemas ∷ cell_puts codec job found (laid found.frame (found.there).attrs w)
+course_by codec job found (Read from to query) = list_commits ∷ list_schemas ∷ []
+course_by codec job found (Delete text) = list_schemas ∷ delete_puts job (delete_condition found.frame (found.there).attrs text)
+
+-- the course of a job that found this
+abbrev pub course_of : {F : Type 0} → Codec F → Job → Found → List Call
+course_of codec job found = course_by codec job found job.command
+
+-- ---- what a job found
+
+-- the schema that bytes spell under a key is this one
+abbrev pub IsSchemaIn : Schema → Key → Result (List Attr) ℕ → Type 0
+IsSchemaIn there k (Ok attrs) = there ≡ record { key = k; attrs = attrs }
+IsSchemaIn there k (Err at) = ⊤
+
+-- the frame that bytes spell is this one
+abbrev pub IsFrameIn : Frame → Result Frame ℕ → Type 0
+IsFrameIn frame (Ok x) = frame ≡ x
+IsFrameIn frame (Err at) = ⊤
+
+-- a reply says what the job found: that its frame was there, the schema that it works in, the frame
+abbrev pub SaysThere : Found → Command → Call → Reply → Type 0
+SaysThere found (Create f) (call.Put name.Domain bytes) reply.Taken = found.taken ≡ true
+SaysThere found (Create f) (call.Put name.Domain bytes) reply.Made = found.taken ≡ false
+SaysThere found (Evolve change) (call.Get (name.Schema k) from len) (reply.Bytes bytes) = IsSchemaIn found.there k (schema_of bytes)
+SaysThere found (Evolve change) (call.Get name.Domain from len) (reply.Bytes bytes) = IsFrameIn found.frame (frame_of bytes)
+SaysThere found (Write w) (call.Get (name.Schema k) from len) (reply.Bytes bytes) = IsSchemaIn found.there k (schema_of bytes)
+SaysThere found (Write w) (call.Get name.Domain from len) (reply.Bytes bytes) = IsFrameIn found.frame (frame_of bytes)
+SaysThere found (Delete text) (call.Get (name.Schema k) from len) (reply.Bytes bytes) = IsSchemaIn found.there k (schema_of bytes)
+SaysThere found (Delete text) (call.Get name.Domain from len) (reply.Bytes bytes) = IsFrameIn found.frame (frame_of bytes)
+SaysThere found command c r = ⊤
+
+-- a job was told bytes that spell a schema
+abbrev pub GotSchema : List Exchange → Schema → Type 0
+GotSchema trace s = (bytes : List ℕ) × Contains trace (record { call = get_all (name.Schema s.key); reply = reply.Bytes bytes }) × (schema_of bytes ≡ Ok s.attrs)
+
+-- of the schemas that a job listed the one with the key holds where the job looks
+pub record IsKeyThere (job : Job) (trace : List Exchange) (k : Key) : Type 0 where
+  pub names : List Name
+  pub listed : Contains trace (record { call = list_schemas; reply = reply.Names names })
+  pub newest : schema_at (schemas_in names) (looked_at job) ≡ Some k
+
+-- a job got what it found: the schema there is that of its listing of the schemas, and it and the frame are spelled by the bytes that the job was told
+pub record IsGot (job : Job) (found : Found) (trace : List Exchange) : Type 0 where
+  pub key : IsKeyThere job trace (found.there).key
+  pub schema : GotSchema trace found.there
+  pub frame_bytes : List ℕ
+  pub frame_got : Contains trace (record { call = get_frame; reply = reply.Bytes frame_bytes })
+  pub frame_is : frame_of frame_bytes ≡ Ok found.frame
+
+-- all replies to a job say what it found
+abbrev pub AreFound : Job → Found → List Exchange → Type 0
+AreFound job found trace = All (λ x. SaysThere found job.command x.call x.reply) trace
+
+-- ---- the fetches of a read
+
+-- what a read wants of a fragment whose attributes are those of a schema, in the array that it found
+abbrev pub wanted_in : Found → ℕ → ℕ → Query → Schema → Want
+wanted_in found from to query s = wanted (box_of query.sub (found.frame).domain) from to s.attrs
+
+-- a read opened a fragment, whose head it got, in the schema that the head names and that it got too, and the fetch began so
+pub record IsOpened {F : Type 0} (codec : Codec F) (job : Job) (found : Found) (trace : List Exchange) (frag : FragKey) (opening : Result F ℕ) : Type 0 where
+  pub from : ℕ
+  pub to : ℕ
+  pub query : Query
+  pub is_read : job.command ≡ Read from to query
+  pub object : List ℕ
+  pub got : Contains trace (record { call = get_all (name.Part frag (codec.head_part found.frame)); reply = reply.Bytes object })
+  pub head : Head
+  pub reads : codec.head found.frame frag object ≡ Ok head
+  pub schema : Schema
+  pub schema_got : GotSchema trace schema
+  pub named : schema.key ≡ head.schema
+  pub opens : codec.opens found.frame schema frag object (wanted_in found from to query schema) ≡ opening
+
+-- a fetch that waited for the reply to a call came by these replies, each to the call that it asked for, to wait for the reply to another
+abbrev pub IsFetched : {F : Type 0} → Codec F → List Exchange → F → Call → List Reply → F → Call → Type 0
+IsFetched codec trace f c [] g d = (f ≡ g) × (c ≡ d)
+IsFetched {F} codec trace f c (r ∷ rs) g d = Contains trace (record { call = c; reply = r }) × (h : F) × (b : Call) × (codec.steps f r ≡ Asks h b) × IsFetched codec trace h b rs g d
+
+-- a fetch that a read began waits for the reply to a call
+pub record IsUnderWay {F : Type 0} (codec : Codec F) (job : Job) (found : Found) (trace : List Exchange) (frag : FragKey) (fetch : F) (c : Call) : Type 0 where
+  pub first : F
+  pub opened : IsOpened codec job found trace frag (Ok first)
+  pub begun : F
+  pub asked : Call
+  pub begins : codec.steps first reply.Start ≡ Asks begun asked
+  pub replies : List Reply
+  pub fetched : IsFetched codec trace begun asked replies fetch c
+
+-- ---- which objects a job may look at
+
+-- of the names of a kind that a read listed with the commits one whose span meets the interval
+abbrev pub IsListedIn : (List Name → List FragKey) → List Exchange → ℕ → ℕ → FragKey → Type 0
+IsListedIn kind trace from to f = (names : List Name) × Contains trace (record { call = list_commits; reply = reply.Names names }) × Contains (kind names) f × (meets from to f ≡ true)
+
+-- a fragment is near: its `.wrt` was listed, and its span meets the interval
+abbrev pub IsLookedInto : List Exchange → ℕ → ℕ → FragKey → Type 0
+IsLookedInto trace from to f = IsListedIn committed_in trace from to f
+
+-- a read got the head of a fragment in an array of the frame that it found
+abbrev pub GotHead : {F : Type 0} → Codec F → Found → List Exchange → FragKey → Head → Type 0
+GotHead codec found trace f head =
+    (object : List ℕ) × Contains trace (record { call = get_all (name.Part f (codec.head_part found.frame)); reply = reply.Bytes object }) × (codec.head found.frame f object ≡ Ok head)
+
+-- a job that works in a schema gets the one that holds where it looks, of those that it listed, and once it has that one the frame
+abbrev pub LooksThere : Job → List Exchange → Call → Type 0
+LooksThere job trace c = ((k : Key) × IsKeyThere job trace k × (c ≡ get_schema k)) ⊎ ((s : Schema) × IsKeyThere job trace s.key × GotSchema trace s × (c ≡ get_frame))
+
+-- what a read looks at in the array that it found: each is a get of a whole object, but for the calls for which a fetch asks
+pub data LooksInside {F : Type 0} (codec : Codec F) (job : Job) (found : Found) (trace : List Exchange) (from to : ℕ) (c : Call) : Type 0 where
+  -- the part that has the head of a near fragment
+  AtHead : (f : FragKey) → IsLookedInto trace from to f → c ≡ get_all (name.Part f (codec.head_part found.frame)) → LooksInside codec job found trace from to c
+  -- a further schema: one that is named by a head which the read got, and is not the schema there
+  AtSchema : (f : FragKey) (head : Head) → GotHead codec found trace f head → head.schema ≢ (found.there).key → c ≡ get_schema head.schema → LooksInside codec job found trace from to c
+  -- a delete that was listed and is stamped in the interval
+  AtDelete : (f : FragKey) → IsListedIn deletes_in trace from to f → c ≡ get_delete f → LooksInside codec job found trace from to c
+  -- a get or a size for which the fetch of a near fragment asks, which the read began on what it got
+  InFetch : (f : FragKey) (fetch : F) → IsLookedInto trace from to f → IsUnderWay codec job found trace f fetch c → IsTrue (is_look c) → LooksInside codec job found trace from to c
+
+-- the call looks at an object that the job's command reads, by what the job was told before; but for the calls of fetches it gets the whole object
+abbrev pub IsLookBy : {F : Type 0} → Codec F → Job → Found → List Exchange → Command → Call → Type 0
+IsLookBy codec job found trace (Create f) c = Contains trace (record { call = frame_put f; reply = reply.Taken }) × (c ≡ get_frame)
+IsLookBy codec job found trace (Evolve change) c = LooksThere job trace c
+IsLookBy codec job found trace (Write w) c = LooksThere job trace c
+IsLookBy codec job found trace (Read from to query) c = LooksThere job trace c ⊎ (IsGot job found trace × LooksInside codec job found trace from to c)
+IsLookBy codec job found trace (Delete text) c = LooksThere job trace c
+
+-- the call looks at an object that the job reads
+abbrev pub IsLookOf : {F : Type 0} → Codec F → Job → Found → List Exchange → Call → Type 0
+IsLookOf codec job found trace c = IsLookBy codec job found trace job.command c
+
+-- ---- going along a course
+
+-- which calls a job may make between those of its course, after these calls of its own
+abbrev pub Looks : Type 1
+Looks = List Exchange → Call → Type 0
+
+-- the call may come after these calls where `course` is left of a course, and leaves `rest` of it: it is a look, which may stand between the calls of a course, or the course's next call
+abbrev pub IsNext : Looks → List Exchange → List Call → Call → List Call → Type 0
+IsNext looks trace course c rest = (looks trace c × (course ≡ rest)) ⊎ (course ≡ c ∷ rest)
+
+-- the reply is what a call is asked for: a get or a size may be told bytes or a length; a create goes on where its frame was there already
+abbrev pub lets_on : Call → Reply → Bool
+lets_on (call.Put name.Domain bytes) reply.Taken = true
+lets_on (call.Put n bytes) reply.Made = true
+lets_on (call.List prefix) (reply.Names names) = true
+lets_on (call.Get n from len) (reply.Bytes bytes) = true
+lets_on (call.Get n from len) (reply.Length size) = true
+lets_on (call.Size n) (reply.Bytes bytes) = true
+lets_on (call.Size n) (reply.Length len) = true
+lets_on c r = false
+
+-- after those before, the calls went along the course, each reply let the job go on, and `left` is left of the course
+abbrev pub Along : Looks → List Exchange → List Call → List Exchange → List Call → Type 0
+Along looks before course [] left = course ≡ left
+Along looks before course (x ∷ xs) left = IsTrue (lets_on x.call x.reply) × ((rest : List Call) × IsNext looks before course x.call rest × Along looks (before ++ x ∷ []) rest xs left)
+
+-- after those before, the calls went along the course up to the last one
+pub record EndsAt (looks : Looks) (before : List Exchange) (course : List Call) (trace : List Exchange) (last : Exchange) : Type 0 where
+  pub front : List Exchange
+  pub left : List Call
+  pub rest : List Call
+  pub parts : trace ≡ front ++ last ∷ []
+  pub along : Along looks before course front left
+  pub next : IsNext looks (before ++ front) left last.call rest
+
+-- ---- refusals
+
+-- why a job is refused where it found this
+abbrev pub refused_in : Found → Command → Option Refusal
+refused_in found (Evolve change) = option_map refusal.SchemaBad (evolution_fault (found.frame).domain (found.there).attrs change)
+refused_in found (Write w) = result_err (laid found.frame (found.there).attrs w)
+refused_in found (Read from to query) = result_err (ready_in found.frame (found.there).attrs query)
+refused_in found (Delete text) = result_err (delete_condition found.frame (found.there).attrs text)
+refused_in found _ = None
+
+-- a part of a fragment breaks its layout at an offset: where a read opens the fragment, where the fetch begins, or by the last reply, which the fetch waited for
+abbrev pub BreaksPart : {F : Type 0} → Codec F → Job → Found → List Exchange → Exchange → FragKey → Part → ℕ → Type 0
+BreaksPart {F} codec job found trace last f part at =
+    ((part ≡ codec.head_part found.frame) × IsOpened codec job found trace f (Err at))
+    ⊎ ((fetch : F) × ((IsOpened codec job found trace f (Ok fetch) × (codec.steps fetch reply.Start ≡ Breaks part at)) ⊎ (IsUnderWay codec job found trace f fetch last.call × (codec.steps fetch last.reply ≡ Breaks part at))))
+
+-- a read in the frame that it got finds a part of a fragment broken at an offset
+abbrev pub BreaksFetch : {F : Type 0} → Codec F → Job → Found → List Exchange → Exchange → Name → ℕ → Type 0
+BreaksFetch codec job found trace last n at = (f : FragKey) × (part : Part) × (n ≡ name.Part f part) × IsGot job found trace × BreaksPart codec job found trace last f part at
+
+-- the bytes of an object break its layout at an offset: a schema, the frame, a delete, or the head of a fragment in an array of the frame that the job got
+abbrev pub BreaksAt : {F : Type 0} → Codec F → Job → Found → List Exchange → Name → List ℕ → ℕ → Type 0
+BreaksAt codec job found trace (name.Schema k) bytes at = schema_of bytes ≡ Err at
+BreaksAt codec job found trace name.Domain bytes at = frame_of bytes ≡ Err at
+BreaksAt codec job found trace (name.Part f part) bytes at = IsGot job found trace × (part ≡ codec.head_part found.frame) × (codec.head found.frame f bytes ≡ Err at)
+BreaksAt codec job found trace (name.Commit f Del) bytes at = cond_of bytes ≡ Err at
+BreaksAt codec job found trace n bytes at = ⊥
+
+-- an array is there already: its frame is another one than a create makes, or it has a schema
+abbrev pub IsThere : FrameIn → Exchange → Type 0
+IsThere f last =
+    ((bytes : List ℕ) × (last ≡ record { call = get_frame; reply = reply.Bytes bytes }) × (is_own_frame (Some f) bytes ≡ false))
+    ⊎ ((names : List Name) × (last ≡ record { call = list_schemas; reply = reply.Names names }) × (nat_lt 0 (length names) ≡ true))
+
+-- a refusal has its cause: in the last call with its reply, or in what the job found and got
+abbrev pub IsCause : {F : Type 0} → Codec F → Job → Found → List Exchange → Exchange → Refusal → Type 0
+IsCause codec job found trace last refusal.ArrayExists = (f : FrameIn) × (job.command ≡ Create f) × IsThere f last
+IsCause codec job found trace last (refusal.NoSchema at) =
+    (made_by job.command ≡ None) × (names : List Name) × (last ≡ record { call = list_schemas; reply = reply.Names names }) × (at ≡ looked_at job) × (schema_at (schemas_in names) at ≡ None)
+IsCause codec job found trace last (refusal.Taken n) = (n ≡ name.Domain → ⊥) × (bytes : List ℕ) × (last ≡ record { call = call.Put n bytes; reply = reply.Taken })
+IsCause codec job found trace last (refusal.StoreFault p) = (p ≡ place_of last.call) × (last.reply ≡ reply.Failed)
+IsCause codec job found trace last (refusal.Missing n) = (place_of last.call ≡ place.Name n) × (last.reply ≡ reply.Absent)
+IsCause codec job found trace last (refusal.Damaged n at) =
+    ((bytes : List ℕ) × Contains trace (record { call = get_all n; reply = reply.Bytes bytes }) × BreaksAt codec job found trace n bytes at) ⊎ BreaksFetch codec job found trace last n at
+IsCause codec job found trace last r = IsGot job found trace × (refused_in found job.command ≡ Some r)
+
+-- ---- ends
+
+-- how the calls may end where `course` is a job's course: well, at the end of the course; refused; or out of memory, which may come anywhere
+abbrev pub EndsAlong : {F : Type 0} → Codec F → Job → Found → List Call → List Exchange → Outcome → Type 0
+EndsAlong codec job found course trace (outcome.Refused r) = (last : Exchange) × EndsAt (IsLookOf codec job found) [] course trace last × IsCause codec job found trace last r
+EndsAlong codec job found course trace outcome.OutOfMemory = ((left : List Call) × Along (IsLookOf codec job found) [] course trace left) ⊎ ((last : Exchange) × EndsAt (IsLookOf codec job found) [] course trace last)
+EndsAlong codec job found course trace outcome.Created = Along (IsLookOf codec job found) [] course trace [] × ((f : FrameIn) × (job.command ≡ Create f))
+EndsAlong codec job found course trace (outcome.Evolved k) = Along (IsLookOf codec job found) [] course trace [] × ((change : Evolution) × (job.command ≡ Evolve change)) × (k ≡ key_of job) × IsGot job found trace × (refused_in found job.command ≡ None)
+EndsAlong codec job found course trace (outcome.Written f) = Along (IsLookOf codec job found) [] course trace [] × ((w : WriteIn) × (job.command ≡ Write w)) × (f ≡ frag_of_job job) × IsGot job found trace × (refused_in found job.command ≡ None)
+EndsAlong codec job found course trace (outcome.Deleted f) = Along (IsLookOf codec job found) [] course trace [] × ((text : List ℕ) × (job.command ≡ Delete text)) × (f ≡ frag_of_job job) × IsGot job found trace × (refused_in found job.command ≡ None)
+EndsAlong codec job found course trace (outcome.Read answer) = Along (IsLookOf codec job found) [] course trace [] × ((from : ℕ) × (to : ℕ) × (query : Query) × (job.command ≡ Read from to query)) × IsGot job found trace × (refused_in found job.command ≡ None)
+
+-- how a job may end: one that is refused before its first call makes none
+abbrev pub MayEndAs : {F : Type 0} → Codec F → Job → Found → List Exchange → Outcome → Option Refusal → Type 0
+MayEndAs codec job found trace end None = EndsAlong codec job found (course_of codec job found) trace end
+MayEndAs codec job found trace end (Some r) = (trace ≡ []) × ((end ≡ outcome.Refused r) ⊎ (end ≡ outcome.OutOfMemory))
+
+-- the calls went along the course, and the stop cut the job off where it would have made one more call, which may come next there
+pub record IsCutOff {F : Type 0} (codec : Codec F) (job : Job) (found : Found) (trace : List Exchange) : Type 0 where
+  pub begins : refused_before job.command ≡ None
+  pub left : List Call
+  pub along : Along (IsLookOf codec job found) [] (course_of codec job found) trace left
+  pub unmade : Call
+  pub rest : List Call
+  pub next : IsNext (IsLookOf codec job found) trace left unmade rest
+  pub cut : cuts job.stop (length trace) unmade ≡ true
+
+-- how a job may come out: with an end, or cut off by its stop
+abbrev pub MayComeOut : {F : Type 0} → Codec F → Job → Found → List Exchange → Driven Outcome → Type 0
+MayComeOut codec job found trace (driven.Done end) = MayEndAs codec job found trace end (refused_before job.command)
+MayComeOut codec job found trace driven.Stopped = IsCutOff codec job found trace
+
+-- the calls of a job, in order, none of which its stop cut off, and how it came out
+pub record IsSegment {F : Type 0} (codec : Codec F) (job : Job) (trace : List Exchange) (result : Driven Outcome) : Type 0 where
+  pub uncut : Uncut job.stop 0 trace
+  pub found : Found
+  pub are_found : AreFound job found trace
+  pub ends : MayComeOut codec job found trace result
