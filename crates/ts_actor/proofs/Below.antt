@@ -1,11 +1,11 @@
 -- What was driven over a store that enters its calls made just these calls of the store below.
-use Rattle.std.proofs.Common.{◌≡◌, ℕ, inl, inr, List, [], ◌∷◌, Option, ap, subst}
+use Rattle.std.proofs.Common.{ℕ, inl, inr, List, [], ◌∷◌, Option, ap, subst}
 use Rattle.ts_base.specs.Held.{Held}
 use Rattle.ts_store.specs.declared.fate.Fate.{Fate}
 use Rattle.ts_store.specs.declared.call.Call.{Call}
 use Rattle.ts_store.specs.declared.call.Reply.{Reply}
 use Rattle.ts_store.specs.declared.recorder.Recorder.{Recorder}
-use Rattle.ts_store.specs.Recorders.{Recorded}
+use Rattle.ts_store.specs.Recorders.{Recorded, WasMade}
 use Rattle.ts_store.specs.Stores.{Answers}
 use Rattle.ts_model.specs.States.{Exchange}
 use Rattle.ts_actor.specs.Drives.{Called, Leads, MayBeMade, MadeOf}
@@ -13,11 +13,11 @@ use Rattle.ts_actor.specs.Drives.{Called, Leads, MayBeMade, MadeOf}
 module _ {S : Type 0} (held : S → Option Held) (last : S → Fate) (faults asked : S → ℕ) (notes : S → Call → Reply → S → Type 0) where
   -- a call of a store that enters it
   abbrev pub CalledAbove : Recorder S → Exchange → Recorder S → Type 0
-  CalledAbove = Called (λ r. held r.store) (λ r. r.book.last) (λ r. faults r.store) (λ before call said now. Recorded faults asked last notes before now call said)
+  CalledAbove = Called (λ r. held r.store) (λ r. r.book.last) (λ r. faults r.store) (WasMade (λ (r : Recorder S). r.book.asked) (λ (before : Recorder S) call said now. Recorded faults asked last notes before now call said))
 
   -- the store below made it, unless there was no memory
   made_below : (a b : Recorder S) (x : Exchange) → CalledAbove a x b → MayBeMade (Called held last faults notes) a.store x b.store
-  made_below a b x called = elim (called.noted.noted) [
+  made_below a b x called = elim (called.noted.0.noted) [
     | inl unmade ↦ inr unmade
     | inr made ↦
         inl (record {

@@ -2,3 +2,4 @@ pub mod MachineLaws
 pub mod DrivenSoFar
 pub mod JobRuns
 pub mod Below
+pub mod Collected

@@ -1,7 +1,7 @@
 -- Fetches: what each step of one does.
 use Rattle.std.specs.Prelude.{◌≡◌, ℕ, ◌<◌, ⊤}
 use Rattle.ts_store.specs.Calls.{IsSpelledCall}
-use Rattle.ts_model.specs.Forms.{Stepped, Asks, Takes, Breaks}
+use Rattle.ts_model.specs.Codecs.{Stepped, Asks, Takes, Breaks}
 use Rattle.ts_actor.specs.declared.pieces.Fetched.{Fetched}
 use Rattle.ts_actor.specs.declared.pieces.Fetched.TheVariants as fetched
 

@@ -1,9 +1,10 @@
 pub mod Traces
 pub mod Drives
 pub mod Machines
+pub mod Seeks
 pub mod Fetches
 pub mod PieceLaws
-pub mod PlainForms
+pub mod PlainCodec
 pub mod PlainWrites
 pub mod PlainLaws
 pub mod PlainHeads

@@ -1,5 +1,5 @@
 -- What the grammar of the parts says of one piece, and of the objects that are refused; and where the versions lie that a fetch takes.
-use Rattle.std.specs.Prelude.{◌≡◌, ℕ, ◌+◌, ◌≤◌, true, List, [], ◌∷◌, ◌++◌, length, take, nat_lt, Some, Ok, Err, IsTrue, All}
+use Rattle.std.specs.Prelude.{◌≡◌, ℕ, ◌+◌, ◌≤◌, true, List, [], ◌∷◌, ◌++◌, length, take, nat_lt, Some, Ok, Err, IsTrue, All, ◌⊎◌}
 use Rattle.ts_base.specs.declared.names.Name.TheVariants as name
 use Rattle.ts_store.specs.declared.call.Call.TheVariants as call
 use Rattle.ts_store.specs.declared.call.Reply.TheVariants as reply
@@ -13,6 +13,7 @@ use Rattle.ts_domain.specs.declared.boxes.SubBox.{SubBox}
 use Rattle.ts_domain.specs.Boxes.{is_in_box}
 use Rattle.ts_store.specs.declared.call.Call.{Call}
 use Rattle.ts_store.specs.declared.call.Reply.{Reply}
+use Rattle.ts_store.specs.Calls.{FitsCall}
 use Rattle.ts_wire.specs.Exact.{IsBytes}
 use Rattle.ts_schema.specs.declared.attrs.Attr.{Attr}
 use Rattle.ts_schema.specs.declared.frames.Frame.{Frame}
@@ -21,7 +22,7 @@ use Rattle.ts_schema.specs.declared.wants.Want.{Want}
 use Rattle.ts_schema.specs.Parts.{Look, Got, Sized, look_in, IsShort}
 use Rattle.ts_schema.specs.Wants.{taken}
 use Rattle.ts_plain.specs.Merges.{IsOrdered}
-use Rattle.ts_model.specs.Forms.{Forms, Spelled, Stepped, Asks, Takes, Breaks, SpeaksOf}
+use Rattle.ts_model.specs.Codecs.{Codec, Spelled, Stepped, Asks, Takes, Breaks, SpeaksOf}
 use Rattle.ts_model.specs.Pieces.{IsOrdinary}
 
 -- what was got of the parts, and the sizes that were told, break the grammar first in a part at an offset
@@ -37,31 +38,31 @@ abbrev pub SpellsOne : Spelled → Type 0
 SpellsOne spelled = (frame : Frame) (s : Schema) (p q : Piece) (look : Look) → p.head.frag ≡ q.head.frag → spelled frame s p look → spelled frame s q look → p ≡ q
 
 -- where the object of the part with the head is refused at an offset, it breaks the grammar first there
-pub record RefusesBroken {F : Type 0} (forms : Forms F) (off : Off) : Type 0 where
+pub record RefusesBroken {F : Type 0} (codec : Codec F) (off : Off) : Type 0 where
   -- the head is read without the schema, so a broken one breaks the grammar in every schema
-  pub head : (frame : Frame) (s : Schema) (frag : FragKey) (object : List ℕ) (at : ℕ) → forms.head frame frag object ≡ Err at
-      → off frame s frag (whole_got (forms.head_part frame) object) [] (forms.head_part frame) at
+  pub head : (frame : Frame) (s : Schema) (frag : FragKey) (object : List ℕ) (at : ℕ) → codec.head frame frag object ≡ Err at
+      → off frame s frag (whole_got (codec.head_part frame) object) [] (codec.head_part frame) at
   -- so it is where a fetch finds the object broken, whatever is wanted
-  pub opens : (frame : Frame) (s : Schema) (frag : FragKey) (object : List ℕ) (want : Want) (at : ℕ) → forms.opens frame s frag object want ≡ Err at
-      → off frame s frag (whole_got (forms.head_part frame) object) [] (forms.head_part frame) at
+  pub opens : (frame : Frame) (s : Schema) (frag : FragKey) (object : List ℕ) (want : Want) (at : ℕ) → codec.opens frame s frag object want ≡ Err at
+      → off frame s frag (whole_got (codec.head_part frame) object) [] (codec.head_part frame) at
 
 -- where the object of the part with the head breaks the grammar by itself, no fetch begins on it, whatever is wanted
-abbrev pub OpensUnbroken : {F : Type 0} → Forms F → Off → Type 0
-OpensUnbroken {F} forms off = (frame : Frame) (s : Schema) (frag : FragKey) (object : List ℕ) (want : Want) (part : Part) (at : ℕ) (fetch : F)
-    → off frame s frag (whole_got (forms.head_part frame) object) [] part at → forms.opens frame s frag object want ≡ Ok fetch → ⊥
+abbrev pub OpensUnbroken : {F : Type 0} → Codec F → Off → Type 0
+OpensUnbroken {F} codec off = (frame : Frame) (s : Schema) (frag : FragKey) (object : List ℕ) (want : Want) (part : Part) (at : ℕ) (fetch : F)
+    → off frame s frag (whole_got (codec.head_part frame) object) [] part at → codec.opens frame s frag object want ≡ Ok fetch → ⊥
 
 -- a fetch of what is wanted in a box: it began so, and went on over whatever replies
-pub data IsFetchIn {F : Type 0} (forms : Forms F) (sub : SubBox) : F → Type 0 where
-  Begun : (frame : Frame) (s : Schema) (frag : FragKey) (object : List ℕ) (want : Want) (f : F) → want.sub ≡ sub → forms.opens frame s frag object want ≡ Ok f → IsFetchIn forms sub f
-  Went : (f : F) (r : Reply) (g : F) (c : Call) → IsFetchIn forms sub f → forms.steps f r ≡ Asks g c → IsFetchIn forms sub g
+pub data IsFetchIn {F : Type 0} (codec : Codec F) (sub : SubBox) : F → Type 0 where
+  Begun : (frame : Frame) (s : Schema) (frag : FragKey) (object : List ℕ) (want : Want) (f : F) → want.sub ≡ sub → codec.opens frame s frag object want ≡ Ok f → IsFetchIn codec sub f
+  Went : (f : F) (r : Reply) (g : F) (c : Call) → IsFetchIn codec sub f → codec.steps f r ≡ Asks g c → IsFetchIn codec sub g
 
 -- the versions lie in the box
 abbrev pub AreInBox : SubBox → List Version → Type 0
 AreInBox sub versions = All (λ v. IsTrue (is_in_box sub v.coords)) versions
 
 -- whatever the replies are, the versions that a fetch takes lie in the box that was wanted
-abbrev pub TakesInside : {F : Type 0} → Forms F → Type 0
-TakesInside {F} forms = (sub : SubBox) (f : F) (r : Reply) (versions : List Version) → IsFetchIn forms sub f → forms.steps f r ≡ Takes versions → AreInBox sub versions
+abbrev pub TakesInside : {F : Type 0} → Codec F → Type 0
+TakesInside {F} codec = (sub : SubBox) (f : F) (r : Reply) (versions : List Version) → IsFetchIn codec sub f → codec.steps f r ≡ Takes versions → AreInBox sub versions
 
 -- ---- fetches that make calls
 
@@ -75,57 +76,62 @@ abbrev pub sized_with : Call → Reply → List Sized → List Sized
 sized_with (call.Size (name.Part frag part)) (reply.Length count) sizes = record { part = part; size = count } ∷ sizes
 sized_with _ _ sizes = sizes
 
--- a fetch waits for the reply to a call, after so much was got and told, whatever that was
-pub data IsFetchOf {F : Type 0} (forms : Forms F) (frame : Frame) (s : Schema) (frag : FragKey) (object : List ℕ) (want : Want) : List Got → List Sized → F → Call → Type 0 where
-  First : (f g : F) (c : Call) → forms.opens frame s frag object want ≡ Ok f → forms.steps f reply.Start ≡ Asks g c
-      → IsFetchOf forms frame s frag object want (whole_got (forms.head_part frame) object) [] g c
-  Then : (gots : List Got) (sizes : List Sized) (f g : F) (c d : Call) (r : Reply) → IsFetchOf forms frame s frag object want gots sizes f c → forms.steps f r ≡ Asks g d
-      → IsFetchOf forms frame s frag object want (got_with c r gots) (sized_with c r sizes) g d
+-- the reply can come to the call: it fits it, and a get is told at most as many bytes as it asks for
+abbrev pub MayReply : Call → Reply → Type 0
+MayReply (call.Get n from len) (reply.Bytes bytes) = length bytes ≤ len
+MayReply c r = FitsCall c r
+
+-- a fetch waits for the reply to a call, after so much was got and told, whatever of what can come that was
+pub data IsFetchOf {F : Type 0} (codec : Codec F) (frame : Frame) (s : Schema) (frag : FragKey) (object : List ℕ) (want : Want) : List Got → List Sized → F → Call → Type 0 where
+  First : (f g : F) (c : Call) → codec.opens frame s frag object want ≡ Ok f → codec.steps f reply.Start ≡ Asks g c
+      → IsFetchOf codec frame s frag object want (whole_got (codec.head_part frame) object) [] g c
+  Then : (gots : List Got) (sizes : List Sized) (f g : F) (c d : Call) (r : Reply) → IsFetchOf codec frame s frag object want gots sizes f c → MayReply c r → codec.steps f r ≡ Asks g d
+      → IsFetchOf codec frame s frag object want (got_with c r gots) (sized_with c r sizes) g d
 
 -- where a fetch ends with an answer: at once, or with the reply to a call that it waited for
-pub data EndsWith {F : Type 0} (forms : Forms F) (frame : Frame) (s : Schema) (frag : FragKey) (object : List ℕ) (want : Want) (end : Stepped F) : List Got → List Sized → Type 0 where
-  AtOnce : (f : F) → forms.opens frame s frag object want ≡ Ok f → forms.steps f reply.Start ≡ end → EndsWith forms frame s frag object want end (whole_got (forms.head_part frame) object) []
-  AfterReply : (gots : List Got) (sizes : List Sized) (f : F) (c : Call) (r : Reply) → IsFetchOf forms frame s frag object want gots sizes f c → forms.steps f r ≡ end
-      → EndsWith forms frame s frag object want end (got_with c r gots) (sized_with c r sizes)
+pub data EndsWith {F : Type 0} (codec : Codec F) (frame : Frame) (s : Schema) (frag : FragKey) (object : List ℕ) (want : Want) (end : Stepped F) : List Got → List Sized → Type 0 where
+  AtOnce : (f : F) → codec.opens frame s frag object want ≡ Ok f → codec.steps f reply.Start ≡ end → EndsWith codec frame s frag object want end (whole_got (codec.head_part frame) object) []
+  AfterReply : (gots : List Got) (sizes : List Sized) (f : F) (c : Call) (r : Reply) → IsFetchOf codec frame s frag object want gots sizes f c → MayReply c r → codec.steps f r ≡ end
+      → EndsWith codec frame s frag object want end (got_with c r gots) (sized_with c r sizes)
 
 -- what a fetch refuses is broken by what it got, and what it takes is not
-pub record JudgesRight {F : Type 0} (forms : Forms F) (off : Off) : Type 0 where
+pub record JudgesRight {F : Type 0} (codec : Codec F) (off : Off) : Type 0 where
   pub breaks : (frame : Frame) (s : Schema) (frag : FragKey) (object : List ℕ) (want : Want) (gots : List Got) (sizes : List Sized) (part : Part) (at : ℕ)
-      → EndsWith forms frame s frag object want (Breaks part at) gots sizes → off frame s frag gots sizes part at
+      → EndsWith codec frame s frag object want (Breaks part at) gots sizes → off frame s frag gots sizes part at
   pub whole : (frame : Frame) (s : Schema) (frag : FragKey) (object : List ℕ) (want : Want) (gots : List Got) (sizes : List Sized) (versions : List Version) (part : Part) (at : ℕ)
-      → EndsWith forms frame s frag object want (Takes versions) gots sizes → off frame s frag gots sizes part at → ⊥
+      → EndsWith codec frame s frag object want (Takes versions) gots sizes → off frame s frag gots sizes part at → ⊥
 
--- a fetch asks for parts of its own fragment alone, whatever the replies are
-abbrev pub AsksOwn : {F : Type 0} → Forms F → Type 0
-AsksOwn {F} forms = (frame : Frame) (s : Schema) (frag : FragKey) (object : List ℕ) (want : Want) (gots : List Got) (sizes : List Sized) (f : F) (c : Call)
-    → IsFetchOf forms frame s frag object want gots sizes f c → (part : Part) × SpeaksOf c (name.Part frag part)
+-- a fetch asks for parts of its own fragment alone, whatever replies come
+abbrev pub AsksOwn : {F : Type 0} → Codec F → Type 0
+AsksOwn {F} codec = (frame : Frame) (s : Schema) (frag : FragKey) (object : List ℕ) (want : Want) (gots : List Got) (sizes : List Sized) (f : F) (c : Call)
+    → IsFetchOf codec frame s frag object want gots sizes f c → (part : Part) × SpeaksOf c (name.Part frag part)
 
--- whatever the replies are, the versions that a fetch takes lie in the domain and ascend in global order, those of one place by ascending key
-abbrev pub TakesOrdered : {F : Type 0} → Forms F → Type 0
-TakesOrdered {F} forms = (frame : Frame) (s : Schema) (frag : FragKey) (object : List ℕ) (want : Want) (gots : List Got) (sizes : List Sized) (versions : List Version)
-    → IsBytes object → IsShort object → EndsWith forms frame s frag object want (Takes versions) gots sizes → IsOrdered frame versions
+-- whatever replies come, the versions that a fetch takes lie in the domain and ascend in global order, those of one place by ascending key
+abbrev pub TakesOrdered : {F : Type 0} → Codec F → Type 0
+TakesOrdered {F} codec = (frame : Frame) (s : Schema) (frag : FragKey) (object : List ℕ) (want : Want) (gots : List Got) (sizes : List Sized) (versions : List Version)
+    → IsBytes object → IsShort object → EndsWith codec frame s frag object want (Takes versions) gots sizes → IsOrdered frame versions
 
--- where a fetch takes what it wants at once, the object of the head's part spells a piece of the fragment by itself, and what it takes is what is wanted of that piece
-abbrev pub TakesSpelled : {F : Type 0} → Forms F → Spelled → Type 0
-TakesSpelled {F} forms spelled = (frame : Frame) (s : Schema) (frag : FragKey) (object : List ℕ) (want : Want) (fetch : F) (versions : List Version)
-    → IsBytes object → IsShort object → forms.opens frame s frag object want ≡ Ok fetch → forms.steps fetch reply.Start ≡ Takes versions
-    → (p : Piece) × (p.head.frag ≡ frag) × spelled frame s p (look_in (record { part = forms.head_part frame; bytes = object } ∷ [])) × (versions ≡ taken want p.versions)
+-- where a fetch takes versions at once, the object of the head's part spells a piece of the fragment by itself, and what it takes is what is wanted of that piece; where it takes none at once, it need not have looked at the other parts
+abbrev pub TakesSpelled : {F : Type 0} → Codec F → Spelled → Type 0
+TakesSpelled {F} codec spelled = (frame : Frame) (s : Schema) (frag : FragKey) (object : List ℕ) (want : Want) (fetch : F) (versions : List Version)
+    → IsBytes object → IsShort object → codec.opens frame s frag object want ≡ Ok fetch → codec.steps fetch reply.Start ≡ Takes versions
+    → (versions ≡ []) ⊎ ((p : Piece) × (p.head.frag ≡ frag) × spelled frame s p (look_in (record { part = codec.head_part frame; bytes = object } ∷ [])) × (versions ≡ taken want p.versions))
 
 -- ---- heads
 
 -- a head bears the name of its fragment
-abbrev pub NamesHead : {F : Type 0} → Forms F → Type 0
-NamesHead {F} forms = (frame : Frame) (frag : FragKey) (object : List ℕ) (head : Head) → forms.head frame frag object ≡ Ok head → head.frag ≡ frag
+abbrev pub NamesHead : {F : Type 0} → Codec F → Type 0
+NamesHead {F} codec = (frame : Frame) (frag : FragKey) (object : List ℕ) (head : Head) → codec.head frame frag object ≡ Ok head → head.frag ≡ frag
 
 -- a front of the object settles its head: nothing breaks the grammar within it, whatever the schema is, and no object with the same front has another head
-pub record IsSettled {F : Type 0} (forms : Forms F) (off : Off) (frame : Frame) (frag : FragKey) (object : List ℕ) (head : Head) : Type 0 where
+pub record IsSettled {F : Type 0} (codec : Codec F) (off : Off) (frame : Frame) (frag : FragKey) (object : List ℕ) (head : Head) : Type 0 where
   pub end : ℕ
-  pub whole : (s : Schema) (at : ℕ) → off frame s frag (whole_got (forms.head_part frame) object) [] (forms.head_part frame) at → end ≤ at
-  pub alone : (other : List ℕ) (found : Head) → IsBytes other → take end other ≡ take end object → forms.head frame frag other ≡ Ok found → found ≡ head
+  pub whole : (s : Schema) (at : ℕ) → off frame s frag (whole_got (codec.head_part frame) object) [] (codec.head_part frame) at → end ≤ at
+  pub alone : (other : List ℕ) (found : Head) → IsBytes other → take end other ≡ take end object → codec.head frame frag other ≡ Ok found → found ≡ head
 
 -- a head that is read is settled, so none is read of an object that is broken within it
-abbrev pub SettlesHeads : {F : Type 0} → Forms F → Off → Type 0
-SettlesHeads {F} forms off = (frame : Frame) (frag : FragKey) (object : List ℕ) (head : Head) → IsBytes object → forms.head frame frag object ≡ Ok head → IsSettled forms off frame frag object head
+abbrev pub SettlesHeads : {F : Type 0} → Codec F → Off → Type 0
+SettlesHeads {F} codec off = (frame : Frame) (frag : FragKey) (object : List ℕ) (head : Head) → IsBytes object → codec.head frame frag object ≡ Ok head → IsSettled codec off frame frag object head
 
 -- ---- writing
 
@@ -138,12 +144,12 @@ abbrev pub WritesOrdinary : Writable → Type 0
 WritesOrdinary writable = (frame : Frame) (attrs : List Attr) (p : Piece) → IsOrdinary frame attrs p → writable frame attrs p
 
 -- of a piece that can be written
-pub record WritesWell {F : Type 0} (forms : Forms F) (spelled : Spelled) (writable : Writable) : Type 0 where
+pub record WritesWell {F : Type 0} (codec : Codec F) (spelled : Spelled) (writable : Writable) : Type 0 where
   -- the parts spell it, where each is short enough to be got at once
-  pub parts : (frame : Frame) (s : Schema) (p : Piece) → writable frame s.attrs p → All (λ x. IsShort x.bytes) (forms.parts frame s p) → spelled frame s p (look_in (forms.parts frame s p))
+  pub parts : (frame : Frame) (s : Schema) (p : Piece) → writable frame s.attrs p → All (λ x. IsShort x.bytes) (codec.parts frame s p) → spelled frame s p (look_in (codec.parts frame s p))
   -- the part that has the head is the last
   pub last : (frame : Frame) (s : Schema) (p : Piece) → writable frame s.attrs p
-      → (front : List PartBytes) × (bytes : List ℕ) × (forms.parts frame s p ≡ front ++ record { part = forms.head_part frame; bytes = bytes } ∷ [])
+      → (front : List PartBytes) × (bytes : List ℕ) × (codec.parts frame s p ≡ front ++ record { part = codec.head_part frame; bytes = bytes } ∷ [])
 
 -- ---- how many gets a fetch makes
 
@@ -153,7 +159,7 @@ gets_of (call.Get n from len) = 1
 gets_of _ = 0
 
 -- each get takes one of those that the fetch may make, and a fetch of a piece may make so many
-pub record AsksBounded {F : Type 0} (forms : Forms F) (spelled : Spelled) (gets : F → ℕ) (most : Frame → Schema → Piece → Want → ℕ) : Type 0 where
-  pub pays : (f g : F) (r : Reply) (c : Call) → forms.steps f r ≡ Asks g c → gets g + gets_of c ≤ gets f
-  pub fair : (frame : Frame) (s : Schema) (p : Piece) (look : Look) (want : Want) (object : List ℕ) (f : F) → spelled frame s p look → look (forms.head_part frame) ≡ Some object
-      → forms.opens frame s p.head.frag object want ≡ Ok f → gets f ≤ most frame s p want
+pub record AsksBounded {F : Type 0} (codec : Codec F) (spelled : Spelled) (gets : F → ℕ) (most : Frame → Schema → Piece → Want → ℕ) : Type 0 where
+  pub pays : (f g : F) (r : Reply) (c : Call) → codec.steps f r ≡ Asks g c → gets g + gets_of c ≤ gets f
+  pub fair : (frame : Frame) (s : Schema) (p : Piece) (look : Look) (want : Want) (object : List ℕ) (f : F) → spelled frame s p look → look (codec.head_part frame) ≡ Some object
+      → codec.opens frame s p.head.frag object want ≡ Ok f → gets f ≤ most frame s p want

@@ -18,12 +18,12 @@ use Rattle.ts_plain.specs.declared.stored.StoredPiece.{StoredPiece}
 use Rattle.ts_plain.specs.Plain.{head_at, cell_at, plain_at, plain_stored, head_stored, head_bytes}
 use Rattle.ts_plain.specs.Pieces.{head_of, piece_of, plain_piece, plain_head}
 use Rattle.ts_plain.proofs.PlainExact.{head_exact, cell_exact}
-use Rattle.ts_actor.specs.PlainForms.{plain_forms, IsPlainBroken}
+use Rattle.ts_actor.specs.PlainCodec.{plain_codec, IsPlainBroken}
 use Rattle.ts_actor.specs.PieceLaws.{NamesHead, SettlesHeads}
 use Rattle.ts_actor.specs.PlainLaws.{broken_object}
 
 -- the head bears the name under which it is read
-pub plain_names : NamesHead plain_forms
+pub plain_names : NamesHead plain_codec
 unfolding plain_head head_of
 plain_names frame frag object head h =
     let b = bound (head_stored frame frag object) (λ stored. Ok (head_of frag stored)) head h in
@@ -124,7 +124,7 @@ same_head frame frag object other head found x y all all_other front =
     y.is ∙ ap (λ (z : StoredHead × Place). head_of frag z.0) both ∙ sym x.is
 
 -- what stands before the cells settles the head
-pub plain_settles : SettlesHeads plain_forms IsPlainBroken
+pub plain_settles : SettlesHeads plain_codec IsPlainBroken
 unfolding plain_piece
 plain_settles frame frag object head all h =
     let x = head_read frame frag object head h in

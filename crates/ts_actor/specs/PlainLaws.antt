@@ -1,5 +1,5 @@
 -- Plain fragments are read as they were written.
-use Rattle.std.proofs.Common.{◌≡◌, ℕ, zero, suc, Bool, true, false, cond, map, List, [], ◌∷◌, slice_get, Some, Result, Ok, Err, refl, sym, ap, ◌∙◌, subst, arith}
+use Rattle.std.proofs.Common.{◌≡◌, ℕ, zero, suc, Bool, true, false, cond, map, List, [], ◌∷◌, slice_get, Some, Result, Ok, Err, refl, sym, ap, ◌∙◌, subst, arith, inr}
 use Rattle.std.specs.List.{All, AllByRecursion}
 use Rattle.std.specs.declared.cmp.Ordering.TheVariants.{Less}
 use Rattle.std.proofs.lemmas.Option.{same_Some}
@@ -32,8 +32,8 @@ use Rattle.ts_plain.specs.Writes.{stored_for}
 use Rattle.ts_plain.specs.Merges.{Order, global_order, version_cmp, VersionsAscend, LiesInside, IsOrdered}
 use Rattle.ts_plain.proofs.PlainPieces.{piece_again, piece_found, head_again, one_plain, broken_head}
 use Rattle.ts_plain.proofs.OrderedPieces as ordered
-use Rattle.ts_model.specs.Forms.{FormsLaws, OpensWell, Stepped, Asks, Takes, Breaks}
-use Rattle.ts_actor.specs.PlainForms.{plain_object, plain_parts, plain_forms, NeverWaits, IsPlainBroken}
+use Rattle.ts_model.specs.Codecs.{CodecLaws, OpensWell, Stepped, Asks, Takes, Breaks}
+use Rattle.ts_actor.specs.PlainCodec.{plain_object, plain_parts, plain_codec, NeverWaits, IsPlainBroken}
 use Rattle.ts_actor.specs.PieceLaws.{whole_got, SpellsOne, RefusesBroken, OpensUnbroken, Begun, Went, AreInBox, TakesInside, IsFetchOf, First, Then, EndsWith, AtOnce, AfterReply, JudgesRight, AsksBounded, AsksOwn, TakesOrdered, TakesSpelled, WritesWell}
 use Rattle.ts_actor.specs.PlainWrites.{IsStorable, ordinary_storable}
 
@@ -58,7 +58,7 @@ only_place x y (suc i) h = absurd (cc)
 
 -- a fetch of what the object of a piece holds has what is wanted at once
 opens_well : (frame : Frame) (s : Schema) (p : Piece) (look : Look) (want : Want) (object : List ℕ) → IsPlain frame s p look → look part.Plain ≡ Some object
-    → OpensWell plain_forms (NeverWaits frame s p look want) frame s p object want
+    → OpensWell plain_codec (NeverWaits frame s p look want) frame s p object want
 opens_well frame s p look want object is there =
     let holds : IsPlainObject frame s.attrs p object = subst (IsPlainObject frame s.attrs p) (same_Some is.0 object (sym is.1 ∙ there)) is.2 in
     record {
@@ -72,7 +72,7 @@ takes_all : (f g : List Version) (c : Call) → Takes f ≡ Asks g c → ⊥
 takes_all f g c e = cc
 
 -- the laws of plain fragments
-pub plain_laws : FormsLaws plain_forms IsPlain NeverWaits
+pub plain_laws : CodecLaws plain_codec IsPlain NeverWaits
 plain_laws = record {
   parts = λ frame s p is short. parts_spell frame s p (ordinary_storable frame s.attrs p is) short;
   last = λ frame s p is. ([], plain_object p, refl);
@@ -85,7 +85,7 @@ plain_laws = record {
 }
 
 -- the laws of what can be stored
-pub plain_writes : WritesWell plain_forms IsPlain IsStorable
+pub plain_writes : WritesWell plain_codec IsPlain IsStorable
 plain_writes = record {
   parts = parts_spell;
   last = λ frame s p is. ([], plain_object p, refl);
@@ -116,7 +116,7 @@ fetch_broken want (Ok p) at h = absurd (not_both (Ok (taken want p.versions)) (t
 fetch_broken want (Err there) at h = let same : there ≡ at = cc in ap Err same
 
 -- an object that is refused is broken at the offset that is told
-pub plain_broken : RefusesBroken plain_forms IsPlainBroken
+pub plain_broken : RefusesBroken plain_codec IsPlainBroken
 plain_broken = record {
   head = λ frame s frag object at h. broken_there frame s frag object at (broken_head frame s.attrs frag object (Err (fault.Damaged (record { at = at }))) h);
   opens = λ frame s frag object want at h. broken_there frame s frag object at (fetch_broken want (plain_piece frame s.attrs frag object) at h);
@@ -130,7 +130,7 @@ broken_object frame s frag object named at is =
     subst (λ bytes. plain_piece frame s.attrs frag bytes ≡ Err at) same is.broken
 
 -- no piece is found in a broken object
-pub plain_whole : OpensUnbroken plain_forms IsPlainBroken
+pub plain_whole : OpensUnbroken plain_codec IsPlainBroken
 plain_whole frame s frag object want named at fetch is h =
     let b = bound (plain_piece frame s.attrs frag object) (λ p. Ok (taken want p.versions)) fetch h in
     not_both (plain_piece frame s.attrs frag object) b.first at b.was (broken_object frame s frag object named at is)
@@ -146,7 +146,7 @@ taken_inside want versions =
     (All-weaker W P (λ v is. (and_parts (is_within want.a want.b v.key) (is_in_box want.sub v.coords) is).1) (filter (is_wanted want) versions) (filter_passes (is_wanted want) versions))
 
 -- a fetch takes what it found when it began
-pub plain_inside : TakesInside plain_forms
+pub plain_inside : TakesInside plain_codec
 plain_inside sub f r versions (Begun frame s frag object want g same opens) takes =
     let b = bound (plain_piece frame s.attrs frag object) (λ p. Ok (taken want p.versions)) g opens in
     let found : taken want b.first.versions ≡ g = cc (b.next) in
@@ -155,12 +155,12 @@ plain_inside sub f r versions (Begun frame s frag object want g same opens) take
 plain_inside sub f r versions (Went g r' h c is asked) takes = absurd (takes_all g h c asked)
 
 -- a fetch makes no call, so it waits for none
-waits_never : (frame : Frame) (s : Schema) (frag : FragKey) (object : List ℕ) (want : Want) (gots : List Got) (sizes : List Sized) (f : List Version) (c : Call) → IsFetchOf plain_forms frame s frag object want gots sizes f c → ⊥
+waits_never : (frame : Frame) (s : Schema) (frag : FragKey) (object : List ℕ) (want : Want) (gots : List Got) (sizes : List Sized) (f : List Version) (c : Call) → IsFetchOf plain_codec frame s frag object want gots sizes f c → ⊥
 waits_never frame s frag object want gots sizes f c (First g h d is asked) = takes_all g h d asked
-waits_never frame s frag object want gots sizes f c (Then gs ss g h d e r before asked) = takes_all g h e asked
+waits_never frame s frag object want gots sizes f c (Then gs ss g h d e r before may asked) = takes_all g h e asked
 
 -- it refuses nothing that it began on, and takes nothing of a broken object
-pub plain_judges : JudgesRight plain_forms IsPlainBroken
+pub plain_judges : JudgesRight plain_codec IsPlainBroken
 plain_judges = record {
   breaks = breaks;
   whole = whole;
@@ -170,17 +170,17 @@ plain_judges = record {
     never f part at a b g h e = cc
 
     breaks : (frame : Frame) (s : Schema) (frag : FragKey) (object : List ℕ) (want : Want) (gots : List Got) (sizes : List Sized) (part : Part) (at : ℕ)
-        → EndsWith plain_forms frame s frag object want (Breaks part at) gots sizes → IsPlainBroken frame s frag gots sizes part at
+        → EndsWith plain_codec frame s frag object want (Breaks part at) gots sizes → IsPlainBroken frame s frag gots sizes part at
     breaks frame s frag object want gots sizes part at (AtOnce f is e) = absurd (never f part at _ _ refl refl e)
-    breaks frame s frag object want gots sizes part at (AfterReply gs ss f c r waits e) = absurd (waits_never frame s frag object want gs ss f c waits)
+    breaks frame s frag object want gots sizes part at (AfterReply gs ss f c r waits may e) = absurd (waits_never frame s frag object want gs ss f c waits)
 
     whole : (frame : Frame) (s : Schema) (frag : FragKey) (object : List ℕ) (want : Want) (gots : List Got) (sizes : List Sized) (versions : List Version) (part : Part) (at : ℕ)
-        → EndsWith plain_forms frame s frag object want (Takes versions) gots sizes → IsPlainBroken frame s frag gots sizes part at → ⊥
+        → EndsWith plain_codec frame s frag object want (Takes versions) gots sizes → IsPlainBroken frame s frag gots sizes part at → ⊥
     whole frame s frag object want gots sizes versions part at (AtOnce f is e) broken = plain_whole frame s frag object want part at f broken is
-    whole frame s frag object want gots sizes versions part at (AfterReply gs ss f c r waits e) broken = waits_never frame s frag object want gs ss f c waits
+    whole frame s frag object want gots sizes versions part at (AfterReply gs ss f c r waits may e) broken = waits_never frame s frag object want gs ss f c waits
 
 -- it asks for nothing
-pub plain_own : AsksOwn plain_forms
+pub plain_own : AsksOwn plain_codec
 plain_own frame s frag object want gots sizes f c waits = absurd (waits_never frame s frag object want gots sizes f c waits)
 
 -- ---- the order of what is taken
@@ -211,26 +211,26 @@ taken_ordered frame want vs is = record {
 }
 
 -- a fetch takes wanted versions of the piece that the object holds
-pub plain_ordered : TakesOrdered plain_forms
+pub plain_ordered : TakesOrdered plain_codec
 plain_ordered frame s frag object want gots sizes versions all short (AtOnce f is e) =
     let b = bound (plain_piece frame s.attrs frag object) (λ p. Ok (taken want p.versions)) f is in
     let found = (piece_found frame s.attrs frag object b.first all short b.was).0 in
     let same : taken want b.first.versions ≡ f = cc (b.next) in
     let took : f ≡ versions = cc in
     subst (IsOrdered frame) (same ∙ took) (taken_ordered frame want b.first.versions (ordered.plain_ordered frame s.attrs b.first object found))
-plain_ordered frame s frag object want gots sizes versions all short (AfterReply gs ss f c r waits e) = absurd (waits_never frame s frag object want gs ss f c waits)
+plain_ordered frame s frag object want gots sizes versions all short (AfterReply gs ss f c r waits may e) = absurd (waits_never frame s frag object want gs ss f c waits)
 
 -- it takes what is wanted of the piece that the object spells
-pub plain_found : TakesSpelled plain_forms IsPlain
+pub plain_found : TakesSpelled plain_codec IsPlain
 plain_found frame s frag object want fetch versions all short is e =
     let b = bound (plain_piece frame s.attrs frag object) (λ p. Ok (taken want p.versions)) fetch is in
     let found = piece_found frame s.attrs frag object b.first all short b.was in
     let same : taken want b.first.versions ≡ fetch = cc (b.next) in
     let took : fetch ≡ versions = cc in
-    (b.first, found.1, (object, refl, found.0), sym (same ∙ took))
+    inr (b.first, found.1, (object, refl, found.0), sym (same ∙ took))
 
 -- it makes no get
-pub plain_bounded : AsksBounded plain_forms IsPlain (λ _. 0) (λ _ _ _ _. 0)
+pub plain_bounded : AsksBounded plain_codec IsPlain (λ _. 0) (λ _ _ _ _. 0)
 plain_bounded = record {
   pays = λ f g r c asked. absurd (takes_all f g c asked);
   fair = λ frame s p look want object f is there opens. omega arith;

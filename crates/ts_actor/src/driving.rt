@@ -1,5 +1,6 @@
 //! Driving a machine over a store.
 ghost use Rattle.std.specs.Prelude.{◌≡◌, ◌-◌, ◌^◌, ℕ, min};
+ghost use Rattle.ts_store.specs.Recorders.{WasMade};
 ghost use Rattle.ts_model.specs.Stops.{is_point, cuts};
 ghost use Rattle.ts_model.specs.Told.{IsShortCall};
 ghost use Rattle.ts_actor.specs.Traces.{start};
@@ -26,7 +27,7 @@ pub fn drive<R: Threads + Sync, A: Actor, S: Store>(
     stop: &Stop,
 ) -> Driven<A::Out>
     requires { A.follows actor.old start }
-    ensures drove { Drove A.task A.follows A.ends (Called S.held S.last S.faults S.notes) actor.old actor.new store.old store.new stop.now result }
+    ensures drove { Drove A.task A.follows A.ends (Called S.held S.last S.faults (WasMade S.asked S.notes)) actor.old actor.new store.old store.new stop.now result }
     ensures task { A.task actor.new ≡ A.task actor.old }
 {
     let mut made: u64 = 0;

@@ -4,13 +4,17 @@
 
 mod actor;
 mod driving;
+mod ends;
 mod machine;
 mod pieces;
 mod plain_pieces;
+mod seeking;
 
 pub use actor::{Actor, Step};
 pub use driving::drive;
+pub use ends::{end_by, end_damaged};
 pub use machine::{Automaton, Machine, Phase};
 pub use pieces::{Fetched, Pieces};
 pub use plain_pieces::PlainPieces;
+pub use seeking::{Works, ask_seeking, get_all, go_seeking};
 pub use ts_model::Driven;

@@ -5,9 +5,9 @@ ghost use Rattle.ts_store.specs.Calls.{IsSpelledCall, IsSpelledReply};
 ghost use Rattle.ts_model.specs.declared.commands.Job.{Job as AnyJob};
 ghost use Rattle.ts_model.specs.declared.states.State.{State};
 ghost use Rattle.ts_model.specs.declared.states.State.TheVariants.{Over};
-ghost use Rattle.ts_model.specs.Forms.{Forms};
-ghost use Rattle.ts_model.specs.States.{asks, begun, goes, is_over, may_run_short, state_from, takes_memory};
-ghost use Rattle.ts_model.specs.Driven.{EndsFrom};
+ghost use Rattle.ts_model.specs.Codecs.{Codec};
+ghost use Rattle.ts_model.specs.States.{asks, begun, goes, is_over, state_from, takes_memory};
+ghost use Rattle.ts_model.specs.Driven.{EndsFrom, MayLack};
 ghost use Rattle.ts_actor.specs.Machines.{Advances, Follows, calls_left};
 ghost use Rattle.ts_actor.specs.Traces.{CanCome, Expects, Trace, filled, start};
 
@@ -29,7 +29,7 @@ pub trait Automaton {
     type Fetch: Drop;
 
     /// How fragments are written and read.
-    ghost forms: { Forms Self.Fetch };
+    ghost codec: { Codec Self.Fetch };
 
     /// The jobs that it is for.
     ghost serves: { AnyJob → Type 0 };
@@ -54,7 +54,7 @@ pub trait Automaton {
     ) -> Result<Option<Call>, OutOfMemory>
         requires job { serves job.now }
         requires state { may job.now state.now }
-        ensures is { IfOk result (λ call. call ≡ asks forms job.now state.now) }
+        ensures is { IfOk result (λ call. call ≡ asks codec job.now state.now) }
         ensures lacks { OnErr result (is_over state.now ≡ false) }
         ensures spelled { IfOk result (λ call. IfSome call IsSpelledCall) };
 
@@ -71,10 +71,10 @@ pub trait Automaton {
         requires state { may job.now state }
         requires reply { IsSpelledReply reply }
         requires sync { IsSync R.row }
-        ensures is { IfOk result (λ next. next ≡ goes forms job.now state reply) }
+        ensures is { IfOk result (λ next. next ≡ goes codec job.now state reply) }
         ensures may { IfOk result (may job.now) }
         ensures lacks { OnErr result (takes_memory state ≡ true) }
-        ensures fewer { IfOk result (λ next. asks forms job.now state ≢ None → left next < left state) };
+        ensures fewer { IfOk result (λ next. asks codec job.now state ≢ None → left next < left state) };
 }
 
 /// How far a machine has come.
@@ -100,7 +100,7 @@ impl<K: Automaton> Machine<K> {
     /// A machine that has made no call of the job yet. It takes no memory.
     pub fn of(job: Job) -> Machine<K>
         requires { K.serves job }
-        ensures new { Follows K.forms K.serves K.may result.job result.phase start }
+        ensures new { Follows K.codec K.serves K.may result.job result.phase start }
         ensures task { result.job ≡ job }
     {
         Machine {
@@ -118,9 +118,9 @@ impl<K: Automaton> Actor for Machine<K> {
 
     ghost task = { λ m. m.job };
 
-    ghost follows = { λ m t. Follows K.forms K.serves K.may m.job m.phase t };
+    ghost follows = { λ m t. Follows K.codec K.serves K.may m.job m.phase t };
 
-    ghost ends = { λ job past end. EndsFrom K.forms job (begun job.command) past end };
+    ghost ends = { λ job past end. EndsFrom K.codec job (begun job.command) past end };
 
     ghost measure = { λ m. calls_left K.left m.job m.phase };
 
@@ -145,9 +145,9 @@ fn advance<K: Automaton, R: Threads + Sync>(
     phase: Phase<K::Fetch>,
     reply: Reply,
 ) -> Result<(State<K::Fetch>, Call), Outcome>
-    requires due { Expects (Follows K.forms K.serves K.may job.now phase) reply }
+    requires due { Expects (Follows K.codec K.serves K.may job.now phase) reply }
     requires reply_spelled { IsSpelledReply reply }
-    ensures goes { (t : Trace) → Follows K.forms K.serves K.may job.now phase t → CanCome t.asked reply → Advances K.forms K.serves K.may job.now (filled t reply) result }
+    ensures goes { (t : Trace) → Follows K.codec K.serves K.may job.now phase t → CanCome t.asked reply → Advances K.codec K.serves K.may job.now (filled t reply) result }
     ensures fewer { IfOk result (λ next. K.left next.0 < calls_left K.left job.now phase) }
     ensures spelled { IfOk result (λ next. IsSpelledCall next.1) }
 {
@@ -169,12 +169,12 @@ fn state_after<K: Automaton, R: Threads + Sync>(
     phase: Phase<K::Fetch>,
     reply: Reply,
 ) -> Result<State<K::Fetch>, OutOfMemory>
-    requires due { Expects (Follows K.forms K.serves K.may job.now phase) reply }
+    requires due { Expects (Follows K.codec K.serves K.may job.now phase) reply }
     requires reply_spelled { IsSpelledReply reply }
     ensures serves { K.serves job.now }
-    ensures is { IfOk result (λ state. (t : Trace) → Follows K.forms K.serves K.may job.now phase t → CanCome t.asked reply → state_from K.forms job.now (begun job.now.command) (filled t reply) ≡ state) }
+    ensures is { IfOk result (λ state. (t : Trace) → Follows K.codec K.serves K.may job.now phase t → CanCome t.asked reply → state_from K.codec job.now (begun job.now.command) (filled t reply) ≡ state) }
     ensures may { IfOk result (K.may job.now) }
-    ensures lacks { OnErr result ((t : Trace) → Follows K.forms K.serves K.may job.now phase t → CanCome t.asked reply → may_run_short job.now (state_from K.forms job.now (begun job.now.command) (filled t reply)) ≡ true) }
+    ensures lacks { OnErr result ((t : Trace) → Follows K.codec K.serves K.may job.now phase t → CanCome t.asked reply → MayLack K.codec job.now (begun job.now.command) (filled t reply)) }
     ensures fewer { IfOk result (λ state. K.left state < calls_left K.left job.now phase) }
 {
     match phase {

@@ -11,7 +11,7 @@ ghost use Rattle.ts_schema.specs.declared.wants.Want.{Want as AnyWant};
 ghost use Rattle.ts_schema.specs.Parts.{Look};
 ghost use Rattle.ts_plain.specs.Merges.{global_order, LiesInside, VersionsAscend, IsMergedAll};
 ghost use Rattle.ts_store.specs.declared.call.Call.{Call as AnyCall};
-ghost use Rattle.ts_model.specs.Forms.{Forms, FormsLaws};
+ghost use Rattle.ts_model.specs.Codecs.{Codec, CodecLaws};
 ghost use Rattle.ts_actor.specs.Fetches.{IsStep, FallsAtAsk, AsksSpelled};
 ghost use Rattle.ts_actor.specs.PieceLaws.{SpellsOne, RefusesBroken, OpensUnbroken, TakesInside, TakesOrdered, TakesSpelled, JudgesRight, AsksBounded, AsksOwn, NamesHead, SettlesHeads, WritesOrdinary, WritesWell};
 
@@ -39,14 +39,14 @@ pub enum Fetched {
 
 /// One way to write the pieces of an array in parts, and to read them.
 ///
-/// What each call computes is a function, `forms`; the laws at the end say that these functions
+/// What each call computes is a function, `codec`; the laws at the end say that these functions
 /// undo each other.
 pub trait Pieces: Spelling {
     /// A fetch: how far the reading of a fragment has come.
     type Fetch: Drop;
 
     /// What the calls compute.
-    ghost forms: { Forms Self.Fetch };
+    ghost codec: { Codec Self.Fetch };
 
     /// A fetch waits for the reply to a call, on its way to what is wanted of the piece that these
     /// parts spell.
@@ -73,18 +73,18 @@ pub trait Pieces: Spelling {
         piece: &Piece,
     ) -> Result<PartList, OutOfMemory>
         requires { writable frame.now schema.now.attrs piece.now }
-        ensures is { IfOk result (λ parts. parts ≡ forms.parts frame.now schema.now piece.now) }
+        ensures is { IfOk result (λ parts. parts ≡ codec.parts frame.now schema.now piece.now) }
         ensures spelled { IfOk result (All (λ x. IsSpelledPart x.part)) };
 
     /// The part that has the head.
     fn head_part(frame: &Frame) -> Part
-        ensures is { result ≡ forms.head_part frame.now }
+        ensures is { result ≡ codec.head_part frame.now }
         ensures spelled { IsSpelledPart result };
 
     /// The head of a fragment, from the object of that part. The offset of the first broken field
     /// comes where the object breaks its layout up to the end of the head.
     fn head(alloc: Global, frame: &Frame, frag: FragKey, object: &[u8]) -> Result<Head, ReadFault>
-        ensures { DecodesOr (λ head. head) (forms.head frame.now frag object.now) result };
+        ensures { DecodesOr (λ head. head) (codec.head frame.now frag object.now) result };
 
     /// Begins to fetch what is wanted of a fragment, from the object of the part with the head on.
     fn fetch<R: Threads + Sync>(
@@ -98,7 +98,7 @@ pub trait Pieces: Spelling {
     ) -> Result<Self::Fetch, ReadFault>
         requires frag { IsSpelledFrag frag }
         requires sync { IsSync R.row }
-        ensures is { DecodesOr (λ fetch. fetch) (forms.opens frame.now schema.now frag object.now want.now) result }
+        ensures is { DecodesOr (λ fetch. fetch) (codec.opens frame.now schema.now frag object.now want.now) result }
         ensures few_calls { IfOk result (λ fetch. left fetch < 2 ^ 128) };
 
     /// Goes on with a fetch. The first reply is `Start`, each later one is bytes or a length.
@@ -109,7 +109,7 @@ pub trait Pieces: Spelling {
         reply: Reply,
     ) -> Fetched
         requires { IsSync R.row }
-        ensures is { IsStep (forms.steps fetch.old reply) fetch.new result }
+        ensures is { IsStep (codec.steps fetch.old reply) fetch.new result }
         ensures falls { FallsAtAsk (left fetch.old) (left fetch.new) result }
         ensures spelled { AsksSpelled result };
 
@@ -123,46 +123,46 @@ pub trait Pieces: Spelling {
         ensures { IfOk result (IsMergedAll (global_order frame.now) lists) };
 
     /// What is written is read again, and fetches find what was written.
-    ghost laws: { FormsLaws forms Self.spelled tracks };
+    ghost laws: { CodecLaws codec Self.spelled tracks };
 
     /// A piece that one write makes can be written.
     ghost ordinary: { WritesOrdinary writable };
 
     /// The parts of a piece that can be written spell it.
-    ghost writes: { WritesWell forms Self.spelled writable };
+    ghost writes: { WritesWell codec Self.spelled writable };
 
     /// The parts of a fragment hold one piece.
     ghost one_piece: { SpellsOne Self.spelled };
 
     /// A head bears the name of its fragment.
-    ghost names: { NamesHead forms };
+    ghost names: { NamesHead codec };
 
     /// What is refused as damaged breaks the grammar first at the offset that is told.
-    ghost broken: { RefusesBroken forms Self.off };
+    ghost broken: { RefusesBroken codec Self.off };
 
     /// No head is read of an object that is broken within it.
-    ghost settled: { SettlesHeads forms Self.off };
+    ghost settled: { SettlesHeads codec Self.off };
 
     /// An object that breaks the grammar is not read as if it were whole.
-    ghost whole: { OpensUnbroken forms Self.off };
+    ghost whole: { OpensUnbroken codec Self.off };
 
     /// What a fetch refuses as damaged is broken by what it got, and what it takes is not.
-    ghost judges: { JudgesRight forms Self.off };
+    ghost judges: { JudgesRight codec Self.off };
 
-    /// Where a fetch takes what it wants without a call, the object of the head's part spells a piece
-    /// of the fragment, and what it takes is what is wanted of that piece.
-    ghost found: { TakesSpelled forms Self.spelled };
+    /// Where a fetch takes versions without a call, the object of the head's part spells a piece of the
+    /// fragment, and what it takes is what is wanted of that piece.
+    ghost found: { TakesSpelled codec Self.spelled };
 
-    /// A fetch asks for parts of its own fragment alone, whatever the replies are.
-    ghost own: { AsksOwn forms };
+    /// A fetch asks for parts of its own fragment alone, whatever replies come.
+    ghost own: { AsksOwn codec };
 
     /// A fetch makes no more gets than it may of the piece that it reads.
-    ghost bounded: { AsksBounded forms Self.spelled gets most_gets };
+    ghost bounded: { AsksBounded codec Self.spelled gets most_gets };
 
     /// Whatever the replies are, the versions that a fetch takes lie in the box that was wanted.
-    ghost inside: { TakesInside forms };
+    ghost inside: { TakesInside codec };
 
-    /// Whatever the replies are, the versions that a fetch takes lie in the domain and stand in global
+    /// Whatever replies come, the versions that a fetch takes lie in the domain and stand in global
     /// order, those of one place by ascending key, so that they can be merged.
-    ghost ordered: { TakesOrdered forms };
+    ghost ordered: { TakesOrdered codec };
 }

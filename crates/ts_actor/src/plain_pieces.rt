@@ -1,6 +1,6 @@
 //! Pieces that are written whole, in one object.
 ghost use Rattle.ts_plain.specs.Pieces.{IsPlain};
-ghost use Rattle.ts_actor.specs.PlainForms.{plain_forms, IsPlainBroken, NeverWaits};
+ghost use Rattle.ts_actor.specs.PlainCodec.{plain_codec, IsPlainBroken, NeverWaits};
 ghost use Rattle.ts_actor.specs.PlainWrites.{IsStorable, ordinary_storable};
 ghost use Rattle.ts_actor.specs.PlainLaws.{plain_laws, plain_writes, plain_one, plain_broken, plain_whole, plain_judges, plain_own, plain_bounded, plain_inside, plain_ordered, plain_found};
 ghost use Rattle.ts_actor.specs.PlainHeads.{plain_names, plain_settles};
@@ -33,7 +33,7 @@ impl Spelling for PlainPieces {
 impl Pieces for PlainPieces {
     type Fetch = VersionList;
 
-    ghost forms = { plain_forms };
+    ghost codec = { plain_codec };
 
     ghost tracks = { NeverWaits };
 

@@ -16,11 +16,11 @@ use Rattle.ts_model.specs.Selections.{placed}
 use Rattle.ts_schema.specs.Attrs.{shown_row}
 use Rattle.ts_model.specs.Answers.{fills_of}
 use Rattle.ts_model.specs.States.{cell_shown, is_erased_by, known_attrs, row_or_fill}
-use Rattle.ts_reader.specs.Erasing.{all_shown, erases, one_shown}
+use Rattle.ts_reader.specs.Deletes.{all_shown, erases, one_shown}
 
 -- what one more version shows
 one_more : (r : Reading) (schemas : List Schema) (v : Version) → all_shown r schemas (v ∷ []) ≡ one_shown r (known_attrs r schemas v.schema) v
-one_more r schemas v = by_test (list_any (erases (known_attrs r schemas v.schema) v) r.erased)
+one_more r schemas v = by_test (list_any (erases (known_attrs r schemas v.schema) v) r.deletions)
   where
     by_test : (b : Bool) → map (cell_shown r schemas) (cond (not b) (v ∷ []) []) ≡ cond b [] (cell_shown r schemas v ∷ [])
     by_test true = refl
@@ -29,8 +29,8 @@ one_more r schemas v = by_test (list_any (erases (known_attrs r schemas v.schema
 -- the cells of one version more
 pub shown_more : (r : Reading) (schemas : List Schema) (vs : List Version) (v : Version) → all_shown r schemas (vs ++ v ∷ []) ≡ all_shown r schemas vs ++ one_shown r (known_attrs r schemas v.schema) v
 shown_more r schemas vs v =
-    ap (map (cell_shown r schemas)) (filter-append (λ w. not (is_erased_by r schemas r.erased w)) vs (v ∷ []))
-    ∙ map-append (cell_shown r schemas) (filter (λ w. not (is_erased_by r schemas r.erased w)) vs) _
+    ap (map (cell_shown r schemas)) (filter-append (λ w. not (is_erased_by r schemas r.deletions w)) vs (v ∷ []))
+    ∙ map-append (cell_shown r schemas) (filter (λ w. not (is_erased_by r schemas r.deletions w)) vs) _
     ∙ ap (λ es. all_shown r schemas vs ++ es) (one_more r schemas v)
 
 one_so : (P : List ℤ → Type 0) (r : Reading) (schemas : List Schema) (v : Version) (left : List Version) (b : Bool) → P v.coords → AllByRecursion (λ (e : List ℤ × List Val). P e.0) (map (cell_shown r schemas) left)
@@ -41,7 +41,7 @@ one_so P r schemas v left false here all = (here, all)
 -- what is true of the coordinates of each version is true of those of each cell that is shown
 pub cells_so : (P : List ℤ → Type 0) (r : Reading) (schemas : List Schema) (vs : List Version) → AllByRecursion (λ v. P v.coords) vs → AllByRecursion (λ (e : List ℤ × List Val). P e.0) (all_shown r schemas vs)
 cells_so P r schemas [] all = tt
-cells_so P r schemas (v ∷ vs) all = one_so P r schemas v (filter (λ w. not (is_erased_by r schemas r.erased w)) vs) (is_erased_by r schemas r.erased v) all.0 (cells_so P r schemas vs all.1)
+cells_so P r schemas (v ∷ vs) all = one_so P r schemas v (filter (λ w. not (is_erased_by r schemas r.deletions w)) vs) (is_erased_by r schemas r.deletions v) all.0 (cells_so P r schemas vs all.1)
 
 unplaced : (P : List ℤ → Type 0) (cells : List Shown) → AllByRecursion (λ (e : List ℤ × List Val). P e.0) (map placed cells) → AllByRecursion (λ (cell : Shown). P cell.coords) cells
 unplaced P [] all = tt
@@ -55,7 +55,7 @@ placed_so P cells es are all =
     All-from_recursion Q cells (unplaced P cells (subst (AllByRecursion W) (sym are) all))
 
 -- the row that a dense array shows of its newest version
-pub filled_row : (r : Reading) (schemas : List Schema) (v : Version) (b : Bool) → list_any (erases (known_attrs r schemas v.schema) v) r.erased ≡ b
+pub filled_row : (r : Reading) (schemas : List Schema) (v : Version) (b : Bool) → list_any (erases (known_attrs r schemas v.schema) v) r.deletions ≡ b
     → row_or_fill r schemas (Some v) ≡ cond b (fills_of (r.there).attrs) (shown_row (known_attrs r schemas v.schema) v.row (r.there).attrs)
 filled_row r schemas v b is = ap row is ∙ by_test b
   where

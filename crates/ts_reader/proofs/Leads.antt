@@ -10,15 +10,16 @@ use Rattle.ts_base.specs.declared.names.Name.TheVariants as name
 use Rattle.ts_schema.specs.declared.schemas.Schema.{Schema}
 use Rattle.ts_schema.specs.declared.frames.Frame.{Frame}
 use Rattle.ts_model.specs.declared.answers.Refusal.{Refusal}
-use Rattle.ts_model.specs.declared.deeds.Erasure.{Erasure}
+use Rattle.ts_model.specs.declared.deeds.Deletion.{Deletion}
 use Rattle.ts_model.specs.declared.queries.Ready.{Ready}
 use Rattle.ts_model.specs.declared.states.Listed.{Listed}
 use Rattle.ts_model.specs.declared.states.Opened.{Opened}
 use Rattle.ts_model.specs.declared.states.Reading.{Reading}
 use Rattle.ts_model.specs.declared.states.State.{State}
-use Rattle.ts_model.specs.declared.states.State.TheVariants.{GetsDeletes, GetsHeads}
-use Rattle.ts_model.specs.Forms.{Stepped, Forms, Asks, Takes, Breaks}
-use Rattle.ts_model.specs.States.{fetch_leads, fetch_begins, fetches_one, fetching, known_schema, keys_named, gathering, opening, on_read, after_head, erasing, asks_for, reading_of}
+use Rattle.ts_model.specs.declared.states.State.TheVariants.{Collects}
+use Rattle.ts_model.specs.declared.states.Collecting.TheVariants.{GetsDeletes, GetsHeads}
+use Rattle.ts_model.specs.Codecs.{Stepped, Codec, Asks, Takes, Breaks}
+use Rattle.ts_model.specs.States.{fetch_leads, fetch_begins, fetches_one, fetching, known_schema, keys_named, gathering, opening, on_read, after_head, getting_deletes, asks_for, reading_of}
 use Rattle.ts_reader.specs.declared.fetching.FetchStep.{FetchStep}
 use Rattle.ts_reader.specs.Fetching.{step_by, first_step, step_in, state_after_step}
 
@@ -28,66 +29,66 @@ rest_from [] i x at = absurd (none-some x at)
 rest_from (y ∷ xs) zero x at = ap (λ z. z ∷ xs) (same_Some y x at)
 rest_from (y ∷ xs) (suc i) x at = rest_from xs i x at
 
-module _ {F : Type 0} (forms : Forms F) (r : Reading) (opened : List Opened) (schemas : List Schema) (next : ℕ) (got : List Version) (on : List Version → State F) where
+module _ {F : Type 0} (codec : Codec F) (r : Reading) (opened : List Opened) (schemas : List Schema) (next : ℕ) (got : List Version) (on : List Version → State F) where
   -- a step of a fetch
   pub step_leads : (frag : FragKey) (step : Stepped F) → fetch_leads r opened schemas next frag got on step ≡ state_after_step r opened schemas next frag got on (step_by frag step)
   step_leads frag (Asks f c) = refl
   step_leads frag (Takes vs) = refl
   step_leads frag (Breaks part at) = refl
 
-  first_leads : (frag : FragKey) (begun : Result F ℕ) → fetch_begins forms r opened schemas next frag got on begun ≡ state_after_step r opened schemas next frag got on (first_step forms r frag begun)
+  first_leads : (frag : FragKey) (begun : Result F ℕ) → fetch_begins codec r opened schemas next frag got on begun ≡ state_after_step r opened schemas next frag got on (first_step codec r frag begun)
   first_leads frag (Ok f) = step_leads frag _
   first_leads frag (Err at) = refl
 
-  one_leads : (o : Opened) (known : Option Schema) → fetches_one forms r opened schemas next o got on known ≡ state_after_step r opened schemas next o.frag got on (step_in forms r o known)
+  one_leads : (o : Opened) (known : Option Schema) → fetches_one codec r opened schemas next o got on known ≡ state_after_step r opened schemas next o.frag got on (step_in codec r o known)
   one_leads o None = refl
   one_leads o (Some s) = first_leads o.frag _
 
 -- a read at a fragment goes where the beginning of its fetch leads
-pub fetching_at : {F : Type 0} (forms : Forms F) (r : Reading) (opened : List Opened) (schemas : List Schema) (next : ℕ) (got : List Version) (o : Opened) → slice_get opened next ≡ Some o
-    → fetching forms r opened schemas next (drop next opened) got
-    ≡ state_after_step r opened schemas next o.frag got (λ vs. fetching forms r opened schemas (suc next) (drop (suc next) opened) (got ++ vs)) (step_in forms r o (known_schema r schemas o.head.schema))
-fetching_at forms r opened schemas next got o at =
-    ap (λ rest. fetching forms r opened schemas next rest got) (rest_from opened next o at)
-    ∙ one_leads forms r opened schemas next got (λ vs. fetching forms r opened schemas (suc next) (drop (suc next) opened) (got ++ vs)) o (known_schema r schemas o.head.schema)
+pub fetching_at : {F : Type 0} (codec : Codec F) (r : Reading) (opened : List Opened) (schemas : List Schema) (next : ℕ) (got : List Version) (o : Opened) → slice_get opened next ≡ Some o
+    → fetching codec r opened schemas next (drop next opened) got
+    ≡ state_after_step r opened schemas next o.frag got (λ vs. fetching codec r opened schemas (suc next) (drop (suc next) opened) (got ++ vs)) (step_in codec r o (known_schema r schemas o.head.schema))
+fetching_at codec r opened schemas next got o at =
+    ap (λ rest. fetching codec r opened schemas next rest got) (rest_from opened next o at)
+    ∙ one_leads codec r opened schemas next got (λ vs. fetching codec r opened schemas (suc next) (drop (suc next) opened) (got ++ vs)) o (known_schema r schemas o.head.schema)
 
 -- a read that is at a fragment goes on as the beginning of its fetch did
-pub leads_on : {F : Type 0} (forms : Forms F) (r : Reading) (opened : List Opened) (schemas : List Schema) (next : ℕ) (got : List Version) (o : Opened) (s : State F) (l : FetchStep F) → slice_get opened next ≡ Some o
-    → s ≡ fetching forms r opened schemas next (drop next opened) got → l ≡ step_in forms r o (known_schema r schemas o.head.schema)
-    → s ≡ state_after_step r opened schemas next o.frag got (λ vs. fetching forms r opened schemas (suc next) (drop (suc next) opened) (got ++ vs)) l
-leads_on forms r opened schemas next got o s l at came led =
-    came ∙ fetching_at forms r opened schemas next got o at
-    ∙ ap (state_after_step r opened schemas next o.frag got (λ vs. fetching forms r opened schemas (suc next) (drop (suc next) opened) (got ++ vs))) (sym led)
+pub leads_on : {F : Type 0} (codec : Codec F) (r : Reading) (opened : List Opened) (schemas : List Schema) (next : ℕ) (got : List Version) (o : Opened) (s : State F) (l : FetchStep F) → slice_get opened next ≡ Some o
+    → s ≡ fetching codec r opened schemas next (drop next opened) got → l ≡ step_in codec r o (known_schema r schemas o.head.schema)
+    → s ≡ state_after_step r opened schemas next o.frag got (λ vs. fetching codec r opened schemas (suc next) (drop (suc next) opened) (got ++ vs)) l
+leads_on codec r opened schemas next got o s l at came led =
+    came ∙ fetching_at codec r opened schemas next got o at
+    ∙ ap (state_after_step r opened schemas next o.frag got (λ vs. fetching codec r opened schemas (suc next) (drop (suc next) opened) (got ++ vs))) (sym led)
 
 -- a fetch that is told something goes on as its step did
-pub told_leads : {F : Type 0} (r : Reading) (opened : List Opened) (schemas : List Schema) (next : ℕ) (got : List Version) (on : List Version → State F) (forms : Forms F) (frag : FragKey) (step : Stepped F) (l : FetchStep F)
+pub told_leads : {F : Type 0} (r : Reading) (opened : List Opened) (schemas : List Schema) (next : ℕ) (got : List Version) (on : List Version → State F) (codec : Codec F) (frag : FragKey) (step : Stepped F) (l : FetchStep F)
     → l ≡ step_by frag step → fetch_leads r opened schemas next frag got on step ≡ state_after_step r opened schemas next frag got on l
-told_leads r opened schemas next got on forms frag step l led = step_leads forms r opened schemas next got on frag step ∙ ap (state_after_step r opened schemas next frag got on) (sym led)
+told_leads r opened schemas next got on codec frag step l led = step_leads codec r opened schemas next got on frag step ∙ ap (state_after_step r opened schemas next frag got on) (sym led)
 
 -- where all heads are read the further schemas come next
-pub all_open : {F : Type 0} (forms : Forms F) (r : Reading) (opened : List Opened) (keys : List Key) (schemas : List Schema) → nat_lt (length opened) (length r.near) ≡ false → keys ≡ keys_named r opened → schemas ≡ []
-    → gathering forms r opened keys schemas ≡ opening forms r opened
-all_open forms r opened keys schemas last named none =
-    ap (λ ks. gathering forms r opened ks schemas) named ∙ ap (λ ss. gathering forms r opened (keys_named r opened) ss) none
-    ∙ sym (ap (λ b. cond b (GetsHeads r opened) (gathering forms r opened (keys_named r opened) [])) last)
+pub all_open : {F : Type 0} (codec : Codec F) (r : Reading) (opened : List Opened) (keys : List Key) (schemas : List Schema) → nat_lt (length opened) (length r.fragments) ≡ false → keys ≡ keys_named r opened → schemas ≡ []
+    → gathering codec r opened keys schemas ≡ opening codec r opened
+all_open codec r opened keys schemas last named none =
+    ap (λ ks. gathering codec r opened ks schemas) named ∙ ap (λ ss. gathering codec r opened (keys_named r opened) ss) none
+    ∙ sym (ap (λ b. cond b (Collects (GetsHeads r opened)) (gathering codec r opened (keys_named r opened) [])) last)
 
 -- a head that is read opens its fragment
-pub head_read : {F : Type 0} (forms : Forms F) (r : Reading) (opened more : List Opened) (f : FragKey) (bytes : List ℕ) (head : Head) → forms.head r.frame f bytes ≡ Ok head → more ≡ opened ++ record { frag = f; head = head; object = bytes } ∷ []
-    → opening forms r more ≡ after_head forms r opened f bytes
-head_read forms r opened more f bytes head read is =
-    ap (opening forms r) is
-    ∙ sym (ap (on_read (name.Part f (forms.head_part r.frame)) (λ h. opening forms r (opened ++ record { frag = f; head = h; object = bytes } ∷ []))) read)
+pub head_read : {F : Type 0} (codec : Codec F) (r : Reading) (opened more : List Opened) (f : FragKey) (bytes : List ℕ) (head : Head) → codec.head r.frame f bytes ≡ Ok head → more ≡ opened ++ record { frag = f; head = head; object = bytes } ∷ []
+    → opening codec r more ≡ after_head codec r opened f bytes
+head_read codec r opened more f bytes head read is =
+    ap (opening codec r) is
+    ∙ sym (ap (on_read (name.Part f (codec.head_part r.frame)) (λ h. opening codec r (opened ++ record { frag = f; head = h; object = bytes } ∷ []))) read)
 
 -- where all deletes are got the fetches come next
-pub all_erased : {F : Type 0} (forms : Forms F) (r : Reading) (opened : List Opened) (schemas : List Schema) (got : List Version) → nat_lt (length r.erased) (length r.deletes) ≡ false → got ≡ []
-    → fetching forms r opened schemas 0 (drop 0 opened) got ≡ erasing forms r opened schemas
-all_erased forms r opened schemas got last none =
-    ap (λ vs. fetching forms r opened schemas 0 opened vs) none ∙ sym (ap (λ b. cond b (GetsDeletes r opened schemas) (fetching forms r opened schemas 0 opened [])) last)
+pub all_deletions : {F : Type 0} (codec : Codec F) (r : Reading) (opened : List Opened) (schemas : List Schema) (got : List Version) → nat_lt (length r.deletions) (length r.delete_names) ≡ false → got ≡ []
+    → fetching codec r opened schemas 0 (drop 0 opened) got ≡ getting_deletes codec r opened schemas
+all_deletions codec r opened schemas got last none =
+    ap (λ vs. fetching codec r opened schemas 0 opened vs) none ∙ sym (ap (λ b. cond b (Collects (GetsDeletes r opened schemas)) (fetching codec r opened schemas 0 opened [])) last)
 
 -- a query that is ready opens the first fragment
-pub asked_for : {F : Type 0} (forms : Forms F) (from to : ℕ) (listed : Listed) (frame : Frame) (s : Schema) (ready : Ready) (found : Result Ready Refusal) (erased : List Erasure) (opened : List Opened) → found ≡ Ok ready → erased ≡ [] → opened ≡ []
-    → opening forms (record { from = from; to = to; ready = ready; frame = frame; there = s; near = listed.near; deletes = listed.deletes; erased = erased }) opened ≡ asks_for forms from to listed frame s found
-asked_for forms from to listed frame s ready found erased opened is none empty =
-    ap (λ es. opening forms (record { from = from; to = to; ready = ready; frame = frame; there = s; near = listed.near; deletes = listed.deletes; erased = es }) opened) none
-    ∙ ap (opening forms (reading_of from to listed frame s ready)) empty
-    ∙ sym (ap (asks_for forms from to listed frame s) is)
+pub asked_for : {F : Type 0} (codec : Codec F) (from to : ℕ) (listed : Listed) (frame : Frame) (s : Schema) (ready : Ready) (found : Result Ready Refusal) (erased : List Deletion) (opened : List Opened) → found ≡ Ok ready → erased ≡ [] → opened ≡ []
+    → opening codec (record { from = from; to = to; ready = ready; frame = frame; there = s; fragments = listed.fragments; delete_names = listed.delete_names; deletions = erased }) opened ≡ asks_for codec from to listed frame s found
+asked_for codec from to listed frame s ready found erased opened is none empty =
+    ap (λ es. opening codec (record { from = from; to = to; ready = ready; frame = frame; there = s; fragments = listed.fragments; delete_names = listed.delete_names; deletions = es }) opened) none
+    ∙ ap (opening codec (reading_of from to listed frame s ready)) empty
+    ∙ sym (ap (asks_for codec from to listed frame s) is)

@@ -1,4 +1,4 @@
-pub mod Erasing
+pub mod Deletes
 pub mod Fetching
 pub mod Newest
 pub mod Readers

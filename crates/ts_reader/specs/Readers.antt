@@ -1,15 +1,15 @@
 -- Readers: the job of each, and the calls that it has made.
 use Rattle.std.specs.Prelude.{ℕ}
 use Rattle.ts_model.specs.declared.commands.Job.{Job}
-use Rattle.ts_model.specs.Forms.{Forms}
+use Rattle.ts_model.specs.Codecs.{Codec}
 use Rattle.ts_actor.specs.Traces.{Trace}
 use Rattle.ts_actor.specs.Machines as machine
 use Rattle.ts_actor.specs.declared.machine.Phase.{Phase}
 use Rattle.ts_reader.specs.Reading.{IsReadJob, MayRead, reads_left}
 
 -- the reader of a job has asked for the calls of the trace, and they had these replies
-abbrev pub Follows : {F : Type 0} → Forms F → Job → Phase F → Trace → Type 0
-Follows forms job phase t = machine.Follows forms IsReadJob (MayRead forms) job phase t
+abbrev pub Follows : {F : Type 0} → Codec F → Job → Phase F → Trace → Type 0
+Follows codec job phase t = machine.Follows codec IsReadJob (MayRead codec) job phase t
 
 -- more than the calls that a reader still asks for, where a fetch has so many left
 abbrev pub calls_left : {F : Type 0} → (F → ℕ) → Job → Phase F → ℕ

@@ -24,11 +24,14 @@ use Rattle.ts_model.specs.declared.states.Listed.{Listed}
 use Rattle.ts_model.specs.declared.states.Opened.{Opened}
 use Rattle.ts_model.specs.declared.states.Reading.{Reading}
 use Rattle.ts_model.specs.declared.states.State.{State}
-use Rattle.ts_model.specs.declared.states.State.TheVariants.{ListsCommits, ListsSchemas, GetsSchema, GetsFrame, GetsHeads, GetsSchemas, GetsDeletes, Fetches, Over}
-use Rattle.ts_model.specs.Forms.{Forms}
+use Rattle.ts_model.specs.declared.states.State.TheVariants.{Collects}
+use Rattle.ts_model.specs.declared.states.Collecting.{Collecting}
+use Rattle.ts_model.specs.declared.states.Collecting.TheVariants.{GetsHeads, GetsSchemas, GetsDeletes, Fetches}
+use Rattle.ts_model.specs.Codecs.{Codec}
 use Rattle.ts_model.specs.Jobs.{IsFit}
 use Rattle.ts_model.specs.Queries.{most_cells}
 use Rattle.ts_actor.specs.PieceLaws.{AreInBox, IsFetchIn}
+use Rattle.ts_actor.specs.Seeks.{MaySeek, state_left}
 
 -- the command is a read
 abbrev pub IsRead : Command → Type 0
@@ -49,8 +52,8 @@ IsSpelledDelete f = IsSpelledAs Del f
 
 -- what a read looks into has spellings
 pub record AreListed (listed : Listed) : Type 0 where
-  pub near : All IsSpelledFrag listed.near
-  pub deletes : All IsSpelledDelete listed.deletes
+  pub fragments : All IsSpelledFrag listed.fragments
+  pub deletes : All IsSpelledDelete listed.delete_names
 
 -- the array has a frame and attributes, the box lies in the domain, and what is looked into has spellings
 pub record IsReading (r : Reading) : Type 0 where
@@ -60,8 +63,8 @@ pub record IsReading (r : Reading) : Type 0 where
   pub valid : IsBox (r.ready).sub
   -- a read of a dense array has not too many cells
   pub few_cells : (r.frame).dense ≡ true → cells_of (r.ready).sub ≤ most_cells
-  pub near : All IsSpelledFrag r.near
-  pub deletes : All IsSpelledDelete r.deletes
+  pub fragments : All IsSpelledFrag r.fragments
+  pub deletes : All IsSpelledDelete r.delete_names
 
 -- the fragments have spellings
 abbrev pub AreSpelled : List Opened → Type 0
@@ -83,45 +86,52 @@ pub record IsKnown (r : Reading) (opened : List Opened) (schemas : List Schema) 
   pub rise : AreRising schemas
 
 -- a read fetches the fragment at a place, in its box
-pub record IsFetching {F : Type 0} (forms : Forms F) (r : Reading) (opened : List Opened) (schemas : List Schema) (next : ℕ) (got : List Version) (f : F) : Type 0 where
+pub record IsFetching {F : Type 0} (codec : Codec F) (r : Reading) (opened : List Opened) (schemas : List Schema) (next : ℕ) (got : List Version) (f : F) : Type 0 where
   pub known : IsKnown r opened schemas
   pub within : next < length opened
   pub inside : AreInBox (r.ready).sub got
-  pub in_box : IsFetchIn forms (r.ready).sub f
+  pub in_box : IsFetchIn codec (r.ready).sub f
 
--- a read can be in the state: what it looks into has spellings, the further schemas rise, and what it gets lies in its box
-abbrev pub IsReadState : {F : Type 0} → Forms F → State F → Type 0
-IsReadState forms ListsCommits = ⊤
-IsReadState forms (ListsSchemas listed) = AreListed listed
-IsReadState forms (GetsSchema listed there) = AreListed listed
-IsReadState forms (GetsFrame listed there) = AreListed listed × AreAttrs there.attrs
-IsReadState forms (GetsHeads r opened) = IsReading r × AreSpelled opened
-IsReadState forms (GetsSchemas r opened keys schemas) = IsReading r × AreSpelled opened × AreFirst keys schemas
-IsReadState forms (GetsDeletes r opened schemas) = IsKnown r opened schemas
-IsReadState forms (Fetches r opened schemas next frag got f c) = IsFetching forms r opened schemas next got f × IsSpelledCall c
-IsReadState forms (Over end) = ⊤
-IsReadState forms _ = ⊥
+-- a read can collect so: what it looks into has spellings, the further schemas rise, and what it gets lies in its box
+abbrev pub IsCollecting : {F : Type 0} → Codec F → Collecting F → Type 0
+IsCollecting codec (GetsHeads r opened) = IsReading r × AreSpelled opened
+IsCollecting codec (GetsSchemas r opened keys schemas) = IsReading r × AreSpelled opened × AreFirst keys schemas
+IsCollecting codec (GetsDeletes r opened schemas) = IsKnown r opened schemas
+IsCollecting codec (Fetches r opened schemas next frag got f c) = IsFetching codec r opened schemas next got f × IsSpelledCall c
+
+-- the state is one of a read that collects
+abbrev pub MayCollect : {F : Type 0} → Codec F → State F → Type 0
+MayCollect codec (Collects s) = IsCollecting codec s
+MayCollect codec _ = ⊥
+
+-- a read can be in the state: it seeks, it collects, or it is over
+abbrev pub IsReadState : {F : Type 0} → Codec F → State F → Type 0
+IsReadState codec s = MaySeek AreListed (MayCollect codec) s
 
 -- more than the calls that a read makes for so many fragments, one after the other
 abbrev pub fetches_left : ℕ → ℕ
 fetches_left fragments = fragments * 2 ^ 128
 
--- the most calls that a read makes from a state on, where a fetch has so many left: those of its fetches, of the deletes, of the further schemas, of the heads, and of what comes before
+-- the most calls of a read that collects, where a fetch has so many left: those of its fetches, of the deletes, of the further schemas and of the heads
+abbrev pub collect_left : {F : Type 0} → (F → ℕ) → Collecting F → ℕ
+collect_left left (GetsHeads r opened) = 2 ^ 194 + (length r.fragments - length opened)
+collect_left left (GetsSchemas r opened keys schemas) = 2 ^ 193 + (length keys - length schemas)
+collect_left left (GetsDeletes r opened schemas) = 2 ^ 192 + (length r.delete_names - length r.deletions)
+collect_left left (Fetches r opened schemas next frag got f c) = fetches_left (length opened - suc next) + suc (left f)
+
+-- so many a read has left in a state in which it collects, and none in another
+abbrev pub collects_left : {F : Type 0} → (F → ℕ) → State F → ℕ
+collects_left left (Collects s) = collect_left left s
+collects_left left _ = 0
+
+-- the most calls that a read makes from a state on
 abbrev pub reads_left : {F : Type 0} → (F → ℕ) → State F → ℕ
-reads_left left ListsCommits = 2 ^ 195 + 3
-reads_left left (ListsSchemas listed) = 2 ^ 195 + 2
-reads_left left (GetsSchema listed there) = 2 ^ 195 + 1
-reads_left left (GetsFrame listed there) = 2 ^ 195
-reads_left left (GetsHeads r opened) = 2 ^ 194 + (length r.near - length opened)
-reads_left left (GetsSchemas r opened keys schemas) = 2 ^ 193 + (length keys - length schemas)
-reads_left left (GetsDeletes r opened schemas) = 2 ^ 192 + (length r.deletes - length r.erased)
-reads_left left (Fetches r opened schemas next frag got f c) = fetches_left (length opened - suc next) + suc (left f)
-reads_left left s = 0
+reads_left left s = state_left (collects_left left) s
 
 -- the job that reads the interval from `from` to `to`; it is stopped nowhere
 abbrev pub read_job : ℕ → ℕ → ℕ → ℕ → Query → Job
 read_job at id from to query = record { command = Read from to query; at = at; id = id; stop = Never }
 
 -- so can the read of any job
-abbrev pub MayRead : {F : Type 0} → Forms F → Job → State F → Type 0
-MayRead forms job s = IsReadState forms s
+abbrev pub MayRead : {F : Type 0} → Codec F → Job → State F → Type 0
+MayRead codec job s = IsReadState codec s

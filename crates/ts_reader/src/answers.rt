@@ -4,14 +4,14 @@ ghost use Rattle.std.specs.Prelude.{◌≡◌, ◌++◌, true, map, IfOk, OnOk};
 ghost use Rattle.ts_actor.specs.PieceLaws.{AreInBox};
 ghost use Rattle.ts_model.specs.Selections.{placed};
 ghost use Rattle.ts_model.specs.States.{answer_of, cells_filled, cells_left, cells_shown, row_or_fill};
-ghost use Rattle.ts_reader.specs.Erasing.{one_shown, picks_under, sights_of};
+ghost use Rattle.ts_reader.specs.Deletes.{one_shown, picks_under, bindings_of};
 ghost use Rattle.ts_reader.specs.Reading.{AreRising, IsReading};
 
+use crate::bindings::{Binding, Bindings, binding_at, bindings_of, is_erased};
 use crate::newest::newest_of;
-use crate::sights::{Sight, Sights, is_erased, sight_at, sights_of};
 use crate::slots::slots_of;
 use std::alloc::Global;
-use ts_base::{OutOfMemory, Row, Version, VersionList};
+use ts_base::{FragList, OutOfMemory, Row, Version, VersionList};
 use ts_domain::Order;
 use ts_model::{Answer, Reading, Shown, ShownList, fills_of, rows_of, types_shown};
 use ts_order::coords_at;
@@ -39,6 +39,7 @@ pub(crate) fn answer_of(
     Ok(Answer {
         types: types_shown(alloc, frame, there, ready)?,
         rows: rows_of(alloc, frame, there, ready, cells)?,
+        clipped: FragList::new(alloc),
     })
 }
 
@@ -55,11 +56,11 @@ fn cells_shown(
     requires inside { AreInBox reading.now.ready.sub got }
     ensures { IfOk result (λ cells. map placed cells ≡ cells_shown reading.now schemas.now got) }
 {
-    let sights = sights_of(alloc, reading, schemas)?;
+    let bindings = bindings_of(alloc, reading, schemas)?;
     if reading.frame.dense {
-        cells_filled(alloc, reading, schemas, &sights, got)
+        cells_filled(alloc, reading, schemas, &bindings, got)
     } else {
-        cells_left(alloc, reading, schemas, &sights, got)
+        cells_left(alloc, reading, schemas, &bindings, got)
     }
 }
 
@@ -69,13 +70,13 @@ fn cells_filled(
     alloc: Global,
     reading: &Reading,
     schemas: &SchemaList,
-    sights: &Sights,
+    bindings: &Bindings,
     got: VersionList,
 ) -> Result<ShownList, OutOfMemory>
     requires reading { IsReading reading.now }
     requires dense { reading.now.frame.dense ≡ true }
     requires rise { AreRising schemas.now }
-    requires are { sights.now ≡ sights_of reading.now schemas.now }
+    requires are { bindings.now ≡ bindings_of reading.now schemas.now }
     requires inside { AreInBox reading.now.ready.sub got }
     ensures { IfOk result (λ cells. map placed cells ≡ cells_filled reading.now schemas.now got) }
 {
@@ -84,7 +85,7 @@ fn cells_filled(
     let mut cells = ShownList::new(alloc);
     for place in 0..sub.cells() {
         let coords = coords_at(sub, Order::Row, place);
-        let row = row_filled(alloc, reading, schemas, sights, slots.at(place))?;
+        let row = row_filled(alloc, reading, schemas, bindings, slots.at(place))?;
         cells.push(Shown { coords, row })?;
     }
     Ok(cells)
@@ -95,21 +96,21 @@ fn row_filled(
     alloc: Global,
     reading: &Reading,
     schemas: &SchemaList,
-    sights: &Sights,
+    bindings: &Bindings,
     newest: &Option<Version>,
 ) -> Result<Row, OutOfMemory>
     requires rise { AreRising schemas.now }
-    requires are { sights.now ≡ sights_of reading.now schemas.now }
+    requires are { bindings.now ≡ bindings_of reading.now schemas.now }
     ensures { IfOk result (λ row. row ≡ row_or_fill reading.now schemas.now newest.now) }
 {
     match newest {
         None => fills_of(alloc, &reading.there),
         Some(version) => {
-            let sight = sight_at(reading, schemas, sights, version.schema);
-            if is_erased(&reading.erased, sight, version) {
+            let binding = binding_at(reading, schemas, bindings, version.schema);
+            if is_erased(&reading.deletions, binding, version) {
                 fills_of(alloc, &reading.there)
             } else {
-                show_row(alloc, &sight.attrs, &version.row, &reading.there.attrs)
+                show_row(alloc, &binding.attrs, &version.row, &reading.there.attrs)
             }
         }
     }
@@ -120,18 +121,18 @@ fn cells_left(
     alloc: Global,
     reading: &Reading,
     schemas: &SchemaList,
-    sights: &Sights,
+    bindings: &Bindings,
     got: VersionList,
 ) -> Result<ShownList, OutOfMemory>
     requires rise { AreRising schemas.now }
-    requires are { sights.now ≡ sights_of reading.now schemas.now }
+    requires are { bindings.now ≡ bindings_of reading.now schemas.now }
     ensures { IfOk result (λ cells. map placed cells ≡ cells_left reading.now schemas.now got) }
 {
     let newest = newest_of(alloc, got)?;
     let mut cells = ShownList::new(alloc);
     for version in newest.values() {
-        let sight = sight_at(reading, schemas, sights, version.schema);
-        add_shown(alloc, &mut cells, reading, sight, version)?;
+        let binding = binding_at(reading, schemas, bindings, version.schema);
+        add_shown(alloc, &mut cells, reading, binding, version)?;
     }
     Ok(cells)
 }
@@ -141,17 +142,17 @@ fn add_shown(
     alloc: Global,
     cells: &mut ShownList,
     reading: &Reading,
-    sight: &Sight,
+    binding: &Binding,
     version: &Version,
 ) -> Result<(), OutOfMemory>
-    requires { sight.now.picks ≡ picks_under sight.now.attrs reading.now.erased }
-    ensures { OnOk result (map placed cells.new ≡ map placed cells.old ++ one_shown reading.now sight.now.attrs version.now) }
+    requires { binding.now.picks ≡ picks_under binding.now.attrs reading.now.deletions }
+    ensures { OnOk result (map placed cells.new ≡ map placed cells.old ++ one_shown reading.now binding.now.attrs version.now) }
 {
-    if is_erased(&reading.erased, sight, version) {
+    if is_erased(&reading.deletions, binding, version) {
         return Ok(());
     }
     cells.push(Shown {
         coords: version.coords,
-        row: show_row(alloc, &sight.attrs, &version.row, &reading.there.attrs)?,
+        row: show_row(alloc, &binding.attrs, &version.row, &reading.there.attrs)?,
     })
 }

@@ -14,8 +14,8 @@ use crate::known::{known_schema, want_of};
 use std::alloc::Global;
 use std::thread::Threads;
 use ts_actor::{Fetched, Pieces};
-use ts_base::{FragKey, Name, OutOfMemory, VersionList};
-use ts_model::{Opened, OpenedList, Outcome, Reading, Refusal, State};
+use ts_base::{Boxed, FragKey, Name, OutOfMemory, VersionList};
+use ts_model::{Collecting, Opened, OpenedList, Outcome, Reading, Refusal, State};
 use ts_schema::SchemaList;
 use ts_store::{Call, Reply};
 use ts_wire::ReadFault;
@@ -67,8 +67,8 @@ pub(crate) fn fetch_from<P: Pieces, R: Threads + Sync>(
     requires known { IsKnown gathered.reading gathered.opened gathered.schemas }
     requires within { next ≤ length gathered.opened }
     requires inside { AreInBox gathered.reading.ready.sub got }
-    ensures is { IfOk result (λ state. state ≡ fetching P.forms gathered.reading gathered.opened gathered.schemas next (drop next gathered.opened) got) }
-    ensures may { IfOk result (IsReadState P.forms) }
+    ensures is { IfOk result (λ state. state ≡ fetching P.codec gathered.reading gathered.opened gathered.schemas next (drop next gathered.opened) got) }
+    ensures may { IfOk result (IsReadState P.codec) }
     ensures bound { length gathered.opened < 2 ^ 64 }
     ensures fewer { IfOk result (λ state. reads_left P.left state ≤ fetches_left (length gathered.opened - next)) }
 {
@@ -85,7 +85,8 @@ pub(crate) fn fetch_from<P: Pieces, R: Threads + Sync>(
                     got,
                     fetch,
                 };
-                return Ok(fetches(gathered, ongoing, asked));
+                let waiting = Boxed::new(alloc, fetches(gathered, ongoing, asked))?;
+                return Ok(State::Collects(waiting));
             }
             FetchStep::Takes(versions) => got = joined(got, versions)?,
             FetchStep::Ends(end) => return Ok(State::Over(end)),
@@ -96,8 +97,8 @@ pub(crate) fn fetch_from<P: Pieces, R: Threads + Sync>(
 }
 
 // A read waits for the reply to a call of a fetch.
-fn fetches<F>(gathered: Gathered, ongoing: OngoingFetch<F>, asked: Call) -> State<F>
-    ensures { result ≡ State.Fetches gathered.reading gathered.opened gathered.schemas ongoing.next ongoing.frag ongoing.got ongoing.fetch asked }
+fn fetches<F>(gathered: Gathered, ongoing: OngoingFetch<F>, asked: Call) -> Collecting<F>
+    ensures { result ≡ Collecting.Fetches gathered.reading gathered.opened gathered.schemas ongoing.next ongoing.frag ongoing.got ongoing.fetch asked }
 {
     let Gathered {
         reading,
@@ -110,7 +111,7 @@ fn fetches<F>(gathered: Gathered, ongoing: OngoingFetch<F>, asked: Call) -> Stat
         got,
         fetch,
     } = ongoing;
-    State::Fetches {
+    Collecting::Fetches {
         reading,
         opened,
         schemas,
@@ -132,8 +133,8 @@ fn start<P: Pieces, R: Threads + Sync>(
 ) -> Result<FetchStep<P::Fetch>, OutOfMemory>
     requires frag { IsSpelledFrag opened.now.frag }
     requires rise { AreRising schemas.now }
-    ensures is { IfOk result (λ step. step ≡ step_in P.forms reading.now opened.now (known_schema reading.now schemas.now opened.now.head.schema)) }
-    ensures inside { IfOk result (LeadsInside P.forms reading.now.ready.sub) }
+    ensures is { IfOk result (λ step. step ≡ step_in P.codec reading.now opened.now (known_schema reading.now schemas.now opened.now.head.schema)) }
+    ensures inside { IfOk result (LeadsInside P.codec reading.now.ready.sub) }
     ensures few_calls { IfOk result (HasFewer P.left (2 ^ 128)) }
     ensures spelled { IfOk result AsksSpelled }
 {
@@ -168,8 +169,8 @@ fn go_on<P: Pieces, R: Threads + Sync>(
     fetch: P::Fetch,
     reply: Reply,
 ) -> Result<FetchStep<P::Fetch>, OutOfMemory>
-    ensures is { IfOk result (λ step. step ≡ step_by frag (P.forms.steps fetch reply)) }
-    ensures inside { (sub : AnyBox) → IsFetchIn P.forms sub fetch → IfOk result (LeadsInside P.forms sub) }
+    ensures is { IfOk result (λ step. step ≡ step_by frag (P.codec.steps fetch reply)) }
+    ensures inside { (sub : AnyBox) → IsFetchIn P.codec sub fetch → IfOk result (LeadsInside P.codec sub) }
     ensures fewer { IfOk result (HasFewer P.left (P.left fetch)) }
     ensures spelled { IfOk result AsksSpelled }
 {
@@ -203,9 +204,9 @@ pub(crate) fn after_fetched<P: Pieces, R: Threads + Sync>(
     asked: Call,
     reply: Reply,
 ) -> Result<State<P::Fetch>, OutOfMemory>
-    requires { IsFetching P.forms gathered.reading gathered.opened gathered.schemas ongoing.next ongoing.got ongoing.fetch }
-    ensures is { IfOk result (λ next. next ≡ after_fetched P.forms gathered.reading gathered.opened gathered.schemas ongoing.next ongoing.frag ongoing.got ongoing.fetch asked reply) }
-    ensures may { IfOk result (IsReadState P.forms) }
+    requires { IsFetching P.codec gathered.reading gathered.opened gathered.schemas ongoing.next ongoing.got ongoing.fetch }
+    ensures is { IfOk result (λ next. next ≡ after_fetched P.codec gathered.reading gathered.opened gathered.schemas ongoing.next ongoing.frag ongoing.got ongoing.fetch asked reply) }
+    ensures may { IfOk result (IsReadState P.codec) }
     ensures fewer { IfOk result (λ next. reads_left P.left next < fetches_left (length gathered.opened - suc ongoing.next) + suc (P.left ongoing.fetch)) }
 {
     match reply {
@@ -235,9 +236,9 @@ fn after_told<P: Pieces, R: Threads + Sync>(
     ongoing: OngoingFetch<P::Fetch>,
     reply: Reply,
 ) -> Result<State<P::Fetch>, OutOfMemory>
-    requires { IsFetching P.forms gathered.reading gathered.opened gathered.schemas ongoing.next ongoing.got ongoing.fetch }
-    ensures is { IfOk result (λ next. next ≡ fetch_leads gathered.reading gathered.opened gathered.schemas ongoing.next ongoing.frag ongoing.got (λ vs. fetching P.forms gathered.reading gathered.opened gathered.schemas (suc ongoing.next) (drop (suc ongoing.next) gathered.opened) (ongoing.got ++ vs)) (P.forms.steps ongoing.fetch reply)) }
-    ensures may { IfOk result (IsReadState P.forms) }
+    requires { IsFetching P.codec gathered.reading gathered.opened gathered.schemas ongoing.next ongoing.got ongoing.fetch }
+    ensures is { IfOk result (λ next. next ≡ fetch_leads gathered.reading gathered.opened gathered.schemas ongoing.next ongoing.frag ongoing.got (λ vs. fetching P.codec gathered.reading gathered.opened gathered.schemas (suc ongoing.next) (drop (suc ongoing.next) gathered.opened) (ongoing.got ++ vs)) (P.codec.steps ongoing.fetch reply)) }
+    ensures may { IfOk result (IsReadState P.codec) }
     ensures fewer { IfOk result (λ next. reads_left P.left next < fetches_left (length gathered.opened - suc ongoing.next) + suc (P.left ongoing.fetch)) }
 {
     let OngoingFetch {
@@ -255,7 +256,8 @@ fn after_told<P: Pieces, R: Threads + Sync>(
                 got,
                 fetch,
             };
-            Ok(fetches(gathered, ongoing, asked))
+            let waiting = Boxed::new(alloc, fetches(gathered, ongoing, asked))?;
+            Ok(State::Collects(waiting))
         }
         FetchStep::Takes(versions) => fetch_from::<P, R>(
             rt,

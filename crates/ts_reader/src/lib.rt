@@ -2,15 +2,15 @@
 #![tactic(auto)]
 
 mod answers;
+mod bindings;
 mod ends;
-mod erasing;
 mod fetching;
+mod getting_deletes;
 mod known;
 mod listing;
 mod newest;
 mod opening;
 mod reader;
-mod sights;
 mod slots;
 mod steps;
 

@@ -1,88 +1,32 @@
-//! Opening: what a read does from the schema that holds up to the further schemas.
+//! Opening: what a read does from the schema that holds and the frame up to the further schemas.
 ghost use Rattle.std.specs.Prelude.{◌≡◌, ◌<◌, ◌≤◌, ◌+◌, ◌-◌, ◌^◌, ◌++◌, ◌∷◌, [], length, All, IfOk, slice_get};
 ghost use Rattle.ts_base.specs.Names.{IsSpelledFrag};
-ghost use Rattle.ts_base.specs.declared.names.Name.TheVariants as name;
-ghost use Rattle.ts_schema.specs.FrameTexts.{IsFrame, frame_of};
-ghost use Rattle.ts_schema.specs.SchemaTexts.{AreAttrs, schema_of};
+ghost use Rattle.ts_schema.specs.FrameTexts.{IsFrame};
+ghost use Rattle.ts_schema.specs.SchemaTexts.{AreAttrs};
 ghost use Rattle.ts_model.specs.Queries.{ready_in};
 ghost use Rattle.ts_model.specs.Selections.{IsNamedBox};
-ghost use Rattle.ts_model.specs.States.{after_head, after_schema, asks_for, gathering, get_all, get_frame, get_head, get_schema, on_bytes, on_read, opening, with_item, works};
-ghost use Rattle.ts_model.specs.declared.states.State.TheVariants as state;
+ghost use Rattle.ts_model.specs.States.{after_head, after_schema, asks_for, gathering, get_head, get_schema, on_bytes, opening, with_item, works};
 ghost use Rattle.ts_reader.specs.Reading.{AreFirst, AreListed, AreSpelled, IsReadJob, IsReadState, IsReading, reads_left};
 
 use crate::ends::{damaged, ended};
-use crate::erasing::erase_next;
 use crate::fetching::Gathered;
+use crate::getting_deletes::next_delete;
 use crate::newest::keys_named;
 use std::alloc::Global;
 use std::thread::Threads;
-use ts_actor::Pieces;
-use ts_base::{ByteList, FragKey, Key, KeyList, Name, OutOfMemory};
+use ts_actor::{Pieces, get_all};
+use ts_base::{Boxed, ByteList, FragKey, KeyList, Name, OutOfMemory};
 use ts_cond::Query;
 use ts_model::{
-    Command, ErasureList, Job, Listed, Opened, OpenedList, Outcome, QueryFault, Reading, State,
-    check_query,
+    Collecting, Command, DeletionList, Job, Listed, Opened, OpenedList, Outcome, QueryFault,
+    Reading, State, check_query,
 };
 use ts_schema::{Frame, Schema, SchemaList};
-use ts_store::{Call, Reply};
+use ts_store::Reply;
 use ts_wire::ReadFault;
 
-/// The get of all of an object.
-pub(crate) fn get_all(name: Name) -> Call
-    ensures { result ≡ get_all name }
-{
-    Call::Get(name, 0, u64::MAX)
-}
-
-/// Where the reply to the get of the schema that holds leads: to the get of the frame.
-pub(crate) fn after_there<P: Pieces>(
-    alloc: Global,
-    listed: Listed,
-    there: Key,
-    reply: Reply,
-) -> Result<State<P::Fetch>, OutOfMemory>
-    requires { AreListed listed }
-    ensures is { IfOk result (λ next. next ≡ on_bytes (get_schema there) (λ bytes. on_read (name.Schema there) (λ attrs. state.GetsFrame listed (record { key = there; attrs = attrs })) (schema_of bytes)) reply) }
-    ensures may { IfOk result (IsReadState P.forms) }
-    ensures fewer { IfOk result (λ next. reads_left P.left next < 2 ^ 195 + 1) }
-{
-    match reply {
-        Reply::Bytes(bytes) => match Schema::decode(alloc, there, bytes.as_slice()) {
-            Ok(there) => Ok(State::GetsFrame { listed, there }),
-            Err(ReadFault::Damaged(fault)) => Ok(damaged::<P>(Name::Schema(there), fault.at)),
-            Err(ReadFault::OutOfMemory) => Err(OutOfMemory),
-        },
-        other => Ok(ended::<P>(&get_all(Name::Schema(there)), &other)),
-    }
-}
-
-/// Where the reply to the get of the frame leads: a read opens its first fragment, or is refused.
-pub(crate) fn after_frame<P: Pieces, R: Threads + Sync>(
-    rt: &R,
-    alloc: Global,
-    job: &Job,
-    listed: Listed,
-    there: Schema,
-    reply: Reply,
-) -> Result<State<P::Fetch>, OutOfMemory>
-    requires job { IsReadJob job.now }
-    requires listed { AreListed listed }
-    requires attrs { AreAttrs there.attrs }
-    ensures is { IfOk result (λ next. next ≡ on_bytes get_frame (λ bytes. on_read name.Domain (λ frame. works P.forms job.now job.now.command listed frame there) (frame_of bytes)) reply) }
-    ensures may { IfOk result (IsReadState P.forms) }
-    ensures fewer { IfOk result (λ next. reads_left P.left next < 2 ^ 195) }
-{
-    match reply {
-        Reply::Bytes(bytes) => match Frame::decode(bytes.as_slice()) {
-            Ok(frame) => begin_reading::<P, R>(rt, alloc, job, listed, frame, there),
-            Err(fault) => Ok(damaged::<P>(Name::Domain, fault.at)),
-        },
-        other => Ok(ended::<P>(&get_all(Name::Domain), &other)),
-    }
-}
-
-// A read that has the schema that holds and the frame opens its first fragment, or is refused.
-fn begin_reading<P: Pieces, R: Threads + Sync>(
+/// A read that has the schema that holds and the frame opens its first fragment, or is refused.
+pub(crate) fn begin_reading<P: Pieces, R: Threads + Sync>(
     rt: &R,
     alloc: Global,
     job: &Job,
@@ -94,8 +38,8 @@ fn begin_reading<P: Pieces, R: Threads + Sync>(
     requires listed { AreListed listed }
     requires frame { IsFrame frame }
     requires attrs { AreAttrs there.attrs }
-    ensures is { IfOk result (λ next. next ≡ works P.forms job.now job.now.command listed frame there) }
-    ensures may { IfOk result (IsReadState P.forms) }
+    ensures is { IfOk result (λ next. next ≡ works P.codec job.now job.now.command listed frame there) }
+    ensures may { IfOk result (IsReadState P.codec) }
     ensures fewer { IfOk result (λ next. reads_left P.left next < 2 ^ 195) }
 {
     match &job.command {
@@ -121,8 +65,8 @@ fn ask_for<P: Pieces, R: Threads + Sync>(
     requires listed { AreListed listed }
     requires frame { IsFrame frame }
     requires attrs { AreAttrs there.attrs }
-    ensures is { IfOk result (λ next. next ≡ asks_for P.forms from to listed frame there (ready_in frame there.attrs query.now)) }
-    ensures may { IfOk result (IsReadState P.forms) }
+    ensures is { IfOk result (λ next. next ≡ asks_for P.codec from to listed frame there (ready_in frame there.attrs query.now)) }
+    ensures may { IfOk result (IsReadState P.codec) }
     ensures fewer { IfOk result (λ next. reads_left P.left next < 2 ^ 195) }
 {
     match check_query(alloc, &frame, &there, query) {
@@ -133,9 +77,9 @@ fn ask_for<P: Pieces, R: Threads + Sync>(
                 ready,
                 frame,
                 there,
-                near: listed.near,
-                deletes: listed.deletes,
-                erased: ErasureList::new(alloc),
+                fragments: listed.fragments,
+                delete_names: listed.delete_names,
+                deletions: DeletionList::new(alloc),
             };
             open_next::<P, R>(rt, alloc, reading, OpenedList::new(alloc))
         }
@@ -153,14 +97,15 @@ fn open_next<P: Pieces, R: Threads + Sync>(
 ) -> Result<State<P::Fetch>, OutOfMemory>
     requires reading { IsReading reading }
     requires spelled { AreSpelled opened }
-    ensures is { IfOk result (λ next. next ≡ opening P.forms reading opened) }
-    ensures may { IfOk result (IsReadState P.forms) }
-    ensures bound { length reading.near < 2 ^ 64 }
-    ensures fewer { IfOk result (λ next. reads_left P.left next ≤ 2 ^ 194 + (length reading.near - length opened)) }
+    ensures is { IfOk result (λ next. next ≡ opening P.codec reading opened) }
+    ensures may { IfOk result (IsReadState P.codec) }
+    ensures bound { length reading.fragments < 2 ^ 64 }
+    ensures fewer { IfOk result (λ next. reads_left P.left next ≤ 2 ^ 194 + (length reading.fragments - length opened)) }
 {
-    let count = reading.near.len();
+    let count = reading.fragments.len();
     if opened.len() < count {
-        return Ok(State::GetsHeads { reading, opened });
+        let heads = Boxed::new(alloc, Collecting::GetsHeads { reading, opened })?;
+        return Ok(State::Collects(heads));
     }
     let keys = keys_named(alloc, reading.there.key, opened.as_slice())?;
     let schemas = SchemaList::new(alloc);
@@ -186,15 +131,15 @@ pub(crate) fn after_head_reply<P: Pieces, R: Threads + Sync>(
 ) -> Result<State<P::Fetch>, OutOfMemory>
     requires reading { IsReading reading }
     requires spelled { AreSpelled opened }
-    ensures is { IfOk result (λ next. next ≡ with_item (λ f. on_bytes (get_head P.forms reading f) (after_head P.forms reading opened f) reply) (slice_get reading.near (length opened))) }
-    ensures may { IfOk result (IsReadState P.forms) }
-    ensures fewer { IfOk result (λ next. length opened < length reading.near → reads_left P.left next < 2 ^ 194 + (length reading.near - length opened)) }
+    ensures is { IfOk result (λ next. next ≡ with_item (λ f. on_bytes (get_head P.codec reading f) (after_head P.codec reading opened f) reply) (slice_get reading.fragments (length opened))) }
+    ensures may { IfOk result (IsReadState P.codec) }
+    ensures fewer { IfOk result (λ next. length opened < length reading.fragments → reads_left P.left next < 2 ^ 194 + (length reading.fragments - length opened)) }
 {
     let place = opened.len();
-    if place >= reading.near.len() {
+    if place >= reading.fragments.len() {
         return Ok(State::Over(Outcome::OutOfMemory));
     }
-    let frag = *reading.near.at(place);
+    let frag = *reading.fragments.at(place);
     match reply {
         Reply::Bytes(bytes) => after_head::<P, R>(rt, alloc, reading, opened, frag, bytes),
         other => {
@@ -216,10 +161,10 @@ fn after_head<P: Pieces, R: Threads + Sync>(
     requires reading { IsReading reading }
     requires spelled { AreSpelled opened }
     requires frag { IsSpelledFrag frag }
-    requires within { length opened < length reading.near }
-    ensures is { IfOk result (λ next. next ≡ after_head P.forms reading opened frag bytes) }
-    ensures may { IfOk result (IsReadState P.forms) }
-    ensures fewer { IfOk result (λ next. reads_left P.left next < 2 ^ 194 + (length reading.near - length opened)) }
+    requires within { length opened < length reading.fragments }
+    ensures is { IfOk result (λ next. next ≡ after_head P.codec reading opened frag bytes) }
+    ensures may { IfOk result (IsReadState P.codec) }
+    ensures fewer { IfOk result (λ next. reads_left P.left next < 2 ^ 194 + (length reading.fragments - length opened)) }
 {
     match P::head(alloc, &reading.frame, frag, bytes.as_slice()) {
         Ok(head) => {
@@ -249,8 +194,8 @@ fn gather_next<P: Pieces, R: Threads + Sync>(
     requires reading { IsReading gathered.reading }
     requires spelled { AreSpelled gathered.opened }
     requires first { AreFirst keys gathered.schemas }
-    ensures is { IfOk result (λ next. next ≡ gathering P.forms gathered.reading gathered.opened keys gathered.schemas) }
-    ensures may { IfOk result (IsReadState P.forms) }
+    ensures is { IfOk result (λ next. next ≡ gathering P.codec gathered.reading gathered.opened keys gathered.schemas) }
+    ensures may { IfOk result (IsReadState P.codec) }
     ensures bound { length keys < 2 ^ 64 }
     ensures fewer { IfOk result (λ next. reads_left P.left next ≤ 2 ^ 193 + (length keys - length gathered.schemas)) }
 {
@@ -261,14 +206,18 @@ fn gather_next<P: Pieces, R: Threads + Sync>(
             opened,
             schemas,
         } = gathered;
-        return Ok(State::GetsSchemas {
-            reading,
-            opened,
-            keys,
-            schemas,
-        });
+        let further = Boxed::new(
+            alloc,
+            Collecting::GetsSchemas {
+                reading,
+                opened,
+                keys,
+                schemas,
+            },
+        )?;
+        return Ok(State::Collects(further));
     }
-    erase_next::<P, R>(rt, alloc, gathered)
+    next_delete::<P, R>(rt, alloc, gathered)
 }
 
 /// Where the reply to the get of a further schema leads.
@@ -282,8 +231,8 @@ pub(crate) fn after_further<P: Pieces, R: Threads + Sync>(
     requires reading { IsReading gathered.reading }
     requires spelled { AreSpelled gathered.opened }
     requires first { AreFirst keys gathered.schemas }
-    ensures is { IfOk result (λ next. next ≡ with_item (λ k. on_bytes (get_schema k) (after_schema P.forms gathered.reading gathered.opened keys gathered.schemas k) reply) (slice_get keys (length gathered.schemas))) }
-    ensures may { IfOk result (IsReadState P.forms) }
+    ensures is { IfOk result (λ next. next ≡ with_item (λ k. on_bytes (get_schema k) (after_schema P.codec gathered.reading gathered.opened keys gathered.schemas k) reply) (slice_get keys (length gathered.schemas))) }
+    ensures may { IfOk result (IsReadState P.codec) }
     ensures fewer { IfOk result (λ next. length gathered.schemas < length keys → reads_left P.left next < 2 ^ 193 + (length keys - length gathered.schemas)) }
 {
     let place = gathered.schemas.len();

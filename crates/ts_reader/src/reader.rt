@@ -42,7 +42,7 @@ impl<P: Pieces> Reader<P> {
     /// call yet, and takes no memory.
     pub fn new(at: u64, id: u128, from: u64, to: u64, query: Query) -> Reader<P>
         requires { IsTrue (fits (Read from to query)) }
-        ensures new { Follows P.forms result.machine.job result.machine.phase start }
+        ensures new { Follows P.codec result.machine.job result.machine.phase start }
         ensures task { result.machine.job ≡ read_job at id from to query }
     {
         Reader::of(Job {
@@ -56,7 +56,7 @@ impl<P: Pieces> Reader<P> {
     /// A reader of a job whose command is a read. It has made no call yet, and takes no memory.
     pub fn of(job: Job) -> Reader<P>
         requires { IsReadJob job }
-        ensures new { Follows P.forms result.machine.job result.machine.phase start }
+        ensures new { Follows P.codec result.machine.job result.machine.phase start }
         ensures task { result.machine.job ≡ job }
     {
         Reader {
@@ -72,9 +72,9 @@ impl<P: Pieces> Actor for Reader<P> {
 
     ghost task = { λ reader. reader.machine.job };
 
-    ghost follows = { λ reader t. Follows P.forms reader.machine.job reader.machine.phase t };
+    ghost follows = { λ reader t. Follows P.codec reader.machine.job reader.machine.phase t };
 
-    ghost ends = { λ job past end. EndsFrom P.forms job (begun job.command) past end };
+    ghost ends = { λ job past end. EndsFrom P.codec job (begun job.command) past end };
 
     ghost measure = { λ reader. calls_left P.left reader.machine.job reader.machine.phase };
 

@@ -3,21 +3,20 @@ ghost use Rattle.std.specs.Prelude.{◌≡◌, ◌≢◌, ◌<◌, true, None, o
 ghost use Rattle.ts_base.specs.Names.{IsSpelledFrag};
 ghost use Rattle.std.specs.Thread.{IsSync};
 ghost use Rattle.ts_store.specs.Calls.{IsSpelledCall, IsSpelledReply};
-ghost use Rattle.ts_model.specs.Jobs.{looked_at};
-ghost use Rattle.ts_model.specs.States.{asks, get_delete, get_head, get_schema, goes, takes_memory};
-ghost use Rattle.ts_reader.specs.Reading.{IsRead, IsReadJob, IsReadState, IsSpelledDelete, MayRead, reads_left};
+ghost use Rattle.ts_model.specs.States.{asks, collect_asks, collect_goes, get_delete, get_head, get_schema, goes, takes_memory};
+ghost use Rattle.ts_reader.specs.Reading.{AreListed, IsCollecting, IsReadJob, IsReadState, IsSpelledDelete, MayCollect, MayRead, collect_left, collects_left, reads_left};
 
-use crate::erasing::after_delete_reply;
 use crate::fetching::{Gathered, OngoingFetch, after_fetched};
-use crate::listing::{after_commits, after_schemas};
-use crate::opening::{after_frame, after_further, after_head_reply, after_there, get_all};
+use crate::getting_deletes::after_delete_reply;
+use crate::listing::look_into;
+use crate::opening::{after_further, after_head_reply, begin_reading};
 use std::alloc::Global;
 use std::marker::PhantomData;
 use std::thread::Threads;
-use ts_actor::{Automaton, Pieces};
-use ts_base::{CommitKind, Duplicate, KeyList, Name, OutOfMemory, Prefix};
-use ts_model::{Command, Job, OpenedList, Reading, State};
-use ts_schema::SchemaList;
+use ts_actor::{Automaton, Pieces, Works, ask_seeking, get_all, go_seeking};
+use ts_base::{CommitKind, Duplicate, KeyList, Name, OutOfMemory};
+use ts_model::{Collecting, Command, Job, Listed, OpenedList, Reading, Seeking, State};
+use ts_schema::{Frame, Schema, SchemaList};
 use ts_store::{Call, Reply};
 
 /// The automaton of reads, where pieces are read so.
@@ -29,11 +28,11 @@ pub struct Reads<P> {
 impl<P: Pieces> Automaton for Reads<P> {
     type Fetch = P::Fetch;
 
-    ghost forms = { P.forms };
+    ghost codec = { P.codec };
 
     ghost serves = { IsReadJob };
 
-    ghost may = { MayRead P.forms };
+    ghost may = { MayRead P.codec };
 
     ghost left = { reads_left P.left };
 
@@ -43,7 +42,7 @@ impl<P: Pieces> Automaton for Reads<P> {
                 from: _,
                 to: _,
                 query: _,
-            } => State::ListsCommits,
+            } => State::Seeks(Seeking::ListsCommits),
             _ => unreachable!(),
         }
     }
@@ -54,35 +53,8 @@ impl<P: Pieces> Automaton for Reads<P> {
         state: &State<P::Fetch>,
     ) -> Result<Option<Call>, OutOfMemory> {
         match state {
-            State::ListsCommits => Ok(Some(Call::List(Prefix::Commits))),
-            State::ListsSchemas { listed: _ } => Ok(Some(Call::List(Prefix::Schemas))),
-            State::GetsSchema { listed: _, there } => Ok(Some(get_all(Name::Schema(*there)))),
-            State::GetsFrame {
-                listed: _,
-                there: _,
-            } => Ok(Some(get_all(Name::Domain))),
-            State::GetsHeads { reading, opened } => Ok(head_asked::<P>(reading, opened)),
-            State::GetsSchemas {
-                reading: _,
-                opened: _,
-                keys,
-                schemas,
-            } => Ok(schema_asked(keys, schemas)),
-            State::GetsDeletes {
-                reading,
-                opened: _,
-                schemas: _,
-            } => Ok(delete_asked(reading)),
-            State::Fetches {
-                reading: _,
-                opened: _,
-                schemas: _,
-                next: _,
-                frag: _,
-                got: _,
-                fetch: _,
-                asked,
-            } => Ok(Some(asked.copy(alloc)?)),
+            State::Seeks(seeking) => Ok(Some(ask_seeking(seeking))),
+            State::Collects(collecting) => ask_collecting::<P>(alloc, collecting.get()),
             State::Over(_) => Ok(None),
             _ => unreachable!(),
         }
@@ -96,73 +68,18 @@ impl<P: Pieces> Automaton for Reads<P> {
         reply: Reply,
     ) -> Result<State<P::Fetch>, OutOfMemory>
         requires job { IsReadJob job.now }
-        requires state { IsReadState P.forms state }
+        requires state { IsReadState P.codec state }
         requires reply { IsSpelledReply reply }
         requires sync { IsSync R.row }
-        ensures is { IfOk result (λ next. next ≡ goes P.forms job.now state reply) }
-        ensures may { IfOk result (IsReadState P.forms) }
+        ensures is { IfOk result (λ next. next ≡ goes P.codec job.now state reply) }
+        ensures may { IfOk result (IsReadState P.codec) }
         ensures lacks { OnErr result (takes_memory state ≡ true) }
-        ensures fewer { IfOk result (λ next. asks P.forms job.now state ≢ None → reads_left P.left next < reads_left P.left state) }
+        ensures fewer { IfOk result (λ next. asks P.codec job.now state ≢ None → reads_left P.left next < reads_left P.left state) }
     {
         match state {
-            State::ListsCommits => after_commits::<P>(alloc, &job.command, reply),
-            State::ListsSchemas { listed } => {
-                after_schemas::<P>(alloc, listed, looked_at(job), reply)
-            }
-            State::GetsSchema { listed, there } => after_there::<P>(alloc, listed, there, reply),
-            State::GetsFrame { listed, there } => {
-                after_frame::<P, R>(rt, alloc, job, listed, there, reply)
-            }
-            State::GetsHeads { reading, opened } => {
-                after_head_reply::<P, R>(rt, alloc, reading, opened, reply)
-            }
-            State::GetsSchemas {
-                reading,
-                opened,
-                keys,
-                schemas,
-            } => {
-                let gathered = Gathered {
-                    reading,
-                    opened,
-                    schemas,
-                };
-                after_further::<P, R>(rt, alloc, gathered, keys, reply)
-            }
-            State::GetsDeletes {
-                reading,
-                opened,
-                schemas,
-            } => {
-                let gathered = Gathered {
-                    reading,
-                    opened,
-                    schemas,
-                };
-                after_delete_reply::<P, R>(rt, alloc, gathered, reply)
-            }
-            State::Fetches {
-                reading,
-                opened,
-                schemas,
-                next,
-                frag,
-                got,
-                fetch,
-                asked,
-            } => {
-                let gathered = Gathered {
-                    reading,
-                    opened,
-                    schemas,
-                };
-                let ongoing = OngoingFetch {
-                    next,
-                    frag,
-                    got,
-                    fetch,
-                };
-                after_fetched::<P, R>(rt, alloc, gathered, ongoing, asked, reply)
+            State::Seeks(seeking) => go_seeking::<Reads<P>, R>(rt, alloc, job, seeking, reply),
+            State::Collects(collecting) => {
+                go_collecting::<P, R>(rt, alloc, collecting.into_inner(), reply)
             }
             State::Over(end) => Ok(State::Over(end)),
             _ => unreachable!(),
@@ -170,31 +87,149 @@ impl<P: Pieces> Automaton for Reads<P> {
     }
 }
 
-// Where a read looks for its schema: at the end of its interval.
-fn looked_at(job: &Job) -> u64
-    requires { IsRead job.now.command }
-    ensures { result ≡ looked_at job.now }
+impl<P: Pieces> Works for Reads<P> {
+    type Fetch = P::Fetch;
+
+    ghost codec = { P.codec };
+
+    ghost serves = { IsReadJob };
+
+    ghost knows = { AreListed };
+
+    ghost may = { MayCollect P.codec };
+
+    ghost left = { collects_left P.left };
+
+    fn look(alloc: Global, job: &Job, names: &[Name]) -> Result<Listed, OutOfMemory> {
+        look_into(alloc, &job.command, names)
+    }
+
+    fn work<R: Threads + Sync>(
+        rt: &R,
+        alloc: Global,
+        job: &Job,
+        listed: Listed,
+        frame: Frame,
+        there: Schema,
+    ) -> Result<State<P::Fetch>, OutOfMemory> {
+        begin_reading::<P, R>(rt, alloc, job, listed, frame, there)
+    }
+}
+
+// The next call of a read that collects.
+fn ask_collecting<P: Pieces>(
+    alloc: Global,
+    collecting: &Collecting<P::Fetch>,
+) -> Result<Option<Call>, OutOfMemory>
+    requires { IsCollecting P.codec collecting.now }
+    ensures is { IfOk result (λ call. call ≡ collect_asks P.codec collecting.now) }
+    ensures spelled { IfOk result (λ call. IfSome call IsSpelledCall) }
 {
-    match &job.command {
-        Command::Read {
-            from: _,
-            to,
-            query: _,
-        } => *to,
-        _ => unreachable!(),
+    match collecting {
+        Collecting::GetsHeads { reading, opened } => Ok(head_asked::<P>(reading, opened)),
+        Collecting::GetsSchemas {
+            reading: _,
+            opened: _,
+            keys,
+            schemas,
+        } => Ok(schema_asked(keys, schemas)),
+        Collecting::GetsDeletes {
+            reading,
+            opened: _,
+            schemas: _,
+        } => Ok(delete_asked(reading)),
+        Collecting::Fetches {
+            reading: _,
+            opened: _,
+            schemas: _,
+            next: _,
+            frag: _,
+            got: _,
+            fetch: _,
+            asked,
+        } => Ok(Some(asked.copy(alloc)?)),
+    }
+}
+
+// Where a reply leads a read that collects.
+fn go_collecting<P: Pieces, R: Threads + Sync>(
+    rt: &R,
+    alloc: Global,
+    collecting: Collecting<P::Fetch>,
+    reply: Reply,
+) -> Result<State<P::Fetch>, OutOfMemory>
+    requires state { IsCollecting P.codec collecting }
+    requires reply { IsSpelledReply reply }
+    requires sync { IsSync R.row }
+    ensures is { IfOk result (λ next. next ≡ collect_goes P.codec collecting reply) }
+    ensures may { IfOk result (IsReadState P.codec) }
+    ensures fewer { IfOk result (λ next. collect_asks P.codec collecting ≢ None → reads_left P.left next < collect_left P.left collecting) }
+{
+    match collecting {
+        Collecting::GetsHeads { reading, opened } => {
+            after_head_reply::<P, R>(rt, alloc, reading, opened, reply)
+        }
+        Collecting::GetsSchemas {
+            reading,
+            opened,
+            keys,
+            schemas,
+        } => {
+            let gathered = Gathered {
+                reading,
+                opened,
+                schemas,
+            };
+            after_further::<P, R>(rt, alloc, gathered, keys, reply)
+        }
+        Collecting::GetsDeletes {
+            reading,
+            opened,
+            schemas,
+        } => {
+            let gathered = Gathered {
+                reading,
+                opened,
+                schemas,
+            };
+            after_delete_reply::<P, R>(rt, alloc, gathered, reply)
+        }
+        Collecting::Fetches {
+            reading,
+            opened,
+            schemas,
+            next,
+            frag,
+            got,
+            fetch,
+            asked,
+        } => {
+            let gathered = Gathered {
+                reading,
+                opened,
+                schemas,
+            };
+            let ongoing = OngoingFetch {
+                next,
+                frag,
+                got,
+                fetch,
+            };
+            after_fetched::<P, R>(rt, alloc, gathered, ongoing, asked, reply)
+        }
     }
 }
 
 // The get of the part that has the head of the next fragment, if there is one.
 fn head_asked<P: Pieces>(reading: &Reading, opened: &OpenedList) -> Option<Call>
-    requires { All IsSpelledFrag reading.now.near }
-    ensures is { result ≡ option_map (get_head P.forms reading.now) (slice_get reading.now.near (length opened.now)) }
+    requires { All IsSpelledFrag reading.now.fragments }
+    ensures is { result ≡ option_map (get_head P.codec reading.now) (slice_get reading.now.fragments (length opened.now)) }
     ensures spelled { IfSome result IsSpelledCall }
 {
     let place = opened.len();
-    if place < reading.near.len() {
+    if place < reading.fragments.len() {
         let part = P::head_part(&reading.frame);
-        Some(get_all(Name::Part(*reading.near.at(place), part)))
+        Some(get_all(Name::Part(*reading.fragments.at(place), part)))
     } else {
         None
     }
@@ -215,13 +250,13 @@ fn schema_asked(keys: &KeyList, schemas: &SchemaList) -> Option<Call>
 
 // The get of the next delete, if there is one.
 fn delete_asked(reading: &Reading) -> Option<Call>
-    requires { All IsSpelledDelete reading.now.deletes }
-    ensures is { result ≡ option_map get_delete (slice_get reading.now.deletes (length reading.now.erased)) }
+    requires { All IsSpelledDelete reading.now.delete_names }
+    ensures is { result ≡ option_map get_delete (slice_get reading.now.delete_names (length reading.now.deletions)) }
     ensures spelled { IfSome result IsSpelledCall }
 {
-    let place = reading.erased.len();
-    if place < reading.deletes.len() {
-        let name = Name::Commit(*reading.deletes.at(place), CommitKind::Del);
+    let place = reading.deletions.len();
+    if place < reading.delete_names.len() {
+        let name = Name::Commit(*reading.delete_names.at(place), CommitKind::Del);
         Some(get_all(name))
     } else {
         None

@@ -1,27 +1,25 @@
 -- Where replies lead that do not let a job go on.
 use Rattle.std.proofs.Common.{◌≡◌, ◌≢◌, ◌<◌, inl, inr, None, option_map, length, ℕ, suc, ◌-◌, ◌^◌, List, Some, slice_get, refl, sym, ap, ◌∙◌}
 use Rattle.std.proofs.lemmas.Option.{slice_get_cases}
-use Rattle.ts_base.specs.declared.keys.Key.{Key}
-use Rattle.ts_model.specs.declared.states.Listed.{Listed}
 use Rattle.ts_base.specs.declared.names.Name.{Name}
-use Rattle.ts_schema.specs.declared.schemas.Schema.{Schema}
 use Rattle.ts_store.specs.declared.call.Call.{Call}
 use Rattle.ts_store.specs.declared.call.Reply.{Reply}
 use Rattle.ts_store.specs.declared.call.Reply.TheVariants as reply
 use Rattle.ts_model.specs.declared.commands.Job.{Job}
 use Rattle.ts_model.specs.declared.states.State.{State}
-use Rattle.ts_model.specs.declared.states.State.TheVariants.{PutsFrame, ComparesFrame, ListsDeclared, Puts, ListsCommits, ListsSchemas, GetsSchema, GetsFrame, GetsHeads, GetsSchemas, GetsDeletes, Fetches, Over}
-use Rattle.ts_model.specs.States.{asks, on_made, on_bytes, ended, with_item, after_frame, frame_put, made_by, goes, get_frame, get_schema, put_of, putting}
+use Rattle.ts_model.specs.declared.states.State.TheVariants.{Creates, Seeks, Puts, Collects, Over}
+use Rattle.ts_model.specs.declared.states.Creating.TheVariants.{PutsFrame, ComparesFrame}
+use Rattle.ts_model.specs.States.{asks, on_made, on_bytes, ended, with_item, after_frame, frame_put, made_by, goes, get_frame, put_of, putting}
 use Rattle.ts_model.specs.declared.states.NewObject.{NewObject}
 use Rattle.ts_model.specs.declared.answers.Outcome.{Outcome}
-use Rattle.ts_model.specs.Forms.{Forms}
+use Rattle.ts_model.specs.Codecs.{Codec}
 use Rattle.ts_model.specs.Commands.{frame_made}
 use Rattle.ts_schema.specs.FrameTexts.{frame_object}
 use Rattle.ts_base.specs.declared.names.Name.TheVariants as name
 use Rattle.ts_store.specs.declared.call.Call.TheVariants as call
 use Rattle.ts_model.specs.declared.commands.Command.{Command}
 use Rattle.ts_model.specs.declared.commands.Command.TheVariants.{Create, Evolve, Write, Read, Delete}
-use Rattle.ts_writer.specs.Writing.{IsCreate, IsOver, IsPutState, IsCreateState, IsLaterState, calls_left}
+use Rattle.ts_writer.specs.Writing.{IsCreate, IsOver, IsPutState, IsCreateState, calls_left}
 
 -- a put that did not make its object ends the job
 pub made_other : {F : Type 0} (c : Call) (on : State F) (r : Reply) → (r ≡ reply.Made → ⊥) → on_made c on r ≡ ended c r
@@ -52,66 +50,26 @@ bytes_other c on reply.NoMemory other = refl
 -- a job that is over makes no call
 pub none_left : {F : Type 0} (s : State F) → IsOver s → calls_left s ≡ 0
 none_left (Over end) over = refl
-none_left PutsFrame over = absurd over
-none_left ComparesFrame over = absurd over
-none_left ListsDeclared over = absurd over
-none_left ListsCommits over = absurd over
+none_left (Creates s) over = absurd over
+none_left (Seeks s) over = absurd over
 none_left (Puts objects next end) over = absurd over
-none_left (ListsSchemas listed) over = absurd over
-none_left (GetsSchema listed there) over = absurd over
-none_left (GetsFrame listed there) over = absurd over
-none_left (GetsHeads r opened) over = absurd over
-none_left (GetsSchemas r opened keys schemas) over = absurd over
-none_left (GetsDeletes r opened schemas) over = absurd over
-none_left (Fetches r opened schemas next frag got f c) over = absurd over
+none_left (Collects s) over = absurd over
 
 -- each job can be over
 pub over_puts : {F : Type 0} (s : State F) → IsOver s → IsPutState s
 over_puts (Over end) over = over
-over_puts PutsFrame over = over
-over_puts ComparesFrame over = over
-over_puts ListsDeclared over = over
-over_puts ListsCommits over = over
+over_puts (Creates s) over = over
+over_puts (Seeks s) over = over
 over_puts (Puts objects next end) over = absurd over
-over_puts (ListsSchemas listed) over = over
-over_puts (GetsSchema listed there) over = over
-over_puts (GetsFrame listed there) over = over
-over_puts (GetsHeads r opened) over = over
-over_puts (GetsSchemas r opened keys schemas) over = over
-over_puts (GetsDeletes r opened schemas) over = over
-over_puts (Fetches r opened schemas next frag got f c) over = over
+over_puts (Collects s) over = over
 
 -- a create can put its objects
 pub create_puts : {F : Type 0} (job : Job) (s : State F) → IsPutState s → IsCreateState job s
 create_puts job (Puts objects next end) may = may
 create_puts job (Over end) may = may
-create_puts job PutsFrame may = absurd may
-create_puts job ComparesFrame may = absurd may
-create_puts job ListsDeclared may = absurd may
-create_puts job ListsCommits may = may
-create_puts job (ListsSchemas listed) may = may
-create_puts job (GetsSchema listed there) may = may
-create_puts job (GetsFrame listed there) may = may
-create_puts job (GetsHeads r opened) may = may
-create_puts job (GetsSchemas r opened keys schemas) may = may
-create_puts job (GetsDeletes r opened schemas) may = may
-create_puts job (Fetches r opened schemas next frag got f c) may = may
-
--- an evolve and a write can put their objects
-pub later_puts : {F : Type 0} (s : State F) → IsPutState s → IsLaterState s
-later_puts (Puts objects next end) may = may
-later_puts (Over end) may = may
-later_puts PutsFrame may = may
-later_puts ComparesFrame may = may
-later_puts ListsDeclared may = may
-later_puts ListsCommits may = may
-later_puts (ListsSchemas listed) may = absurd may
-later_puts (GetsSchema listed there) may = absurd may
-later_puts (GetsFrame listed there) may = absurd may
-later_puts (GetsHeads r opened) may = may
-later_puts (GetsSchemas r opened keys schemas) may = may
-later_puts (GetsDeletes r opened schemas) may = may
-later_puts (Fetches r opened schemas next frag got f c) may = may
+create_puts job (Creates s) may = absurd may
+create_puts job (Seeks s) may = may
+create_puts job (Collects s) may = may
 
 -- the put of the frame that neither made it nor found its name taken ends a create
 frame_kept : {F : Type 0} (job : Job) (c : Call) (r : Reply) → (r ≡ reply.Made → ⊥) → (r ≡ reply.Taken → ⊥) → after_frame {F = F} job c r ≡ ended c r
@@ -135,31 +93,23 @@ frame_in_other job (Read from to query) s r is made taken e = absurd is
 frame_in_other job (Delete text) s r is made taken e = absurd is
 
 -- so it does in the words of a create's state
-pub frame_other : {F : Type 0} (forms : Forms F) (job : Job) (s : State F) (r : Reply) → IsCreate job.command → (r ≡ reply.Made → ⊥) → (r ≡ reply.Taken → ⊥) → ((bytes : List ℕ) → s ≡ ended (call.Put name.Domain bytes) r)
-    → s ≡ goes forms job PutsFrame r
-frame_other forms job s r is made taken e = frame_in_other job job.command s r is made taken e
+pub frame_other : {F : Type 0} (codec : Codec F) (job : Job) (s : State F) (r : Reply) → IsCreate job.command → (r ≡ reply.Made → ⊥) → (r ≡ reply.Taken → ⊥) → ((bytes : List ℕ) → s ≡ ended (call.Put name.Domain bytes) r)
+    → s ≡ goes codec job (Creates PutsFrame) r
+frame_other codec job s r is made taken e = frame_in_other job job.command s r is made taken e
 
 -- the get of the frame that has no bytes ends a create
-pub present_other : {F : Type 0} (forms : Forms F) (job : Job) (s : State F) (r : Reply) → ((bytes : List ℕ) → r ≡ reply.Bytes bytes → ⊥) → ((from len : ℕ) → s ≡ ended (call.Get name.Domain from len) r) → s ≡ goes forms job ComparesFrame r
-present_other forms job s r other e = e 0 (2 ^ 64 - 1) ∙ sym (bytes_other get_frame _ r other)
+pub present_other : {F : Type 0} (codec : Codec F) (job : Job) (s : State F) (r : Reply) → ((bytes : List ℕ) → r ≡ reply.Bytes bytes → ⊥) → ((from len : ℕ) → s ≡ ended (call.Get name.Domain from len) r) → s ≡ goes codec job (Creates ComparesFrame) r
+present_other codec job s r other e = e 0 (2 ^ 64 - 1) ∙ sym (bytes_other get_frame _ r other)
 
 -- the put of the object at a place that did not make it ends the job
 pub put_other : {F : Type 0} (objects : List NewObject) (next : ℕ) (end : Outcome) (o : NewObject) (s : State F) (r : Reply) → slice_get objects next ≡ Some o → (r ≡ reply.Made → ⊥) → ((bytes : List ℕ) → s ≡ ended (call.Put o.name bytes) r)
     → s ≡ with_item (λ o. on_made (put_of o) (putting objects (suc next) end) r) (slice_get objects next)
 put_other objects next end o s r is other e = e o.bytes ∙ sym (ap (with_item (λ o. on_made (put_of o) (putting objects (suc next) end) r)) is ∙ made_other (put_of o) (putting objects (suc next) end) r other)
 
--- the get of the schema that has no bytes ends the job
-pub schema_other : {F : Type 0} (there : Key) (on : List ℕ → State F) (s : State F) (r : Reply) → ((bytes : List ℕ) → r ≡ reply.Bytes bytes → ⊥) → ((from len : ℕ) → s ≡ ended (call.Get (name.Schema there) from len) r) → s ≡ on_bytes (get_schema there) on r
-schema_other there on s r other e = e 0 (2 ^ 64 - 1) ∙ sym (bytes_other (get_schema there) on r other)
-
--- the get of the frame that has no bytes ends an evolve and a write
-pub frame_absent : {F : Type 0} (forms : Forms F) (job : Job) (listed : Listed) (there : Schema) (s : State F) (r : Reply) → ((bytes : List ℕ) → r ≡ reply.Bytes bytes → ⊥) → ((from len : ℕ) → s ≡ ended (call.Get name.Domain from len) r) → s ≡ goes forms job (GetsFrame listed there) r
-frame_absent forms job listed there s r other e = e 0 (2 ^ 64 - 1) ∙ sym (bytes_other get_frame _ r other)
-
 -- the item at a place is there where the place is within the list
 within : (objects : List NewObject) (next : ℕ) → option_map put_of (slice_get objects next) ≢ None → next < length objects
 within objects next waits = elim (slice_get_cases objects next).1 [ inl is ↦ is.1 | inr past ↦ absurd (waits (ap (option_map put_of) past.1)) ]
 
 -- a job that asks for the put of an object has fewer puts left afterwards
-pub puts_fewer : {F : Type 0} (forms : Forms F) (job : Job) (objects : List NewObject) (next : ℕ) (end : Outcome) (left : ℕ) → (next < length objects → left < length objects - next) → asks forms job (Puts objects next end) ≢ None → left < length objects - next
-puts_fewer forms job objects next end left fewer waits = fewer (within objects next waits)
+pub puts_fewer : {F : Type 0} (codec : Codec F) (job : Job) (objects : List NewObject) (next : ℕ) (end : Outcome) (left : ℕ) → (next < length objects → left < length objects - next) → asks codec job (Puts objects next end) ≢ None → left < length objects - next
+puts_fewer codec job objects next end left fewer waits = fewer (within objects next waits)

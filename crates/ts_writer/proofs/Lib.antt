@@ -1,6 +1,5 @@
 pub mod Frames
 pub mod Endings
-pub mod Collected
 pub mod Again
 pub mod Hulls
 pub mod Lengths

@@ -1,15 +1,15 @@
 -- Deleters: the calls that each has made.
 use Rattle.std.specs.Prelude.{ℕ}
 use Rattle.ts_model.specs.declared.commands.Job.{Job}
-use Rattle.ts_model.specs.Forms.{Forms}
+use Rattle.ts_model.specs.Codecs.{Codec}
 use Rattle.ts_actor.specs.Traces.{Trace}
 use Rattle.ts_actor.specs.Machines as machine
 use Rattle.ts_actor.specs.declared.machine.Phase.{Phase}
 use Rattle.ts_writer.specs.Writing.{IsDeleteJob, IsLaterState, calls_left as left}
 
 -- the deleter of a job has asked for the calls of the trace, and they had these replies
-abbrev pub Follows : {F : Type 0} → Forms F → Job → Phase F → Trace → Type 0
-Follows forms job phase t = machine.Follows forms IsDeleteJob (λ job s. IsLaterState s) job phase t
+abbrev pub Follows : {F : Type 0} → Codec F → Job → Phase F → Trace → Type 0
+Follows codec job phase t = machine.Follows codec IsDeleteJob (λ job s. IsLaterState s) job phase t
 
 -- more than the calls that a deleter still asks for
 abbrev pub calls_left : {F : Type 0} → Job → Phase F → ℕ

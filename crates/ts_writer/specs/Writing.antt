@@ -1,15 +1,18 @@
 -- Jobs that put objects: which jobs they are, and the states in which each can be.
-use Rattle.std.specs.Prelude.{◌≡◌, ℕ, ◌+◌, ◌-◌, ◌^◌, List, None, length, All, ⊤}
+use Rattle.std.specs.Prelude.{◌≡◌, ℕ, ◌-◌, List, None, length, All, ⊤}
 use Rattle.ts_base.specs.Names.{IsSpelled}
-use Rattle.ts_schema.specs.SchemaTexts.{AreAttrs}
 use Rattle.ts_base.specs.declared.heads.Stop.TheVariants.{Never}
 use Rattle.ts_model.specs.declared.commands.Command.{Command}
 use Rattle.ts_model.specs.declared.commands.Command.TheVariants.{Create, Evolve, Write, Delete}
 use Rattle.ts_model.specs.declared.commands.Job.{Job}
 use Rattle.ts_model.specs.declared.states.NewObject.{NewObject}
 use Rattle.ts_model.specs.declared.states.State.{State}
-use Rattle.ts_model.specs.declared.states.State.TheVariants.{PutsFrame, ComparesFrame, ListsDeclared, Puts, ListsSchemas, GetsSchema, GetsFrame, Over}
+use Rattle.ts_model.specs.declared.states.State.TheVariants.{Creates, Puts, Over}
+use Rattle.ts_model.specs.declared.states.Creating.{Creating}
+use Rattle.ts_model.specs.declared.states.Creating.TheVariants.{PutsFrame, ComparesFrame, ListsDeclared}
+use Rattle.ts_model.specs.declared.states.Listed.{Listed}
 use Rattle.ts_model.specs.Jobs.{IsFit, refused_before}
+use Rattle.ts_actor.specs.Seeks.{MaySeek, state_left}
 
 -- the command is a create
 abbrev pub IsCreate : Command → Type 0
@@ -66,30 +69,33 @@ IsPutState (Puts objects next end) = AreSpelled objects
 IsPutState (Over end) = ⊤
 IsPutState _ = ⊥
 
+-- a create can be in the state before its puts: one that is refused makes no call
+abbrev pub IsCreatingState : Job → Creating → Type 0
+IsCreatingState job PutsFrame = refused_before job.command ≡ None
+IsCreatingState job ComparesFrame = refused_before job.command ≡ None
+IsCreatingState job ListsDeclared = ⊤
+
 -- a create can be in the state
 abbrev pub IsCreateState : {F : Type 0} → Job → State F → Type 0
-IsCreateState job PutsFrame = refused_before job.command ≡ None
-IsCreateState job ComparesFrame = refused_before job.command ≡ None
-IsCreateState job ListsDeclared = ⊤
+IsCreateState job (Creates s) = IsCreatingState job s
 IsCreateState job s = IsPutState s
+
+-- an evolve, a write or a delete needs to know nothing of what it looks into, since that is nothing
+abbrev pub IsAnyListed : Listed → Type 0
+IsAnyListed listed = ⊤
 
 -- an evolve, a write or a delete can be in the state
 abbrev pub IsLaterState : {F : Type 0} → State F → Type 0
-IsLaterState (ListsSchemas listed) = ⊤
-IsLaterState (GetsSchema listed there) = ⊤
-IsLaterState (GetsFrame listed there) = AreAttrs there.attrs
-IsLaterState s = IsPutState s
+IsLaterState s = MaySeek IsAnyListed IsPutState s
 
--- the most calls that a job makes from a state on: those before its first put of many, and then its puts
+-- the most puts that a job makes from a state on
+abbrev pub puts_left : {F : Type 0} → State F → ℕ
+puts_left (Puts objects next end) = length objects - next
+puts_left _ = 0
+
+-- the most calls that a job makes from a state on: those before its puts, and then its puts
 abbrev pub calls_left : {F : Type 0} → State F → ℕ
-calls_left PutsFrame = 2 ^ 64 + 3
-calls_left ComparesFrame = 2 ^ 64 + 2
-calls_left ListsDeclared = 2 ^ 64 + 1
-calls_left (ListsSchemas listed) = 2 ^ 64 + 3
-calls_left (GetsSchema listed there) = 2 ^ 64 + 2
-calls_left (GetsFrame listed there) = 2 ^ 64 + 1
-calls_left (Puts objects next end) = length objects - next
-calls_left _ = 0
+calls_left s = state_left puts_left s
 
 -- the job of a command that is stopped nowhere
 abbrev pub job_for : ℕ → ℕ → Command → Job

@@ -1,11 +1,12 @@
 //! How a create goes: the call that it makes next, and where the reply leads it.
-ghost use Rattle.std.specs.Prelude.{◌≡◌, ◌≢◌, ◌<◌, ◌^◌, ◌+◌, true, None, Some, option_map, IfOk, OnErr, IsTrue};
-ghost use Rattle.ts_store.specs.Calls.{IsSpelledReply};
+ghost use Rattle.std.specs.Prelude.{◌≡◌, ◌≢◌, ◌<◌, ◌^◌, ◌+◌, true, None, Some, option_map, IfOk, IfSome, OnErr, IsTrue};
+ghost use Rattle.ts_store.specs.Calls.{IsSpelledCall, IsSpelledReply};
 ghost use Rattle.ts_model.specs.declared.commands.Command.TheVariants.{Create};
 ghost use Rattle.ts_model.specs.Commands.{create_refusal, fits, frame_made};
 ghost use Rattle.ts_model.specs.Jobs.{refused_before};
-ghost use Rattle.ts_model.specs.States.{asks, frame_put, goes, made_by, puts_first, takes_memory};
-ghost use Rattle.ts_writer.specs.Writing.{IsCreate, IsCreateJob, IsCreateState, calls_left};
+ghost use Rattle.ts_model.specs.States.{asks, create_asks, create_goes, frame_put, goes, made_by, puts_first, takes_memory};
+ghost use Rattle.ts_actor.specs.Seeks.{create_left};
+ghost use Rattle.ts_writer.specs.Writing.{IsCreate, IsCreateJob, IsCreateState, IsCreatingState, calls_left};
 
 use crate::ends::{get_ended, list_ended, put_ended, refuse};
 use crate::puts::{after_put, key_of, next_put, put_schema};
@@ -15,7 +16,7 @@ use std::thread::Threads;
 use ts_actor::{Automaton, Pieces};
 use ts_base::{ByteList, Duplicate, Name, OutOfMemory, Prefix};
 use ts_domain::Domain;
-use ts_model::{Command, FrameIn, Job, Outcome, Refusal, State};
+use ts_model::{Command, Creating, FrameIn, Job, Outcome, Refusal, State};
 use ts_schema::{Frame, Schema, schema_fault};
 use ts_store::{Call, Reply};
 
@@ -28,7 +29,7 @@ pub struct Creates<P> {
 impl<P: Pieces> Automaton for Creates<P> {
     type Fetch = P::Fetch;
 
-    ghost forms = { P.forms };
+    ghost codec = { P.codec };
 
     ghost serves = { IsCreateJob };
 
@@ -39,7 +40,7 @@ impl<P: Pieces> Automaton for Creates<P> {
     fn begin(alloc: Global, job: &Job) -> State<P::Fetch> {
         match &job.command {
             Command::Create(frame) => match refusal_of(alloc, frame) {
-                None => State::PutsFrame,
+                None => State::Creates(Creating::PutsFrame),
                 Some(refusal) => refuse(refusal),
             },
             _ => unreachable!(),
@@ -48,9 +49,7 @@ impl<P: Pieces> Automaton for Creates<P> {
 
     fn ask(alloc: Global, job: &Job, state: &State<P::Fetch>) -> Result<Option<Call>, OutOfMemory> {
         match state {
-            State::PutsFrame => Ok(Some(Call::Put(Name::Domain, own_object(alloc, job)?))),
-            State::ComparesFrame => Ok(Some(Call::Get(Name::Domain, 0, u64::MAX))),
-            State::ListsDeclared => Ok(Some(Call::List(Prefix::Schemas))),
+            State::Creates(creating) => ask_creating(alloc, job, creating),
             State::Puts {
                 objects,
                 next,
@@ -71,19 +70,51 @@ impl<P: Pieces> Automaton for Creates<P> {
         requires job { IsCreateJob job.now }
         requires state { IsCreateState job.now state }
         requires reply { IsSpelledReply reply }
-        ensures is { IfOk result (λ next. next ≡ goes P.forms job.now state reply) }
+        ensures is { IfOk result (λ next. next ≡ goes P.codec job.now state reply) }
         ensures may { IfOk result (IsCreateState job.now) }
         ensures lacks { OnErr result (takes_memory state ≡ true) }
-        ensures fewer { IfOk result (λ next. asks P.forms job.now state ≢ None → calls_left next < calls_left state) }
+        ensures fewer { IfOk result (λ next. asks P.codec job.now state ≢ None → calls_left next < calls_left state) }
     {
         match state {
-            State::PutsFrame => after_frame::<P>(alloc, job, &reply),
-            State::ComparesFrame => after_present::<P>(alloc, job, &reply),
-            State::ListsDeclared => after_declared::<P>(alloc, job, &reply),
+            State::Creates(creating) => go_creating::<P>(alloc, job, creating, &reply),
             State::Puts { objects, next, end } => Ok(after_put(objects, next, end, &reply)),
             State::Over(end) => Ok(State::Over(end)),
             _ => unreachable!(),
         }
+    }
+}
+
+// The next call of a create that has not come to its puts.
+fn ask_creating(alloc: Global, job: &Job, creating: &Creating) -> Result<Option<Call>, OutOfMemory>
+    requires serves { IsCreateJob job.now }
+    requires state { IsCreatingState job.now creating.now }
+    ensures is { IfOk result (λ call. call ≡ create_asks job.now creating.now) }
+    ensures spelled { IfOk result (λ call. IfSome call IsSpelledCall) }
+{
+    match creating {
+        Creating::PutsFrame => Ok(Some(Call::Put(Name::Domain, own_object(alloc, job)?))),
+        Creating::ComparesFrame => Ok(Some(Call::Get(Name::Domain, 0, u64::MAX))),
+        Creating::ListsDeclared => Ok(Some(Call::List(Prefix::Schemas))),
+    }
+}
+
+// Where a reply leads a create that has not come to its puts.
+fn go_creating<P: Pieces>(
+    alloc: Global,
+    job: &Job,
+    creating: Creating,
+    reply: &Reply,
+) -> Result<State<P::Fetch>, OutOfMemory>
+    requires serves { IsCreateJob job.now }
+    requires state { IsCreatingState job.now creating }
+    ensures is { IfOk result (λ next. next ≡ create_goes job.now creating reply.now) }
+    ensures may { IfOk result (IsCreateState job.now) }
+    ensures fewer { IfOk result (λ next. calls_left next < create_left creating) }
+{
+    match creating {
+        Creating::PutsFrame => after_frame::<P>(alloc, job, reply),
+        Creating::ComparesFrame => after_present::<P>(alloc, job, reply),
+        Creating::ListsDeclared => after_declared::<P>(alloc, job, reply),
     }
 }
 
@@ -161,12 +192,12 @@ fn after_frame<P: Pieces>(
 ) -> Result<State<P::Fetch>, OutOfMemory>
     requires serves { IsCreateJob job.now }
     requires sound { refused_before job.now.command ≡ None }
-    ensures is { IfOk result (λ state. state ≡ goes P.forms job.now State.PutsFrame reply.now) }
+    ensures is { IfOk result (λ state. state ≡ goes P.codec job.now (State.Creates Creating.PutsFrame) reply.now) }
     ensures may { IfOk result (IsCreateState job.now) }
-    ensures fewer { IfOk result (λ state. calls_left state < 2 ^ 64 + 3) }
+    ensures fewer { IfOk result (λ state. calls_left state < 2 ^ 195 + 2) }
 {
     match reply {
-        Reply::Taken => Ok(State::ComparesFrame),
+        Reply::Taken => Ok(State::Creates(Creating::ComparesFrame)),
         Reply::Made => put_first::<P>(alloc, job),
         _ => Ok(put_ended(Name::Domain, reply)),
     }
@@ -180,14 +211,14 @@ fn after_present<P: Pieces>(
 ) -> Result<State<P::Fetch>, OutOfMemory>
     requires serves { IsCreateJob job.now }
     requires sound { refused_before job.now.command ≡ None }
-    ensures is { IfOk result (λ state. state ≡ goes P.forms job.now State.ComparesFrame reply.now) }
+    ensures is { IfOk result (λ state. state ≡ goes P.codec job.now (State.Creates Creating.ComparesFrame) reply.now) }
     ensures may { IfOk result (IsCreateState job.now) }
-    ensures fewer { IfOk result (λ state. calls_left state < 2 ^ 64 + 2) }
+    ensures fewer { IfOk result (λ state. calls_left state < 2 ^ 195 + 1) }
 {
     match reply {
         Reply::Bytes(bytes) => {
             if own_object(alloc, job)? == *bytes {
-                Ok(State::ListsDeclared)
+                Ok(State::Creates(Creating::ListsDeclared))
             } else {
                 Ok(refuse(Refusal::ArrayExists))
             }
@@ -203,9 +234,9 @@ fn after_declared<P: Pieces>(
     reply: &Reply,
 ) -> Result<State<P::Fetch>, OutOfMemory>
     requires { IsCreateJob job.now }
-    ensures is { IfOk result (λ state. state ≡ goes P.forms job.now State.ListsDeclared reply.now) }
+    ensures is { IfOk result (λ state. state ≡ goes P.codec job.now (State.Creates Creating.ListsDeclared) reply.now) }
     ensures may { IfOk result (IsCreateState job.now) }
-    ensures fewer { IfOk result (λ state. calls_left state < 2 ^ 64 + 1) }
+    ensures fewer { IfOk result (λ state. calls_left state < 2 ^ 195) }
 {
     match reply {
         Reply::Names(names) => {

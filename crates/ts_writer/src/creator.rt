@@ -33,7 +33,7 @@ impl<P: Pieces> Creator<P> {
     /// identifier `id`. It has made no call yet, and takes no memory.
     pub fn new(at: u64, id: u128, frame: FrameIn) -> Creator<P>
         requires { IsTrue (fits (Create frame)) }
-        ensures new { Follows P.forms result.machine.job result.machine.phase start }
+        ensures new { Follows P.codec result.machine.job result.machine.phase start }
         ensures task { result.machine.job ≡ job_for at id (Create frame) }
     {
         Creator::of(Job {
@@ -48,7 +48,7 @@ impl<P: Pieces> Creator<P> {
     pub fn of(job: Job) -> Creator<P>
         requires fit { IsFit job }
         requires kind { IsCreate job.command }
-        ensures new { Follows P.forms result.machine.job result.machine.phase start }
+        ensures new { Follows P.codec result.machine.job result.machine.phase start }
         ensures task { result.machine.job ≡ job }
     {
         Creator {
@@ -64,9 +64,9 @@ impl<P: Pieces> Actor for Creator<P> {
 
     ghost task = { λ creator. creator.machine.job };
 
-    ghost follows = { λ creator t. Follows P.forms creator.machine.job creator.machine.phase t };
+    ghost follows = { λ creator t. Follows P.codec creator.machine.job creator.machine.phase t };
 
-    ghost ends = { λ job past end. EndsFrom P.forms job (begun job.command) past end };
+    ghost ends = { λ job past end. EndsFrom P.codec job (begun job.command) past end };
 
     ghost measure = { λ creator. calls_left creator.machine.job creator.machine.phase };
 

@@ -10,6 +10,7 @@ ghost use Rattle.ts_writer.specs.Deleters.{Follows, calls_left};
 ghost use Rattle.ts_writer.specs.Writing.{IsDelete, job_for};
 
 use crate::deleting::Deletes;
+use crate::making::Making;
 use std::alloc::Global;
 use std::thread::Threads;
 use ts_actor::{Actor, Machine, Pieces, Step};
@@ -25,7 +26,7 @@ use ts_store::Reply;
 /// with the fault.
 #[derive(Drop)]
 pub struct Deleter<P: Pieces> {
-    machine: Machine<Deletes<P>>,
+    machine: Machine<Making<Deletes<P>>>,
 }
 
 impl<P: Pieces> Deleter<P> {
@@ -34,7 +35,7 @@ impl<P: Pieces> Deleter<P> {
     /// memory.
     pub fn new(at: u64, id: u128, text: ByteList) -> Deleter<P>
         requires { IsTrue (fits (Delete text)) }
-        ensures new { Follows P.forms result.machine.job result.machine.phase start }
+        ensures new { Follows P.codec result.machine.job result.machine.phase start }
         ensures task { result.machine.job ≡ job_for at id (Delete text) }
     {
         Deleter::of(Job {
@@ -49,7 +50,7 @@ impl<P: Pieces> Deleter<P> {
     pub fn of(job: Job) -> Deleter<P>
         requires fit { IsFit job }
         requires kind { IsDelete job.command }
-        ensures new { Follows P.forms result.machine.job result.machine.phase start }
+        ensures new { Follows P.codec result.machine.job result.machine.phase start }
         ensures task { result.machine.job ≡ job }
     {
         Deleter {
@@ -65,9 +66,9 @@ impl<P: Pieces> Actor for Deleter<P> {
 
     ghost task = { λ deleter. deleter.machine.job };
 
-    ghost follows = { λ deleter t. Follows P.forms deleter.machine.job deleter.machine.phase t };
+    ghost follows = { λ deleter t. Follows P.codec deleter.machine.job deleter.machine.phase t };
 
-    ghost ends = { λ job past end. EndsFrom P.forms job (begun job.command) past end };
+    ghost ends = { λ job past end. EndsFrom P.codec job (begun job.command) past end };
 
     ghost measure = { λ deleter. calls_left deleter.machine.job deleter.machine.phase };
 

@@ -10,6 +10,7 @@ ghost use Rattle.ts_writer.specs.Evolvers.{Follows, calls_left};
 ghost use Rattle.ts_writer.specs.Writing.{IsEvolve, job_for};
 
 use crate::evolving::Evolves;
+use crate::making::Making;
 use std::alloc::Global;
 use std::thread::Threads;
 use ts_actor::{Actor, Machine, Pieces, Step};
@@ -25,7 +26,7 @@ use ts_store::Reply;
 /// does not go with that schema, with the fault.
 #[derive(Drop)]
 pub struct Evolver<P: Pieces> {
-    machine: Machine<Evolves<P>>,
+    machine: Machine<Making<Evolves<P>>>,
 }
 
 impl<P: Pieces> Evolver<P> {
@@ -33,7 +34,7 @@ impl<P: Pieces> Evolver<P> {
     /// 1970-01-01, and the identifier `id`. It has made no call yet, and takes no memory.
     pub fn new(at: u64, id: u128, change: Evolution) -> Evolver<P>
         requires { IsTrue (fits (Evolve change)) }
-        ensures new { Follows P.forms result.machine.job result.machine.phase start }
+        ensures new { Follows P.codec result.machine.job result.machine.phase start }
         ensures task { result.machine.job ≡ job_for at id (Evolve change) }
     {
         Evolver::of(Job {
@@ -48,7 +49,7 @@ impl<P: Pieces> Evolver<P> {
     pub fn of(job: Job) -> Evolver<P>
         requires fit { IsFit job }
         requires kind { IsEvolve job.command }
-        ensures new { Follows P.forms result.machine.job result.machine.phase start }
+        ensures new { Follows P.codec result.machine.job result.machine.phase start }
         ensures task { result.machine.job ≡ job }
     {
         Evolver {
@@ -64,9 +65,9 @@ impl<P: Pieces> Actor for Evolver<P> {
 
     ghost task = { λ evolver. evolver.machine.job };
 
-    ghost follows = { λ evolver t. Follows P.forms evolver.machine.job evolver.machine.phase t };
+    ghost follows = { λ evolver t. Follows P.codec evolver.machine.job evolver.machine.phase t };
 
-    ghost ends = { λ job past end. EndsFrom P.forms job (begun job.command) past end };
+    ghost ends = { λ job past end. EndsFrom P.codec job (begun job.command) past end };
 
     ghost measure = { λ evolver. calls_left evolver.machine.job evolver.machine.phase };
 

@@ -9,6 +9,7 @@ ghost use Rattle.ts_actor.specs.Traces.{start};
 ghost use Rattle.ts_writer.specs.Writers.{Follows, calls_left};
 ghost use Rattle.ts_writer.specs.Writing.{IsWrite, job_for};
 
+use crate::making::Making;
 use crate::writing::Writes;
 use std::alloc::Global;
 use std::thread::Threads;
@@ -27,7 +28,7 @@ use ts_store::Reply;
 /// not there or breaks its layout end the write with the refusal that says so.
 #[derive(Drop)]
 pub struct Writer<P: Pieces> {
-    machine: Machine<Writes<P>>,
+    machine: Machine<Making<Writes<P>>>,
 }
 
 impl<P: Pieces> Writer<P> {
@@ -49,7 +50,7 @@ impl<P: Pieces> Writer<P> {
     /// with `TooMany` for a box of more than 2^20 cells.
     pub fn new(at: u64, id: u128, cells: WriteIn) -> Writer<P>
         requires { IsTrue (fits (Write cells)) }
-        ensures new { Follows P.forms result.machine.job result.machine.phase start }
+        ensures new { Follows P.codec result.machine.job result.machine.phase start }
         ensures task { result.machine.job ≡ job_for at id (Write cells) }
     {
         Writer::of(Job {
@@ -64,7 +65,7 @@ impl<P: Pieces> Writer<P> {
     pub fn of(job: Job) -> Writer<P>
         requires fit { IsFit job }
         requires kind { IsWrite job.command }
-        ensures new { Follows P.forms result.machine.job result.machine.phase start }
+        ensures new { Follows P.codec result.machine.job result.machine.phase start }
         ensures task { result.machine.job ≡ job }
     {
         Writer {
@@ -80,9 +81,9 @@ impl<P: Pieces> Actor for Writer<P> {
 
     ghost task = { λ w. w.machine.job };
 
-    ghost follows = { λ w t. Follows P.forms w.machine.job w.machine.phase t };
+    ghost follows = { λ w t. Follows P.codec w.machine.job w.machine.phase t };
 
-    ghost ends = { λ job past end. EndsFrom P.forms job (begun job.command) past end };
+    ghost ends = { λ job past end. EndsFrom P.codec job (begun job.command) past end };
 
     ghost measure = { λ w. calls_left w.machine.job w.machine.phase };
 

@@ -4,7 +4,7 @@ use Rattle.std.specs.BTreeMap.{values}
 use Rattle.std.proofs.lemmas.List.{map-append}
 use Rattle.std.proofs.lemmas.Map.Iter.{iter_end}
 use Rattle.ts_model.specs.Pieces.{newest_of}
-use Rattle.ts_reader.specs.Erasing.{all_shown, one_shown}
+use Rattle.ts_reader.specs.Deletes.{all_shown, one_shown}
 use Rattle.ts_reader.proofs.Erased.{shown_more}
 use Rattle.ts_reader.proofs.Newer.{values_in_order}
 use Rattle.ts_reader.proofs.answers.cells_left.Goals as goal
@@ -16,8 +16,8 @@ loop-version-preserved c =
     let v = c.in-Some.version.now in
     let before = map (λ w. w.now) c.loop-version.yielded in
     c.in_ok-add_shown.ensures
-    ∙ ap (λ es. es ++ one_shown r c.sight_at-sight.result.now.attrs v) c.loop-version.invariant
-    ∙ ap (λ sight. all_shown r schemas before ++ one_shown r sight.attrs v) c.sight_at-sight.ensures
+    ∙ ap (λ es. es ++ one_shown r c.binding_at-binding.result.now.attrs v) c.loop-version.invariant
+    ∙ ap (λ binding. all_shown r schemas before ++ one_shown r binding.attrs v) c.binding_at-binding.ensures
     ∙ sym (shown_more r schemas before v)
     ∙ ap (all_shown r schemas) (sym (map-append (λ w. w.now) c.loop-version.yielded (c.in-Some.version ∷ [])))
 

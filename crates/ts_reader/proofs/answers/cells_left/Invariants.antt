@@ -1,6 +1,6 @@
 use Rattle.std.proofs.Common.{◌≡◌, map}
 use Rattle.ts_model.specs.Selections.{placed}
-use Rattle.ts_reader.specs.Erasing.{all_shown}
+use Rattle.ts_reader.specs.Deletes.{all_shown}
 use Rattle.ts_reader.proofs.answers.cells_left.Given as goal
 
 -- the cells of the versions so far

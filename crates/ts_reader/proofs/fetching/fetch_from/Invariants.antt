@@ -7,7 +7,7 @@ use Rattle.ts_reader.proofs.fetching.fetch_from.Given as goal
 abbrev pub invariant-loop-place : goal.invariant-loop-place
 invariant-loop-place g l = record {
   within : l.initial.place ≤ l.place;
-  goes_on : fetching g.P.Pieces.forms l.gathered.reading l.gathered.opened l.gathered.schemas l.initial.place (drop l.initial.place l.gathered.opened) l.initial.got
-      ≡ fetching g.P.Pieces.forms l.gathered.reading l.gathered.opened l.gathered.schemas l.place (drop l.place l.gathered.opened) l.got;
+  goes_on : fetching g.P.Pieces.codec l.gathered.reading l.gathered.opened l.gathered.schemas l.initial.place (drop l.initial.place l.gathered.opened) l.initial.got
+      ≡ fetching g.P.Pieces.codec l.gathered.reading l.gathered.opened l.gathered.schemas l.place (drop l.place l.gathered.opened) l.got;
   inside : AreInBox (l.gathered.reading.ready).sub l.got;
 }

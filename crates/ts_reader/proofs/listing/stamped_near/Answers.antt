@@ -3,7 +3,7 @@ use Rattle.std.proofs.Common.{◌++◌, sym, ◌∙◌, ap, get_or}
 use Rattle.std.specs.Prelude.{option_to_list, filter}
 use Rattle.ts_base.specs.declared.names.Name.TheVariants.{Domain}
 use Rattle.ts_model.specs.States.{meets}
-use Rattle.ts_reader.specs.Erasing.{frag_in}
+use Rattle.ts_reader.specs.Deletes.{frag_in}
 use Rattle.ts_reader.proofs.Collected.{filter-filter_map-more}
 use Rattle.ts_reader.proofs.listing.stamped_near.Goals as goal
 

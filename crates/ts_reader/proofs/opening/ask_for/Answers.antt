@@ -14,7 +14,7 @@ open_next-requires-clause-reading g c κs within = record {
   inside = ready_covered c.args.frame c.args.there.attrs c.args.query.now c.in-Ok.ready c.in-Ok.ensures;
   valid = ready_is_box c.args.frame c.args.there.attrs c.args.query.now c.in-Ok.ready c.requires.frame c.requires.bounds c.in-Ok.ensures;
   few_cells = ready_few c.args.frame c.args.there.attrs c.args.query.now c.in-Ok.ready c.in-Ok.ensures;
-  near = c.requires.listed.near;
+  fragments = c.requires.listed.fragments;
   deletes = c.requires.listed.deletes;
 }
 
@@ -22,5 +22,5 @@ pub returns-in-Ok-clause-is : goal.returns-in-Ok-clause-is
 returns-in-Ok-clause-is g c =
     IfOk-weaker c.open_next.result _ _ (λ s is.
     is
-    ∙ asked_for g.P.Pieces.forms c.args.from c.args.to c.args.listed c.args.frame c.args.there c.in-Ok.ready (ready_in c.args.frame c.args.there.attrs c.args.query.now) c.new.result c.new-in-Ok.result
+    ∙ asked_for g.P.Pieces.codec c.args.from c.args.to c.args.listed c.args.frame c.args.there c.in-Ok.ready (ready_in c.args.frame c.args.there.attrs c.args.query.now) c.new.result c.new-in-Ok.result
     c.in-Ok.ensures c.new.ensures c.new-in-Ok.ensures) c.open_next.ensures.is

@@ -1,7 +1,0 @@
-use Rattle.std.proofs.Common.{◌≡◌, take}
-use Rattle.ts_model.specs.States.{schemas_in}
-use Rattle.ts_reader.proofs.listing.schemas_in.Given as goal
-
--- the schemas of the names so far
-abbrev pub invariant-loop-name : goal.invariant-loop-name
-invariant-loop-name l = l.keys ≡ schemas_in (take l.name-index l.names)

@@ -1,8 +1,0 @@
-use Rattle.std.proofs.Common.{◌≡◌, drop}
-use Rattle.std.specs.List.{list_any}
-use Rattle.ts_reader.specs.Erasing.{erases}
-use Rattle.ts_reader.proofs.sights.is_erased.Given as goal
-
--- the version is erased where one of the deletes from here on erases it
-abbrev pub invariant-loop-place : goal.invariant-loop-place
-invariant-loop-place l = list_any (erases (l.sight).attrs l.version) (drop l.place l.erased) ≡ list_any (erases (l.sight).attrs l.version) l.erased

@@ -1,0 +1,51 @@
+-- Deletes over the rows of known schemas: where each finds its fields, and what is left.
+use Rattle.std.specs.Prelude.{ℤ, Bool, ◌&&◌, cond, not, List, [], ◌∷◌, Option, None, filter, map as list_map}
+use Rattle.std.specs.List.{list_any}
+use Rattle.ts_base.specs.declared.keys.FragKey.{FragKey}
+use Rattle.ts_base.specs.declared.heads.Version.{Version}
+use Rattle.ts_base.specs.declared.names.CommitKind.{CommitKind}
+use Rattle.ts_base.specs.declared.names.CommitKind.TheVariants.{Wrt, Del, Vac}
+use Rattle.ts_base.specs.declared.names.Name.{Name}
+use Rattle.ts_base.specs.declared.values.Val.{Val}
+use Rattle.ts_base.specs.Keys.{key_lt}
+use Rattle.ts_schema.specs.declared.attrs.Attr.{Attr}
+use Rattle.ts_schema.specs.declared.schemas.Schema.{Schema}
+use Rattle.ts_schema.specs.Attrs.{shown_row}
+use Rattle.ts_cond.specs.declared.fields.Pick.{Pick}
+use Rattle.ts_cond.specs.Picks.{matches, picks_of}
+use Rattle.ts_model.specs.declared.deeds.Deletion.{Deletion}
+use Rattle.ts_model.specs.declared.states.Reading.{Reading}
+use Rattle.ts_model.specs.Queries.{attr_fields}
+use Rattle.ts_model.specs.States.{cell_shown, del_in, is_erased_by, wrt_in}
+use Rattle.ts_reader.specs.declared.bindings.Binding.{Binding}
+use Rattle.ts_reader.specs.declared.bindings.Bindings.{Bindings}
+
+-- the fragment or the delete that an object of this kind names
+abbrev pub frag_in : CommitKind → Name → Option FragKey
+frag_in Wrt name = wrt_in name
+frag_in Del name = del_in name
+frag_in Vac name = None
+
+-- where each delete finds its fields in rows of these attributes
+abbrev pub picks_under : List Attr → List Deletion → List (List Pick)
+picks_under attrs erased = list_map (λ e. picks_of (attr_fields attrs) (e.cond).fields) erased
+
+-- a delete has a greater key than the version and matches it
+abbrev pub erases : List Attr → Version → Deletion → Bool
+erases attrs v e = key_lt v.key e.key && matches e.cond v.coords (attr_fields attrs) v.row
+
+-- rows of these attributes, as a read with these deletes sees them
+abbrev pub binding_of : List Deletion → List Attr → Binding
+binding_of erased attrs = record { attrs = attrs; picks = picks_under attrs erased }
+
+-- the rows of each schema that a read knows, and of those that it does not know
+abbrev pub bindings_of : Reading → List Schema → Bindings
+bindings_of r schemas = record { there = binding_of r.deletions (r.there).attrs; further = list_map (λ s. binding_of r.deletions s.attrs) schemas; unknown = binding_of r.deletions [] }
+
+-- the version's cell, unless it is erased
+abbrev pub one_shown : Reading → List Attr → Version → List (List ℤ × List Val)
+one_shown r attrs v = cond (list_any (erases attrs v) r.deletions) [] ((v.coords, shown_row attrs v.row (r.there).attrs) ∷ [])
+
+-- the cells of versions, but of those that are erased
+abbrev pub all_shown : Reading → List Schema → List Version → List (List ℤ × List Val)
+all_shown r schemas vs = list_map (cell_shown r schemas) (filter (λ v. not (is_erased_by r schemas r.deletions v)) vs)
