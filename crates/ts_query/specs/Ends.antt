@@ -1,5 +1,6 @@
 -- The printed text of ends.
-use Rattle.std.specs.Prelude.{ℕ, List, [], ◌++◌, length, codes, decimal, Option, Some, None}
+use Rattle.std.specs.Prelude.{ℕ, List, [], ◌∷◌, ◌++◌, length, codes, decimal, Option, Some, None}
+use Rattle.ts_base.specs.declared.keys.FragKey.{FragKey}
 use Rattle.ts_base.specs.Spelling.{frag_text, stamp_text}
 use Rattle.ts_model.specs.declared.commands.Command.{Command}
 use Rattle.ts_model.specs.declared.commands.Command.TheVariants as command
@@ -8,19 +9,28 @@ use Rattle.ts_model.specs.declared.answers.Outcome.TheVariants as outcome
 use Rattle.ts_query.specs.Refusals.{refusal_text}
 use Rattle.ts_query.specs.Rows.{rows_text}
 
--- how a command ended, but for the rows of a read; no fragment is clipped from it yet
+-- how a command ended, but for what a read shows: of that the numbers of rows and of clipped fragments
 unfoldable pub outcome_text : Outcome → List ℕ
 outcome_text outcome.Created = codes "ok\n"
 outcome_text (outcome.Evolved key) = codes "ok\t" ++ stamp_text key ++ codes "\n"
 outcome_text (outcome.Written frag) = codes "ok\t" ++ frag_text frag ++ codes "\n"
-outcome_text (outcome.Read answer) = codes "ok\t" ++ decimal (length answer.rows) ++ codes "\t0\n"
+outcome_text (outcome.Read answer) = codes "ok\t" ++ decimal (length answer.rows) ++ codes "\t" ++ decimal (length answer.clipped) ++ codes "\n"
 outcome_text (outcome.Deleted frag) = codes "ok\t" ++ frag_text frag ++ codes "\n"
 outcome_text (outcome.Refused refusal) = codes "refused\t" ++ refusal_text refusal ++ codes "\n"
 outcome_text outcome.OutOfMemory = codes "memory\n"
 
--- the rows that follow it
+-- the line of a clipped fragment
+unfoldable pub clipped_line : FragKey → List ℕ
+clipped_line frag = codes "clipped\t" ++ frag_text frag ++ codes "\n"
+
+-- the clipped fragments, a line for each
+abbrev pub clipped_text : List FragKey → List ℕ
+clipped_text [] = []
+clipped_text (frag ∷ frags) = clipped_line frag ++ clipped_text frags
+
+-- what a read shows: the clipped fragments, and then the rows
 abbrev pub shown_text : Option Outcome → List ℕ
-shown_text (Some (outcome.Read answer)) = rows_text answer.types answer.rows
+shown_text (Some (outcome.Read answer)) = clipped_text answer.clipped ++ rows_text answer.types answer.rows
 shown_text _ = []
 
 -- the name of a command
@@ -36,10 +46,10 @@ unfoldable pub result_text : Option Outcome → List ℕ
 result_text (Some end) = outcome_text end
 result_text None = codes "stopped\n"
 
--- how the command with this number in its lane came out, but for the rows of a read
+-- how the command with this number in its lane came out, but for what a read shows
 unfoldable pub end_text : ℕ → ℕ → Command → Option Outcome → List ℕ
 end_text lane number command result = decimal lane ++ codes "." ++ decimal number ++ codes "\t" ++ command_name command ++ codes "\t" ++ result_text result
 
--- how it came out, with the rows of a read
+-- how it came out, with what a read shows
 abbrev pub text_of : ℕ → ℕ → Command → Option Outcome → List ℕ
 text_of lane number command result = end_text lane number command result ++ shown_text result

@@ -1,11 +1,12 @@
-//! The printed text of ends: a line for each, and behind that of a read a line for each row.
+//! The printed text of ends: a line for each, and behind that of a read a line for each clipped
+//! fragment and then for each row.
 ghost use Rattle.std.specs.Prelude.{◌≡◌, ◌++◌, string_bytes, IfOk, OnOk, option_map};
-ghost use Rattle.ts_query.specs.Ends.{command_name, end_text, outcome_text, result_text, text_of};
+ghost use Rattle.ts_query.specs.Ends.{clipped_line, clipped_text, command_name, end_text, outcome_text, result_text, text_of};
 
 use crate::refusals::print_refusal;
 use crate::rows::print_rows;
 use std::alloc::Global;
-use ts_base::{ByteList, OutOfMemory};
+use ts_base::{ByteList, FragKey, OutOfMemory};
 use ts_model::{Command, Outcome};
 
 /// The text of one end, each line of it with its line feed.
@@ -23,14 +24,37 @@ pub fn print_outcome(
 {
     let mut text = String::new(alloc);
     print_end(&mut text, lane, number, command, outcome)?;
-    let mut bytes = text.into_bytes();
     if let Some(Outcome::Read(answer)) = outcome {
+        print_clipped(&mut text, answer.clipped.as_slice())?;
+        let mut bytes = text.into_bytes();
         print_rows(&mut bytes, answer.types.as_slice(), answer.rows.as_slice())?;
+        return Ok(ByteList::from_vec(bytes));
     }
-    Ok(ByteList::from_vec(bytes))
+    Ok(ByteList::from_vec(text.into_bytes()))
 }
 
-/// Adds how a command came out, but for the rows of a read.
+/// Adds the fragments that are clipped from a read, a line for each.
+fn print_clipped(text: &mut String, clipped: &[FragKey]) -> Result<(), OutOfMemory>
+    ensures { OnOk result (string_bytes text.new ≡ string_bytes text.old ++ clipped_text clipped.now) }
+{
+    for frag in clipped {
+        print_clipped_name(text, frag)?;
+    }
+    Ok(())
+}
+
+/// Adds the line of one clipped fragment.
+#[tactic(auto, unfolding(crate::specs::Ends::clipped_line))]
+fn print_clipped_name(text: &mut String, frag: &FragKey) -> Result<(), OutOfMemory>
+    ensures { OnOk result (string_bytes text.new ≡ string_bytes text.old ++ clipped_line frag.now) }
+{
+    let spelled = frag.spell();
+    let name = spelled.text();
+    write!(text, "clipped\t{name}\n")?;
+    Ok(())
+}
+
+/// Adds how a command came out, but for what a read shows.
 #[tactic(auto, unfolding(crate::specs::Ends::end_text))]
 fn print_end(
     text: &mut String,
@@ -74,7 +98,7 @@ fn print_result(text: &mut String, outcome: Option<&Outcome>) -> Result<(), OutO
     }
 }
 
-/// Adds how a command ended, but for the rows of a read.
+/// Adds how a command ended, but for what a read shows.
 #[tactic(auto, unfolding(crate::specs::Ends::outcome_text))]
 fn print_how(text: &mut String, end: &Outcome) -> Result<(), OutOfMemory>
     ensures { OnOk result (string_bytes text.new ≡ string_bytes text.old ++ outcome_text end.now) }
@@ -98,7 +122,8 @@ fn print_how(text: &mut String, end: &Outcome) -> Result<(), OutOfMemory>
         }
         Outcome::Read(answer) => {
             let count = answer.rows.len();
-            write!(text, "ok\t{count}\t0\n")?;
+            let clipped = answer.clipped.len();
+            write!(text, "ok\t{count}\t{clipped}\n")?;
             Ok(())
         }
         Outcome::Deleted(frag) => {
