@@ -13,7 +13,7 @@ use Rattle.ts_model.specs.declared.answers.Driven.{Driven}
 use Rattle.ts_model.specs.declared.answers.Outcome.{Outcome}
 use Rattle.ts_model.specs.Deeds.{History}
 use Rattle.ts_model.specs.Driving.{Leaves}
-use Rattle.ts_model.specs.Forms.{Forms, Spelled, Tracking, FormsLaws}
+use Rattle.ts_model.specs.Codecs.{Codec, Spelled, Tracking, CodecLaws}
 use Rattle.ts_model.specs.Jobs.{IsFit}
 use Rattle.ts_model.specs.States.{Exchange}
 use Rattle.ts_model.specs.Told.{Told, held_told}
@@ -72,28 +72,28 @@ module _ {S : Type 0} (held : S → Option Held) (last : S → Fate) (faults : S
       let P : List Entry → Type 0 = λ es. Enters a.journal es 0 x.call (last b.store) x.reply in
       record { fate = last b.store; short = called.short; fits = called.fits; answers = called.answers; enters = subst P (sym is) (enters a.journal x.call (last b.store) x.reply) }
 
-  module _ {W F : Type 0} (forms : Forms F) (spelled : Spelled) (tracks : Tracking F) (laws : FormsLaws forms spelled tracks) where
+  module _ {W F : Type 0} (codec : Codec F) (spelled : Spelled) (tracks : Tracking F) (laws : CodecLaws codec spelled tracks) where
     -- over a store that held m, which stands for a history, the actor of any job with a new identifier and any stop leaves what stands for the history after its calls, and its end tells the truth of it
     pub driven_alone : (job : Job) (h : History) (m : Held) (first final : AnyActor W F) (before later : S) (result : Driven Outcome)
         → held before ≡ Some m → Stands spelled m h → IsNewId m h [] job.id → IsFit job → job_of first ≡ job → job_of final ≡ job
-        → (drove : Drove job_of (Follows forms) (job_ends forms) (Called held last faults notes) first final before later job.stop result)
+        → (drove : Drove job_of (Follows codec) (job_ends codec) (Called held last faults notes) first final before later job.stop result)
         → DroveAlone held spelled job h m drove.trace later result
     driven_alone job h m first final before later result holds stands new fit first_is final_is drove =
-        let Q : Job → Type 0 = λ j. AreAsked (job_of {P = W} {F = F}) (Follows {P = W} forms) j [] drove.trace in
-        let P : Job → Type 0 = λ j. EndsAs (job_ends forms j) (Follows forms final) job.stop drove.trace result in
+        let Q : Job → Type 0 = λ j. AreAsked (job_of {P = W} {F = F}) (Follows {P = W} codec) j [] drove.trace in
+        let P : Job → Type 0 = λ j. EndsAs (job_ends codec j) (Follows codec final) job.stop drove.trace result in
         let start : Entered S = record { store = before; journal = [] } in
         let (end, at_end, way) = entered_all start drove.trace later drove.calls in
         let (ran, same) =
-        ran-told forms (λ (r : Entered S). held r.store) (λ (r : Entered S). r.journal) LeadsOn 0 0 job
+        ran-told codec (λ (r : Entered S). held r.store) (λ (r : Entered S). r.journal) LeadsOn 0 0 job
         (λ a b way. way)
         (λ a b x xs way. (way.0, makes a way.0 x way.1 way.2, way.3))
-        drove.trace start end result way (asked_by {A = AnyActor W F} forms job_of (Follows forms) (asks_it forms) job [] drove.trace (subst Q first_is drove.asked)) drove.uncut
-        (comes_out {A = AnyActor W F} forms job_of (Follows forms) (asks_it forms) job final drove.trace result final_is (subst P first_is drove.end)) in
+        drove.trace start end result way (asked_by {A = AnyActor W F} codec job_of (Follows codec) (asks_it codec) job [] drove.trace (subst Q first_is drove.asked)) drove.uncut
+        (comes_out {A = AnyActor W F} codec job_of (Follows codec) (asks_it codec) job final drove.trace result final_is (subst P first_is drove.end)) in
         let L : Option Held → Type 0 = λ o. IfSome o (λ n. Leaves n (held end.store) ran.told) in
         let leaves : Leaves m (held end.store) ran.told = subst L holds ran.calls.over in
         record {
           told = ran.told;
           same = same;
           leaves = sym (ap held at_end) ∙ leaves.held;
-          alone = true_alone forms spelled tracks laws job h m ran.told result stands new fit leaves.replied ran.calls.suit ran.calls.own ran.driven;
+          alone = true_alone codec spelled tracks laws job h m ran.told result stands new fit leaves.replied ran.calls.suit ran.calls.own ran.driven;
         }

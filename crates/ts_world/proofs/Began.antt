@@ -4,7 +4,7 @@ use Rattle.std.specs.Prelude.{Result, Ok, Err, OnOk, OnErr}
 use Rattle.ts_base.specs.Held.{Held}
 use Rattle.ts_store.specs.declared.fate.Fate.{Fate}
 use Rattle.ts_store.specs.Journals.{held_after}
-use Rattle.ts_model.specs.Forms.{Forms, Spelled}
+use Rattle.ts_model.specs.Codecs.{Codec, Spelled}
 use Rattle.ts_model.specs.Told.{Told, IsReplied, Replied, after_told, held_told}
 use Rattle.ts_model.proofs.Traces.{held_told-append}
 use Rattle.ts_law.proofs.Journals.{journal_held}
@@ -19,16 +19,16 @@ replied-push m [] e r q = (q, tt)
 replied-push m (d ∷ told) e r q = (r.0, replied-push (after_told m d) told e r.1 q)
 
 -- the calls tell the objects, and so does the journal
-pub began_by : {F : Type 0} (forms : Forms F) (spelled : Spelled) (m : Held) (w : WorldView) → IsSound forms spelled w → Replied m w.told → w.held ≡ held_told m w.told → BeganWith m w
-began_by forms spelled m w sound replied held = record {
+pub began_by : {F : Type 0} (codec : Codec F) (spelled : Spelled) (m : Held) (w : WorldView) → IsSound codec spelled w → Replied m w.told → w.held ≡ held_told m w.told → BeganWith m w
+began_by codec spelled m w sound replied held = record {
   replied = replied;
   held_told_is = held;
   held_is = held ∙ journal_held lane_of m w.told ∙ ap (λ es. held_after m es) (sym sound.entries);
 }
 
 -- one call more
-after_call : {F : Type 0} (forms : Forms F) (number : ℕ) (fate : Fate) (may : Standing → Type 0) (m : Held) (w later : WorldView) → Called forms number fate may w later → BeganWith m w → Replied m later.told × (later.held ≡ held_told m later.told)
-after_call forms number fate may m w later called began =
+after_call : {F : Type 0} (codec : Codec F) (number : ℕ) (fate : Fate) (may : Standing → Type 0) (m : Held) (w later : WorldView) → Called codec number fate may w later → BeganWith m w → Replied m later.told × (later.held ≡ held_told m later.told)
+after_call codec number fate may m w later called began =
     let P : WorldView → Type 0 = λ v. Replied m v.told × (v.held ≡ held_told m v.told) in
     let e : Told = record { job = Some number; call = called.call; fate = fate; reply = called.reply; changed = called.changed } in
     let Q : Held → Type 0 = λ h. IsReplied h e in
@@ -36,19 +36,19 @@ after_call forms number fate may m w later called began =
     (replied-push m w.told e began.replied (subst Q began.held_told_is called.replied), ap (λ h. after_told h e) began.held_told_is ∙ sym (held_told-append m w.told (e ∷ [])))
 
 -- what a world began with stays
-pub began_after : {F : Type 0} (forms : Forms F) (spelled : Spelled) (e : Event) (m : Held) (w later : WorldView) → Happens forms e w later → IsSound forms spelled later → BeganWith m w → BeganWith m later
-began_after forms spelled (Spawn command at id) m w later spawned sound began =
+pub began_after : {F : Type 0} (codec : Codec F) (spelled : Spelled) (e : Event) (m : Held) (w later : WorldView) → Happens codec e w later → IsSound codec spelled later → BeganWith m w → BeganWith m later
+began_after codec spelled (Spawn command at id) m w later spawned sound began =
     let P : WorldView → Type 0 = λ v. Replied m v.told × (v.held ≡ held_told m v.told) in
     let both = subst P (sym spawned.is) (began.replied, began.held_told_is) in
-    began_by forms spelled m later sound both.0 both.1
-began_after forms spelled (Step number fate) m w later called sound began = let both = after_call forms number fate _ m w later called began in began_by forms spelled m later sound both.0 both.1
-began_after forms spelled (Stop number fate) m w later called sound began = let both = after_call forms number fate _ m w later called began in began_by forms spelled m later sound both.0 both.1
-began_after forms spelled Restart m w later is sound began =
+    began_by codec spelled m later sound both.0 both.1
+began_after codec spelled (Step number fate) m w later called sound began = let both = after_call codec number fate _ m w later called began in began_by codec spelled m later sound both.0 both.1
+began_after codec spelled (Stop number fate) m w later called sound began = let both = after_call codec number fate _ m w later called began in began_by codec spelled m later sound both.0 both.1
+began_after codec spelled Restart m w later is sound began =
     let P : WorldView → Type 0 = λ v. Replied m v.told × (v.held ≡ held_told m v.told) in
     let both = subst P (sym is) (began.replied, began.held_told_is) in
-    began_by forms spelled m later sound both.0 both.1
+    began_by codec spelled m later sound both.0 both.1
 
 -- the same where the event may have been refused
-pub began_either : {F : Type 0} (forms : Forms F) (spelled : Spelled) (e : Event) (m : Held) (w later : WorldView) (r : Result (Unit {0}) WorldFault) → OnOk r (Happens forms e w later) → OnErr r (later ≡ w) → IsSound forms spelled later → BeganWith m w → BeganWith m later
-began_either forms spelled e m w later (Ok done) happens same sound began = began_after forms spelled e m w later happens sound began
-began_either forms spelled e m w later (Err fault) happens same sound began = let P : WorldView → Type 0 = λ v. BeganWith m v in subst P (sym same) began
+pub began_either : {F : Type 0} (codec : Codec F) (spelled : Spelled) (e : Event) (m : Held) (w later : WorldView) (r : Result (Unit {0}) WorldFault) → OnOk r (Happens codec e w later) → OnErr r (later ≡ w) → IsSound codec spelled later → BeganWith m w → BeganWith m later
+began_either codec spelled e m w later (Ok done) happens same sound began = began_after codec spelled e m w later happens sound began
+began_either codec spelled e m w later (Err fault) happens same sound began = let P : WorldView → Type 0 = λ v. BeganWith m v in subst P (sym same) began

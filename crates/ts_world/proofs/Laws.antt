@@ -24,7 +24,7 @@ use Rattle.ts_model.specs.Driven.{MayAsk}
 use Rattle.ts_law.specs.Kept.{Kept}
 use Rattle.ts_model.proofs.ListLemmas.{Contains-nil, slice_get_push}
 use Rattle.ts_model.proofs.Traces.{trace_of-own, trace_of-other}
-use Rattle.ts_model.specs.Forms.{Forms, FormsLaws, Spelled, Tracking}
+use Rattle.ts_model.specs.Codecs.{Codec, CodecLaws, Spelled, Tracking}
 use Rattle.ts_law.proofs.KeptLaws.{step_kept}
 use Rattle.ts_law.proofs.Lanes.{none_made, no_lanes, one_more_call, one_more_job}
 use Rattle.ts_law.proofs.Spawns.{spawn_kept, starts_kept}
@@ -44,26 +44,26 @@ use Rattle.ts_law.proofs.Lists.{item_at}
 use Rattle.ts_world.proofs.Lists.{get_changed, get_unchanged}
 
 -- the call that an actor waits for is one that its job may make where the calls before it have led
-pub asks_it : {P F : Type 0} (forms : Forms F) (a : AnyActor P F) (past : List Exchange) (c : Call) → Follows forms a (asking past c) → MayAsk forms (job_of a) (state_from forms (job_of a) (begun (job_of a).command) past) c
-asks_it forms (Creator a) past c follows = asks_next forms IsCreateJob IsCreateState a.machine.job a.machine.phase past c follows
-asks_it forms (Evolver a) past c follows = asks_next forms IsEvolveJob (λ job s. IsLaterState s) a.machine.job a.machine.phase past c follows
-asks_it forms (Writer a) past c follows = asks_next forms IsWriteJob (λ job s. IsLaterState s) a.machine.job a.machine.phase past c follows
-asks_it forms (Deleter a) past c follows = asks_next forms IsDeleteJob (λ job s. IsLaterState s) a.machine.job a.machine.phase past c follows
-asks_it forms (Reader a) past c follows = asks_next forms IsReadJob (MayRead forms) a.machine.job a.machine.phase past c follows
+pub asks_it : {P F : Type 0} (codec : Codec F) (a : AnyActor P F) (past : List Exchange) (c : Call) → Follows codec a (asking past c) → MayAsk codec (job_of a) (state_from codec (job_of a) (begun (job_of a).command) past) c
+asks_it codec (Creator a) past c follows = asks_next codec IsCreateJob IsCreateState a.machine.job a.machine.phase past c follows
+asks_it codec (Evolver a) past c follows = asks_next codec IsEvolveJob (λ job s. IsLaterState s) a.machine.job a.machine.phase past c follows
+asks_it codec (Writer a) past c follows = asks_next codec IsWriteJob (λ job s. IsLaterState s) a.machine.job a.machine.phase past c follows
+asks_it codec (Deleter a) past c follows = asks_next codec IsDeleteJob (λ job s. IsLaterState s) a.machine.job a.machine.phase past c follows
+asks_it codec (Reader a) past c follows = asks_next codec IsReadJob (MayRead codec) a.machine.job a.machine.phase past c follows
 
-module _ {P F : Type 0} (forms : Forms F) (spelled : Spelled) (tracks : Tracking F) (past : History) (jobs : List Job) (told : List Told) (held : Held) (journal : List Entry) (slots : List (Slot P F)) (is : IsKept forms spelled tracks past jobs told held journal slots) where
+module _ {P F : Type 0} (codec : Codec F) (spelled : Spelled) (tracks : Tracking F) (past : History) (jobs : List Job) (told : List Told) (held : Held) (journal : List Entry) (slots : List (Slot P F)) (is : IsKept codec spelled tracks past jobs told held journal slots) where
   -- the job of an actor
   pub job_at : (number : ℕ) (s : Slot P F) → slice_get slots number ≡ Some s → (job : Job) × (slice_get jobs number ≡ Some job)
   job_at number s at = item_at slots jobs number is.one_each (slice_get_within slots number s at)
 
   -- the actor that runs
-  pub running_at : (number : ℕ) (r : Running P F) (job : Job) → slice_get slots number ≡ Some (slot.Runs r) → slice_get jobs number ≡ Some job → IsRunning forms job (trace_of number told) r
+  pub running_at : (number : ℕ) (r : Running P F) (job : Job) → slice_get slots number ≡ Some (slot.Runs r) → slice_get jobs number ≡ Some job → IsRunning codec job (trace_of number told) r
   running_at number r job at of = (is.actors number job (slot.Runs r) of at).slot_is
 
-  pub running_asks : (number : ℕ) (r : Running P F) (job : Job) → slice_get slots number ≡ Some (slot.Runs r) → slice_get jobs number ≡ Some job → MayAsk forms job (state_of forms job (trace_of number told)) r.asked
+  pub running_asks : (number : ℕ) (r : Running P F) (job : Job) → slice_get slots number ≡ Some (slot.Runs r) → slice_get jobs number ≡ Some job → MayAsk codec job (state_of codec job (trace_of number told)) r.asked
   running_asks number r job at of =
       let runs = running_at number r job at of in
-      subst (λ (j : Job). MayAsk forms j (state_of forms j (trace_of number told)) r.asked) runs.task (asks_it forms r.actor (trace_of number told) r.asked runs.follows)
+      subst (λ (j : Job). MayAsk codec j (state_of codec j (trace_of number told)) r.asked) runs.task (asks_it codec r.actor (trace_of number told) r.asked runs.follows)
 
   -- ---- one call
 
@@ -72,11 +72,11 @@ module _ {P F : Type 0} (forms : Forms F) (spelled : Spelled) (tracks : Tracking
     abbrev last : Exchange
     last = record { call = e.call; reply = e.reply }
 
-    asked_now : MayAsk forms job (state_of forms job (trace_of number told)) e.call
-    asked_now = subst (MayAsk forms job (state_of forms job (trace_of number told))) (sym calls) (running_asks number r job at of)
+    asked_now : MayAsk codec job (state_of codec job (trace_of number told)) e.call
+    asked_now = subst (MayAsk codec job (state_of codec job (trace_of number told))) (sym calls) (running_asks number r job at of)
 
-    kept_now : FormsLaws forms spelled tracks → Kept forms spelled tracks past jobs [] (told ++ e ∷ []) (after_told held e)
-    kept_now laws = step_kept forms spelled tracks laws past jobs [] told held e is.kept (record { number = number; job = job; own = own; is_job = of; alive = Contains-nil number; asked = asked_now; short = short }) replied
+    kept_now : CodecLaws codec spelled tracks → Kept codec spelled tracks past jobs [] (told ++ e ∷ []) (after_told held e)
+    kept_now laws = step_kept codec spelled tracks laws past jobs [] told held e is.kept (record { number = number; job = job; own = own; is_job = of; alive = Contains-nil number; asked = asked_now; short = short }) replied
 
     entered : entries_of lane_of (told ++ e ∷ []) ≡ entries_of lane_of told ++ entry number e.call e.fate ∷ []
     entered =
@@ -86,28 +86,28 @@ module _ {P F : Type 0} (forms : Forms F) (spelled : Spelled) (tracks : Tracking
         one_entry : (b : Bool) (j : Option ℕ) → b ≡ false → j ≡ Some number → cond b None (Some (record { lane = lane_of j; call = e.call; fate = e.fate })) ≡ Some (entry number e.call e.fate)
         one_entry b j found by = rw (found, by) refl
 
-    own_actor : (s : Slot P F) → IsSlot forms job (trace_of number told ++ last ∷ []) s → IsActor forms (told ++ e ∷ []) number job s
+    own_actor : (s : Slot P F) → IsSlot codec job (trace_of number told ++ last ∷ []) s → IsActor codec (told ++ e ∷ []) number job s
     own_actor s slot_is =
         let before = is.actors number job (slot.Runs r) of at in
-        record { free = before.free; slot_is = subst (λ (t : List Exchange). IsSlot forms job t s) (sym (trace_of-own number told e own)) slot_is }
+        record { free = before.free; slot_is = subst (λ (t : List Exchange). IsSlot codec job t s) (sym (trace_of-own number told e own)) slot_is }
 
-    other_actor : (k : ℕ) (j : Job) (s : Slot P F) → (number ≡ k → ⊥) → IsActor forms told k j s → IsActor forms (told ++ e ∷ []) k j s
+    other_actor : (k : ℕ) (j : Job) (s : Slot P F) → (number ≡ k → ⊥) → IsActor codec told k j s → IsActor codec (told ++ e ∷ []) k j s
     other_actor k j s apart before =
         let trace = trace_of-other k told e (λ mine. apart (same_Some number k (sym own ∙ mine))) in
-        record { free = before.free; slot_is = subst (λ (t : List Exchange). IsSlot forms j t s) (sym trace) before.slot_is }
+        record { free = before.free; slot_is = subst (λ (t : List Exchange). IsSlot codec j t s) (sym trace) before.slot_is }
 
     -- a running actor that makes its call leaves a world that keeps the same
-    pub called_kept : FormsLaws forms spelled tracks → (s : Slot P F) → IsSlot forms job (trace_of number told ++ last ∷ []) s → IsKept forms spelled tracks past jobs (told ++ e ∷ []) (after_told held e) (journal ++ entry number e.call e.fate ∷ []) (set slots number s)
+    pub called_kept : CodecLaws codec spelled tracks → (s : Slot P F) → IsSlot codec job (trace_of number told ++ last ∷ []) s → IsKept codec spelled tracks past jobs (told ++ e ∷ []) (after_told held e) (journal ++ entry number e.call e.fate ∷ []) (set slots number s)
     called_kept laws s slot_is = record {
       kept = kept_now laws;
       entries = ap (λ es. es ++ entry number e.call e.fate ∷ []) is.entries ∙ sym entered;
-      in_lanes = one_more_call forms jobs told e number job is.in_lanes own of asked_now;
+      in_lanes = one_more_call codec jobs told e number job is.in_lanes own of asked_now;
       one_each = length-set slots number s ∙ is.one_each;
       actors = λ k j t j_at t_at. elim (cases_eq number k) [
         | inl same ↦
             let same_job : job ≡ j = same_Some job j (sym of ∙ ap (slice_get jobs) same ∙ j_at) in
             let same_slot : s ≡ t = same_Some s t (sym (get_changed slots number s (slice_get_within slots number (slot.Runs r) at)) ∙ ap (slice_get (set slots number s)) same ∙ t_at) in
-            subst (λ n. IsActor forms (told ++ e ∷ []) n j t) same (subst (λ (i : Job). IsActor forms (told ++ e ∷ []) number i t) same_job (subst (λ (i : Slot P F). IsActor forms (told ++ e ∷ []) number job i) same_slot (own_actor s slot_is)))
+            subst (λ n. IsActor codec (told ++ e ∷ []) n j t) same (subst (λ (i : Job). IsActor codec (told ++ e ∷ []) number i t) same_job (subst (λ (i : Slot P F). IsActor codec (told ++ e ∷ []) number job i) same_slot (own_actor s slot_is)))
         | inr apart ↦ other_actor k j t apart (is.actors k j t j_at (sym (get_unchanged slots number k s apart) ∙ t_at))
       ];
     }
@@ -118,16 +118,16 @@ module _ {P F : Type 0} (forms : Forms F) (spelled : Spelled) (tracks : Tracking
   no_calls : (number : ℕ) → length jobs ≡ number → trace_of number told ≡ []
   no_calls number end = none_made number told (All-weaker (IsWithin jobs) (λ e. e.job ≡ Some number → ⊥) (λ e below by_it. let less = below number by_it in omega (arith, less, end)) told is.in_lanes.within)
 
-  new_actor : (job j : Job) (s t : Slot P F) (k : ℕ) → job.stop ≡ Never → IsSlot forms job [] s → length jobs ≡ k → job ≡ j → s ≡ t → IsActor forms told k j t
+  new_actor : (job j : Job) (s t : Slot P F) (k : ℕ) → job.stop ≡ Never → IsSlot codec job [] s → length jobs ≡ k → job ≡ j → s ≡ t → IsActor codec told k j t
   new_actor job j s t k free slot_is end same_job same_slot =
-      subst (λ (i : Job). IsActor forms told k i t) same_job (subst (λ (i : Slot P F). IsActor forms told k job i) same_slot
-      (record { free = free; slot_is = subst (λ (x : List Exchange). IsSlot forms job x s) (sym (no_calls k end)) slot_is }))
+      subst (λ (i : Job). IsActor codec told k i t) same_job (subst (λ (i : Slot P F). IsActor codec told k job i) same_slot
+      (record { free = free; slot_is = subst (λ (x : List Exchange). IsSlot codec job x s) (sym (no_calls k end)) slot_is }))
 
-  pub spawned_kept : (job : Job) (s : Slot P F) → IsNewId held past jobs job.id → IsFit job → job.stop ≡ Never → IsSlot forms job [] s → IsKept forms spelled tracks past (jobs ++ job ∷ []) told held journal (slots ++ s ∷ [])
+  pub spawned_kept : (job : Job) (s : Slot P F) → IsNewId held past jobs job.id → IsFit job → job.stop ≡ Never → IsSlot codec job [] s → IsKept codec spelled tracks past (jobs ++ job ∷ []) told held journal (slots ++ s ∷ [])
   spawned_kept job s new fit free slot_is = record {
-    kept = spawn_kept forms spelled tracks past jobs [] told held job is.kept fit new;
+    kept = spawn_kept codec spelled tracks past jobs [] told held job is.kept fit new;
     entries = is.entries;
-    in_lanes = one_more_job forms jobs told job is.in_lanes;
+    in_lanes = one_more_job codec jobs told job is.in_lanes;
     one_each = let a = length_push slots s in let b = length_push jobs job in omega (arith, a, b, is.one_each);
     actors = λ k j t j_at t_at. elim (slice_get_push slots s k t t_at) [
       | inl t_before ↦ elim (slice_get_push jobs job k j j_at) [
@@ -143,18 +143,18 @@ module _ {P F : Type 0} (forms : Forms F) (spelled : Spelled) (tracks : Tracking
 
   -- ---- all running actors dropped
 
-  dropped_is : (job : Job) (trace : List Exchange) (s : Slot P F) → IsSlot forms job trace s → IsSlot forms job trace (dropped_slot s)
+  dropped_is : (job : Job) (trace : List Exchange) (s : Slot P F) → IsSlot codec job trace s → IsSlot codec job trace (dropped_slot s)
   dropped_is job trace (slot.Runs r) slot_is = tt
   dropped_is job trace (slot.Ended end) slot_is = slot_is
   dropped_is job trace slot.Dropped slot_is = slot_is
 
-  after_restart : (k : ℕ) (j : Job) (t : Slot P F) (o : Option (Slot P F)) → slice_get slots k ≡ o → slice_get jobs k ≡ Some j → option_map dropped_slot o ≡ Some t → IsActor forms told k j t
+  after_restart : (k : ℕ) (j : Job) (t : Slot P F) (o : Option (Slot P F)) → slice_get slots k ≡ o → slice_get jobs k ≡ Some j → option_map dropped_slot o ≡ Some t → IsActor codec told k j t
   after_restart k j t None at j_at now = absurd (none-some t now)
   after_restart k j t (Some s) at j_at now =
       let before = is.actors k j s j_at at in
-      subst (λ (i : Slot P F). IsActor forms told k j i) (same_Some (dropped_slot s) t now) (record { free = before.free; slot_is = dropped_is j (trace_of k told) s before.slot_is })
+      subst (λ (i : Slot P F). IsActor codec told k j i) (same_Some (dropped_slot s) t now) (record { free = before.free; slot_is = dropped_is j (trace_of k told) s before.slot_is })
 
-  pub restarted_kept : IsKept forms spelled tracks past jobs told held journal (map dropped_slot slots)
+  pub restarted_kept : IsKept codec spelled tracks past jobs told held journal (map dropped_slot slots)
   restarted_kept = record {
     kept = is.kept;
     entries = is.entries;
@@ -164,11 +164,11 @@ module _ {P F : Type 0} (forms : Forms F) (spelled : Spelled) (tracks : Tracking
   }
 
 -- a world to which nothing has happened keeps what a world keeps
-pub first_kept : {P F : Type 0} (forms : Forms F) (spelled : Spelled) (tracks : Tracking F) (past : History) (m : Held) → Stands spelled m past → IsKept {P = P} forms spelled tracks past [] [] m [] []
-first_kept forms spelled tracks past m stands = record {
-  kept = starts_kept forms spelled tracks past m stands;
+pub first_kept : {P F : Type 0} (codec : Codec F) (spelled : Spelled) (tracks : Tracking F) (past : History) (m : Held) → Stands spelled m past → IsKept {P = P} codec spelled tracks past [] [] m [] []
+first_kept codec spelled tracks past m stands = record {
+  kept = starts_kept codec spelled tracks past m stands;
   entries = refl;
-  in_lanes = no_lanes forms;
+  in_lanes = no_lanes codec;
   one_each = refl;
   actors = λ number job s at there. absurd (none-some job at);
 }

@@ -11,7 +11,7 @@ use Rattle.ts_model.specs.declared.answers.Outcome.{Outcome}
 use Rattle.ts_model.specs.declared.answers.Driven.TheVariants.{Done}
 use Rattle.ts_model.specs.Deeds.{History}
 use Rattle.ts_model.specs.States.{Exchange}
-use Rattle.ts_model.specs.Forms.{Forms, Spelled, Tracking, AsksLooks}
+use Rattle.ts_model.specs.Codecs.{Codec, Spelled, Tracking, AsksLooks}
 use Rattle.ts_model.specs.Stops.{Uncut}
 use Rattle.ts_model.specs.Told.{Told, trace_of}
 use Rattle.ts_law.specs.Ends.{IsTrueEnd}
@@ -36,31 +36,31 @@ never_cut stop made xs free = subst (λ s. Uncut s made xs) (sym free) (uncut ma
     uncut made [] = tt
     uncut made (x ∷ xs) = (refl, uncut (made + 1) xs)
 
-module _ {P F : Type 0} (forms : Forms F) (spelled : Spelled) (tracks : Tracking F) (looks : AsksLooks forms) (past : History) (jobs : List Job) (told : List Told) (held : Held) (journal : List Entry) (slots : List (Slot P F)) (is : IsKept forms spelled tracks past jobs told held journal slots) where
+module _ {P F : Type 0} (codec : Codec F) (spelled : Spelled) (tracks : Tracking F) (looks : AsksLooks codec) (past : History) (jobs : List Job) (told : List Told) (held : Held) (journal : List Entry) (slots : List (Slot P F)) (is : IsKept codec spelled tracks past jobs told held journal slots) where
   abbrev seen : WorldView
   seen = record { past = past; jobs = jobs; told = told; held = held; journal = journal; actors = standings slots }
 
-  true_end : (number : ℕ) (job : Job) (end : Outcome) → slice_get jobs number ≡ Some job → EndsFrom forms job (begun job.command) (trace_of number told) end → IsTrueEnd jobs past told number job end
-  true_end number job end at (inl over) = end_is_true forms spelled tracks past jobs [] told held is.kept number job end at (Contains-nil number) over
+  true_end : (number : ℕ) (job : Job) (end : Outcome) → slice_get jobs number ≡ Some job → EndsFrom codec job (begun job.command) (trace_of number told) end → IsTrueEnd jobs past told number job end
+  true_end number job end at (inl over) = end_is_true codec spelled tracks past jobs [] told held is.kept number job end at (Contains-nil number) over
   true_end number job end at (inr none) = subst (IsTrueEnd jobs past told number job) (sym none.0) tt
 
-  ends_truly : (number : ℕ) (job : Job) (end : Outcome) → slice_get jobs number ≡ Some job → slice_get (standings slots) number ≡ Some (Ended end) → EndsTruly forms seen number job end
+  ends_truly : (number : ℕ) (job : Job) (end : Outcome) → slice_get jobs number ≡ Some job → slice_get (standings slots) number ≡ Some (Ended end) → EndsTruly codec seen number job end
   ends_truly number job end at stands =
       let actor = is.actors number job (slot.Ended end) at (ended_at slots number end stands) in
-      let driven : IsDriven forms job (trace_of number told) (Done end) = record { asked = is.in_lanes.asked number job at; uncut = never_cut job.stop 0 (trace_of number told) actor.free; ends = actor.slot_is } in
+      let driven : IsDriven codec job (trace_of number told) (Done end) = record { asked = is.in_lanes.asked number job at; uncut = never_cut job.stop 0 (trace_of number told) actor.free; ends = actor.slot_is } in
       record {
         driven = driven;
-        segment = segment_of forms looks job (trace_of number told) (Done end) driven;
+        segment = segment_of codec looks job (trace_of number told) (Done end) driven;
         is_true = true_end number job end at actor.slot_is;
       }
 
-  pub is_sound : IsSound forms spelled seen
+  pub is_sound : IsSound codec spelled seen
   is_sound = record {
     stands = is.kept.stands;
     entries = is.entries;
     apart = is.kept.apart;
     one_each = length-map slots standing_of ∙ is.one_each;
     in_lanes = is.in_lanes;
-    runs = λ number job at stands. let up = up_at slots number stands in (up.0.asked, running_asks forms spelled tracks past jobs told held journal slots is number up.0 job up.1 at);
+    runs = λ number job at stands. let up = up_at slots number stands in (up.0.asked, running_asks codec spelled tracks past jobs told held journal slots is number up.0 job up.1 at);
     ends = ends_truly;
   }

@@ -1,7 +1,7 @@
 -- The actor of any command: its job, and the calls that it follows.
 use Rattle.std.specs.Prelude.{ℕ}
 use Rattle.ts_model.specs.declared.commands.Job.{Job}
-use Rattle.ts_model.specs.Forms.{Forms}
+use Rattle.ts_model.specs.Codecs.{Codec}
 use Rattle.ts_actor.specs.Traces.{Trace}
 use Rattle.ts_writer.specs.Creators as creator
 use Rattle.ts_writer.specs.Deleters as deleter
@@ -20,12 +20,12 @@ job_of (Deleter a) = a.machine.job
 job_of (Reader a) = a.machine.job
 
 -- the actor has asked for the calls of this trace, and they had these replies
-abbrev pub Follows : {P F : Type 0} → Forms F → AnyActor P F → Trace → Type 0
-Follows forms (Creator a) t = creator.Follows forms a.machine.job a.machine.phase t
-Follows forms (Evolver a) t = evolver.Follows forms a.machine.job a.machine.phase t
-Follows forms (Writer a) t = writer.Follows forms a.machine.job a.machine.phase t
-Follows forms (Deleter a) t = deleter.Follows forms a.machine.job a.machine.phase t
-Follows forms (Reader a) t = reader.Follows forms a.machine.job a.machine.phase t
+abbrev pub Follows : {P F : Type 0} → Codec F → AnyActor P F → Trace → Type 0
+Follows codec (Creator a) t = creator.Follows codec a.machine.job a.machine.phase t
+Follows codec (Evolver a) t = evolver.Follows codec a.machine.job a.machine.phase t
+Follows codec (Writer a) t = writer.Follows codec a.machine.job a.machine.phase t
+Follows codec (Deleter a) t = deleter.Follows codec a.machine.job a.machine.phase t
+Follows codec (Reader a) t = reader.Follows codec a.machine.job a.machine.phase t
 
 -- more than the calls that an actor still asks for, where a fetch has so many left
 abbrev pub calls_left : {P F : Type 0} → (F → ℕ) → AnyActor P F → ℕ

@@ -17,7 +17,7 @@ use Rattle.ts_model.specs.declared.answers.Outcome.{Outcome}
 use Rattle.ts_model.specs.declared.answers.Driven.TheVariants.{Done}
 use Rattle.ts_model.specs.Deeds.{History, keys}
 use Rattle.ts_model.specs.Commands.{fits}
-use Rattle.ts_model.specs.Forms.{Forms, Spelled}
+use Rattle.ts_model.specs.Codecs.{Codec, Spelled}
 use Rattle.ts_model.specs.Jobs.{AreApart}
 use Rattle.ts_law.specs.Stands.{Stands}
 use Rattle.ts_model.specs.States.{state_of}
@@ -25,7 +25,7 @@ use Rattle.ts_law.specs.Fresh.{id_in}
 use Rattle.ts_law.specs.Lanes.{own_lane, AreInLanes}
 use Rattle.ts_model.specs.Told.{trace_of, entries_of, IsReplied, Replied, after_told, held_told, history_told}
 use Rattle.ts_law.specs.Ends.{IsTrueEnd}
-use Rattle.ts_law.specs.Rows.{IsSegment}
+use Rattle.ts_law.specs.Courses.{IsSegment}
 use Rattle.ts_model.specs.Driven.{MayAsk, IsDriven}
 use Rattle.ts_world.specs.declared.events.Event.{Event}
 use Rattle.ts_world.specs.declared.events.Event.TheVariants.{Spawn, Step, Stop, Restart}
@@ -35,14 +35,14 @@ use Rattle.ts_world.specs.Views.{Standing, Runs, Ended, Dropped, WorldView, drop
 
 -- ---- at any time
 
--- the end of an actor: its job made calls that it may make and ended by them, they go along the job's row, and what the end tells of the history is true
-pub record EndsTruly {F : Type 0} (forms : Forms F) (w : WorldView) (number : ℕ) (job : Job) (end : Outcome) : Type 0 where
-  pub driven : IsDriven forms job (trace_of number w.told) (Done end)
-  pub segment : IsSegment forms job (trace_of number w.told) (Done end)
+-- the end of an actor: its job made calls that it may make and ended by them, they go along the job's course, and what the end tells of the history is true
+pub record EndsTruly {F : Type 0} (codec : Codec F) (w : WorldView) (number : ℕ) (job : Job) (end : Outcome) : Type 0 where
+  pub driven : IsDriven codec job (trace_of number w.told) (Done end)
+  pub segment : IsSegment codec job (trace_of number w.told) (Done end)
   pub is_true : IsTrueEnd w.jobs w.past w.told number job end
 
 -- what holds of a world at any time
-pub record IsSound {F : Type 0} (forms : Forms F) (spelled : Spelled) (w : WorldView) : Type 0 where
+pub record IsSound {F : Type 0} (codec : Codec F) (spelled : Spelled) (w : WorldView) : Type 0 where
   -- the objects that are held stand for the past and the deeds of the calls
   pub stands : Stands spelled w.held (history_told w.jobs w.past w.told)
   -- the journal has each call that found memory, in the lane of its actor
@@ -52,11 +52,11 @@ pub record IsSound {F : Type 0} (forms : Forms F) (spelled : Spelled) (w : World
   -- each job has its actor
   pub one_each : length w.actors ≡ length w.jobs
   -- each actor makes calls that its job may make, whatever became of it, in a lane of its own
-  pub in_lanes : AreInLanes forms own_lane w.jobs w.told
+  pub in_lanes : AreInLanes codec own_lane w.jobs w.told
   -- an actor that runs has one more call to make
-  pub runs : (number : ℕ) (job : Job) → slice_get w.jobs number ≡ Some job → slice_get w.actors number ≡ Some Runs → (c : Call) × MayAsk forms job (state_of forms job (trace_of number w.told)) c
+  pub runs : (number : ℕ) (job : Job) → slice_get w.jobs number ≡ Some job → slice_get w.actors number ≡ Some Runs → (c : Call) × MayAsk codec job (state_of codec job (trace_of number w.told)) c
   -- an actor that ended did so by its own calls, and told the truth
-  pub ends : (number : ℕ) (job : Job) (end : Outcome) → slice_get w.jobs number ≡ Some job → slice_get w.actors number ≡ Some (Ended end) → EndsTruly forms w number job end
+  pub ends : (number : ℕ) (job : Job) (end : Outcome) → slice_get w.jobs number ≡ Some job → slice_get w.actors number ≡ Some (Ended end) → EndsTruly codec w number job end
 
 -- the world began with a store that held m: each call was replied to as by a store of one thread, and the objects are those that the journal leaves
 pub record BeganWith (m : Held) (w : WorldView) : Type 0 where
@@ -96,12 +96,12 @@ pub record Spawned (job : Job) (w later : WorldView) : Type 0 where
   pub is : later ≡ record w { jobs = w.jobs ++ job ∷ []; actors = w.actors ++ standing ∷ [] }
 
 -- a running actor made a call that its job may make, with this fate: one call more was told and entered in the lane of the actor, and nothing else changed but where this actor stands
-pub record Called {F : Type 0} (forms : Forms F) (number : ℕ) (fate : Fate) (may : Standing → Type 0) (w later : WorldView) : Type 0 where
+pub record Called {F : Type 0} (codec : Codec F) (number : ℕ) (fate : Fate) (may : Standing → Type 0) (w later : WorldView) : Type 0 where
   pub job : Job
   pub is_job : slice_get w.jobs number ≡ Some job
   pub ran : slice_get w.actors number ≡ Some Runs
   pub call : Call
-  pub asked : MayAsk forms job (state_of forms job (trace_of number w.told)) call
+  pub asked : MayAsk codec job (state_of codec job (trace_of number w.told)) call
   pub reply : Reply
   pub memory : is_no_memory reply ≡ false
   pub changed : Bool
@@ -116,11 +116,11 @@ pub record Called {F : Type 0} (forms : Forms F) (number : ℕ) (fate : Fate) (m
   }
 
 -- what an event does to a world
-abbrev pub Happens : {F : Type 0} → Forms F → Event → WorldView → WorldView → Type 0
-Happens forms (Spawn command at id) w later = Spawned (job_spawned command at id) w later
-Happens forms (Step number fate) w later = Called forms number fate (λ s. s ≢ Dropped) w later
-Happens forms (Stop number fate) w later = Called forms number fate (λ s. s ≡ Dropped) w later
-Happens forms Restart w later = later ≡ record w { actors = map dropped w.actors }
+abbrev pub Happens : {F : Type 0} → Codec F → Event → WorldView → WorldView → Type 0
+Happens codec (Spawn command at id) w later = Spawned (job_spawned command at id) w later
+Happens codec (Step number fate) w later = Called codec number fate (λ s. s ≢ Dropped) w later
+Happens codec (Stop number fate) w later = Called codec number fate (λ s. s ≡ Dropped) w later
+Happens codec Restart w later = later ≡ record w { actors = map dropped w.actors }
 
 -- ---- faults
 

@@ -17,7 +17,7 @@ use Rattle.ts_model.specs.declared.commands.Job.{Job}
 use Rattle.ts_model.specs.Deeds.{History}
 use Rattle.ts_model.specs.States.{Exchange, begun}
 use Rattle.ts_model.specs.Told.{Told, IsShortCall, trace_of, entries_of, changes}
-use Rattle.ts_model.specs.Forms.{Forms, Spelled, Tracking}
+use Rattle.ts_model.specs.Codecs.{Codec, Spelled, Tracking}
 use Rattle.ts_law.specs.Fresh.{id_in}
 use Rattle.ts_law.specs.Lanes.{own_lane, AreInLanes}
 use Rattle.ts_model.specs.Driven.{EndsFrom}
@@ -38,46 +38,47 @@ standing_of (slot.Runs r) = Runs
 standing_of (slot.Ended end) = Ended end
 standing_of slot.Dropped = Dropped
 
+-- where all actors stand
 abbrev pub standings : {P F : Type 0} → List (Slot P F) → List Standing
 standings slots = map standing_of slots
 
 -- a running actor does its job, and waits for the reply to the call that it asked for after the others
-pub record IsRunning {P F : Type 0} (forms : Forms F) (job : Job) (trace : List Exchange) (r : Running P F) : Type 0 where
+pub record IsRunning {P F : Type 0} (codec : Codec F) (job : Job) (trace : List Exchange) (r : Running P F) : Type 0 where
   pub task : job_of r.actor ≡ job
-  pub follows : Follows forms r.actor (asking trace r.asked)
+  pub follows : Follows codec r.actor (asking trace r.asked)
   pub spelled : IsSpelledCall r.asked
 
 -- the slot of an actor with this job, after these calls of its own
-abbrev pub IsSlot : {P F : Type 0} → Forms F → Job → List Exchange → Slot P F → Type 0
-IsSlot forms job trace (slot.Runs r) = IsRunning forms job trace r
-IsSlot forms job trace (slot.Ended end) = EndsFrom forms job (begun job.command) trace end
-IsSlot forms job trace slot.Dropped = ⊤
+abbrev pub IsSlot : {P F : Type 0} → Codec F → Job → List Exchange → Slot P F → Type 0
+IsSlot codec job trace (slot.Runs r) = IsRunning codec job trace r
+IsSlot codec job trace (slot.Ended end) = EndsFrom codec job (begun job.command) trace end
+IsSlot codec job trace slot.Dropped = ⊤
 
 -- what is kept of the actor with a number: its job has no stop of its own, and its slot is one after the calls that it made
-pub record IsActor {P F : Type 0} (forms : Forms F) (told : List Told) (number : ℕ) (job : Job) (s : Slot P F) : Type 0 where
+pub record IsActor {P F : Type 0} (codec : Codec F) (told : List Told) (number : ℕ) (job : Job) (s : Slot P F) : Type 0 where
   pub free : job.stop ≡ Never
-  pub slot_is : IsSlot forms job (trace_of number told) s
+  pub slot_is : IsSlot codec job (trace_of number told) s
 
 -- what a world keeps: what every call keeps, the journal of the calls, whose they are, and its actors
-pub record IsKept {P F : Type 0} (forms : Forms F) (spelled : Spelled) (tracks : Tracking F) (past : History) (jobs : List Job) (told : List Told) (held : Held) (journal : List Entry) (slots : List (Slot P F)) : Type 0 where
-  pub kept : Kept forms spelled tracks past jobs [] told held
+pub record IsKept {P F : Type 0} (codec : Codec F) (spelled : Spelled) (tracks : Tracking F) (past : History) (jobs : List Job) (told : List Told) (held : Held) (journal : List Entry) (slots : List (Slot P F)) : Type 0 where
+  pub kept : Kept codec spelled tracks past jobs [] told held
   pub entries : journal ≡ entries_of lane_of told
-  pub in_lanes : AreInLanes forms own_lane jobs told
+  pub in_lanes : AreInLanes codec own_lane jobs told
   pub one_each : length slots ≡ length jobs
-  pub actors : (number : ℕ) (job : Job) (s : Slot P F) → slice_get jobs number ≡ Some job → slice_get slots number ≡ Some s → IsActor forms told number job s
+  pub actors : (number : ℕ) (job : Job) (s : Slot P F) → slice_get jobs number ≡ Some job → slice_get slots number ≡ Some s → IsActor codec told number job s
 
 -- the actor of the slot runs, and this reply can come to its call
-pub record IsDue {P F : Type 0} (forms : Forms F) (s : Slot P F) (reply : Reply) : Type 0 where
+pub record IsDue {P F : Type 0} (codec : Codec F) (s : Slot P F) (reply : Reply) : Type 0 where
   pub running : Running P F
   pub runs : s ≡ slot.Runs running
   pub trace : List Exchange
-  pub follows : Follows forms running.actor (asking trace running.asked)
+  pub follows : Follows codec running.actor (asking trace running.asked)
   pub fits : FitsCall running.asked reply
   pub spelled : IsSpelledReply reply
 
 -- what comes of a slot: after any calls that its actor followed and this reply it is the slot of the same job, and not dropped
-pub record IsNextSlot {P F : Type 0} (forms : Forms F) (running : Running P F) (reply : Reply) (later : Slot P F) : Type 0 where
-  pub is_slot : (trace : List Exchange) → Follows forms running.actor (asking trace running.asked) → IsSlot forms (job_of running.actor) (trace ++ record { call = running.asked; reply = reply } ∷ []) later
+pub record IsNextSlot {P F : Type 0} (codec : Codec F) (running : Running P F) (reply : Reply) (later : Slot P F) : Type 0 where
+  pub is_slot : (trace : List Exchange) → Follows codec running.actor (asking trace running.asked) → IsSlot codec (job_of running.actor) (trace ++ record { call = running.asked; reply = reply } ∷ []) later
   pub up : standing_of later ≢ Dropped
 
 -- the call that the actor with a number waits to make, or that no such actor runs
@@ -99,8 +100,8 @@ abbrev pub view_of : {P F : Type 0} → Parts P F → WorldView
 view_of p = record { past = p.past; jobs = p.jobs; told = p.told.items; held = held_in p.store; journal = p.journal; actors = standings p.slots.items }
 
 -- the parts of a world keep what a world keeps
-abbrev pub ArePartsOk : {P F : Type 0} → Forms F → Spelled → Tracking F → Parts P F → Type 0
-ArePartsOk forms spelled tracks p = IsKept forms spelled tracks p.past p.jobs p.told.items (held_in p.store) p.journal p.slots.items
+abbrev pub ArePartsOk : {P F : Type 0} → Codec F → Spelled → Tracking F → Parts P F → Type 0
+ArePartsOk codec spelled tracks p = IsKept codec spelled tracks p.past p.jobs p.told.items (held_in p.store) p.journal p.slots.items
 
 -- ---- what each step of the code does to the parts
 
@@ -155,16 +156,16 @@ pub record IsCalled {P F : Type 0} (number : ℕ) (fate : Fate) (before later : 
   pub made : IsMade number running.asked fate before later r
 
 -- the actor with a number takes a reply that can come
-pub record IsDueAt {P F : Type 0} (forms : Forms F) (slots : List (Slot P F)) (number : ℕ) (reply : Reply) : Type 0 where
+pub record IsDueAt {P F : Type 0} (codec : Codec F) (slots : List (Slot P F)) (number : ℕ) (reply : Reply) : Type 0 where
   pub slot_is : Slot P F
   pub within : number < length slots
   pub there : slice_get slots number ≡ Some slot_is
-  pub due : IsDue forms slot_is reply
+  pub due : IsDue codec slot_is reply
 
 -- it took the reply
-pub record IsAdvanced {P F : Type 0} (forms : Forms F) (before : List (Slot P F)) (number : ℕ) (reply : Reply) (later : List (Slot P F)) : Type 0 where
+pub record IsAdvanced {P F : Type 0} (codec : Codec F) (before : List (Slot P F)) (number : ℕ) (reply : Reply) (later : List (Slot P F)) : Type 0 where
   pub running : Running P F
   pub runs : slice_get before number ≡ Some (slot.Runs running)
   pub next : Slot P F
-  pub next_is : IsNextSlot forms running reply next
+  pub next_is : IsNextSlot codec running reply next
   pub is : later ≡ slice_set before number next

@@ -34,7 +34,7 @@ impl<P: Pieces> AnyActor<P> {
     pub fn of(job: Job) -> AnyActor<P>
         requires { IsFit job }
         ensures task { job_of result ≡ job }
-        ensures new { Follows P.forms result start }
+        ensures new { Follows P.codec result start }
     {
         match &job.command {
             Command::Create(_) => AnyActor::Creator(Creator::of(job)),
@@ -53,9 +53,9 @@ impl<P: Pieces> Actor for AnyActor<P> {
 
     ghost task = { job_of };
 
-    ghost follows = { Follows P.forms };
+    ghost follows = { Follows P.codec };
 
-    ghost ends = { λ job past end. EndsFrom P.forms job (begun job.command) past end };
+    ghost ends = { λ job past end. EndsFrom P.codec job (begun job.command) past end };
 
     ghost measure = { calls_left P.left };
 

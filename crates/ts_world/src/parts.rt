@@ -49,9 +49,9 @@ pub(crate) fn spawn<P: Pieces, R: Threads + Sync>(
     at: u64,
     id: u128,
 ) -> Result<(), WorldFault>
-    requires kept { ArePartsOk P.forms P.spelled P.tracks parts.old }
+    requires kept { ArePartsOk P.codec P.spelled P.tracks parts.old }
     requires may { MaySpawn (view_of parts.old) command id }
-    ensures kept { ArePartsOk P.forms P.spelled P.tracks parts.new }
+    ensures kept { ArePartsOk P.codec P.spelled P.tracks parts.new }
     ensures spawned { OnOk result (Spawned (job_spawned command at id) (view_of parts.old) (view_of parts.new)) }
     ensures same { OnErr result (view_of parts.new ≡ view_of parts.old) }
     ensures cause { HasCause (event.Spawn command at id) (view_of parts.old) result }
@@ -142,10 +142,10 @@ pub(crate) fn step<P: Pieces, R: Threads + Sync>(
     number: u32,
     fate: Fate,
 ) -> Result<(), WorldFault>
-    requires kept { ArePartsOk P.forms P.spelled P.tracks parts.old }
+    requires kept { ArePartsOk P.codec P.spelled P.tracks parts.old }
     requires known { fate ≢ Unknown }
-    ensures kept { ArePartsOk P.forms P.spelled P.tracks parts.new }
-    ensures called { OnOk result (Called P.forms number fate (λ s. s ≢ Dropped) (view_of parts.old) (view_of parts.new)) }
+    ensures kept { ArePartsOk P.codec P.spelled P.tracks parts.new }
+    ensures called { OnOk result (Called P.codec number fate (λ s. s ≢ Dropped) (view_of parts.old) (view_of parts.new)) }
     ensures same { OnErr result (view_of parts.new ≡ view_of parts.old) }
     ensures cause { HasCause (event.Step number fate) (view_of parts.old) result }
 {
@@ -161,10 +161,10 @@ pub(crate) fn stop<P: Pieces>(
     number: u32,
     fate: Fate,
 ) -> Result<(), WorldFault>
-    requires kept { ArePartsOk P.forms P.spelled P.tracks parts.old }
+    requires kept { ArePartsOk P.codec P.spelled P.tracks parts.old }
     requires known { fate ≢ Unknown }
-    ensures kept { ArePartsOk P.forms P.spelled P.tracks parts.new }
-    ensures called { OnOk result (Called P.forms number fate (λ s. s ≡ Dropped) (view_of parts.old) (view_of parts.new)) }
+    ensures kept { ArePartsOk P.codec P.spelled P.tracks parts.new }
+    ensures called { OnOk result (Called P.codec number fate (λ s. s ≡ Dropped) (view_of parts.old) (view_of parts.new)) }
     ensures same { OnErr result (view_of parts.new ≡ view_of parts.old) }
     ensures cause { HasCause (event.Stop number fate) (view_of parts.old) result }
 {
@@ -181,7 +181,7 @@ fn call<P: Pieces>(
     number: u32,
     fate: Fate,
 ) -> Result<Reply, WorldFault>
-    requires kept { ArePartsOk P.forms P.spelled P.tracks parts.old }
+    requires kept { ArePartsOk P.codec P.spelled P.tracks parts.old }
     requires known { fate ≢ Unknown }
     ensures called { IfOk result (λ reply. IsCalled number fate parts.old parts.new reply) }
     ensures same { OnErr result (AreSame parts.old parts.new) }
@@ -269,9 +269,9 @@ fn answer(
 
 /// Drops each actor that runs.
 pub(crate) fn restart<P: Pieces>(parts: &mut Parts<P>)
-    requires { ArePartsOk P.forms P.spelled P.tracks parts.old }
-    ensures kept { ArePartsOk P.forms P.spelled P.tracks parts.new }
-    ensures restarted { Happens P.forms event.Restart (view_of parts.old) (view_of parts.new) }
+    requires { ArePartsOk P.codec P.spelled P.tracks parts.old }
+    ensures kept { ArePartsOk P.codec P.spelled P.tracks parts.new }
+    ensures restarted { Happens P.codec event.Restart (view_of parts.old) (view_of parts.new) }
 {
     drop_running(&mut parts.slots);
 }

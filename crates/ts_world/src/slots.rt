@@ -39,7 +39,7 @@ pub(crate) enum Slot<P: Pieces> {
 // The slot of an actor that has just come.
 pub(crate) fn first_slot<P: Pieces, R: Threads + Sync>(rt: &R, alloc: Global, job: Job) -> Slot<P>
     requires { IsFit job }
-    ensures slot_is { IsSlot P.forms job [] result }
+    ensures slot_is { IsSlot P.codec job [] result }
     ensures up { standing_of result ≢ Dropped }
 {
     go_on(rt, alloc, AnyActor::of(job), Reply::Start)
@@ -52,9 +52,9 @@ pub(crate) fn go_on<P: Pieces, R: Threads + Sync>(
     mut actor: AnyActor<P>,
     reply: Reply,
 ) -> Slot<P>
-    requires due { Expects (Follows P.forms actor) reply }
+    requires due { Expects (Follows P.codec actor) reply }
     requires spelled { IsSpelledReply reply }
-    ensures slot_is { (t : Trace) → Follows P.forms actor t → CanCome t.asked reply → IsSlot P.forms (job_of actor) (filled t reply) result }
+    ensures slot_is { (t : Trace) → Follows P.codec actor t → CanCome t.asked reply → IsSlot P.codec (job_of actor) (filled t reply) result }
     ensures up { standing_of result ≢ Dropped }
 {
     match actor.next(rt, alloc, reply) {
@@ -70,8 +70,8 @@ pub(crate) fn next_slot<P: Pieces, R: Threads + Sync>(
     slot: Slot<P>,
     reply: Reply,
 ) -> Slot<P>
-    requires { IsDue P.forms slot reply }
-    ensures next { (r : _) → slot ≡ Slot.Runs r → IsNextSlot P.forms r reply result }
+    requires { IsDue P.codec slot reply }
+    ensures next { (r : _) → slot ≡ Slot.Runs r → IsNextSlot P.codec r reply result }
 {
     match slot {
         Slot::Runs(running) => go_on(rt, alloc, running.actor, reply),
@@ -87,8 +87,8 @@ pub(crate) fn advance<P: Pieces, R: Threads + Sync>(
     number: u32,
     reply: Reply,
 )
-    requires { IsDueAt P.forms slots.old number reply }
-    ensures { IsAdvanced P.forms slots.old number reply slots.new }
+    requires { IsDueAt P.codec slots.old number reply }
+    ensures { IsAdvanced P.codec slots.old number reply slots.new }
 {
     let place = number as usize;
     let slot = mem::replace(&mut slots[place], Slot::Dropped);

@@ -43,7 +43,7 @@ impl<P: Pieces> Model for World<P> {
 
     ghost view = { λ world. view_of world.parts };
 
-    ghost invariant = { λ world. ArePartsOk P.forms P.spelled P.tracks world.parts };
+    ghost invariant = { λ world. ArePartsOk P.codec P.spelled P.tracks world.parts };
 }
 
 impl<P: Pieces> World<P> {
@@ -54,7 +54,7 @@ impl<P: Pieces> World<P> {
     pub fn new(alloc: Global, store: MemStore, past: History) -> World<P>
         requires { Stands P.spelled (held_in store) past }
         ensures new { result ≡ new_world (held_in store) past }
-        ensures sound { IsSound P.forms P.spelled result }
+        ensures sound { IsSound P.codec P.spelled result }
         ensures began { BeganWith (held_in store) result }
     {
         World {
@@ -85,8 +85,8 @@ impl<P: Pieces> World<P> {
         event: Event,
     ) -> Result<(), WorldFault>
         requires { MayCome self.old event }
-        ensures sound { IsSound P.forms P.spelled self.new }
-        ensures happens { OnOk result (Happens P.forms event self.old self.new) }
+        ensures sound { IsSound P.codec P.spelled self.new }
+        ensures happens { OnOk result (Happens P.codec event self.old self.new) }
         ensures began { (m : Held) → BeganWith m self.old → BeganWith m self.new }
         ensures unchanged { OnErr result (self.new ≡ self.old) }
         ensures cause { HasCause event self.old result }

@@ -22,7 +22,7 @@ no_call p number OutOfMemory is = tt
 pub make-requires-clause-spelled : goal.make-requires-clause-spelled
 make-requires-clause-spelled g c =
     let runs = c.in-Ok.ensures in
-    subst IsSpelledCall (sym runs.2) (spelled_at g.P.Pieces.forms g.P.Spelling.spelled g.P.Pieces.tracks c.args.parts.now c.args.number runs.0 c.requires.kept (ap (λ l. slice_get l c.args.number) (sym c.as_slice.ensures.value) ∙ runs.1))
+    subst IsSpelledCall (sym runs.2) (spelled_at g.P.Pieces.codec g.P.Spelling.spelled g.P.Pieces.tracks c.args.parts.now c.args.number runs.0 c.requires.kept (ap (λ l. slice_get l c.args.number) (sym c.as_slice.ensures.value) ∙ runs.1))
 
 pub returns-in-Ok-make-clause-cause : goal.returns-in-Ok-make-clause-cause
 returns-in-Ok-make-clause-cause g c =

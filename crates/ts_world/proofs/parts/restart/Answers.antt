@@ -16,7 +16,7 @@ slots_are g c =
 
 pub returns-clause-kept : goal.returns-clause-kept
 returns-clause-kept g c =
-    let P : _ → Type 0 = λ l. IsKept g.P.Pieces.forms g.P.Spelling.spelled g.P.Pieces.tracks c.args.parts.now.past c.args.parts.now.jobs c.args.parts.now.told.items (held_in c.args.parts.now.store) c.args.parts.now.journal l in
+    let P : _ → Type 0 = λ l. IsKept g.P.Pieces.codec g.P.Spelling.spelled g.P.Pieces.tracks c.args.parts.now.past c.args.parts.now.jobs c.args.parts.now.told.items (held_in c.args.parts.now.store) c.args.parts.now.journal l in
     subst P (sym (slots_are g c)) (restarted_kept _ _ _ _ _ _ _ _ _ c.requires)
 
 pub returns-clause-restarted : goal.returns-clause-restarted

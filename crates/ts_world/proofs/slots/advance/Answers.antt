@@ -11,7 +11,7 @@ bounds-slots-place g c = c.requires.within
 
 pub next_slot-next-requires-after_bounds : goal.next_slot-next-requires-after_bounds
 next_slot-next-requires-after_bounds g c κs within =
-    subst (λ s. IsDue g.P.Pieces.forms s c.args.reply) (sym (c.replace-slot.ensures.value ∙ get_or_from_slice_get c.args.slots.now c.args.number c.requires.slot_is _ c.requires.there)) c.requires.due
+    subst (λ s. IsDue g.P.Pieces.codec s c.args.reply) (sym (c.replace-slot.ensures.value ∙ get_or_from_slice_get c.args.slots.now c.args.number c.requires.slot_is _ c.requires.there)) c.requires.due
 
 pub put_slot-requires : goal.put_slot-requires
 put_slot-requires g c = subst (λ n. c.args.number < n) (sym (length-set c.args.slots.now c.args.number c.replace-slot.new.dest)) c.requires.within
