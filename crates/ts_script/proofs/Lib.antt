@@ -1,0 +1,5 @@
+pub mod Cuts
+pub mod Texts
+pub mod Whole
+pub mod Meanings
+pub mod Asking

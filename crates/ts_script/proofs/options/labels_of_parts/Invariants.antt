@@ -1,0 +1,7 @@
+use Rattle.std.proofs.Common.{◌≡◌, [], map, drop}
+use Rattle.ts_script.specs.Options.{labels_onto}
+use Rattle.ts_script.proofs.options.labels_of_parts.Given as goal
+
+abbrev pub invariant-loop-part : goal.invariant-loop-part
+invariant-loop-part l =
+    labels_onto l.done (map (λ p. p.now) (drop l.part-index l.parts)) ≡ labels_onto [] (map (λ p. p.now) l.parts)

@@ -1,0 +1,69 @@
+//! What is asked for, with its input: the lines that are to be done.
+ghost use Rattle.std.specs.Prelude.{◌≡◌, [], ◌∷◌, IfOk};
+ghost use Rattle.ts_model.specs.Jobs.{IsFitLine};
+ghost use Rattle.ts_script.specs.Meanings.{IsFitAsked, has_input, is_single, meaning};
+ghost use Rattle.ts_script.specs.Script.{AreLimited, IsScript};
+
+use crate::script::{ScriptFault, read_object, read_script};
+use crate::words::Asked;
+use std::alloc::Global;
+use ts_base::OutOfMemory;
+use ts_model::{Line, LineList};
+
+impl Asked {
+    /// Whether it has an input: a script, or the object of a single command.
+    pub fn has_input(&self) -> bool
+        ensures { result ≡ has_input self.now }
+    {
+        match self {
+            Asked::Command(_) => false,
+            _ => true,
+        }
+    }
+
+    /// Whether it is a single command.
+    pub fn is_single(&self) -> bool
+        ensures { result ≡ is_single self.now }
+    {
+        match self {
+            Asked::Play => false,
+            _ => true,
+        }
+    }
+}
+
+/// Reads the lines that are asked for from their input, which counts for nothing where there is none.
+/// A single command is one line, in lane 0.
+pub fn read_lines(alloc: Global, asked: Asked, input: &[u8]) -> Result<LineList, ScriptFault>
+    requires { IsFitAsked asked }
+    ensures lines { IsScript result (meaning asked input.now) }
+    ensures limited { IfOk result AreLimited }
+{
+    match asked {
+        Asked::Play => read_script(alloc, input),
+        Asked::Object { form, at } => {
+            let command = read_object(alloc, form, input)?;
+            Ok(one_line(
+                alloc,
+                Line {
+                    lane: 0,
+                    command,
+                    at,
+                    to_stamp: false,
+                },
+            )?)
+        }
+        Asked::Command(line) => Ok(one_line(alloc, line)?),
+    }
+}
+
+/// The list of one line.
+fn one_line(alloc: Global, line: Line) -> Result<LineList, OutOfMemory>
+    requires { IsFitLine line }
+    ensures is { IfOk result (λ lines. lines ≡ line ∷ []) }
+    ensures limited { IfOk result AreLimited }
+{
+    let mut lines = LineList::new(alloc);
+    lines.push(line)?;
+    Ok(lines)
+}

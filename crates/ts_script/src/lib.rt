@@ -1,0 +1,18 @@
+//! The front of the program: the words of a command line, scripts, and the objects of single
+//! commands.
+#![tactic(auto)]
+
+mod commands;
+mod jobs;
+mod json;
+mod lines;
+mod options;
+mod parts;
+mod script;
+mod values;
+mod words;
+
+pub use jobs::read_lines;
+pub use json::FormFault;
+pub use script::{ScriptFault, read_object, read_script};
+pub use words::{Asked, ObjectForm, read_words};

@@ -1,0 +1,183 @@
+//! Scripts: bytes to lines, or to the first line that is none.
+ghost use Rattle.std.specs.Prelude.{◌≡◌, Some, None, Ok, Err, IfOk, IsErrOf, IsTrue, take};
+ghost use Rattle.serde_json.specs.View.{view};
+ghost use Rattle.ts_script.specs.Shapes.{Gives};
+ghost use Rattle.ts_model.specs.Jobs.{IsFitLine};
+ghost use Rattle.ts_script.specs.Script.{byte_limit, is_blank, json_of, line_at, with_line, script_of, object_in, object_command, IsScript, AreLimited};
+ghost use Rattle.ts_model.specs.Commands.{fits};
+
+use crate::json::{FormFault, FromJson};
+use crate::lines::{fits, is_not_built, read_form};
+use crate::parts::next_part;
+use crate::words::ObjectForm;
+use serde_json::{Category, Value};
+use std::alloc::Global;
+use thiserror::Error;
+use ts_base::OutOfMemory;
+use ts_model::{Command, Line, LineList};
+
+/// How many bytes a script may have: 64 MiB.
+const BYTE_LIMIT: usize = 1 << 26;
+
+/// How many commands a script may have.
+const COMMAND_LIMIT: u64 = 4096;
+
+/// Why bytes are no script. Lines are numbered from 1.
+#[derive(Clone, Copy, Debug, PartialEq, Eq, Error)]
+pub enum ScriptFault {
+    /// The first line that is no command, or that goes past a limit. Of the input of a single
+    /// command it is line 1.
+    #[error("line {line} is bad")]
+    Bad {
+        /// The number of the line.
+        line: u64,
+    },
+    /// The first line that is no command is an object with a text under `cmd`, and that text names a
+    /// command that is not built yet, or the object has a key `stop`.
+    #[error("line {line} is not built yet")]
+    NotBuilt {
+        /// The number of the line.
+        line: u64,
+    },
+    /// There was no memory for the lines.
+    #[error("out of memory")]
+    OutOfMemory,
+}
+
+impl From<OutOfMemory> for ScriptFault {
+    ghost use Rattle.ts_script.specs.declared.script.ScriptFault.TheVariants.{OutOfMemory as no_memory};
+
+    ghost from_gives = { λ _ e. e ≡ no_memory };
+
+    fn from(_error: OutOfMemory) -> ScriptFault {
+        ScriptFault::OutOfMemory
+    }
+}
+
+/// Whether a line has spaces and tabs alone.
+fn is_blank(bytes: &[u8]) -> bool
+    ensures { result ≡ is_blank bytes.now }
+{
+    bytes.iter().all(|byte| *byte == b' ' || *byte == b'\t')
+}
+
+/// Reads a script: its lines, or the first line that is none. Blank lines are passed over.
+///
+/// A script is text in UTF-8 of at most 64 MiB and 4,096 commands, each a JSON object (RFC 8259)
+/// on a line of its own. The last line may lack its line feed.
+#[tactic(auto, unfolding(crate::specs::Script::script_of))]
+pub fn read_script(alloc: Global, input: &[u8]) -> Result<LineList, ScriptFault>
+    ensures script { IsScript result (script_of input.now) }
+    ensures limited { IfOk result AreLimited }
+{
+    let mut rest = within_limit(input);
+    let mut lines = LineList::new(alloc);
+    let mut number = 1;
+    while let Some((piece, others)) = next_part(rest, b'\n') {
+        lines = with_line(alloc, number, lines, piece)?;
+        rest = others;
+        number += 1;
+    }
+    if input.len() > BYTE_LIMIT {
+        return Err(ScriptFault::Bad { line: number });
+    }
+    with_line(alloc, number, lines, rest)
+}
+
+/// The bytes up to the limit.
+#[tactic(auto, using(std::proofs::lemmas::List::take_min))]
+fn within_limit(input: &[u8]) -> &[u8]
+    ensures { result.now ≡ take byte_limit input.now }
+{
+    &input[..BYTE_LIMIT.min(input.len())]
+}
+
+/// The lines before a line, and what its bytes stand for.
+#[tactic(auto, unfolding(crate::specs::Script::with_line))]
+fn with_line(
+    alloc: Global,
+    number: u64,
+    mut lines: LineList,
+    bytes: &[u8],
+) -> Result<LineList, ScriptFault>
+    requires { AreLimited lines }
+    ensures script { IsScript result (with_line number lines bytes.now) }
+    ensures limited { IfOk result AreLimited }
+{
+    if is_blank(bytes) {
+        return Ok(lines);
+    }
+    if lines.len() == COMMAND_LIMIT {
+        return Err(ScriptFault::Bad { line: number });
+    }
+    let line = read_line(alloc, number, bytes)?;
+    lines.push(line)?;
+    Ok(lines)
+}
+
+/// Reads the bytes of a line.
+#[tactic(auto, unfolding(crate::specs::Script::line_at))]
+fn read_line(alloc: Global, number: u64, bytes: &[u8]) -> Result<Line, ScriptFault>
+    ensures script { IsScript result (line_at number bytes.now) }
+    ensures fit { IfOk result IsFitLine }
+{
+    let value = match read_json(alloc, bytes) {
+        Ok(value) => value,
+        Err(FormFault::Form) => return Err(ScriptFault::Bad { line: number }),
+        Err(FormFault::OutOfMemory) => return Err(ScriptFault::OutOfMemory),
+    };
+    match Line::from_json(alloc, &value) {
+        Ok(line) => Ok(line),
+        Err(FormFault::Form) if is_not_built(&value) => Err(ScriptFault::NotBuilt { line: number }),
+        Err(FormFault::Form) => Err(ScriptFault::Bad { line: number }),
+        Err(FormFault::OutOfMemory) => Err(ScriptFault::OutOfMemory),
+    }
+}
+
+/// Reads bytes as one JSON value (RFC 8259), as `serde_json` does.
+#[tactic(auto, using(crate::proofs::Texts::text_tests), unfolding(crate::specs::Script::json_of))]
+pub(crate) fn read_json(alloc: Global, bytes: &[u8]) -> Result<Value, FormFault>
+    ensures value { IfOk result (λ value. json_of bytes.now ≡ Some (view value)) }
+    ensures form { IsErrOf result FormFault.Form → json_of bytes.now ≡ None }
+{
+    let Ok(text) = str::from_utf8(bytes) else {
+        return Err(FormFault::Form);
+    };
+    match Value::from_str(alloc, text) {
+        Ok(value) => Ok(value),
+        Err(error) if error.classify() == Category::Memory => Err(FormFault::OutOfMemory),
+        Err(_) => Err(FormFault::Form),
+    }
+}
+
+/// Reads the input of a single command: one JSON object of at most 64 MiB, with the keys that a line
+/// of a script has for this command, but `lane`, `cmd`, `at` and `stop`. It may stand on several
+/// lines. One that is of another form is bad at line 1.
+#[tactic(auto, unfolding(crate::specs::Script::object_in))]
+pub fn read_object(alloc: Global, form: ObjectForm, input: &[u8]) -> Result<Command, ScriptFault>
+    ensures object { IsScript result (object_in form input.now) }
+    ensures fit { IfOk result (λ command. IsTrue (fits command)) }
+{
+    if input.len() > BYTE_LIMIT {
+        return Err(ScriptFault::Bad { line: 1 });
+    }
+    match object_command(alloc, form, input) {
+        Ok(command) => Ok(command),
+        Err(FormFault::Form) => Err(ScriptFault::Bad { line: 1 }),
+        Err(FormFault::OutOfMemory) => Err(ScriptFault::OutOfMemory),
+    }
+}
+
+/// Reads the command of an object.
+#[tactic(auto, unfolding(crate::specs::Script::object_command))]
+fn object_command(alloc: Global, form: ObjectForm, input: &[u8]) -> Result<Command, FormFault>
+    ensures gives { Gives result (object_command form input.now) }
+    ensures fit { IfOk result (λ command. IsTrue (fits command)) }
+{
+    let value = read_json(alloc, input)?;
+    let command = read_form(alloc, form, &value)?;
+    if !fits(&command) {
+        return Err(FormFault::Form);
+    }
+    Ok(command)
+}

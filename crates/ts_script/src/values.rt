@@ -1,0 +1,262 @@
+//! Names, types, values, dimensions and attributes as JSON values.
+ghost use Rattle.std.specs.Prelude.{◌≡◌, [], IfOk, option_map};
+ghost use Rattle.serde_json.specs.View.{view, members_view};
+ghost use Rattle.ts_script.specs.Shapes.{Gives};
+ghost use Rattle.ts_script.specs.Values.{label, type_named, val_type, order, layout, layout_named, value, fill_said, fill, dim, attr, columns_onto, columns, bounds_onto, box, filter};
+
+use crate::json::{FormFault, FromJson, both_items, has_only, optional, required};
+use serde_json::{Map, Value};
+use std::alloc::Global;
+use ts_base::{ByteList, Label, OutOfMemory, Row, Sequence, Val, ValType};
+use ts_cond::{NamedBox, NamedBoxList};
+use ts_domain::{Dim, Layout, Order};
+use ts_model::{ColIn, ColInList, blob_bytes};
+use ts_schema::Attr;
+use ts_value::default_fill;
+
+/// A label.
+impl FromJson for Label {
+    ghost form = { label };
+
+    fn from_json(_alloc: Global, value: &Value) -> Result<Label, FormFault> {
+        match value.as_str().and_then(Label::new) {
+            Some(label) => Ok(label),
+            None => Err(FormFault::Form),
+        }
+    }
+}
+
+/// A type by its name.
+impl FromJson for ValType {
+    ghost form = { val_type };
+
+    fn from_json(_alloc: Global, value: &Value) -> Result<ValType, FormFault> {
+        match value.as_str().and_then(type_named) {
+            Some(ty) => Ok(ty),
+            None => Err(FormFault::Form),
+        }
+    }
+}
+
+/// The type of a name.
+fn type_named(name: &str) -> Option<ValType>
+    ensures { result ≡ type_named name.now }
+{
+    match name {
+        "int8" => Some(ValType::I8),
+        "int16" => Some(ValType::I16),
+        "int32" => Some(ValType::I32),
+        "int64" => Some(ValType::I64),
+        "uint8" => Some(ValType::U8),
+        "uint16" => Some(ValType::U16),
+        "uint32" => Some(ValType::U32),
+        "uint64" => Some(ValType::U64),
+        "text" => Some(ValType::Text),
+        "blob" => Some(ValType::Blob),
+        _ => None,
+    }
+}
+
+/// An order: `row` or `col`.
+impl FromJson for Order {
+    ghost form = { order };
+
+    #[tactic(auto, unfolding(crate::specs::Values::order))]
+    fn from_json(_alloc: Global, value: &Value) -> Result<Order, FormFault> {
+        match value.as_str() {
+            Some("row") => Ok(Order::Row),
+            Some("col") => Ok(Order::Col),
+            _ => Err(FormFault::Form),
+        }
+    }
+}
+
+/// A layout: `row`, `col` or `global`.
+impl FromJson for Layout {
+    ghost form = { layout };
+
+    #[tactic(auto, unfolding(crate::specs::Values::layout))]
+    fn from_json(_alloc: Global, value: &Value) -> Result<Layout, FormFault> {
+        match value.as_str().and_then(layout_named) {
+            Some(layout) => Ok(layout),
+            None => Err(FormFault::Form),
+        }
+    }
+}
+
+/// The layout of a name.
+pub(crate) fn layout_named(name: &str) -> Option<Layout>
+    ensures { result ≡ layout_named name.now }
+{
+    match name {
+        "row" => Some(Layout::Row),
+        "col" => Some(Layout::Col),
+        "global" => Some(Layout::Global),
+        _ => None,
+    }
+}
+
+/// A value of a cell: null, a whole number from -2^63 to 2^64 - 1, or a string.
+impl FromJson for Val {
+    ghost form = { value };
+
+    fn from_json(alloc: Global, value: &Value) -> Result<Val, FormFault> {
+        match value {
+            Value::Null => Ok(Val::Null),
+            Value::Number(number) => match number.as_i128() {
+                Some(integer) => Ok(Val::Int(integer)),
+                None => Err(FormFault::Form),
+            },
+            Value::String(text) => Ok(Val::Bytes(ByteList::of_bytes(alloc, text.as_bytes())?)),
+            _ => Err(FormFault::Form),
+        }
+    }
+}
+
+/// The fill of an attribute: the one that is given, or else the default one of its type.
+fn read_fill(
+    alloc: Global,
+    ty: ValType,
+    nullable: bool,
+    given: Option<&Value>,
+) -> Result<Val, FormFault>
+    ensures { Gives result (fill ty nullable (option_map (λ d. view d.now) given.entry)) }
+{
+    match given {
+        Some(found) => Ok(fill_said(alloc, ty, Val::from_json(alloc, found)?)?),
+        None => Ok(default_fill(alloc, ty, nullable)),
+    }
+}
+
+/// What a fill says of an attribute of a type: for a blob it has the digits of the bytes.
+fn fill_said(alloc: Global, ty: ValType, val: Val) -> Result<Val, OutOfMemory>
+    ensures { IfOk result (λ said. said ≡ fill_said ty val) }
+{
+    match (ty, val) {
+        (ValType::Blob, Val::Bytes(text)) => match blob_bytes(alloc, text.as_slice())? {
+            Some(bytes) => Ok(Val::Bytes(bytes)),
+            None => Ok(Val::Int(0)),
+        },
+        (_, val) => Ok(val),
+    }
+}
+
+/// A dimension.
+impl FromJson for Dim {
+    ghost form = { dim };
+
+    #[tactic(auto, unfolding(crate::specs::Values::dim))]
+    fn from_json(alloc: Global, value: &Value) -> Result<Dim, FormFault> {
+        let name = required(alloc, value, "name")?;
+        let ty = required(alloc, value, "type")?;
+        let bounds: Sequence<i128> = required(alloc, value, "domain")?;
+        let extent = required(alloc, value, "extent")?;
+        let Some((low, high)) = both_items(&bounds) else {
+            return Err(FormFault::Form);
+        };
+        if !has_only(value, &[], &["name", "type", "domain", "extent"]) {
+            return Err(FormFault::Form);
+        }
+        Ok(Dim {
+            name,
+            ty,
+            low,
+            high,
+            extent,
+        })
+    }
+}
+
+/// An attribute.
+impl FromJson for Attr {
+    ghost form = { attr };
+
+    #[tactic(auto, unfolding(crate::specs::Values::attr))]
+    fn from_json(alloc: Global, value: &Value) -> Result<Attr, FormFault> {
+        let name = required(alloc, value, "name")?;
+        let ty = required(alloc, value, "type")?;
+        let nullable = optional(alloc, value, "nullable", false)?;
+        let fill = read_fill(alloc, ty, nullable, value.get("fill"))?;
+        if !has_only(value, &[], &["name", "type", "nullable", "fill"]) {
+            return Err(FormFault::Form);
+        }
+        Ok(Attr {
+            name,
+            ty,
+            nullable,
+            fill,
+        })
+    }
+}
+
+/// The columns of a write: an object from names to lists of values.
+pub(crate) fn read_columns(alloc: Global, value: &Value) -> Result<ColInList, FormFault>
+    ensures { Gives result (columns (view value.now)) }
+{
+    match value.as_object() {
+        Some(members) => read_members(alloc, members),
+        None => Err(FormFault::Form),
+    }
+}
+
+/// Reads a column from each member of an object.
+fn read_members(alloc: Global, members: &Map<String, Value>) -> Result<ColInList, FormFault>
+    ensures { Gives result (columns_onto [] (members_view members.now.entries)) }
+{
+    let mut done = ColInList::new(alloc);
+    for (key, value) in members.iter() {
+        let Some(name) = Label::new(key.as_str()) else {
+            return Err(FormFault::Form);
+        };
+        let values = Row::from_json(alloc, value)?;
+        done.push(ColIn { name, values })?;
+    }
+    Ok(done)
+}
+
+/// The box of a read or of a write, if one is given: an object from names to bounds.
+pub(crate) fn read_box(alloc: Global, given: Option<&Value>) -> Result<NamedBoxList, FormFault>
+    ensures { Gives result (box (option_map (λ d. view d.now) given.entry)) }
+{
+    let Some(found) = given else {
+        return Ok(NamedBoxList::new(alloc));
+    };
+    match found.as_object() {
+        Some(members) => read_bounds(alloc, members),
+        None => Err(FormFault::Form),
+    }
+}
+
+/// Reads the bounds of a dimension from each member of an object.
+fn read_bounds(alloc: Global, members: &Map<String, Value>) -> Result<NamedBoxList, FormFault>
+    ensures { Gives result (bounds_onto [] (members_view members.now.entries)) }
+{
+    let mut done = NamedBoxList::new(alloc);
+    for (key, value) in members.iter() {
+        let Some(name) = Label::new(key.as_str()) else {
+            return Err(FormFault::Form);
+        };
+        let bounds: Sequence<i128> = Sequence::from_json(alloc, value)?;
+        let Some((low, high)) = both_items(&bounds) else {
+            return Err(FormFault::Form);
+        };
+        done.push(NamedBox { name, low, high })?;
+    }
+    Ok(done)
+}
+
+/// The text of a read's filter, if one is given.
+pub(crate) fn read_filter(
+    alloc: Global,
+    given: Option<&Value>,
+) -> Result<Option<ByteList>, FormFault>
+    ensures { Gives result (filter (option_map (λ d. view d.now) given.entry)) }
+{
+    let Some(found) = given else {
+        return Ok(None);
+    };
+    match found.as_str() {
+        Some(text) => Ok(Some(ByteList::of_bytes(alloc, text.as_bytes())?)),
+        None => Err(FormFault::Form),
+    }
+}

@@ -1,0 +1,233 @@
+//! The words of a command line: what they ask for.
+ghost use Rattle.std.specs.Prelude.{◌≡◌, [], Some, None, false, map, option_map, option_and_then, IfOk};
+ghost use Rattle.clap.specs.Walk.{first_of, rows_of};
+ghost use Rattle.clap.specs.Matches.{found_of};
+ghost use Rattle.clap.specs.Simple.{subcommand_rows_of};
+ghost use Rattle.ts_script.specs.Shapes.{Gives};
+ghost use Rattle.ts_script.specs.Meanings.{IsFitAsked};
+ghost use Rattle.ts_script.specs.Words.{asked, asked_by, box_in, delete_asked, fields_in, layout_in, number_in, object_asked, read_asked, spelled};
+
+use crate::commands::tilestore_command;
+use crate::json::FormFault;
+use crate::lines::fits;
+use crate::options::{number_of, read_boxes, read_labels};
+use crate::values::layout_named;
+use clap::ArgMatches;
+use clap::error::ErrorKind;
+use std::alloc::{AllocError, Global};
+use ts_base::{ByteList, LabelList};
+use ts_cond::{NamedBoxList, Query};
+use ts_domain::Layout;
+use ts_model::{Command, Line};
+
+/// What words can ask for.
+#[derive(Debug, Drop, PartialEq, Eq)]
+pub enum Asked {
+    /// To do the commands of a script, which is the input.
+    Play,
+    /// To do one command, whose object is the input.
+    Object {
+        /// Which command.
+        form: ObjectForm,
+        /// Its stamp, in milliseconds since 1970-01-01, or None: then it is the clock's number as the
+        /// command starts.
+        at: Option<u64>,
+    },
+    /// To do this one command, which has no input.
+    Command(Line),
+}
+
+/// The commands that a single command reads from its input.
+#[derive(Clone, Copy, Debug, PartialEq, Eq)]
+pub enum ObjectForm {
+    /// A create.
+    Create,
+    /// An evolve.
+    Evolve,
+    /// A write.
+    Write,
+}
+
+/// What the words ask for, those of a command line after the program's name and the store.
+///
+/// They are read as `clap` reads them, by one command with the subcommands `create`, `evolve`,
+/// `write`, `read`, `delete` and `play`. `Form` comes exactly where `clap` refuses them, as it does a
+/// request for help too, or where the value of an option has another form.
+pub fn read_words(alloc: Global, words: &[&str]) -> Result<Asked, FormFault>
+    ensures asked { Gives result (asked (spelled words.entry.now)) }
+    ensures fit { IfOk result IsFitAsked }
+{
+    let command = match tilestore_command(alloc) {
+        Ok(command) => command,
+        Err(AllocError) => return Err(FormFault::OutOfMemory),
+    };
+    match command.try_get_matches_from(words) {
+        Ok(matches) => read_matches(alloc, &matches),
+        Err(error) if error.kind() == ErrorKind::OutOfMemory => Err(FormFault::OutOfMemory),
+        Err(_) => Err(FormFault::Form),
+    }
+}
+
+/// What the subcommand that was found asks for.
+fn read_matches(alloc: Global, matches: &ArgMatches<'_>) -> Result<Asked, FormFault>
+    ensures asked { Gives result (option_and_then (λ found. asked_by found.0 found.1) (subcommand_rows_of matches.now)) }
+    ensures fit { IfOk result IsFitAsked }
+{
+    match matches.subcommand() {
+        Some((name, options)) => read_command(alloc, name, options),
+        None => Err(FormFault::Form),
+    }
+}
+
+/// What the command of this name asks for.
+#[tactic(auto, unfolding(crate::specs::Words::asked_by))]
+fn read_command(alloc: Global, name: &str, options: &ArgMatches<'_>) -> Result<Asked, FormFault>
+    ensures asked { Gives result (asked_by name.now (rows_of (found_of options.now))) }
+    ensures fit { IfOk result IsFitAsked }
+{
+    if name == "create" {
+        read_object(ObjectForm::Create, options)
+    } else if name == "evolve" {
+        read_object(ObjectForm::Evolve, options)
+    } else if name == "write" {
+        read_object(ObjectForm::Write, options)
+    } else if name == "read" {
+        read_read(alloc, options)
+    } else if name == "delete" {
+        read_delete(alloc, options)
+    } else if name == "play" {
+        Ok(Asked::Play)
+    } else {
+        Err(FormFault::Form)
+    }
+}
+
+/// A command whose object is the input.
+#[tactic(auto, unfolding(crate::specs::Words::object_asked))]
+fn read_object(form: ObjectForm, options: &ArgMatches<'_>) -> Result<Asked, FormFault>
+    ensures asked { Gives result (object_asked form (rows_of (found_of options.now))) }
+    ensures fit { IfOk result IsFitAsked }
+{
+    let at = number_in(options, "at")?;
+    Ok(Asked::Object { form, at })
+}
+
+/// A read.
+#[tactic(auto, unfolding(crate::specs::Words::read_asked))]
+fn read_read(alloc: Global, options: &ArgMatches<'_>) -> Result<Asked, FormFault>
+    ensures asked { Gives result (read_asked (rows_of (found_of options.now))) }
+    ensures fit { IfOk result IsFitAsked }
+{
+    let at = number_in(options, "at")?;
+    let from = number_in(options, "from")?;
+    let to = number_in(options, "to")?;
+    let sub = box_in(alloc, text_in(options, "box"))?;
+    let fields = fields_in(alloc, text_in(options, "fields"))?;
+    let layout = layout_in(text_in(options, "layout"))?;
+    let filter = filter_in(alloc, text_in(options, "where"))?;
+    let query = Query {
+        sub,
+        fields,
+        filter,
+        layout,
+    };
+    let command = Command::Read {
+        from: from.unwrap_or(0),
+        to: to.unwrap_or(0),
+        query,
+    };
+    if !fits(&command) {
+        return Err(FormFault::Form);
+    }
+    Ok(Asked::Command(Line {
+        lane: 0,
+        command,
+        at,
+        to_stamp: to.is_none(),
+    }))
+}
+
+/// A delete.
+#[tactic(auto, unfolding(crate::specs::Words::delete_asked))]
+fn read_delete(alloc: Global, options: &ArgMatches<'_>) -> Result<Asked, FormFault>
+    ensures asked { Gives result (delete_asked (rows_of (found_of options.now))) }
+    ensures fit { IfOk result IsFitAsked }
+{
+    let at = number_in(options, "at")?;
+    let Some(text) = text_in(options, "where") else {
+        return Err(FormFault::Form);
+    };
+    let command = Command::Delete(ByteList::of_bytes(alloc, text.as_bytes())?);
+    if !fits(&command) {
+        return Err(FormFault::Form);
+    }
+    Ok(Asked::Command(Line {
+        lane: 0,
+        command,
+        at,
+        to_stamp: false,
+    }))
+}
+
+/// The value of an option, if the option is there.
+fn text_in<'a>(options: &ArgMatches<'a>, name: &str) -> Option<&'a str>
+    ensures { option_map (λ text. text.now) result ≡ first_of name.now (rows_of (found_of options.now)) }
+{
+    options.get_str(name)
+}
+
+/// The number of an option, if the option is there.
+fn number_in(options: &ArgMatches<'_>, name: &str) -> Result<Option<u64>, FormFault>
+    ensures { Gives result (number_in (rows_of (found_of options.now)) name.now) }
+{
+    let Some(text) = text_in(options, name) else {
+        return Ok(None);
+    };
+    match number_of(text.as_bytes()) {
+        Some(number) => Ok(Some(number)),
+        None => Err(FormFault::Form),
+    }
+}
+
+/// The fields that are asked for.
+fn fields_in(alloc: Global, given: Option<&str>) -> Result<LabelList, FormFault>
+    ensures { Gives result (fields_in (option_map (λ text. text.now) given.entry)) }
+{
+    match given {
+        Some(text) => read_labels(alloc, text.as_bytes()),
+        None => Ok(LabelList::new(alloc)),
+    }
+}
+
+/// The box that is asked for.
+fn box_in(alloc: Global, given: Option<&str>) -> Result<NamedBoxList, FormFault>
+    ensures { Gives result (box_in (option_map (λ text. text.now) given.entry)) }
+{
+    match given {
+        Some(text) => read_boxes(alloc, text.as_bytes()),
+        None => Ok(NamedBoxList::new(alloc)),
+    }
+}
+
+/// The layout that is asked for.
+fn layout_in(given: Option<&str>) -> Result<Layout, FormFault>
+    ensures { Gives result (layout_in (option_map (λ text. text.now) given.entry)) }
+{
+    let Some(name) = given else {
+        return Ok(Layout::Row);
+    };
+    match layout_named(name) {
+        Some(layout) => Ok(layout),
+        None => Err(FormFault::Form),
+    }
+}
+
+/// The text of the filter that is asked for.
+fn filter_in(alloc: Global, given: Option<&str>) -> Result<Option<ByteList>, FormFault>
+    ensures { Gives result (Some (option_map (λ text. text.now) given.entry)) }
+{
+    match given {
+        Some(text) => Ok(Some(ByteList::of_bytes(alloc, text.as_bytes())?)),
+        None => Ok(None),
+    }
+}
