@@ -1,67 +1,165 @@
 -- What each status tells, and where it comes.
-use Rattle.std.proofs.Common.{◌≡◌, ◌↔◌, ◌⊎◌, inl, inr, ℕ, List, [], Option, Some, None, Result, Ok, Err, arith, sym, ◌∙◌}
+use Rattle.std.proofs.Common.{◌≡◌, ◌⊎◌, inl, inr, ℕ, List, [], ◌∷◌, Bool, true, false, Option, Some, None, Result, Ok, Err, arith, refl, sym, ◌∙◌, ap, subst}
 use Rattle.std.specs.Prelude.{IsSomeAnd}
-use Rattle.std.proofs.lemmas.Option.{none-some}
+use Rattle.std.specs.Io.KnownBytes.{Appends}
+use Rattle.std.proofs.lemmas.Bool.{true≢false}
+use Rattle.std.proofs.lemmas.Option.{none-some, same_Some}
 use Rattle.ts_base.specs.Held.{Held}
 use Rattle.ts_store.specs.Counts.{Rose}
 use Rattle.ts_model.specs.declared.commands.Line.{Line}
+use Rattle.ts_model.specs.declared.answers.Driven.{Driven}
+use Rattle.ts_model.specs.declared.answers.Driven.TheVariants.{Done, Stopped}
+use Rattle.ts_model.specs.declared.answers.Outcome.{Outcome}
+use Rattle.ts_model.specs.declared.answers.Outcome.TheVariants.{Created, Evolved, Written, Deleted, Read, Refused, OutOfMemory as NoMemory}
 use Rattle.ts_model.specs.States.{Exchange}
 use Rattle.ts_top.specs.declared.top.Stop.TheVariants.{Usage, BadScript, NoForm, ReadFault, OutOfMemory}
-use Rattle.ts_top.specs.declared.words.Asked.TheVariants.{Play}
-use Rattle.ts_top.specs.Words.{asked}
-use Rattle.ts_top.specs.Script.{Fault, Bad, NotBuilt, script_of}
-use Rattle.ts_top.specs.Seen.{Seen, Means, Plays, ended, ran_short, IsRunOf, stopped, played}
+use Rattle.ts_script.specs.declared.words.Asked.{Asked}
+use Rattle.ts_script.specs.declared.words.Asked.TheVariants.{Play, Object, Command as Alone}
+use Rattle.ts_script.specs.Words.{asked}
+use Rattle.ts_script.specs.Script.{Fault, Bad, NotBuilt}
+use Rattle.ts_script.specs.Meanings.{has_input, is_single, meaning}
+use Rattle.ts_law.specs.Fresh.{in_lane_order}
+use Rattle.ts_top.specs.Ends.{ends_text}
+use Rattle.ts_top.specs.Seen.{Stream, Seen, Means, AskFor, Performed, Plays, ended, ran_short, PrintsEnds, whole, sink_failed, no_text, status_alone, status_printed, EndsRefused, WasRefused, IsRunOf, stopped, played}
 
 -- two meanings of one input are one
-one_meaning : (told : Option (List ℕ)) (a b : Result (List Line) Fault) → Means told a → IsSomeAnd told (λ all. script_of all ≡ b) → a ≡ b
-one_meaning None a b m is = absurd is
-one_meaning (Some all) a b m is = sym m ∙ is
+one_meaning : (job : Asked) (told : Option (List ℕ)) (a b : Result (List Line) Fault) → has_input job ≡ true → Means job told a → IsSomeAnd told (λ all. meaning job all ≡ b) → a ≡ b
+one_meaning (Alone line) told a b has m is = absurd (true≢false (sym has))
+one_meaning Play None a b has m is = absurd is
+one_meaning Play (Some all) a b has m is = sym m.2 ∙ ap (meaning Play) m.1 ∙ is
+one_meaning (Object form at) None a b has m is = absurd is
+one_meaning (Object form at) (Some all) a b has m is = sym m.2 ∙ ap (meaning (Object form at)) m.1 ∙ is
+
+-- what stands for a fault has an input
+faulty_has : (job : Asked) (all : List ℕ) (f : Fault) → meaning job all ≡ Err f → has_input job ≡ true
+faulty_has (Alone line) all f e = cc
+faulty_has Play all f e = refl
+faulty_has (Object form at) all f e = refl
+
+-- the words ask for one thing
+one_job : (words : List (List ℕ)) (a b : Asked) → asked words ≡ Some a → asked words ≡ Some b → a ≡ b
+one_job words a b x y = same_Some a b (sym x ∙ y)
+
+-- an input that means a fault, where the words ask for this
+abbrev pub IsFaulty : List (List ℕ) → Option (List ℕ) → Fault → Type 0
+IsFaulty words told f = (job : Asked) × (asked words ≡ Some job) × IsSomeAnd told (λ all. meaning job all ≡ Err f)
+
+-- what was read then means the same fault
+faulty : (words : List (List ℕ)) (job other : Asked) (told : Option (List ℕ)) (said : Result (List Line) Fault) (f : Fault) → asked words ≡ Some job → asked words ≡ Some other → Means job told said → IsSomeAnd told (λ all. meaning other all ≡ Err f) → said ≡ Err f
+faulty words job other None said f x y m is = absurd is
+faulty words job other (Some all) said f x y m is =
+    let P : Asked → Type 0 = λ j. meaning j all ≡ Err f in
+    let there = subst P (one_job words other job y x) is in
+    one_meaning job (Some all) said (Err f) (faulty_has job all f there) m there
+
+status_alone_few : (end : Outcome) → (status_alone end ≡ 0) ⊎ (status_alone end ≡ 6) ⊎ (status_alone end ≡ 7)
+status_alone_few (Refused r) = inr (inl refl)
+status_alone_few NoMemory = inr (inr refl)
+status_alone_few Created = inl refl
+status_alone_few (Evolved k) = inl refl
+status_alone_few (Written f) = inl refl
+status_alone_few (Deleted f) = inl refl
+status_alone_few (Read answer) = inl refl
+
+pub printed_few : (single : Bool) (results : List (Driven Outcome)) → (status_printed single results ≡ 0) ⊎ (status_printed single results ≡ 6) ⊎ (status_printed single results ≡ 7)
+printed_few false results = inl refl
+printed_few true [] = inl refl
+printed_few true (Done end ∷ []) = status_alone_few end
+printed_few true (Stopped ∷ []) = inl refl
+printed_few true (Done end ∷ b ∷ rest) = inl refl
+printed_few true (Stopped ∷ b ∷ rest) = inl refl
+
+-- the status of a run that printed its ends
+abbrev pub IsEnding : ℕ → Type 0
+IsEnding status = (status ≡ 0) ⊎ (status ≡ 5) ⊎ (status ≡ 6) ⊎ (status ≡ 7)
+
+pub prints_status : (out : Stream) (text : List ℕ) (single : Bool) (results : List (Driven Outcome)) (status : ℕ) → PrintsEnds out text (status_printed single results) status → IsEnding status
+prints_status out text single results status (whole is unhurt all) = elim (printed_few single results) [
+  | inl e ↦ inl (is ∙ e)
+  | inr rest ↦ elim rest [ inl e ↦ inr (inr (inl (is ∙ e))) | inr e ↦ inr (inr (inr (is ∙ e))) ]
+]
+prints_status out text single results status (sink_failed is rose front) = inr (inl is)
+prints_status out text single results status (no_text is nothing) = inr (inr (inr is))
 
 module _ {S : Type 0} (held : S → Option Held) (made : S → List Exchange → S → Type 0) where
   -- the status of a run that did its commands
-  played_status : (seen : Seen S) (lines : List Line) → Plays held made seen lines → (seen.status ≡ 0) ⊎ (seen.status ≡ 5) ⊎ (seen.status ≡ 7)
-  played_status seen lines (ended ends performed printed) = printed.known
-  played_status seen lines (ran_short status journal same nothing) = inr (inr status)
+  played_status : (seen : Seen S) (single : Bool) (lines : List Line) → Plays held made seen single lines → IsEnding seen.status
+  played_status seen single lines (ended ends performed printed) = prints_status seen.out _ single ends seen.status printed
+  played_status seen single lines (ran_short status journal same nothing) = inr (inr (inr status))
 
   -- no such run has the status n
-  not_played : (seen : Seen S) (lines : List Line) (n : ℕ) → Plays held made seen lines → seen.status ≡ n → (n ≡ 0 → ⊥) → (n ≡ 5 → ⊥) → (n ≡ 7 → ⊥) → ⊥
-  not_played seen lines n plays is a b c = elim (played_status seen lines plays) [ inl e ↦ a (sym is ∙ e) | inr rest ↦ elim rest [ inl e ↦ b (sym is ∙ e) | inr e ↦ c (sym is ∙ e) ] ]
+  not_played : (seen : Seen S) (single : Bool) (lines : List Line) (n : ℕ) → Plays held made seen single lines → seen.status ≡ n → (IsEnding n → ⊥) → ⊥
+  not_played seen single lines n plays is never = never (subst IsEnding is (played_status seen single lines plays))
 
-  pub usage : (seen : Seen S) → IsRunOf held made seen → (seen.status ≡ 2) ↔ (asked seen.words ≡ None)
-  usage seen (stopped Usage h) = (λ _. h.reason.0, λ _. h.status)
-  usage seen (stopped (BadScript n) h) = (λ e. absurd (let none : ⊥ = omega (arith, h.status) in none), λ e. absurd (none-some Play (sym e ∙ h.reason.play)))
-  usage seen (stopped (NoForm n) h) = (λ e. absurd (let none : ⊥ = omega (arith, h.status) in none), λ e. absurd (none-some Play (sym e ∙ h.reason.play)))
-  usage seen (stopped ReadFault h) = (λ e. absurd (let none : ⊥ = omega (arith, h.status) in none), λ e. absurd (none-some Play (sym e ∙ h.reason.0)))
-  usage seen (stopped OutOfMemory h) = (λ e. absurd (let none : ⊥ = omega (arith, h.status) in none), λ e. absurd (none-some Play (sym e ∙ h.reason)))
-  usage seen (played lines h) = (λ e. absurd (not_played seen lines 2 h.plays e (λ q. omega arith) (λ q. omega arith) (λ q. omega arith)), λ e. absurd (none-some Play (sym e ∙ h.read.play)))
+  -- these are the statuses of no such run
+  two : IsEnding 2 → ⊥
+  two e = elim e [ inl q ↦ omega arith | inr r ↦ elim r [ inl q ↦ omega arith | inr r' ↦ elim r' [ inl q ↦ omega arith | inr q ↦ omega arith ] ] ]
 
-  pub bad_script : (seen : Seen S) → IsRunOf held made seen → seen.status ≡ 3 → (n : ℕ) × Means seen.input.old (Err (Bad n))
+  three : IsEnding 3 → ⊥
+  three e = elim e [ inl q ↦ omega arith | inr r ↦ elim r [ inl q ↦ omega arith | inr r' ↦ elim r' [ inl q ↦ omega arith | inr q ↦ omega arith ] ] ]
+
+  four : IsEnding 4 → ⊥
+  four e = elim e [ inl q ↦ omega arith | inr r ↦ elim r [ inl q ↦ omega arith | inr r' ↦ elim r' [ inl q ↦ omega arith | inr q ↦ omega arith ] ] ]
+
+  eight : IsEnding 8 → ⊥
+  eight e = elim e [ inl q ↦ omega arith | inr r ↦ elim r [ inl q ↦ omega arith | inr r' ↦ elim r' [ inl q ↦ omega arith | inr q ↦ omega arith ] ] ]
+
+  pub usage : (seen : Seen S) → IsRunOf held made seen → seen.status ≡ 2 → asked seen.words ≡ None
+  usage seen (stopped Usage h) e = h.reason.0
+  usage seen (stopped (BadScript n) h) e = absurd (let none : ⊥ = omega (arith, h.status) in none)
+  usage seen (stopped (NoForm n) h) e = absurd (let none : ⊥ = omega (arith, h.status) in none)
+  usage seen (stopped ReadFault h) e = absurd (let none : ⊥ = omega (arith, h.status) in none)
+  usage seen (stopped OutOfMemory h) e = absurd (let none : ⊥ = omega (arith, h.status) in none)
+  usage seen (played job lines h) e = absurd (not_played seen _ lines 2 h.plays e two)
+
+  pub usage_there : (seen : Seen S) → IsRunOf held made seen → asked seen.words ≡ None → (seen.status ≡ 2) ⊎ (seen.status ≡ 7)
+  usage_there seen (stopped Usage h) e = inl h.status
+  usage_there seen (stopped (BadScript n) h) e = absurd (none-some h.reason.job (sym e ∙ h.reason.asks))
+  usage_there seen (stopped (NoForm n) h) e = absurd (none-some h.reason.job (sym e ∙ h.reason.asks))
+  usage_there seen (stopped ReadFault h) e =
+      let (job, asks, has, rose) = h.reason in
+      absurd (none-some job (sym e ∙ asks))
+  usage_there seen (stopped OutOfMemory h) e = inr h.status
+  usage_there seen (played job lines h) e = absurd (none-some job (sym e ∙ h.read.asks))
+
+  pub bad_script : (seen : Seen S) → IsRunOf held made seen → seen.status ≡ 3 → (n : ℕ) × AskFor seen.words seen.input.old (Err (Bad n))
   bad_script seen (stopped Usage h) e = absurd (let none : ⊥ = omega (arith, h.status) in none)
-  bad_script seen (stopped (BadScript n) h) e = (n, h.reason.means)
+  bad_script seen (stopped (BadScript n) h) e = (n, (h.reason.job, h.reason.asks, h.reason.means))
   bad_script seen (stopped (NoForm n) h) e = absurd (let none : ⊥ = omega (arith, h.status) in none)
   bad_script seen (stopped ReadFault h) e = absurd (let none : ⊥ = omega (arith, h.status) in none)
   bad_script seen (stopped OutOfMemory h) e = absurd (let none : ⊥ = omega (arith, h.status) in none)
-  bad_script seen (played lines h) e = absurd (not_played seen lines 3 h.plays e (λ q. omega arith) (λ q. omega arith) (λ q. omega arith))
+  bad_script seen (played job lines h) e = absurd (not_played seen _ lines 3 h.plays e three)
 
-  pub not_built : (seen : Seen S) → IsRunOf held made seen → seen.status ≡ 8 → (n : ℕ) × Means seen.input.old (Err (NotBuilt n))
+  pub not_built : (seen : Seen S) → IsRunOf held made seen → seen.status ≡ 8 → (n : ℕ) × AskFor seen.words seen.input.old (Err (NotBuilt n))
   not_built seen (stopped Usage h) e = absurd (let none : ⊥ = omega (arith, h.status) in none)
   not_built seen (stopped (BadScript n) h) e = absurd (let none : ⊥ = omega (arith, h.status) in none)
-  not_built seen (stopped (NoForm n) h) e = (n, h.reason.means)
+  not_built seen (stopped (NoForm n) h) e = (n, (h.reason.job, h.reason.asks, h.reason.means))
   not_built seen (stopped ReadFault h) e = absurd (let none : ⊥ = omega (arith, h.status) in none)
   not_built seen (stopped OutOfMemory h) e = absurd (let none : ⊥ = omega (arith, h.status) in none)
-  not_built seen (played lines h) e = absurd (not_played seen lines 8 h.plays e (λ q. omega arith) (λ q. omega arith) (λ q. omega arith))
+  not_built seen (played job lines h) e = absurd (not_played seen _ lines 8 h.plays e eight)
 
-  pub read_fault : (seen : Seen S) → IsRunOf held made seen → seen.status ≡ 4 → Rose seen.input.before seen.input.now
+  pub read_fault : (seen : Seen S) → IsRunOf held made seen → seen.status ≡ 4 → IsSomeAnd (asked seen.words) (λ job. has_input job ≡ true) × Rose seen.input.before seen.input.now
   read_fault seen (stopped Usage h) e = absurd (let none : ⊥ = omega (arith, h.status) in none)
   read_fault seen (stopped (BadScript n) h) e = absurd (let none : ⊥ = omega (arith, h.status) in none)
   read_fault seen (stopped (NoForm n) h) e = absurd (let none : ⊥ = omega (arith, h.status) in none)
-  read_fault seen (stopped ReadFault h) e = h.reason.1
+  read_fault seen (stopped ReadFault h) e =
+      let (job, asks, has, rose) = h.reason in
+      let P : Option Asked → Type 0 = λ said. IsSomeAnd said (λ j. has_input j ≡ true) in
+      (subst P (sym asks) has, rose)
   read_fault seen (stopped OutOfMemory h) e = absurd (let none : ⊥ = omega (arith, h.status) in none)
-  read_fault seen (played lines h) e = absurd (not_played seen lines 4 h.plays e (λ q. omega arith) (λ q. omega arith) (λ q. omega arith))
+  read_fault seen (played job lines h) e = absurd (not_played seen _ lines 4 h.plays e four)
 
-  write_fault_played : (seen : Seen S) (lines : List Line) → Plays held made seen lines → seen.status ≡ 5 → Rose seen.out.before seen.out.now
-  write_fault_played seen lines (ended ends performed printed) e = printed.fault e
-  write_fault_played seen lines (ran_short status journal same nothing) e = absurd (let none : ⊥ = omega arith in none)
+  write_fault_printed : (seen : Seen S) (text : List ℕ) (single : Bool) (results : List (Driven Outcome)) → PrintsEnds seen.out text (status_printed single results) seen.status → seen.status ≡ 5 → Rose seen.out.before seen.out.now
+  write_fault_printed seen text single results (whole is unhurt all) e = absurd (elim (printed_few single results) [
+    | inl q ↦ let none : ⊥ = omega arith in none
+    | inr r ↦ elim r [ inl q ↦ let none : ⊥ = omega arith in none | inr q ↦ let none : ⊥ = omega arith in none ]
+  ])
+  write_fault_printed seen text single results (sink_failed is rose front) e = rose
+  write_fault_printed seen text single results (no_text is nothing) e = absurd (let none : ⊥ = omega arith in none)
+
+  write_fault_played : (seen : Seen S) (single : Bool) (lines : List Line) → Plays held made seen single lines → seen.status ≡ 5 → Rose seen.out.before seen.out.now
+  write_fault_played seen single lines (ended ends performed printed) e = write_fault_printed seen _ single ends printed e
+  write_fault_played seen single lines (ran_short status journal same nothing) e = absurd (let none : ⊥ = omega arith in none)
 
   pub write_fault : (seen : Seen S) → IsRunOf held made seen → seen.status ≡ 5 → Rose seen.out.before seen.out.now
   write_fault seen (stopped Usage h) e = absurd (let none : ⊥ = omega (arith, h.status) in none)
@@ -69,34 +167,65 @@ module _ {S : Type 0} (held : S → Option Held) (made : S → List Exchange →
   write_fault seen (stopped (NoForm n) h) e = absurd (let none : ⊥ = omega (arith, h.status) in none)
   write_fault seen (stopped ReadFault h) e = absurd (let none : ⊥ = omega (arith, h.status) in none)
   write_fault seen (stopped OutOfMemory h) e = absurd (let none : ⊥ = omega (arith, h.status) in none)
-  write_fault seen (played lines h) e = write_fault_played seen lines h.plays e
+  write_fault seen (played job lines h) e = write_fault_played seen _ lines h.plays e
 
-  pub bad_script_there : (seen : Seen S) → IsRunOf held made seen → asked seen.words ≡ Some Play → (n : ℕ) → IsSomeAnd seen.input.old (λ all. script_of all ≡ Err (Bad n)) → (seen.status ≡ 3) ⊎ (seen.status ≡ 4) ⊎ (seen.status ≡ 7)
-  bad_script_there seen (stopped Usage h) is n there = absurd (none-some Play (sym h.reason.0 ∙ is))
-  bad_script_there seen (stopped (BadScript m) h) is n there = inl h.status
-  bad_script_there seen (stopped (NoForm m) h) is n there = let same = one_meaning seen.input.old (Err (NotBuilt m)) (Err (Bad n)) h.reason.means there in cc
-  bad_script_there seen (stopped ReadFault h) is n there = inr (inl h.status)
-  bad_script_there seen (stopped OutOfMemory h) is n there = inr (inr h.status)
-  bad_script_there seen (played lines h) is n there = let same = one_meaning seen.input.old (Ok lines) (Err (Bad n)) h.read.means there in cc
+  pub bad_script_there : (seen : Seen S) → IsRunOf held made seen → (job : Asked) → asked seen.words ≡ Some job → (n : ℕ) → IsSomeAnd seen.input.old (λ all. meaning job all ≡ Err (Bad n)) → (seen.status ≡ 3) ⊎ (seen.status ≡ 4) ⊎ (seen.status ≡ 7)
+  bad_script_there seen (stopped Usage h) job is n there = absurd (none-some job (sym h.reason.0 ∙ is))
+  bad_script_there seen (stopped (BadScript m) h) job is n there = inl h.status
+  bad_script_there seen (stopped (NoForm m) h) job is n there = let same = faulty seen.words h.reason.job job seen.input.old (Err (NotBuilt m)) (Bad n) h.reason.asks is h.reason.means there in cc
+  bad_script_there seen (stopped ReadFault h) job is n there = inr (inl h.status)
+  bad_script_there seen (stopped OutOfMemory h) job is n there = inr (inr h.status)
+  bad_script_there seen (played other lines h) job is n there = let same = faulty seen.words other job seen.input.old (Ok lines) (Bad n) h.read.asks is h.read.means there in cc
 
-  pub not_built_there : (seen : Seen S) → IsRunOf held made seen → asked seen.words ≡ Some Play → (n : ℕ) → IsSomeAnd seen.input.old (λ all. script_of all ≡ Err (NotBuilt n)) → (seen.status ≡ 8) ⊎ (seen.status ≡ 4) ⊎ (seen.status ≡ 7)
-  not_built_there seen (stopped Usage h) is n there = absurd (none-some Play (sym h.reason.0 ∙ is))
-  not_built_there seen (stopped (BadScript m) h) is n there = let same = one_meaning seen.input.old (Err (Bad m)) (Err (NotBuilt n)) h.reason.means there in cc
-  not_built_there seen (stopped (NoForm m) h) is n there = inl h.status
-  not_built_there seen (stopped ReadFault h) is n there = inr (inl h.status)
-  not_built_there seen (stopped OutOfMemory h) is n there = inr (inr h.status)
-  not_built_there seen (played lines h) is n there = let same = one_meaning seen.input.old (Ok lines) (Err (NotBuilt n)) h.read.means there in cc
+  pub not_built_there : (seen : Seen S) → IsRunOf held made seen → (job : Asked) → asked seen.words ≡ Some job → (n : ℕ) → IsSomeAnd seen.input.old (λ all. meaning job all ≡ Err (NotBuilt n)) → (seen.status ≡ 8) ⊎ (seen.status ≡ 4) ⊎ (seen.status ≡ 7)
+  not_built_there seen (stopped Usage h) job is n there = absurd (none-some job (sym h.reason.0 ∙ is))
+  not_built_there seen (stopped (BadScript m) h) job is n there = let same = faulty seen.words h.reason.job job seen.input.old (Err (Bad m)) (NotBuilt n) h.reason.asks is h.reason.means there in cc
+  not_built_there seen (stopped (NoForm m) h) job is n there = inl h.status
+  not_built_there seen (stopped ReadFault h) job is n there = inr (inl h.status)
+  not_built_there seen (stopped OutOfMemory h) job is n there = inr (inr h.status)
+  not_built_there seen (played other lines h) job is n there = let same = faulty seen.words other job seen.input.old (Ok lines) (NotBuilt n) h.read.asks is h.read.means there in cc
 
   -- a run that stops before its first command makes no call of the store
   pub untouched : (seen : Seen S) → IsRunOf held made seen → (seen.status ≡ 2) ⊎ (seen.status ≡ 3) ⊎ (seen.status ≡ 4) ⊎ (seen.status ≡ 8) → (seen.journal ≡ []) × (seen.later ≡ seen.store)
   untouched seen (stopped stop h) e = (h.journal, h.untouched)
-  untouched seen (played lines h) e = absurd (elim e [
-    | inl q ↦ not_played seen lines 2 h.plays q (λ p. omega arith) (λ p. omega arith) (λ p. omega arith)
+  untouched seen (played job lines h) e = absurd (elim e [
+    | inl q ↦ not_played seen _ lines 2 h.plays q two
     | inr r ↦ elim r [
-      | inl q ↦ not_played seen lines 3 h.plays q (λ p. omega arith) (λ p. omega arith) (λ p. omega arith)
+      | inl q ↦ not_played seen _ lines 3 h.plays q three
       | inr r' ↦ elim r' [
-        | inl q ↦ not_played seen lines 4 h.plays q (λ p. omega arith) (λ p. omega arith) (λ p. omega arith)
-        | inr q ↦ not_played seen lines 8 h.plays q (λ p. omega arith) (λ p. omega arith) (λ p. omega arith)
+        | inl q ↦ not_played seen _ lines 4 h.plays q four
+        | inr q ↦ not_played seen _ lines 8 h.plays q eight
       ]
     ]
   ])
+
+  refused_by : (seen : Seen S) (single : Bool) (lines : List Line) (results : List (Driven Outcome)) → Performed held made seen lines results → Appends seen.out.old seen.out.new (ends_text (in_lane_order lines) results) → status_printed single results ≡ 6 → EndsRefused held made seen single lines
+  refused_by seen false lines results performed all e = absurd (let none : ⊥ = omega arith in none)
+  refused_by seen true lines [] performed all e = absurd (let none : ⊥ = omega arith in none)
+  refused_by seen true lines (Done (Refused r) ∷ []) performed all e = record { alone = refl; reason = r; performed = performed; printed = all }
+  refused_by seen true lines (Done NoMemory ∷ []) performed all e = absurd (let none : ⊥ = omega arith in none)
+  refused_by seen true lines (Done Created ∷ []) performed all e = absurd (let none : ⊥ = omega arith in none)
+  refused_by seen true lines (Done (Evolved k) ∷ []) performed all e = absurd (let none : ⊥ = omega arith in none)
+  refused_by seen true lines (Done (Written f) ∷ []) performed all e = absurd (let none : ⊥ = omega arith in none)
+  refused_by seen true lines (Done (Deleted f) ∷ []) performed all e = absurd (let none : ⊥ = omega arith in none)
+  refused_by seen true lines (Done (Read answer) ∷ []) performed all e = absurd (let none : ⊥ = omega arith in none)
+  refused_by seen true lines (Stopped ∷ []) performed all e = absurd (let none : ⊥ = omega arith in none)
+  refused_by seen true lines (Done a ∷ b ∷ rest) performed all e = absurd (let none : ⊥ = omega arith in none)
+  refused_by seen true lines (Stopped ∷ b ∷ rest) performed all e = absurd (let none : ⊥ = omega arith in none)
+
+  refused_printed : (seen : Seen S) (single : Bool) (lines : List Line) (results : List (Driven Outcome)) → Performed held made seen lines results → PrintsEnds seen.out (ends_text (in_lane_order lines) results) (status_printed single results) seen.status → seen.status ≡ 6 → EndsRefused held made seen single lines
+  refused_printed seen single lines results performed (whole is unhurt all) e = refused_by seen single lines results performed all (sym is ∙ e)
+  refused_printed seen single lines results performed (sink_failed is rose front) e = absurd (let none : ⊥ = omega arith in none)
+  refused_printed seen single lines results performed (no_text is nothing) e = absurd (let none : ⊥ = omega arith in none)
+
+  refused_played : (seen : Seen S) (single : Bool) (lines : List Line) → Plays held made seen single lines → seen.status ≡ 6 → EndsRefused held made seen single lines
+  refused_played seen single lines (ended ends performed printed) e = refused_printed seen single lines ends performed printed e
+  refused_played seen single lines (ran_short status journal same nothing) e = absurd (let none : ⊥ = omega arith in none)
+
+  pub refused : (seen : Seen S) → IsRunOf held made seen → seen.status ≡ 6 → WasRefused held made seen
+  refused seen (stopped Usage h) e = absurd (let none : ⊥ = omega (arith, h.status) in none)
+  refused seen (stopped (BadScript n) h) e = absurd (let none : ⊥ = omega (arith, h.status) in none)
+  refused seen (stopped (NoForm n) h) e = absurd (let none : ⊥ = omega (arith, h.status) in none)
+  refused seen (stopped ReadFault h) e = absurd (let none : ⊥ = omega (arith, h.status) in none)
+  refused seen (stopped OutOfMemory h) e = absurd (let none : ⊥ = omega (arith, h.status) in none)
+  refused seen (played job lines h) e = record { job = job; lines = lines; read = h.read; ended = refused_played seen (is_single job) lines h.plays e }

@@ -1,6 +1,4 @@
-pub mod Pieces
-pub mod Texts
-pub mod Whole
 pub mod Recorded
+pub mod LinesRan
 pub mod Exact
 pub mod Promises

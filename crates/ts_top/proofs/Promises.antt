@@ -1,6 +1,6 @@
 -- A run keeps its promise.
 use Rattle.std.proofs.Common.{◌≡◌, ◌⊎◌, inl, inr, ℕ, zero, suc, ◌+◌, ◌<◌, ◌≤◌, ◌^◌, List, [], ◌∷◌, ◌++◌, Option, Some, None, Result, Ok, Err, Bool, true, false, cond, length, drop, nat_lt, length-append, append_assoc, refl, sym, ◌∙◌, ap, subst, arith}
-use Rattle.std.specs.Prelude.{slice_get, get_or, All, IfSome, map as list_map, option_map, option_and_then, option_to_list, Contains}
+use Rattle.std.specs.Prelude.{slice_get, get_or, All, IfSome, map as list_map, option_map, option_and_then, option_to_list, Contains, ⊤}
 use Rattle.std.proofs.lemmas.Bool.{true≢false, ltb-true, ltb-false}
 use Rattle.std.proofs.lemmas.List.{append-nil}
 use Rattle.std.proofs.lemmas.Option.{none-some, same_Some, slice_get_within}
@@ -17,7 +17,7 @@ use Rattle.ts_base.specs.declared.names.Place.TheVariants as place
 use Rattle.std.specs.Io.KnownBytes.{Appends}
 use Rattle.ts_schema.specs.declared.frames.Frame.{Frame}
 use Rattle.ts_schema.specs.declared.schemas.Schema.{Schema}
-use Rattle.ts_schema.specs.Evolutions.{evolved_attrs, schema_at}
+use Rattle.ts_schema.specs.Evolutions.{evolved_attrs}
 use Rattle.ts_cond.specs.Tests.{Condition}
 use Rattle.ts_store.specs.declared.call.Call.{Call}
 use Rattle.ts_store.specs.declared.call.Call.TheVariants as call
@@ -33,42 +33,45 @@ use Rattle.ts_model.specs.declared.answers.Outcome.{Outcome}
 use Rattle.ts_model.specs.declared.answers.Outcome.TheVariants as outcome
 use Rattle.ts_model.specs.declared.answers.Refusal.{Refusal}
 use Rattle.ts_model.specs.declared.answers.Refusal.TheVariants as refusal
+use Rattle.ts_model.specs.declared.commands.FrameIn.{FrameIn}
 use Rattle.ts_model.specs.declared.commands.WriteIn.{WriteIn}
 use Rattle.ts_model.specs.declared.deeds.Deed.{Deed}
 use Rattle.ts_model.specs.declared.deeds.Deed.TheVariants.{Framed, Declared, Wrote, Erased}
 use Rattle.ts_model.specs.declared.deeds.Written.{Written}
-use Rattle.ts_model.specs.declared.deeds.Erasure.{Erasure}
+use Rattle.ts_model.specs.declared.deeds.Deletion.{Deletion}
 use Rattle.ts_model.specs.Commands.{frame_made, laid}
-use Rattle.ts_model.specs.Queries.{erasing_in}
-use Rattle.ts_model.specs.Deeds.{History, frame_in, schema_there, schema_with, schemas}
+use Rattle.ts_model.specs.Queries.{delete_condition}
+use Rattle.ts_model.specs.Deeds.{History, IsNewKey, frame_in, schema_there, schema_with}
 use Rattle.ts_model.specs.Answers.{IsAnswer}
 use Rattle.ts_model.specs.Driven.{IsDriven}
 use Rattle.ts_cond.specs.declared.query.Query.{Query}
 use Rattle.ts_base.specs.declared.names.Prefix.{Prefix}
 use Rattle.ts_base.specs.declared.names.Prefix.TheVariants.{Commits, Schemas}
-use Rattle.ts_model.specs.Jobs.{key_of, schema_of_job, written_as, erasure_as}
+use Rattle.ts_model.specs.Jobs.{key_of, looked_at, looks_at, schema_of_job, written_as, deletion_as}
 use Rattle.ts_model.specs.Stops.{cuts}
 use Rattle.ts_model.specs.States.{Exchange, made_by}
-use Rattle.ts_model.specs.Told.{Told, trace_of, grown, deed_told, deed_in, deed_of, declared_by, written_by, written_in, erased_by, erased_in, schema_used, schemas_found, cells_of, condition_of, history_from, history_told, Replied, Suits}
-use Rattle.ts_model.proofs.HistoryLaws.{frame_in-append, schemas-append, schema_with-is}
+use Rattle.ts_model.specs.Told.{Told, trace_of, grown, deed_told, deed_in, deed_of, declared_by, written_by, written_in, deleted_by, deleted_in, schema_used, schemas_found, cells_of, condition_of, history_from, history_told, Replied, Suits}
 use Rattle.ts_model.proofs.ListLemmas.{Contains-cons, Contains-here, Contains-nil, Contains-there}
 use Rattle.ts_model.proofs.Traces.{exchange_of_other, history_told-append, history_told_grows, trace_of-append}
-use Rattle.ts_law.specs.Ends.{IsTrueEnd, IsTrueRefusal, ListedAt, kind_of}
-use Rattle.ts_law.specs.Fresh.{IsFreshSeed, IsJobOf, AreJobsOf, id_of, job_from}
+use Rattle.ts_law.specs.Ends.{IsTrueEnd, IsTrueOver, IsTrueRefusal, IsUndone, ListedAt, kind_of}
+use Rattle.ts_law.specs.Fresh.{IsFreshSeed, IsJobOf, AreJobsOf, Numbered, command_at, id_of, in_lane_order, job_from, lanes_of}
 use Rattle.ts_law.specs.Lanes.{one_lane, IsOwned, IsWithin, IsBefore, InTurn}
 use Rattle.ts_law.specs.Runs.{AreDriven, exchanges, IsRunOver, IsTrueRun}
+use Rattle.ts_law.proofs.Clipped.{true_end_of}
 use Rattle.ts_law.proofs.FirstStands.{nothing_stands, fresh_over_nothing}
 use Rattle.ts_law.proofs.Doing.{ran-no_call}
 use Rattle.ts_law.proofs.KeptLaws.{Replied-front}
 use Rattle.ts_law.proofs.Lists.{item_at}
-use Rattle.ts_law.proofs.TrueRuns.{true_run}
-use Rattle.ts_actor.specs.PlainForms.{NeverWaits}
+use Rattle.ts_law.proofs.LineJobs.{AreInOrder, each_line, in_order}
+use Rattle.ts_law.proofs.TrueRuns.{kept_first, true_run, works_where_used}
+use Rattle.ts_actor.specs.PlainCodec.{NeverWaits}
 use Rattle.ts_actor.specs.PlainLaws.{plain_laws}
 use Rattle.ts_top.specs.Ends.{ends_text}
-use Rattle.ts_top.specs.Promise.{GoesOn, HeldOnce, IsDone, key_at, IsDeedOf, Tells, TellsRefusal, IsStored, Promise, Began, Promised}
-use Rattle.ts_top.specs.Runners.{run_forms, run_spelled}
-use Rattle.ts_top.specs.Script.{AreLimited}
-use Rattle.ts_top.specs.Seen.{Seen, Means, Stopped as HasStopped, Performed, PrintsEnds, Plays, ended, ran_short}
+use Rattle.ts_top.specs.Promise.{Extends, HeldOnce, IsDone, IsDeedOf, IsLineDone, Tells, TellsRefusal, IsStored, Promise, Began, Promised}
+use Rattle.ts_top.specs.Runners.{run_codec, run_spelled}
+use Rattle.ts_script.specs.Script.{AreLimited}
+use Rattle.ts_top.specs.Seen.{Seen, AskFor, Stopped as HasStopped, Performed, PrintsEnds, whole, sink_failed, no_text, status_printed, Plays, ended, ran_short}
+use Rattle.ts_top.proofs.Exact.{printed_few}
 use Rattle.ts_top.specs.declared.top.Stop.{Stop}
 use Rattle.ts_top.specs.declared.top.Stop.TheVariants.{Usage, BadScript, NoForm, ReadFault, OutOfMemory}
 
@@ -108,7 +111,7 @@ no_items [] is = refl
 no_items (x ∷ xs) is = absurd (omega (arith, is))
 
 -- a history that goes on from another, and this one from it, is that one
-same_history : (h g : History) → GoesOn h g → GoesOn g h → g ≡ h
+same_history : (h g : History) → Extends h g → Extends g h → g ≡ h
 same_history h g (a, on) (b, back) =
     let total : length h ≡ length h + length a + length b = ap length (back ∙ ap (λ l. l ++ b) on) ∙ length-append (h ++ a) b ∙ ap (λ n. n + length b) (length-append h a) in
     on ∙ ap (λ l. h ++ l) (no_items a (omega (arith, total))) ∙ append-nil h
@@ -117,17 +120,32 @@ same_history h g (a, on) (b, back) =
 abbrev Early : ℕ → List Told → Type 0
 Early n told = (e : Told) → Contains told e → (number : ℕ) → e.job ≡ Some number → number < n
 
+-- an item behind a list, and then more
+one_more : {A : Type 0} (h : List A) (x : A) (front : List A) → (h ++ x ∷ []) ++ front ≡ h ++ x ∷ front
+one_more [] x front = refl
+one_more (z ∷ h) x front = ap (λ l. z ∷ l) (one_more h x front)
+
+-- the same where what comes first is one item, under another name
+first_put : {A : Type 0} (h : List A) (x y : A) (new front : List A) → new ≡ x ∷ [] → x ≡ y → (h ++ new) ++ front ≡ h ++ y ∷ front
+first_put h x y new front one same = ap (λ l. (h ++ l) ++ front) one ∙ one_more h x front ∙ ap (λ z. h ++ z ∷ front) same
+
+-- the place of an item of a part of a list
+place_of : {A : Type 0} (a early : List A) (e : A) (late b : List A) → a ++ (early ++ e ∷ late) ++ b ≡ (a ++ early) ++ e ∷ (late ++ b)
+place_of [] [] e late b = refl
+place_of [] (x ∷ early) e late b = ap (λ l. x ∷ l) (place_of [] early e late b)
+place_of (x ∷ a) early e late b = ap (λ l. x ∷ l) (place_of a early e late b)
+
 abbrev Late : ℕ → List Told → Type 0
 Late n told = (e : Told) → Contains told e → (number : ℕ) → e.job ≡ Some number → n ≤ number
 
 module _ (jobs : List Job) (past : History) where
   -- the history after a first part of what was told goes on to the one after it all
-  goes_on : (a b told : List Told) → told ≡ a ++ b → GoesOn (history_told jobs past a) (history_told jobs past told)
+  goes_on : (a b told : List Told) → told ≡ a ++ b → Extends (history_told jobs past a) (history_told jobs past told)
   goes_on a b told parts = let grows = history_told_grows jobs past a b in (grows.0, ap (history_told jobs past) parts ∙ grows.1)
 
   module _ (a c told : List Told) (parts : told ≡ a ++ c) (number : ℕ) (early : Early number a) where
     -- a job lists after the calls of the jobs before it
-    listed_after : (prefix : Prefix) (at : ListedAt told number prefix) → GoesOn (history_told jobs past a) (history_told jobs past at.before)
+    listed_after : (prefix : Prefix) (at : ListedAt told number prefix) → Extends (history_told jobs past a) (history_told jobs past at.before)
     listed_after prefix at =
         let apart : (x : Told) (xs : List Told) → at.listing ∷ at.later ≡ x ∷ xs → Contains a x → ⊥ = λ x xs q among.
         let head : at.listing ≡ x = ap (λ l. get_or l 0 at.listing) q in
@@ -136,47 +154,48 @@ module _ (jobs : List Job) (past : History) where
         let (d, behind) = fronts a c at.before (at.listing ∷ at.later) (sym parts ∙ at.place) apart in
         goes_on a d at.before behind
 
-    held_once : (at : ListedAt told number Schemas) (t : ℕ) (there : Schema) → schema_there (history_told jobs past at.before) t ≡ Some there → HeldOnce (history_told jobs past a) (history_told jobs past told) t there
-    held_once at t there holds = (history_told jobs past at.before, listed_after Schemas at, goes_on at.before (at.listing ∷ at.later) told at.place, holds)
+    held_once : (at : ListedAt told number Schemas) (k : Key) (there : Schema) → IsNewKey (history_told jobs past at.before) k → schema_there (history_told jobs past at.before) k.t ≡ Some there
+        → HeldOnce (history_told jobs past a) (history_told jobs past told) k there
+    held_once at k there new holds = (history_told jobs past at.before, listed_after Schemas at, goes_on at.before (at.listing ∷ at.later) told at.place, new, holds)
 
     -- a listing of a job that did nothing was of the history after it
     listed_now : (prefix : Prefix) (at : ListedAt told number prefix) → history_told jobs past told ≡ history_told jobs past a → history_told jobs past at.before ≡ history_told jobs past told
     listed_now prefix at still =
         let on = goes_on at.before (at.listing ∷ at.later) told at.place in
-        same_history (history_told jobs past told) (history_told jobs past at.before) (subst (λ h. GoesOn h (history_told jobs past at.before)) (sym still) (listed_after prefix at)) on
+        same_history (history_told jobs past told) (history_told jobs past at.before) (subst (λ h. Extends h (history_told jobs past at.before)) (sym still) (listed_after prefix at)) on
 
     -- an end that is true of a job tells so of its command
     end_tells : (job : Job) (end : Outcome) → ((from to : ℕ) (query : Query) → job.command ≡ Read from to query → history_told jobs past told ≡ history_told jobs past a)
-        → IsTrueEnd jobs past told number job end → Tells (history_told jobs past a) (history_told jobs past told) (key_of job) end job.command
-    end_tells job outcome.Created still is = subst (Tells (history_told jobs past a) (history_told jobs past told) (key_of job) outcome.Created) (sym is.creates) (is.framed, is.declared)
-    end_tells job (outcome.Evolved k) still (same, is) =
-        subst (Tells (history_told jobs past a) (history_told jobs past told) (key_of job) (outcome.Evolved k)) (sym is.evolves) (same, is.there, held_once is.schemas job.at is.there is.holds, is.declared)
-    end_tells job (outcome.Written f) still (same, is) =
+        → (end ≡ outcome.OutOfMemory → IsUndone (history_told jobs past told) job) → IsTrueEnd jobs past told number job end → Tells (history_told jobs past a) (history_told jobs past told) (key_of job) end job.command
+    end_tells job outcome.Created still short is = subst (Tells (history_told jobs past a) (history_told jobs past told) (key_of job) outcome.Created) (sym is.creates) (is.framed, is.declared)
+    end_tells job (outcome.Evolved k) still short (same, is) =
+        subst (Tells (history_told jobs past a) (history_told jobs past told) (key_of job) (outcome.Evolved k)) (sym is.evolves) (same, is.there, held_once is.schemas (key_of job) is.there is.undone is.holds, is.declared)
+    end_tells job (outcome.Written f) still short (same, is) =
         subst (Tells (history_told jobs past a) (history_told jobs past told) (key_of job) (outcome.Written f)) (sym is.writes_them)
-        (same, is.there, held_once is.schemas job.at is.there is.holds, is.frame, is.framed, is.cells, is.lays, is.written)
-    end_tells job (outcome.Deleted f) still (same, is) =
+        (same, is.there, held_once is.schemas (key_of job) is.there is.undone is.holds, is.frame, is.framed, is.cells, is.lays, is.written)
+    end_tells job (outcome.Deleted f) still short (same, is) =
         subst (Tells (history_told jobs past a) (history_told jobs past told) (key_of job) (outcome.Deleted f)) (sym is.deletes)
-        (same, is.there, held_once is.schemas job.at is.there is.holds, is.frame, is.framed, is.condition, is.says, is.erased)
-    end_tells job (outcome.Read answer) still (from, to, query, reads, is) =
+        (same, is.there, held_once is.schemas (key_of job) is.there is.undone is.holds, is.frame, is.framed, is.condition, is.says, is.erased)
+    end_tells job (outcome.Read answer) still short (from, to, query, reads, is) =
         let stays = still from to query reads in
         subst (Tells (history_told jobs past a) (history_told jobs past told) (key_of job) (outcome.Read answer)) (sym reads)
         (subst (λ h. IsAnswer h (history_told jobs past told) from to query answer) (listed_now Commits is.commits stays)
         (subst (λ h. IsAnswer (history_told jobs past is.commits.before) h from to query answer) (listed_now Schemas is.schemas stays) is.answers))
-    end_tells job (outcome.Refused r) still is = refusal_tells (history_told jobs past told) job r is
-    end_tells job outcome.OutOfMemory still is = tt
+    end_tells job (outcome.Refused r) still short is = refusal_tells (history_told jobs past told) job r is
+    end_tells job outcome.OutOfMemory still short is = short refl
 
 -- a read does no deed
-no_deed_of_read : (now : History) (k : Key) (from to : ℕ) (query : Query) (d : Deed) → IsDeedOf now k (Read from to query) d → ⊥
-no_deed_of_read now k from to query (Framed frame) is = is
-no_deed_of_read now k from to query (Declared s) is = is
-no_deed_of_read now k from to query (Wrote w) is = is
-no_deed_of_read now k from to query (Erased e) is = is
+no_deed_of_read : (before h : History) (k : Key) (from to : ℕ) (query : Query) (d : Deed) → IsDeedOf before h k (Read from to query) d → ⊥
+no_deed_of_read before h k from to query (Framed frame) is = is
+no_deed_of_read before h k from to query (Declared s) is = is
+no_deed_of_read before h k from to query (Wrote w) is = is
+no_deed_of_read before h k from to query (Erased e) is = is
 
--- a job of a line is the one that is made of it
-same_job : (id : ℕ) (line : Line) (job : Job) → IsJobOf id line job → job ≡ job_from id line
-same_job id line job is =
-    let step : (j : Job) → j.command ≡ line.command → j.at ≡ line.at → j.id ≡ id → j.stop ≡ (job_from id line).stop → j ≡ job_from id line = λ j a b c d. rw (← a, ← b, ← c, ← d) refl in
-    step job is.command is.stamp is.id_is is.stop
+-- a job of a line is the one that is made of it at its stamp
+same_job : (gives : ℕ → Bool) (id : ℕ) (line : Line) (job : Job) → IsJobOf gives id line job → job ≡ job_from id line job.at
+same_job gives id line job is =
+    let step : (j : Job) (c : Command) → j.command ≡ c → j.id ≡ id → j.stop ≡ (job_from id line job.at).stop → j ≡ record { command = c; at = j.at; id = id; stop = (job_from id line job.at).stop } = λ j c a b d. rw (← a, ← b, ← d) refl in
+    step job (command_at line job.at) is.command is.id_is is.stop
 
 -- ---- whose deeds came
 
@@ -197,36 +216,43 @@ condition_ok : (r : Result Condition Refusal) (condition : Condition) → condit
 condition_ok (Ok x) condition is = ap Ok (same_Some x condition is)
 condition_ok (Err r) condition is = absurd (none-some condition is)
 
--- the schemas of a history stay
-schemas_stay : (h g : History) (s : Schema) → Contains (schemas h) s → Contains (schemas (h ++ g)) s
-schemas_stay h g s at = subst (λ l. Contains l s) (sym (schemas-append h g)) (Contains-append_left (schemas h) (schemas g) s at)
+-- the commands that work in a schema there, which they look for at their stamp
+abbrev WorksIn : Command → Type 0
+WorksIn (Evolve change) = ⊤
+WorksIn (Write columns) = ⊤
+WorksIn (Delete text) = ⊤
+WorksIn _ = ⊥
 
--- a deed that a command may do stays one
-deed_stays : (h g : History) (k : Key) (c : Command) (d : Deed) → IsDeedOf h k c d → IsDeedOf (h ++ g) k c d
-deed_stays h g k (Create made) (Framed frame) is = is
-deed_stays h g k (Create made) (Declared s) is = is
-deed_stays h g k (Evolve change) (Declared s) (there, among, is) = (there, schemas_stay h g there among, is)
-deed_stays h g k (Write columns) (Wrote w) (frame, framed, there, among, cells, lays, is) = (frame, frame_in-append h g frame framed, there, schemas_stay h g there among, cells, lays, is)
-deed_stays h g k (Delete text) (Erased e) (frame, framed, there, among, condition, says, is) = (frame, frame_in-append h g frame framed, there, schemas_stay h g there among, condition, says, is)
-deed_stays h g k _ _ is = absurd is
+no_create : (c : Command) → WorksIn c → (f : FrameIn) → c ≡ Create f → ⊥
+no_create (Create g) works f is = works
+no_create (Evolve change) works f is = cc
+no_create (Write columns) works f is = cc
+no_create (Read from to query) works f is = works
+no_create (Delete text) works f is = cc
 
-module _ (h : History) (job : Job) (found : Option (List Key)) where
-  used_among : (s : Schema) → schema_used h job found ≡ Some s → Contains (schemas h) s
-  used_among s is =
-      let (k, at, with_key) = and_then_some (schema_with h) (option_and_then (λ keys. schema_at keys job.at) found) s is in
-      (schema_with-is h k s with_key).0
+looks_here : (job : Job) (c : Command) → WorksIn c → looks_at job c ≡ job.at
+looks_here job (Create f) works = absurd works
+looks_here job (Evolve change) works = refl
+looks_here job (Write columns) works = refl
+looks_here job (Read from to query) works = absurd works
+looks_here job (Delete text) works = refl
 
-  framed_own : (c : Command) (d : Deed) → option_map (λ f. Framed (frame_made f)) (made_by c) ≡ Some d → IsDeedOf h (key_of job) c d
-  framed_own (Create made) d is = subst (IsDeedOf h (key_of job) (Create made)) (same_Some (Framed (frame_made made)) d is) refl
+module _ (before h : History) (job : Job) (found : Option (List Key)) where
+  -- the schema that the job uses held at its stamp
+  abbrev Held_there : Command → Type 0
+  Held_there c = WorksIn c → (there : Schema) → schema_used h job found ≡ Some there → HeldOnce before h (key_of job) there
+
+  framed_own : (c : Command) (d : Deed) → option_map (λ f. Framed (frame_made f)) (made_by c) ≡ Some d → IsDeedOf before h (key_of job) c d
+  framed_own (Create made) d is = subst (IsDeedOf before h (key_of job) (Create made)) (same_Some (Framed (frame_made made)) d is) refl
   framed_own _ d is = absurd (none-some d is)
 
-  declared_own : (c : Command) (d : Deed) → option_map Declared (declared_by h job found c) ≡ Some d → IsDeedOf h (key_of job) c d
-  declared_own (Create made) d is = subst (IsDeedOf h (key_of job) (Create made)) (same_Some (Declared (schema_of_job job made.attrs)) d is) refl
-  declared_own (Evolve change) d is =
+  declared_own : (c : Command) (d : Deed) → Held_there c → option_map Declared (declared_by h job found c) ≡ Some d → IsDeedOf before h (key_of job) c d
+  declared_own (Create made) d held is = subst (IsDeedOf before h (key_of job) (Create made)) (same_Some (Declared (schema_of_job job made.attrs)) d is) refl
+  declared_own (Evolve change) d held is =
       let (s, at, same) = map_some Declared (declared_by h job found (Evolve change)) d is in
       let (there, used, made) = map_some (λ (t : Schema). schema_of_job job (evolved_attrs t.attrs change)) (schema_used h job found) s at in
-      subst (IsDeedOf h (key_of job) (Evolve change)) same (there, used_among there used, sym made)
-  declared_own _ d is = absurd (none-some d is)
+      subst (IsDeedOf before h (key_of job) (Evolve change)) same (there, held tt there used, sym made)
+  declared_own _ d held is = absurd (none-some d is)
 
   written_from : (columns : WriteIn) (s : Option Schema) (frame : Option Frame) (w : Written) → written_in job columns s frame ≡ Some w
       → (f : Frame) × (frame ≡ Some f) × (there : Schema) × (s ≡ Some there) × (cells : List Cell) × (laid f there.attrs columns ≡ Ok cells) × (w ≡ written_as job there.key cells)
@@ -236,70 +262,139 @@ module _ (h : History) (job : Job) (found : Option (List Key)) where
   written_from columns (Some there) None w is = absurd (none-some w is)
   written_from columns None frame w is = absurd (none-some w is)
 
-  written_own : (c : Command) (d : Deed) → option_map Wrote (written_by h job found c) ≡ Some d → IsDeedOf h (key_of job) c d
-  written_own (Write columns) d is =
+  written_own : (c : Command) (d : Deed) → Held_there c → option_map Wrote (written_by h job found c) ≡ Some d → IsDeedOf before h (key_of job) c d
+  written_own (Write columns) d held is =
       let (w, at, same) = map_some Wrote (written_by h job found (Write columns)) d is in
       let (f, framed, there, used, cells, lays, made) = written_from columns (schema_used h job found) (frame_in h) w at in
-      subst (IsDeedOf h (key_of job) (Write columns)) same (f, framed, there, used_among there used, cells, lays, made)
-  written_own _ d is = absurd (none-some d is)
+      subst (IsDeedOf before h (key_of job) (Write columns)) same (there, held tt there used, f, framed, cells, lays, made)
+  written_own _ d held is = absurd (none-some d is)
 
-  erased_from : (text : List ℕ) (s : Option Schema) (frame : Option Frame) (e : Erasure) → erased_in job text s frame ≡ Some e
-      → (f : Frame) × (frame ≡ Some f) × (there : Schema) × (s ≡ Some there) × (condition : Condition) × (erasing_in f there.attrs text ≡ Ok condition) × (e ≡ erasure_as job condition)
+  erased_from : (text : List ℕ) (s : Option Schema) (frame : Option Frame) (e : Deletion) → deleted_in job text s frame ≡ Some e
+      → (f : Frame) × (frame ≡ Some f) × (there : Schema) × (s ≡ Some there) × (condition : Condition) × (delete_condition f there.attrs text ≡ Ok condition) × (e ≡ deletion_as job condition)
   erased_from text (Some there) (Some f) e is =
-      let (condition, says, same) = map_some (erasure_as job) (condition_of (erasing_in f there.attrs text)) e is in
-      (f, refl, there, refl, condition, condition_ok (erasing_in f there.attrs text) condition says, sym same)
+      let (condition, says, same) = map_some (deletion_as job) (condition_of (delete_condition f there.attrs text)) e is in
+      (f, refl, there, refl, condition, condition_ok (delete_condition f there.attrs text) condition says, sym same)
   erased_from text (Some there) None e is = absurd (none-some e is)
   erased_from text None frame e is = absurd (none-some e is)
 
-  erased_own : (c : Command) (d : Deed) → option_map Erased (erased_by h job found c) ≡ Some d → IsDeedOf h (key_of job) c d
-  erased_own (Delete text) d is =
-      let (e, at, same) = map_some Erased (erased_by h job found (Delete text)) d is in
+  erased_own : (c : Command) (d : Deed) → Held_there c → option_map Erased (deleted_by h job found c) ≡ Some d → IsDeedOf before h (key_of job) c d
+  erased_own (Delete text) d held is =
+      let (e, at, same) = map_some Erased (deleted_by h job found (Delete text)) d is in
       let (f, framed, there, used, condition, says, made) = erased_from text (schema_used h job found) (frame_in h) e at in
-      subst (IsDeedOf h (key_of job) (Delete text)) same (f, framed, there, used_among there used, condition, says, made)
-  erased_own _ d is = absurd (none-some d is)
+      subst (IsDeedOf before h (key_of job) (Delete text)) same (there, held tt there used, f, framed, condition, says, made)
+  erased_own _ d held is = absurd (none-some d is)
 
   -- the deed of an object that a job puts is one of its command
-  put_own : (n : Name) (d : Deed) → deed_of h job found n ≡ Some d → IsDeedOf h (key_of job) job.command d
-  put_own name.Domain d is = framed_own job.command d is
-  put_own (name.Schema k) d is = declared_own job.command d is
-  put_own (name.Commit f Wrt) d is = written_own job.command d is
-  put_own (name.Commit f Del) d is = erased_own job.command d is
-  put_own _ d is = absurd (none-some d is)
+  put_own : (n : Name) (d : Deed) → Held_there job.command → deed_of h job found n ≡ Some d → IsDeedOf before h (key_of job) job.command d
+  put_own name.Domain d held is = framed_own job.command d is
+  put_own (name.Schema k) d held is = declared_own job.command d held is
+  put_own (name.Commit f Wrt) d held is = written_own job.command d held is
+  put_own (name.Commit f Del) d held is = erased_own job.command d held is
+  put_own _ d held is = absurd (none-some d is)
 
-  call_own : (c : Call) (d : Deed) → deed_in h job found c ≡ Some d → IsDeedOf h (key_of job) job.command d
-  call_own (call.Put n bytes) d is = put_own n d is
-  call_own _ d is = absurd (none-some d is)
+  call_own : (c : Call) (d : Deed) → ((n : Name) (bytes : List ℕ) → c ≡ call.Put n bytes → Held_there job.command) → deed_in h job found c ≡ Some d → IsDeedOf before h (key_of job) job.command d
+  call_own (call.Put n bytes) d held is = put_own n d (held n bytes refl) is
+  call_own _ d held is = absurd (none-some d is)
 
--- a deed that a call appends is the one that was told of it
-of_call : (changed : Bool) (o : Option Deed) (d : Deed) → Contains (cond changed (option_to_list o) []) d → o ≡ Some d
-of_call true (Some x) d at = elim (Contains-cons x [] d at) [ inl same ↦ ap Some same | inr none ↦ absurd (Contains-nil d none) ]
-of_call true None d at = absurd (Contains-nil d at)
-of_call false o d at = absurd (Contains-nil d at)
+-- a call appends no deed, or the one that is told of it
+one_grown : (changed : Bool) (o : Option Deed) → (cond changed (option_to_list o) [] ≡ []) ⊎ ((d : Deed) × (o ≡ Some d) × (cond changed (option_to_list o) [] ≡ d ∷ []))
+one_grown true (Some d) = inr (d, refl, refl)
+one_grown true None = inl refl
+one_grown false o = inl refl
+
+none_split : (front back : List Deed) (d : Deed) → [] ≡ front ++ d ∷ back → ⊥
+none_split [] back d is = cc
+none_split (x ∷ front) back d is = cc
+
+-- where there is no first deed there is none
+none_first : (deeds : List Deed) → ((back : List Deed) (d : Deed) → deeds ≡ d ∷ back → ⊥) → deeds ≡ []
+none_first [] none = refl
+none_first (d ∷ deeds) none = absurd (none deeds d refl)
+
+-- a deed came by a call of a job, after these deeds
+record Comes (jobs : List Job) (h : History) (seen told : List Told) (front : List Deed) (d : Deed) : Type 0 where
+  early : List Told
+  by_it : Told
+  late : List Told
+  parts : told ≡ early ++ by_it ∷ late
+  history : history_from jobs h seen early ≡ h ++ front
+  number : ℕ
+  mine : by_it.job ≡ Some number
+  job : Job
+  is_job : slice_get jobs number ≡ Some job
+  deed : deed_in (h ++ front) job (schemas_found (trace_of number (seen ++ early))) by_it.call ≡ Some d
 
 module _ (jobs : List Job) where
-  -- the deed is one of the command of a job that made one of the calls
-  abbrev IsOwn : List Told → History → Deed → Type 0
-  IsOwn told now d = (e : Told) × Contains told e × (number : ℕ) × (e.job ≡ Some number) × (job : Job) × (slice_get jobs number ≡ Some job) × IsDeedOf now (key_of job) job.command d
+  -- what came later came after a call and its deed
+  further : (h : History) (seen told : List Told) (e : Told) (front later : List Deed) (d : Deed) → (h ++ grown jobs h seen e) ++ later ≡ h ++ front
+      → Comes jobs (h ++ grown jobs h seen e) (seen ++ e ∷ []) told later d → Comes jobs h seen (e ∷ told) front d
+  further h seen told e front later d same is = record {
+    early = e ∷ is.early;
+    by_it = is.by_it;
+    late = is.late;
+    parts = ap (λ l. e ∷ l) is.parts;
+    history = is.history ∙ same;
+    number = is.number;
+    mine = is.mine;
+    job = is.job;
+    is_job = is.is_job;
+    deed = subst (λ g. deed_in g is.job (schemas_found (trace_of is.number (seen ++ e ∷ is.early))) (is.by_it).call ≡ Some d) same
+        (subst (λ t. deed_in ((h ++ grown jobs h seen e) ++ later) is.job (schemas_found (trace_of is.number t)) (is.by_it).call ≡ Some d) (append_assoc seen (e ∷ []) is.early) is.deed);
+  }
 
-  -- the deeds that calls append, each one of a job's command
-  own_deeds : (h : History) (seen told : List Told) → (deeds : List Deed) × (history_from jobs h seen told ≡ h ++ deeds) × ((d : Deed) → Contains deeds d → IsOwn told (history_from jobs h seen told) d)
-  own_deeds h seen [] = ([], sym (append-nil h), λ d at. absurd (Contains-nil d at))
-  own_deeds h seen (e ∷ told) =
-      let new = grown jobs h seen e in
-      let (deeds, goes_on, own) = own_deeds (h ++ new) (seen ++ e ∷ []) told in
-      let whole = goes_on ∙ append_assoc h new deeds in (
-        new ++ deeds,
-        whole,
-        λ d at. elim (Contains-append_cases new deeds d at) [
-          | inl first ↦
-              let of_job : ℕ → Job → Option Deed = λ number job. deed_in h job (schemas_found (trace_of number seen)) e.call in
-              let (number, mine, by_number) = and_then_some (λ number. option_and_then (of_job number) (slice_get jobs number)) e.job d (of_call e.changed (deed_told jobs h seen e) d first) in
-              let (job, job_at, by_job) = and_then_some (of_job number) (slice_get jobs number) d by_number in
-              let deed = call_own h job (schemas_found (trace_of number seen)) e.call d by_job in
-              (e, Contains-here e told, number, mine, job, job_at, subst (λ now. IsDeedOf now (key_of job) job.command d) (sym whole) (deed_stays h (new ++ deeds) (key_of job) job.command d deed))
-          | inr later ↦ let (x, among, number, mine, job, job_at, deed) = own d later in (x, Contains-there e told x among, number, mine, job, job_at, deed)
-        ],
-      )
+  -- calls append deeds, each of which came by one of them
+  record AreOwned (h : History) (seen told : List Told) : Type 0 where
+    deeds : List Deed
+    goes_on_so : history_from jobs h seen told ≡ h ++ deeds
+    came : (front back : List Deed) (d : Deed) → deeds ≡ front ++ d ∷ back → Comes jobs h seen told front d
+
+  module _ (h : History) (seen told : List Told) (e : Told) (later : AreOwned (h ++ grown jobs h seen e) (seen ++ e ∷ []) told) where
+    abbrev new : List Deed
+    new = grown jobs h seen e
+
+    -- the deed of the first call
+    first_deed : (d : Deed) → deed_told jobs h seen e ≡ Some d → Comes jobs h seen (e ∷ told) [] d
+    first_deed d is =
+        let of_job : ℕ → Job → Option Deed = λ number job. deed_in h job (schemas_found (trace_of number seen)) e.call in
+        let (number, mine, by_number) = and_then_some (λ number. option_and_then (of_job number) (slice_get jobs number)) e.job d is in
+        let (job, job_at, by_job) = and_then_some (of_job number) (slice_get jobs number) d by_number in
+        record {
+          early = [];
+          by_it = e;
+          late = told;
+          parts = refl;
+          history = sym (append-nil h);
+          number = number;
+          mine = mine;
+          job = job;
+          is_job = job_at;
+          deed = subst (λ g. deed_in g job (schemas_found (trace_of number (seen ++ []))) e.call ≡ Some d) (sym (append-nil h))
+              (subst (λ t. deed_in h job (schemas_found (trace_of number t)) e.call ≡ Some d) (sym (append-nil seen)) by_job);
+        }
+
+    by_first : (new ≡ []) ⊎ ((x : Deed) × (deed_told jobs h seen e ≡ Some x) × (new ≡ x ∷ [])) → (front back : List Deed) (d : Deed) → new ++ later.deeds ≡ front ++ d ∷ back → Comes jobs h seen (e ∷ told) front d
+    by_first (inl none) front back d is =
+        further h seen told e front front d (ap (λ l. l ++ front) (ap (λ l. h ++ l) none ∙ append-nil h)) (later.came front back d (sym (ap (λ l. l ++ later.deeds) none) ∙ is))
+    by_first (inr (x, said, one)) [] back d is =
+        let same : x ≡ d = ap (λ l. get_or l 0 x) (sym (ap (λ l. l ++ later.deeds) one) ∙ is) in
+        first_deed d (said ∙ ap Some same)
+    by_first (inr (x, said, one)) (y ∷ front) back d is =
+        let whole : x ∷ later.deeds ≡ y ∷ front ++ d ∷ back = sym (ap (λ l. l ++ later.deeds) one) ∙ is in
+        let same : x ≡ y = ap (λ l. get_or l 0 x) whole in
+        let rest : later.deeds ≡ front ++ d ∷ back = ap (drop 1) whole in
+        further h seen told e (y ∷ front) front d
+        (first_put h x y new front one same) (later.came front back d rest)
+
+    with_first : AreOwned h seen (e ∷ told)
+    with_first = record {
+      deeds = new ++ later.deeds;
+      goes_on_so = later.goes_on_so ∙ append_assoc h new later.deeds;
+      came = by_first (one_grown e.changed (deed_told jobs h seen e));
+    }
+
+  own_deeds : (h : History) (seen told : List Told) → AreOwned h seen told
+  own_deeds h seen [] = record { deeds = []; goes_on_so = sym (append-nil h); came = λ front back d is. absurd (none_split front back d is) }
+  own_deeds h seen (e ∷ told) = with_first h seen told e (own_deeds (h ++ grown jobs h seen e) (seen ++ e ∷ []) told)
 
 -- ---- each command has an end
 
@@ -365,15 +460,15 @@ none_made [] is = refl
 none_made (e ∷ told) is = absurd (let none : suc (length (exchanges told)) ≡ 0 = ap length is in omega (arith, none))
 
 -- a job may have run short before its first call
-short_driven : (job : Job) → IsDriven run_forms job [] (Done outcome.OutOfMemory)
+short_driven : (job : Job) → IsDriven run_codec job [] (Done outcome.OutOfMemory)
 short_driven job =
     let nowhere : ℕ → Option Held = λ n. None in
     let nothing : ℕ → List Exchange → ℕ → Type 0 = λ n xs k. xs ≡ [] in
-    let short = ran-no_call run_forms nowhere nothing 0 0 job 0 [] refl in
-    subst (λ t. IsDriven run_forms job t (Done outcome.OutOfMemory)) (ap (trace_of 0) (none_made short.ran.told short.made_of)) short.ran.driven
+    let short = ran-no_call run_codec nowhere nothing 0 0 job 0 [] refl in
+    subst (λ t. IsDriven run_codec job t (Done outcome.OutOfMemory)) (ap (trace_of 0) (none_made short.ran.told short.made_of)) short.ran.driven
 
 -- calls in turn, cut at the first one of a job from a number on
-cut : (n : ℕ) (told : List Told) → All IsOwned told → InTurn (one_lane 0) told → (a : List Told) × (b : List Told) × (told ≡ a ++ b) × Early n a × Late n b
+cut : (n : ℕ) (told : List Told) → All IsOwned told → InTurn one_lane told → (a : List Told) × (b : List Told) × (told ≡ a ++ b) × Early n a × Late n b
 cut n [] owned turn = ([], [], refl, λ e at. absurd (Contains-nil e at), λ e at. absurd (Contains-nil e at))
 cut n (e ∷ told) owned turn = by (cut n told (All-tail IsOwned e told owned) turn.1) (nat_lt number n) refl
   where
@@ -402,13 +497,13 @@ cut n (e ∷ told) owned turn = by (cut n told (All-tail IsOwned e told owned) t
           λ x at. absurd (Contains-nil x at),
           λ x at k is. elim (Contains-cons e told x at) [
             | inl same ↦ subst (λ q. n ≤ q) (same_Some number k (sym mine ∙ ap (λ (t : Told). t.job) same ∙ is)) from
-            | inr later ↦ let more = All-contains (IsBefore (one_lane 0) e) told x turn.0 later number k mine is refl in omega (arith, from, more)
+            | inr later ↦ let more = All-contains (IsBefore one_lane e) told x turn.0 later number k mine is refl in omega (arith, from, more)
           ],
         )
 
-module _ (seed : ℕ) (lines : List Line) (jobs : List Job) (past : History) (m : Held) (told : List Told) (results : List (Driven Outcome))
-    (are : AreJobsOf seed 0 lines jobs) (stands : IsStored m past) (fresh : IsFreshSeed m past seed) (seed_fits : seed < 2 ^ 64) (limited : AreLimited lines)
-    (replied : Replied m told) (suit : All Suits told) (owned : All IsOwned told) (within : All (IsWithin jobs) told) (in_turn : InTurn (one_lane 0) told) (driven : AreDriven run_forms jobs results told) where
+module _ (gives : ℕ → Bool) (seed : ℕ) (items : List Numbered) (jobs : List Job) (past : History) (m : Held) (told : List Told) (results : List (Driven Outcome))
+    (are : AreJobsOf gives seed items jobs) (order : AreInOrder items) (stands : IsStored m past) (fresh : IsFreshSeed m past seed) (seed_fits : seed < 2 ^ 64)
+    (replied : Replied m told) (suit : All Suits told) (owned : All IsOwned told) (within : All (IsWithin jobs) told) (in_turn : InTurn one_lane told) (driven : AreDriven run_codec jobs results told) where
   -- the calls of the commands before a number
   abbrev calls_before : ℕ → List Told
   calls_before n = (cut n told owned in_turn).0
@@ -418,7 +513,7 @@ module _ (seed : ℕ) (lines : List Line) (jobs : List Job) (past : History) (m 
   after n = history_told jobs past (calls_before n)
 
   -- by these calls the first commands came out as they did
-  front_driven : (n : ℕ) → AreDriven run_forms jobs (short_after results n) (calls_before n)
+  front_driven : (n : ℕ) → AreDriven run_codec jobs (short_after results n) (calls_before n)
   front_driven n =
       let (a, b, parts, early, late) = cut n told owned in_turn in
       record {
@@ -428,20 +523,19 @@ module _ (seed : ℕ) (lines : List Line) (jobs : List Job) (past : History) (m 
               let same : trace_of number told ≡ trace_of number a =
               ap (trace_of number) parts ∙ trace_of-append number a b ∙ ap (λ t. trace_of number a ++ t) (no_trace number b (λ e among mine. let from = late e among number mine in omega (arith, from, h.0)))
               ∙ append-nil (trace_of number a) in
-              subst (λ t. IsDriven run_forms job t result) same (driven.driven number job result at h.1)
+              subst (λ t. IsDriven run_codec job t result) same (driven.driven number job result at h.1)
           | inr h ↦
-              subst (λ r. IsDriven run_forms job (trace_of number a) r) h.1
-              (subst (λ t. IsDriven run_forms job t (Done outcome.OutOfMemory)) (sym (no_trace number a (λ e among mine. let less = early e among number mine in omega (arith, less, h.0)))) (short_driven job))
+              subst (λ r. IsDriven run_codec job (trace_of number a) r) h.1
+              (subst (λ t. IsDriven run_codec job t (Done outcome.OutOfMemory)) (sym (no_trace number a (λ e among mine. let less = early e among number mine in omega (arith, less, h.0)))) (short_driven job))
         ];
       }
 
-  front_run : (n : ℕ) → IsTrueRun run_spelled (one_lane 0) jobs past m (calls_before n) (short_after results n)
+  front_run : (n : ℕ) → IsTrueRun run_spelled one_lane jobs past m (calls_before n) (short_after results n)
   front_run n =
       let (a, b, parts, early, late) = cut n told owned in_turn in
-      let few = limited.few in
-      true_run run_forms run_spelled NeverWaits plain_laws seed 0 lines (one_lane 0) jobs past m a (short_after results n) are stands fresh seed_fits (omega arith) (omega (arith, few)) limited.fit
+      true_run run_codec run_spelled NeverWaits plain_laws gives seed items one_lane jobs past m a (short_after results n) are order stands fresh seed_fits
       (Replied-front m a b (subst (Replied m) parts replied)) (all_front Suits a b (subst (All Suits) parts suit)) (all_front IsOwned a b (subst (All IsOwned) parts owned))
-      (all_front (IsWithin jobs) a b (subst (All (IsWithin jobs)) parts within)) (turn_front (one_lane 0) a b (subst (InTurn (one_lane 0)) parts in_turn)) (front_driven n)
+      (all_front (IsWithin jobs) a b (subst (All (IsWithin jobs)) parts within)) (turn_front one_lane a b (subst (InTurn one_lane) parts in_turn)) (front_driven n)
 
   -- the first calls are none, and the last are all
   after_none : after 0 ≡ past
@@ -452,9 +546,9 @@ module _ (seed : ℕ) (lines : List Line) (jobs : List Job) (past : History) (m 
       own_of : (e : Told) → Contains (calls_before 0) e → IsOwned e
       own_of e at = All-contains IsOwned (calls_before 0) e (all_front IsOwned (calls_before 0) (cut 0 told owned in_turn).1 (subst (All IsOwned) (cut 0 told owned in_turn).2 owned)) at
 
-  after_all : after (length lines) ≡ history_told jobs past told
+  after_all : after (length items) ≡ history_told jobs past told
   after_all =
-      let (a, b, parts, early, late) = cut (length lines) told owned in_turn in
+      let (a, b, parts, early, late) = cut (length items) told owned in_turn in
       let none : b ≡ [] = none_in b (λ e at.
       let among : Contains told e = subst (λ l. Contains l e) (sym parts) (Contains-append_right a b e at) in
       let (number, mine) = All-contains IsOwned told e owned among in
@@ -463,9 +557,36 @@ module _ (seed : ℕ) (lines : List Line) (jobs : List Job) (past : History) (m 
       omega (arith, less, from, are.one_each)) in
       ap (history_told jobs past) (sym (parts ∙ ap (λ l. a ++ l) none ∙ append-nil a))
 
+  -- the deed of a call of one command, after the commands before it
+  deed_is : (i : ℕ) (job : Job) → slice_get jobs i ≡ Some job → (a c b : List Told) → told ≡ a ++ c ++ b → Early i a → Early (i + 1) c → Late i c
+      → (front : List Deed) (d : Deed) → Comes jobs (history_told jobs past a) a c front d → IsDeedOf (history_told jobs past a) (history_told jobs past a ++ front) (key_of job) job.command d
+  deed_is i job is_job a c b parts early below from front d is =
+      let e = is.by_it in
+      let among : Contains c e = subst (λ l. Contains l e) (sym is.parts) (Contains-append_right is.early (e ∷ is.late) e (Contains-here e is.late)) in
+      let at_i : is.number ≡ i = omega (arith, below e among is.number is.mine, from e among is.number is.mine) in
+      let it : is.job ≡ job = same_Some is.job job (sym is.is_job ∙ ap (slice_get jobs) at_i ∙ is_job) in
+      let mine : e.job ≡ Some i = is.mine ∙ ap Some at_i in
+      let seen : List Told = a ++ is.early in
+      let place : told ≡ seen ++ e ∷ (is.late ++ b) =
+      parts ∙ ap (λ l. a ++ l ++ b) is.parts ∙ place_of a is.early e is.late b in
+      let now : history_told jobs past seen ≡ history_told jobs past a ++ front = history_told-append jobs past a is.early ∙ is.history in
+      let deed : deed_in (history_told jobs past a ++ front) job (schemas_found (trace_of i seen)) e.call ≡ Some d =
+      subst (λ k. deed_in (history_told jobs past a ++ front) job (schemas_found (trace_of k seen)) e.call ≡ Some d) at_i
+      (subst (λ j. deed_in (history_told jobs past a ++ front) j (schemas_found (trace_of is.number seen)) e.call ≡ Some d) it is.deed) in
+      call_own (history_told jobs past a) (history_told jobs past a ++ front) job (schemas_found (trace_of i seen)) e.call d
+      (λ n bytes puts works there used.
+      let looks : looked_at job ≡ job.at = looks_here job job.command works in
+      let uses : schema_used (history_told jobs past seen) job (schemas_found (trace_of i seen)) ≡ Some there = ap (λ h. schema_used h job (schemas_found (trace_of i seen))) now ∙ used in
+      let begins = kept_first run_codec run_spelled NeverWaits gives seed items jobs past m are order stands fresh seed_fits in
+      let found = works_where_used run_codec run_spelled NeverWaits plain_laws one_lane jobs past m told results begins replied suit owned within in_turn driven
+      seen (is.late ++ b) e place i job mine is_job (no_create job.command works) looks n bytes puts there uses in
+      subst (λ h. HeldOnce (history_told jobs past a) h (key_of job) there) now
+      (held_once jobs past a is.early seen refl i early found.schemas (key_of job) there found.undone (ap (schema_there (history_told jobs past (found.schemas).before)) (sym looks) ∙ found.holds)))
+      deed
+
   -- a command was done between the commands before it and those after it
-  is_done : (i : ℕ) (line : Line) (end : Outcome) → slice_get lines i ≡ Some line → slice_get results i ≡ Some (Done end) → IsDone (after i) (after (i + 1)) (key_at seed i line) end line.command
-  is_done i line end is_line result_at =
+  is_done : (i : ℕ) (item : Numbered) (end : Outcome) → slice_get items i ≡ Some item → slice_get results i ≡ Some (Done end) → IsLineDone gives seed (after i) (after (i + 1)) item end
+  is_done i item end is_item result_at =
       let (a, b, parts, early, late) = cut i told owned in_turn in
       let (a', b', parts', early', late') = cut (i + 1) told owned in_turn in
       let apart : (x : Told) (xs : List Told) → b' ≡ x ∷ xs → Contains a x → ⊥ = λ x xs q among.
@@ -475,71 +596,94 @@ module _ (seed : ℕ) (lines : List Line) (jobs : List Job) (past : History) (m 
       omega (arith, less, from) in
       let (c, grows) = fronts a b a' b' (sym parts ∙ parts') apart in
       let behind : b ≡ c ++ b' = cancelled a b (c ++ b') (sym parts ∙ parts' ∙ ap (λ l. l ++ b') grows ∙ append_assoc a c b') in
-      let (job, is_job) = item_at lines jobs i (sym are.one_each) (slice_get_within lines i line is_line) in
-      let same = same_job (id_of seed 0 (1 + i)) line job (are.each i line job is_line is_job) in
-      let is_true = (front_run (i + 1)).answers i job end is_job (short_at results (i + 1) i (Done end) (omega arith) result_at) in
-      let (deeds, goes, own) = own_deeds jobs (history_told jobs past a) a c in
+      let (job, is_job) = item_at items jobs i (sym are.one_each) (slice_get_within items i item is_item) in
+      let of_line = are.each i item job is_item is_job in
+      let id : ℕ = id_of seed (item.line).lane item.number in
+      let same = same_job gives id item.line job of_line in
+      let is_over : IsTrueOver run_spelled m jobs past (calls_before (i + 1)) i job end = (front_run (i + 1)).answers i job end is_job (short_at results (i + 1) i (Done end) (omega arith) result_at) in
+      let is_true = true_end_of run_spelled m jobs past (calls_before (i + 1)) i job end is_over in
+      let short : end ≡ outcome.OutOfMemory → IsUndone (history_told jobs past a') job = λ is. subst (IsTrueOver run_spelled m jobs past (calls_before (i + 1)) i job) is is_over in
+      let own = own_deeds jobs (history_told jobs past a) a c in
+      let deeds = own.deeds in
       let whole : history_told jobs past a' ≡ history_from jobs (history_told jobs past a) a c = ap (history_told jobs past) grows ∙ history_told-append jobs past a c in
-      let of_job : (d : Deed) → Contains deeds d → IsDeedOf (history_told jobs past a') (key_of job) job.command d = λ d at.
-      let (e, among, number, mine, other, other_at, deed) = own d at in
-      let less = early' e (subst (λ l. Contains l e) (sym grows) (Contains-append_right a c e among)) number mine in
-      let from = late e (subst (λ l. Contains l e) (sym behind) (Contains-append_left c b' e among)) number mine in
-      let at_i : number ≡ i = omega (arith, less, from) in
-      let it : other ≡ job = same_Some other job (sym other_at ∙ ap (slice_get jobs) at_i ∙ is_job) in
-      subst (λ j. IsDeedOf (history_told jobs past a') (key_of j) j.command d) it (subst (λ h. IsDeedOf h (key_of other) other.command d) (sym whole) deed) in
+      let place : told ≡ a ++ c ++ b' = parts ∙ ap (λ l. a ++ l) behind ∙ sym (append_assoc a c b') in
+      let below : Early (i + 1) c = λ e among. early' e (subst (λ l. Contains l e) (sym grows) (Contains-append_right a c e among)) in
+      let above : Late i c = λ e among. late e (subst (λ l. Contains l e) (sym behind) (Contains-append_left c b' e among)) in
+      let of_job : (front back : List Deed) (d : Deed) → deeds ≡ front ++ d ∷ back → IsDeedOf (history_told jobs past a) (history_told jobs past a ++ front) (key_of job) job.command d = λ front back d split.
+      deed_is i job is_job a c b' place early below above front d (own.came front back d split) in
       let still : (from to : ℕ) (query : Query) → job.command ≡ Read from to query → history_told jobs past a' ≡ history_told jobs past a = λ from to query reads.
-      let none : deeds ≡ [] = none_in deeds (λ d at. no_deed_of_read (history_told jobs past a') (key_of job) from to query d (subst (λ q. IsDeedOf (history_told jobs past a') (key_of job) q d) reads (of_job d at))) in
-      whole ∙ goes ∙ ap (λ l. history_told jobs past a ++ l) none ∙ append-nil (history_told jobs past a) in
-      let told_so = end_tells jobs past a c a' grows i early job end still is_true in
-      record {
-        deeds = deeds;
-        goes_on = whole ∙ goes;
-        own = λ d at. subst (λ j. IsDeedOf (history_told jobs past a') (key_of j) j.command d) same (of_job d at);
-        tells = subst (λ j. Tells (history_told jobs past a) (history_told jobs past a') (key_of j) end j.command) same told_so;
-      }
+      let none : deeds ≡ [] = none_first deeds (λ back d split.
+      no_deed_of_read (history_told jobs past a) (history_told jobs past a ++ []) (key_of job) from to query d
+      (subst (λ q. IsDeedOf (history_told jobs past a) (history_told jobs past a ++ []) (key_of job) q d) reads (of_job [] back d split))) in
+      whole ∙ own.goes_on_so ∙ ap (λ l. history_told jobs past a ++ l) none ∙ append-nil (history_told jobs past a) in
+      let done : IsDone (history_told jobs past a) (history_told jobs past a') (key_of job) end job.command =
+      record { deeds = deeds; goes_on = whole ∙ own.goes_on_so; own = of_job; tells = end_tells jobs past a c a' grows i early job end still short is_true } in
+      (job.at, of_line.stamp, subst (λ j. IsDone (history_told jobs past a) (history_told jobs past a') (key_of j) end j.command) same done)
 
 -- ---- the promise
 
+-- a text that was appended has a front that was, and nothing is a front of each
+whole_front : (old later : Option (List ℕ)) (text : List ℕ) → Appends old later text → AppendsFront old later text
+whole_front old later text all = (text, [], sym (append-nil text), all)
+
+none_front : (old later : Option (List ℕ)) (text : List ℕ) → Appends old later [] → AppendsFront old later text
+none_front old later text nothing = ([], text, refl, nothing)
+
 module _ {S : Type 0} (held : S → Option Held) (made : S → List Exchange → S → Type 0) (seen : Seen S) (lines : List Line) (results : List (Driven Outcome)) (performed : Performed held made seen lines results) where
-  -- the line of a result, and its job
-  job_at : (i : ℕ) (result : Driven Outcome) → slice_get results i ≡ Some result → (line : Line) × (job : Job) × (slice_get lines i ≡ Some line) × (slice_get performed.jobs i ≡ Some job) × IsJobOf (id_of seen.seed 0 (1 + i)) line job
-  job_at i result at =
-      let all = performed.run.driven in
-      let (job, is_job) = item_at results performed.jobs i all.one_each (slice_get_within results i result at) in
-      let (line, is_line) = item_at performed.jobs lines i performed.of_lines.one_each (slice_get_within performed.jobs i job is_job) in
-      (line, job, is_line, is_job, performed.of_lines.each i line job is_line is_job)
+  -- the lines in lane order
+  abbrev items : List Numbered
+  items = in_lane_order lines
 
   -- no command was stopped
   none_stopped : (i : ℕ) → slice_get results i ≡ Some Stopped → ⊥
   none_stopped i at =
-      let (line, job, is_line, is_job, is) = job_at i Stopped at in
-      let (call, may, cut) = (performed.run.driven.driven i job Stopped is_job at).ends in
+      let all = performed.run.driven in
+      let (job, is_job) = item_at results performed.jobs i all.one_each (slice_get_within results i Stopped at) in
+      let (item, is_item) = item_at performed.jobs items i performed.of_lines.one_each (slice_get_within performed.jobs i job is_job) in
+      let is = performed.of_lines.each i item job is_item is_job in
+      let (call, may, cut) = (all.driven i job Stopped is_job at).ends in
       true≢false (sym cut ∙ ap (λ stop. cuts stop (length (trace_of i performed.run.told)) call) is.stop)
 
-  kept_promise : seen.seed < 2 ^ 64 → AreLimited lines → Means seen.input.old (Ok lines) → PrintsEnds seen.out (ends_text lines results) seen.status
+  -- a text that was printed has a front that was
+  front_of : (text : List ℕ) (printed : ℕ) → PrintsEnds seen.out text printed seen.status → AppendsFront seen.out.old seen.out.new text
+  front_of text printed (whole is unhurt all) = whole_front seen.out.old seen.out.new text all
+  front_of text printed (sink_failed is rose front) = front
+  front_of text printed (no_text is nothing) = none_front seen.out.old seen.out.new text nothing
+
+  -- and with status 0 or 6 it was printed whole
+  whole_of : (text : List ℕ) (printed : ℕ) → PrintsEnds seen.out text printed seen.status → (seen.status ≡ 0) ⊎ (seen.status ≡ 6) → Appends seen.out.old seen.out.new text
+  whole_of text printed (whole is unhurt all) e = all
+  whole_of text printed (sink_failed is rose front) (inl e) = absurd (let none : ⊥ = omega (arith, is, e) in none)
+  whole_of text printed (sink_failed is rose front) (inr e) = absurd (let none : ⊥ = omega (arith, is, e) in none)
+  whole_of text printed (no_text is nothing) (inl e) = absurd (let none : ⊥ = omega (arith, is, e) in none)
+  whole_of text printed (no_text is nothing) (inr e) = absurd (let none : ⊥ = omega (arith, is, e) in none)
+
+  kept_promise : (single : Bool) → seen.seed < 2 ^ 64 → AreLimited lines → AskFor seen.words seen.input.old (Ok lines) → PrintsEnds seen.out (ends_text items results) (status_printed single results) seen.status
       → (m : Held) → held seen.store ≡ Some m → (past : History) → IsStored m past → IsFreshSeed m past seen.seed → Promise held seen past
-  kept_promise seed_fits limited means prints m holds past stands fresh =
+  kept_promise single seed_fits limited asks prints m holds past stands fresh =
       let run = performed.run in
       let jobs = performed.jobs in
-      let over = subst (λ o. IfSome o (λ n. IsRunOver run_spelled seen.seed (one_lane 0) jobs n (held seen.later) seen.journal run.told results)) holds run.over in
+      let over = subst (λ o. IfSome o (λ n. IsRunOver run_spelled seen.seed (lanes_of items) jobs n (held seen.later) seen.journal run.told results)) holds run.over in
       let (ends, are) = all_ends results none_stopped in
       let now = history_told jobs past run.told in
       let stored : IsStored (held_after m seen.journal) now = subst (λ es. IsStored (held_after m es) now) run.entries ((over.true_run past stands fresh).stands run.told [] (sym (append-nil run.told))) in
-      let lanes = run.in_lanes in
-      let all = after_all seen.seed lines jobs past m run.told results performed.of_lines stands fresh seed_fits limited over.replied run.suit run.owned lanes.within lanes.in_turn run.driven in
+      let order : AreInOrder items = in_order lines (omega (arith, limited.few)) limited.fit in
+      let count : length ends ≡ length items = sym (ends_count ends) ∙ ap length (sym are) ∙ run.driven.one_each ∙ performed.of_lines.one_each in
+      let so_far : ℕ → History = after seen.gives seen.seed items jobs past m run.told results performed.of_lines order stands fresh seed_fits over.replied run.suit run.owned run.in_lanes.within performed.in_turn run.driven in
+      let all = after_all seen.gives seen.seed items jobs past m run.told results performed.of_lines order stands fresh seed_fits over.replied run.suit run.owned run.in_lanes.within performed.in_turn run.driven in
       record {
         lines = lines;
-        script = means;
+        asked = asks;
         ends = ends;
-        one_each = sym (ends_count ends) ∙ ap length (sym are) ∙ run.driven.one_each ∙ performed.of_lines.one_each;
-        after = after seen.seed lines jobs past m run.told results performed.of_lines stands fresh seed_fits limited over.replied run.suit run.owned lanes.within lanes.in_turn run.driven;
-        first = after_none seen.seed lines jobs past m run.told results performed.of_lines stands fresh seed_fits limited over.replied run.suit run.owned lanes.within lanes.in_turn run.driven;
-        done = λ i line end is_line is_end.
-            is_done seen.seed lines jobs past m run.told results performed.of_lines stands fresh seed_fits limited over.replied run.suit run.owned lanes.within lanes.in_turn run.driven i line end is_line
+        one_each = count ∙ each_line lines limited.fit;
+        after = so_far;
+        first = after_none seen.gives seen.seed items jobs past m run.told results performed.of_lines order stands fresh seed_fits over.replied run.suit run.owned run.in_lanes.within performed.in_turn run.driven;
+        done = λ i item end is_item is_end.
+            is_done seen.gives seen.seed items jobs past m run.told results performed.of_lines order stands fresh seed_fits over.replied run.suit run.owned run.in_lanes.within performed.in_turn run.driven i item end is_item
             (ap (λ rs. slice_get rs i) are ∙ end_at ends i end is_end);
-        stored = (held_after m seen.journal, over.held, subst (IsStored (held_after m seen.journal)) (sym all) stored);
-        front = subst (λ rs. AppendsFront seen.out.old seen.out.new (ends_text lines rs)) are prints.front;
-        whole = λ done. subst (λ rs. Appends seen.out.old seen.out.new (ends_text lines rs)) are (prints.done done);
+        stored = (held_after m seen.journal, over.held, subst (IsStored (held_after m seen.journal)) (sym (ap so_far count ∙ all)) stored);
+        front = subst (λ rs. AppendsFront seen.out.old seen.out.new (ends_text items rs)) are (front_of (ends_text items results) (status_printed single results) prints);
+        whole = λ done. subst (λ rs. Appends seen.out.old seen.out.new (ends_text items rs)) are (whole_of (ends_text items results) (status_printed single results) prints done);
       }
 
 -- ---- every run
@@ -547,35 +691,41 @@ module _ {S : Type 0} (held : S → Option Held) (made : S → List Exchange →
 module _ {S : Type 0} (held : S → Option Held) (made : S → List Exchange → S → Type 0) (seen : Seen S) where
   -- a run that stopped before its first command had another status, and made no call
   not_begun : (stop : Stop) → HasStopped seen stop → Began seen → ⊥
-  not_begun stop h (inr (inr called)) = called h.journal
+  not_begun stop h (inr (inr (inr called))) = called h.journal
   not_begun Usage h (inl e) = let none : ⊥ = omega (arith, h.status, e) in none
   not_begun Usage h (inr (inl e)) = let none : ⊥ = omega (arith, h.status, e) in none
+  not_begun Usage h (inr (inr (inl e))) = let none : ⊥ = omega (arith, h.status, e) in none
   not_begun (BadScript n) h (inl e) = let none : ⊥ = omega (arith, h.status, e) in none
   not_begun (BadScript n) h (inr (inl e)) = let none : ⊥ = omega (arith, h.status, e) in none
+  not_begun (BadScript n) h (inr (inr (inl e))) = let none : ⊥ = omega (arith, h.status, e) in none
   not_begun (NoForm n) h (inl e) = let none : ⊥ = omega (arith, h.status, e) in none
   not_begun (NoForm n) h (inr (inl e)) = let none : ⊥ = omega (arith, h.status, e) in none
+  not_begun (NoForm n) h (inr (inr (inl e))) = let none : ⊥ = omega (arith, h.status, e) in none
   not_begun ReadFault h (inl e) = let none : ⊥ = omega (arith, h.status, e) in none
   not_begun ReadFault h (inr (inl e)) = let none : ⊥ = omega (arith, h.status, e) in none
+  not_begun ReadFault h (inr (inr (inl e))) = let none : ⊥ = omega (arith, h.status, e) in none
   not_begun OutOfMemory h (inl e) = let none : ⊥ = omega (arith, h.status, e) in none
   not_begun OutOfMemory h (inr (inl e)) = let none : ⊥ = omega (arith, h.status, e) in none
+  not_begun OutOfMemory h (inr (inr (inl e))) = let none : ⊥ = omega (arith, h.status, e) in none
 
   -- nor did one begin that had no memory to begin with
   not_begun_short : seen.status ≡ 7 → seen.journal ≡ [] → Began seen → ⊥
   not_begun_short seven silent (inl e) = let none : ⊥ = omega (arith, seven, e) in none
   not_begun_short seven silent (inr (inl e)) = let none : ⊥ = omega (arith, seven, e) in none
-  not_begun_short seven silent (inr (inr called)) = called silent
+  not_begun_short seven silent (inr (inr (inl e))) = let none : ⊥ = omega (arith, seven, e) in none
+  not_begun_short seven silent (inr (inr (inr called))) = called silent
 
   -- a run that stopped promises nothing
   pub promise_stopped : (stop : Stop) → HasStopped seen stop → Promised held seen
   promise_stopped stop h = record { over = λ begun m holds past stands fresh. absurd (not_begun stop h begun); from_nothing = λ begun holds. absurd (not_begun stop h begun) }
 
-  module _ (lines : List Line) (seed_fits : seen.seed < 2 ^ 64) (limited : AreLimited lines) (means : Means seen.input.old (Ok lines)) where
-    over_any : Plays held made seen lines → Began seen → (m : Held) → held seen.store ≡ Some m → (past : History) → IsStored m past → IsFreshSeed m past seen.seed → Promise held seen past
-    over_any (ended results performed prints) begun m holds past stands fresh = kept_promise held made seen lines results performed seed_fits limited means prints m holds past stands fresh
+  module _ (single : Bool) (lines : List Line) (seed_fits : seen.seed < 2 ^ 64) (limited : AreLimited lines) (asks : AskFor seen.words seen.input.old (Ok lines)) where
+    over_any : Plays held made seen single lines → Began seen → (m : Held) → held seen.store ≡ Some m → (past : History) → IsStored m past → IsFreshSeed m past seen.seed → Promise held seen past
+    over_any (ended results performed prints) begun m holds past stands fresh = kept_promise held made seen lines results performed single seed_fits limited asks prints m holds past stands fresh
     over_any (ran_short seven silent same nothing) begun m holds past stands fresh = absurd (not_begun_short seven silent begun)
 
-    -- a run that did the commands of a script keeps its promise
-    pub promise_played : Plays held made seen lines → Promised held seen
+    -- a run that did its commands keeps its promise
+    pub promise_played : Plays held made seen single lines → Promised held seen
     promise_played plays = record {
       over = over_any plays;
       from_nothing = λ begun holds. over_any plays begun _ holds [] (nothing_stands run_spelled) (fresh_over_nothing seen.seed);

@@ -1,10 +1,6 @@
 pub mod Ends
-pub mod Forms
-pub mod Lines
 pub mod Notices
+pub mod Items
 pub mod Runners
-pub mod Script
-pub mod Words
-pub mod Values
 pub mod Seen
 pub mod Promise

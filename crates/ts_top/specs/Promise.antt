@@ -1,5 +1,5 @@
 -- What a run promises: what its printed text and the end of each command mean, in words of the history.
-use Rattle.std.specs.Prelude.{◌≡◌, ℕ, ◌+◌, List, [], ◌∷◌, ◌++◌, Option, Some, Ok, length, slice_get, map as list_map, Contains, ⊤, ◌⊎◌}
+use Rattle.std.specs.Prelude.{◌≡◌, ℕ, ◌+◌, Bool, List, [], ◌∷◌, ◌++◌, Option, Some, Ok, length, slice_get, map as list_map, Contains, ◌⊎◌}
 use Rattle.std.specs.Io.KnownBytes.{Appends}
 use Rattle.std.specs.FinMap as map
 use Rattle.ts_base.specs.Held.{Held}
@@ -23,28 +23,24 @@ use Rattle.ts_model.specs.declared.answers.Refusal.TheVariants as refusal
 use Rattle.ts_model.specs.declared.answers.Driven.TheVariants.{Done}
 use Rattle.ts_model.specs.declared.deeds.Deed.{Deed}
 use Rattle.ts_model.specs.declared.deeds.Deed.TheVariants.{Framed, Declared, Wrote, Erased}
-use Rattle.ts_model.specs.Deeds.{History, frame_in, schema_with, schema_there, schemas, writes, erases, IsNewKey}
+use Rattle.ts_model.specs.Deeds.{History, frame_in, schema_with, schema_there, writes, deletions, IsNewKey}
 use Rattle.ts_model.specs.Answers.{IsAnswer}
 use Rattle.ts_model.specs.Commands.{frame_made, laid}
-use Rattle.ts_model.specs.Queries.{erasing_in}
+use Rattle.ts_model.specs.Queries.{delete_condition}
 use Rattle.ts_law.specs.Ends.{kind_of}
-use Rattle.ts_law.specs.Fresh.{IsFreshSeed, id_of}
+use Rattle.ts_law.specs.Fresh.{IsFreshSeed, IsStampOf, Numbered, command_at, id_of, in_lane_order}
 use Rattle.ts_law.specs.Stands.{Stands}
 use Rattle.ts_top.specs.Ends.{ends_text}
 use Rattle.ts_top.specs.Runners.{run_spelled}
-use Rattle.ts_top.specs.Seen.{Seen, Means}
+use Rattle.ts_top.specs.Seen.{Seen, AskFor}
 
 -- a history goes on from another: deeds came after it
-abbrev pub GoesOn : History → History → Type 0
-GoesOn sooner later = (deeds : List Deed) × (later ≡ sooner ++ deeds)
+abbrev pub Extends : History → History → Type 0
+Extends sooner later = (deeds : List Deed) × (later ≡ sooner ++ deeds)
 
--- a schema held at a timestamp, at some time while the history went from `before` to `now`
-abbrev pub HeldOnce : History → History → ℕ → Schema → Type 0
-HeldOnce before now t schema = (once : History) × GoesOn before once × GoesOn once now × (schema_there once t ≡ Some schema)
-
--- the key of a command in the one lane, counted from 0: its stamp, and its identifier
-abbrev pub key_at : ℕ → ℕ → Line → Key
-key_at seed i line = record { t = line.at; id = id_of seed 0 (1 + i) }
+-- a schema held at the stamp of a command with the key, at some time while the history went from `before` to `now`, when it had no deed of the command
+abbrev pub HeldOnce : History → History → Key → Schema → Type 0
+HeldOnce before now k schema = (once : History) × Extends before once × Extends once now × IsNewKey once k × (schema_there once k.t ≡ Some schema)
 
 -- faults of a command's own puts: of its commit, and of its schema
 abbrev pub own_faults : Key → Command → List Refusal
@@ -57,62 +53,67 @@ TellsRefusal now k command (refusal.Damaged n at) = ⊥
 TellsRefusal now k command (refusal.Taken n) = ⊥
 TellsRefusal now k command r = IsNewKey now k ⊎ Contains (own_faults k command) r
 
--- what the end of a command with the key tells of the histories before and after it; a read does nothing, so it reads the one history
+-- what the end of a command with the key tells of the histories before and after it; a read does nothing, so it reads the one history, and one that ran short of memory has no deed of its key
 abbrev pub Tells : History → History → Key → Outcome → Command → Type 0
 Tells before now k (outcome.Read answer) (Read from to query) = IsAnswer now now from to query answer
 Tells before now k outcome.Created (Create made) = (frame_in now ≡ Some (frame_made made)) × (schema_with now k ≡ Some (record { key = k; attrs = made.attrs }))
-Tells before now k (outcome.Evolved n) (Evolve change) = (n ≡ k) × (there : Schema) × HeldOnce before now k.t there × (schema_with now k ≡ Some (record { key = k; attrs = evolved_attrs there.attrs change }))
+Tells before now k (outcome.Evolved n) (Evolve change) = (n ≡ k) × (there : Schema) × HeldOnce before now k there × (schema_with now k ≡ Some (record { key = k; attrs = evolved_attrs there.attrs change }))
 Tells before now k (outcome.Written f) (Write columns) =
-    (f ≡ frag_of k) × (there : Schema) × HeldOnce before now k.t there × (frame : Frame) × (frame_in now ≡ Some frame)
+    (f ≡ frag_of k) × (there : Schema) × HeldOnce before now k there × (frame : Frame) × (frame_in now ≡ Some frame)
     × (cells : List Cell) × (laid frame there.attrs columns ≡ Ok cells) × Contains (writes now) (record { key = k; schema = there.key; cells = cells })
 Tells before now k (outcome.Deleted f) (Delete text) =
-    (f ≡ frag_of k) × (there : Schema) × HeldOnce before now k.t there × (frame : Frame) × (frame_in now ≡ Some frame)
-    × (condition : Condition) × (erasing_in frame there.attrs text ≡ Ok condition) × Contains (erases now) (record { key = k; cond = condition })
+    (f ≡ frag_of k) × (there : Schema) × HeldOnce before now k there × (frame : Frame) × (frame_in now ≡ Some frame)
+    × (condition : Condition) × (delete_condition frame there.attrs text ≡ Ok condition) × Contains (deletions now) (record { key = k; cond = condition })
 Tells before now k (outcome.Refused r) command = TellsRefusal now k command r
-Tells before now k outcome.OutOfMemory command = ⊤
+Tells before now k outcome.OutOfMemory command = IsNewKey now k
 Tells before now k _ _ = ⊥
 
--- a deed that a command with the key may do, in the frame of the history and a schema of it
-abbrev pub IsDeedOf : History → Key → Command → Deed → Type 0
-IsDeedOf now k (Create made) (Framed frame) = frame ≡ frame_made made
-IsDeedOf now k (Create made) (Declared s) = s ≡ record { key = k; attrs = made.attrs }
-IsDeedOf now k (Evolve change) (Declared s) = (there : Schema) × Contains (schemas now) there × (s ≡ record { key = k; attrs = evolved_attrs there.attrs change })
-IsDeedOf now k (Write columns) (Wrote w) =
-    (frame : Frame) × (frame_in now ≡ Some frame) × (there : Schema) × Contains (schemas now) there
+-- a deed that a command with the key may do, where the history was `before` as the command began and is `h` as it does the deed
+abbrev pub IsDeedOf : History → History → Key → Command → Deed → Type 0
+IsDeedOf before h k (Create made) (Framed frame) = frame ≡ frame_made made
+IsDeedOf before h k (Create made) (Declared s) = s ≡ record { key = k; attrs = made.attrs }
+IsDeedOf before h k (Evolve change) (Declared s) = (there : Schema) × HeldOnce before h k there × (s ≡ record { key = k; attrs = evolved_attrs there.attrs change })
+IsDeedOf before h k (Write columns) (Wrote w) =
+    (there : Schema) × HeldOnce before h k there × (frame : Frame) × (frame_in h ≡ Some frame)
     × (cells : List Cell) × (laid frame there.attrs columns ≡ Ok cells) × (w ≡ record { key = k; schema = there.key; cells = cells })
-IsDeedOf now k (Delete text) (Erased e) =
-    (frame : Frame) × (frame_in now ≡ Some frame) × (there : Schema) × Contains (schemas now) there
-    × (condition : Condition) × (erasing_in frame there.attrs text ≡ Ok condition) × (e ≡ record { key = k; cond = condition })
-IsDeedOf now k _ _ = ⊥
+IsDeedOf before h k (Delete text) (Erased e) =
+    (there : Schema) × HeldOnce before h k there × (frame : Frame) × (frame_in h ≡ Some frame)
+    × (condition : Condition) × (delete_condition frame there.attrs text ≡ Ok condition) × (e ≡ record { key = k; cond = condition })
+IsDeedOf before h k _ _ = ⊥
 
--- a command was done: each deed that came is one of it, and its end tells the truth
+-- a command was done: each deed that came is one of it, over the history before the deed, and its end tells the truth
 pub record IsDone (before now : History) (k : Key) (end : Outcome) (command : Command) : Type 0 where
   pub deeds : List Deed
   pub goes_on : now ≡ before ++ deeds
-  pub own : (d : Deed) → Contains deeds d → IsDeedOf now k command d
+  pub own : (front back : List Deed) (d : Deed) → deeds ≡ front ++ d ∷ back → IsDeedOf before (before ++ front) k command d
   pub tells : Tells before now k end command
+
+-- the command of a line was done, at a stamp of the line: its key is that stamp, with the identifier that is made of the seed, the line's lane and its number there
+abbrev pub IsLineDone : (ℕ → Bool) → ℕ → History → History → Numbered → Outcome → Type 0
+IsLineDone gives seed before now item end =
+    (at : ℕ) × IsStampOf gives item.line at × IsDone before now (record { t = at; id = id_of seed item.line.lane item.number }) end (command_at item.line at)
 
 -- the objects stand for the history, as the program spells them
 abbrev pub IsStored : Held → History → Type 0
 IsStored m h = Stands run_spelled m h
 
--- what a run promises over a history: the commands of the script were done one after the other, with these ends; the store holds what stands for the history after them; and what was printed is the text of the ends, with status 0, or a front of it
+-- what a run promises over a history: the commands that were asked for were done one after the other in lane order, with these ends; the store holds what stands for the history after them; and what was printed is the text of the ends, with status 0 or 6, or a front of it
 pub record Promise {S : Type 0} (held : S → Option Held) (seen : Seen S) (past : History) : Type 0 where
   pub lines : List Line
-  pub script : Means seen.input.old (Ok lines)
+  pub asked : AskFor seen.words seen.input.old (Ok lines)
   pub ends : List Outcome
   pub one_each : length ends ≡ length lines
   -- the history after so many commands
   pub after : ℕ → History
   pub first : after 0 ≡ past
-  pub done : (i : ℕ) (line : Line) (end : Outcome) → slice_get lines i ≡ Some line → slice_get ends i ≡ Some end → IsDone (after i) (after (i + 1)) (key_at seen.seed i line) end line.command
-  pub stored : (m : Held) × (held seen.later ≡ Some m) × IsStored m (after (length lines))
-  pub front : AppendsFront seen.out.old seen.out.new (ends_text lines (list_map Done ends))
-  pub whole : seen.status ≡ 0 → Appends seen.out.old seen.out.new (ends_text lines (list_map Done ends))
+  pub done : (i : ℕ) (item : Numbered) (end : Outcome) → slice_get (in_lane_order lines) i ≡ Some item → slice_get ends i ≡ Some end → IsLineDone seen.gives seen.seed (after i) (after (i + 1)) item end
+  pub stored : (m : Held) × (held seen.later ≡ Some m) × IsStored m (after (length ends))
+  pub front : AppendsFront seen.out.old seen.out.new (ends_text (in_lane_order lines) (list_map Done ends))
+  pub whole : (seen.status ≡ 0) ⊎ (seen.status ≡ 6) → Appends seen.out.old seen.out.new (ends_text (in_lane_order lines) (list_map Done ends))
 
 -- the run began with its commands, by its status or by a call that it made of the store
 abbrev pub Began : {S : Type 0} → Seen S → Type 0
-Began seen = (seen.status ≡ 0) ⊎ (seen.status ≡ 5) ⊎ (seen.journal ≡ [] → ⊥)
+Began seen = (seen.status ≡ 0) ⊎ (seen.status ≡ 5) ⊎ (seen.status ≡ 6) ⊎ (seen.journal ≡ [] → ⊥)
 
 -- a run that began keeps the promise: over a store that held what stands for a history, where the seed is fresh, and with any seed over a store that held nothing
 pub record Promised {S : Type 0} (held : S → Option Held) (seen : Seen S) : Type 0 where

@@ -1,5 +1,5 @@
 -- What doing jobs keeps, and what the program does them by.
-use Rattle.std.specs.Prelude.{ℕ, ◌+◌, ◌≤◌, List, Option}
+use Rattle.std.specs.Prelude.{ℕ, ◌+◌, ◌≤◌, Bool, List, Option}
 use Rattle.ts_base.specs.Held.{Held}
 use Rattle.ts_base.specs.declared.heads.Version.{Version}
 use Rattle.ts_store.specs.declared.call.Call.{Call}
@@ -8,11 +8,16 @@ use Rattle.ts_store.specs.declared.fate.Fate.{Fate}
 use Rattle.ts_store.specs.declared.journal.Entry.{Entry}
 use Rattle.ts_store.specs.Counts.{capped}
 use Rattle.ts_store.specs.Journals.{failures}
-use Rattle.ts_model.specs.Forms.{Forms, Spelled}
+use Rattle.ts_model.specs.declared.answers.Driven.{Driven}
+use Rattle.ts_model.specs.declared.answers.Outcome.{Outcome}
+use Rattle.ts_model.specs.declared.commands.Job.{Job}
+use Rattle.ts_model.specs.Codecs.{Codec, Spelled}
 use Rattle.ts_model.specs.States.{Exchange}
+use Rattle.ts_law.specs.Doing.{AllRan, RanOver}
+use Rattle.ts_law.specs.Fresh.{AreJobsOf, IsStampOf, Numbered, id_of, job_from}
 use Rattle.ts_plain.specs.Pieces.{IsPlain}
 use Rattle.ts_actor.specs.Drives.{Called, MadeOf}
-use Rattle.ts_actor.specs.PlainForms.{plain_forms}
+use Rattle.ts_actor.specs.PlainCodec.{plain_codec}
 
 -- where a store's count of faults kept up with the failed calls of the journal before, it does so now
 abbrev pub KeepsCount : ℕ → ℕ → List Entry → List Entry → Type 0
@@ -23,9 +28,21 @@ abbrev pub JustMade : {S : Type 0} → (S → Option Held) → (S → Fate) → 
 JustMade held last faults notes before calls later = MadeOf (Called held last faults notes) before calls later
 
 -- the functions of the program's way to write fragments
-abbrev pub run_forms : Forms (List Version)
-run_forms = plain_forms
+abbrev pub run_codec : Codec (List Version)
+run_codec = plain_codec
 
 -- how fragments that are written so spell their pieces
 abbrev pub run_spelled : Spelled
 run_spelled = IsPlain
+
+-- the command of a line was done, as a job of it in its lane, at a stamp of the line
+pub record RanLine {S : Type 0} (held : S → Option Held) (made : S → List Exchange → S → Type 0) (gives : ℕ → Bool) (seed : ℕ) (item : Numbered) (store later : S) (before after : List Entry) (result : Driven Outcome) : Type 0 where
+  pub at : ℕ
+  pub stamp : IsStampOf gives item.line at
+  pub ran : (number : ℕ) → RanOver run_codec held made number item.line.lane (job_from (id_of seed item.line.lane item.number) item.line at) store later before after result
+
+-- the commands of lines, whose jobs have these lanes, were done one after the other
+pub record RanLines {S : Type 0} (held : S → Option Held) (made : S → List Exchange → S → Type 0) (gives : ℕ → Bool) (seed : ℕ) (lanes : ℕ → ℕ) (items : List Numbered) (store later : S) (before after : List Entry) (results : List (Driven Outcome)) : Type 0 where
+  pub jobs : List Job
+  pub of_lines : AreJobsOf gives seed items jobs
+  pub ran : AllRan run_codec held made lanes jobs store later before after results

@@ -1,5 +1,5 @@
 -- What is seen of a run of the program, and what a run may be.
-use Rattle.std.specs.Prelude.{◌≡◌, ℕ, ◌⊎◌, List, [], Option, Some, None, Result, Ok, Err, IfSome}
+use Rattle.std.specs.Prelude.{◌≡◌, ℕ, List, [], ◌∷◌, Bool, true, false, Option, Some, None, Result, Ok, Err, IfSome, ⊤}
 use Rattle.std.specs.Io.KnownBytes.{Appends}
 use Rattle.ts_base.specs.Held.{Held}
 use Rattle.ts_store.specs.Counts.{Rose}
@@ -8,17 +8,23 @@ use Rattle.ts_store.specs.declared.journal.Entry.{Entry}
 use Rattle.ts_model.specs.declared.commands.Line.{Line}
 use Rattle.ts_model.specs.declared.answers.Driven.{Driven}
 use Rattle.ts_model.specs.declared.answers.Outcome.{Outcome}
+use Rattle.ts_model.specs.declared.answers.Refusal.{Refusal}
 use Rattle.ts_model.specs.declared.commands.Job.{Job}
 use Rattle.ts_model.specs.States.{Exchange}
-use Rattle.ts_law.specs.Fresh.{AreJobsOf}
-use Rattle.ts_law.specs.Lanes.{one_lane}
+use Rattle.ts_law.specs.Fresh.{AreJobsOf, in_lane_order, lanes_of}
+use Rattle.ts_law.specs.Lanes.{InTurn, one_lane}
 use Rattle.ts_law.specs.Runs.{IsRun}
+use Rattle.ts_top.specs.declared.top.Prepared.{Prepared}
 use Rattle.ts_top.specs.declared.top.Stop.{Stop}
 use Rattle.ts_top.specs.declared.top.Stop.TheVariants.{Usage, BadScript, NoForm, ReadFault, OutOfMemory}
-use Rattle.ts_top.specs.declared.words.Asked.TheVariants.{Play}
-use Rattle.ts_top.specs.Runners.{run_forms, run_spelled}
-use Rattle.ts_top.specs.Words.{asked}
-use Rattle.ts_top.specs.Script.{Fault, Bad, NotBuilt, script_of}
+use Rattle.ts_model.specs.declared.answers.Driven.TheVariants.{Done}
+use Rattle.ts_model.specs.declared.answers.Outcome.TheVariants.{Refused, OutOfMemory as NoMemory}
+use Rattle.ts_script.specs.declared.words.Asked.{Asked}
+use Rattle.ts_script.specs.declared.words.Asked.TheVariants.{Command as Alone}
+use Rattle.ts_top.specs.Runners.{run_codec, run_spelled}
+use Rattle.ts_script.specs.Words.{asked}
+use Rattle.ts_script.specs.Script.{Fault, Bad, NotBuilt}
+use Rattle.ts_script.specs.Meanings.{has_input, is_single, meaning}
 use Rattle.ts_top.specs.Notices.{usage_text, bad_script_text, not_built_text}
 use Rattle.ts_top.specs.Ends.{ends_text}
 
@@ -33,10 +39,11 @@ pub record Stream : Type 0 where
 abbrev pub stream : {X : Type 0} → (X → Option (List ℕ)) → (X → ℕ) → X → X → Stream
 stream bytes faults before later = record { old = bytes before; new = bytes later; before = faults before; now = faults later }
 
--- what is seen of a run: its words and seed, the bytes that its source had left, those that its sink holds, its store before and after, its status and its journal
+-- what is seen of a run: its words and seed, the numbers that its clock may give, the bytes that its source had left, those that its sink holds, its store before and after, its status and its journal
 pub record Seen (S : Type 0) : Type 0 where
   pub words : List (List ℕ)
   pub seed : ℕ
+  pub gives : ℕ → Bool
   pub input : Stream
   pub out : Stream
   pub store : S
@@ -62,9 +69,14 @@ stop_text (NoForm n) = not_built_text n
 stop_text ReadFault = []
 stop_text OutOfMemory = []
 
--- the whole input is this script, where the source tells it
-abbrev pub Means : Option (List ℕ) → Result (List Line) Fault → Type 0
-Means told script = IfSome told (λ input. script_of input ≡ script)
+-- what is asked for stands for this: where there is an input, some bytes tell it, and they are the whole input where the source tells that
+abbrev pub Means : Asked → Option (List ℕ) → Result (List Line) Fault → Type 0
+Means (Alone line) told said = said ≡ Ok (line ∷ [])
+Means job told said = (input : List ℕ) × IfSome told (λ all. input ≡ all) × (meaning job input ≡ said)
+
+-- the words ask for what stands for this
+abbrev pub AskFor : List (List ℕ) → Option (List ℕ) → Result (List Line) Fault → Type 0
+AskFor words told said = (job : Asked) × (asked words ≡ Some job) × Means job told said
 
 -- nothing was read
 abbrev pub IsUnread : Stream → Type 0
@@ -74,20 +86,22 @@ IsUnread input = (input.new ≡ input.old) × (input.now ≡ input.before)
 abbrev pub IsFrontRead : Stream → Type 0
 IsFrontRead input = (taken : List ℕ) × TakesInput input.old input.new taken
 
--- the script that was asked for is none: no read failed, and no more was read than a script may have and one byte more
-pub record IsNoScript (words : List (List ℕ)) (input : Stream) (fault : Fault) : Type 0 where
-  pub play : asked words ≡ Some Play
-  pub means : Means input.old (Err fault)
+-- the input that was asked for is no script, or no object of the single command: no read failed, and no more was read than an input may have and one byte more
+pub record IsNoInput (words : List (List ℕ)) (input : Stream) (fault : Fault) : Type 0 where
+  pub job : Asked
+  pub asks : asked words ≡ Some job
+  pub has : has_input job ≡ true
+  pub means : Means job input.old (Err fault)
   pub front : IsFrontRead input
   pub unhurt : input.now ≡ input.before
 
 -- why the run stopped
 abbrev pub HasReason : List (List ℕ) → Stream → Stop → Type 0
 HasReason words input Usage = (asked words ≡ None) × IsUnread input
-HasReason words input (BadScript n) = IsNoScript words input (Bad n)
-HasReason words input (NoForm n) = IsNoScript words input (NotBuilt n)
-HasReason words input ReadFault = (asked words ≡ Some Play) × Rose input.before input.now
-HasReason words input OutOfMemory = asked words ≡ Some Play
+HasReason words input (BadScript n) = IsNoInput words input (Bad n)
+HasReason words input (NoForm n) = IsNoInput words input (NotBuilt n)
+HasReason words input ReadFault = (job : Asked) × (asked words ≡ Some job) × (has_input job ≡ true) × Rose input.before input.now
+HasReason words input OutOfMemory = ⊤
 
 -- a line was printed: a front of it, and all of it unless the sink failed
 pub record Prints (out : Stream) (text : List ℕ) : Type 0 where
@@ -102,40 +116,79 @@ pub record Stopped {S : Type 0} (seen : Seen S) (stop : Stop) : Type 0 where
   pub journal : seen.journal ≡ []
   pub untouched : seen.later ≡ seen.store
 
--- ---- runs that do the commands of a script
+-- ---- runs that do commands
 
--- the script was read: to its end, with no failed read
-pub record IsRead (words : List (List ℕ)) (input : Stream) (lines : List Line) : Type 0 where
-  pub play : asked words ≡ Some Play
-  pub means : Means input.old (Ok lines)
-  pub to_end : IfSome input.old (λ _. input.new ≡ Some [])
-  pub unhurt : input.now ≡ input.before
+-- the input was read to its end, with no failed read; a command without one read nothing
+abbrev pub IsInputRead : Asked → Stream → Type 0
+IsInputRead (Alone line) input = IsUnread input
+IsInputRead job input = IfSome input.old (λ _. input.new ≡ Some []) × (input.now ≡ input.before)
 
--- the ends were printed: all of them with status 0, else a front of the text; with status 5 the sink failed
-pub record PrintsEnds (out : Stream) (text : List ℕ) (status : ℕ) : Type 0 where
-  pub front : AppendsFront out.old out.new text
-  pub known : (status ≡ 0) ⊎ (status ≡ 5) ⊎ (status ≡ 7)
-  pub done : status ≡ 0 → Appends out.old out.new text
-  pub fault : status ≡ 5 → Rose out.before out.now
+-- the lines are those that were asked for
+pub record IsRead (words : List (List ℕ)) (input : Stream) (job : Asked) (lines : List Line) : Type 0 where
+  pub asks : asked words ≡ Some job
+  pub means : Means job input.old (Ok lines)
+  pub read : IsInputRead job input
+
+-- the lines were read that the words ask for, and whether they are a single command
+abbrev pub IsPrepared : List (List ℕ) → Stream → Prepared → Type 0
+IsPrepared words input prepared = (job : Asked) × IsRead words input job prepared.lines × (prepared.single ≡ is_single job)
+
+-- the input was read up to its limit where there is one, and else nothing was
+abbrev pub IsTaken : Bool → Stream → List ℕ → Type 0
+IsTaken true input bytes = TakesInput input.old input.new bytes × (input.now ≡ input.before)
+IsTaken false input bytes = (bytes ≡ []) × IsUnread input
+
+-- the status of a single command that ended so: 6 where it was refused, 7 where it found no memory, and else 0
+abbrev pub status_alone : Outcome → ℕ
+status_alone (Refused r) = 6
+status_alone NoMemory = 7
+status_alone _ = 0
+
+-- the status of these ends, once they are printed: that of the single command, and 0 of a script
+abbrev pub status_printed : Bool → List (Driven Outcome) → ℕ
+status_printed true (Done end ∷ []) = status_alone end
+status_printed _ _ = 0
+
+-- the ends were printed, no write failed, and the run has the status that they give; or the sink failed, with status 5 and a front of the text; or there was no memory for the text, with status 7 and nothing printed
+pub data PrintsEnds (out : Stream) (text : List ℕ) (printed status : ℕ) : Type 0 where
+  whole : status ≡ printed → out.now ≡ out.before → Appends out.old out.new text → PrintsEnds out text printed status
+  sink_failed : status ≡ 5 → Rose out.before out.now → AppendsFront out.old out.new text → PrintsEnds out text printed status
+  no_text : status ≡ 7 → Appends out.old out.new [] → PrintsEnds out text printed status
 
 -- below `held` is what a store holds, where it tells that, and `made` that just these calls were made of it
 
--- the commands were done, each as a job of its line: the journal and how they came out are a run of these, in one lane
+-- the commands were done one after the other in lane order, each as a job of its line: the journal and how they came out are a run of these, each in its lane
 pub record Performed {S : Type 0} (held : S → Option Held) (made : S → List Exchange → S → Type 0) (seen : Seen S) (lines : List Line) (results : List (Driven Outcome)) : Type 0 where
   pub jobs : List Job
-  pub of_lines : AreJobsOf seen.seed 0 lines jobs
-  pub run : IsRun run_forms run_spelled held made seen.seed (one_lane 0) jobs seen.store seen.later seen.journal results
+  pub of_lines : AreJobsOf seen.gives seen.seed (in_lane_order lines) jobs
+  pub run : IsRun run_codec run_spelled held made seen.seed (lanes_of (in_lane_order lines)) jobs seen.store seen.later seen.journal results
+  pub in_turn : InTurn one_lane run.told
 
--- the commands of a script were done and their ends printed, or there was no memory to begin with them
-pub data Plays {S : Type 0} (held : S → Option Held) (made : S → List Exchange → S → Type 0) (seen : Seen S) (lines : List Line) : Type 0 where
-  ended : (results : List (Driven Outcome)) → Performed held made seen lines results → PrintsEnds seen.out (ends_text lines results) seen.status → Plays held made seen lines
-  ran_short : seen.status ≡ 7 → seen.journal ≡ [] → seen.later ≡ seen.store → Appends seen.out.old seen.out.new [] → Plays held made seen lines
+-- the commands were done and their ends printed, or there was no memory to begin with them
+pub data Plays {S : Type 0} (held : S → Option Held) (made : S → List Exchange → S → Type 0) (seen : Seen S) (single : Bool) (lines : List Line) : Type 0 where
+  ended : (results : List (Driven Outcome)) → Performed held made seen lines results → PrintsEnds seen.out (ends_text (in_lane_order lines) results) (status_printed single results) seen.status → Plays held made seen single lines
+  ran_short : seen.status ≡ 7 → seen.journal ≡ [] → seen.later ≡ seen.store → Appends seen.out.old seen.out.new [] → Plays held made seen single lines
 
-pub record Played {S : Type 0} (held : S → Option Held) (made : S → List Exchange → S → Type 0) (seen : Seen S) (lines : List Line) : Type 0 where
-  pub read : IsRead seen.words seen.input lines
-  pub plays : Plays held made seen lines
+-- the run played its script: it read the lines, and did their commands or found no memory to begin
+pub record Played {S : Type 0} (held : S → Option Held) (made : S → List Exchange → S → Type 0) (seen : Seen S) (job : Asked) (lines : List Line) : Type 0 where
+  pub read : IsRead seen.words seen.input job lines
+  pub plays : Plays held made seen (is_single job) lines
 
 -- what a run may be
 pub data IsRunOf {S : Type 0} (held : S → Option Held) (made : S → List Exchange → S → Type 0) (seen : Seen S) : Type 0 where
   stopped : (stop : Stop) → Stopped seen stop → IsRunOf held made seen
-  played : (lines : List Line) → Played held made seen lines → IsRunOf held made seen
+  played : (job : Asked) (lines : List Line) → Played held made seen job lines → IsRunOf held made seen
+
+-- the one command was refused, and its line was printed
+pub record EndsRefused {S : Type 0} (held : S → Option Held) (made : S → List Exchange → S → Type 0) (seen : Seen S) (single : Bool) (lines : List Line) : Type 0 where
+  pub alone : single ≡ true
+  pub reason : Refusal
+  pub performed : Performed held made seen lines (Done (Refused reason) ∷ [])
+  pub printed : Appends seen.out.old seen.out.new (ends_text (in_lane_order lines) (Done (Refused reason) ∷ []))
+
+-- a single command was asked for; it was refused, and its line was printed
+pub record WasRefused {S : Type 0} (held : S → Option Held) (made : S → List Exchange → S → Type 0) (seen : Seen S) : Type 0 where
+  pub job : Asked
+  pub lines : List Line
+  pub read : IsRead seen.words seen.input job lines
+  pub ended : EndsRefused held made seen (is_single job) lines

@@ -1,26 +1,29 @@
 //! The printed text of all ends of a script.
-ghost use Rattle.std.specs.Prelude.{◌≡◌, ◌≤◌, length, IfOk, option_map};
+ghost use Rattle.std.specs.Prelude.{◌≡◌, length, IfOk, option_map};
 ghost use Rattle.ts_top.specs.Ends.{end_of, ends_text};
+ghost use Rattle.ts_top.specs.Items.{numbered};
 
+use crate::items::Item;
 use std::alloc::Global;
 use ts_base::{ByteList, OutOfMemory};
-use ts_model::{Driven, Line, Outcome};
+use ts_model::{Driven, Outcome};
 use ts_query::print_outcome;
 
-/// Prints how the commands of a script came out, each with its number, counted from 1.
+/// Prints how the commands of these lines came out, each with its lane and its number there.
 pub(crate) fn print_ends(
     alloc: Global,
-    lines: &[Line],
+    items: &[Item],
     results: &[Driven<Outcome>],
 ) -> Result<ByteList, OutOfMemory>
-    requires few { length lines.now ≤ 4096 }
-    requires count { length lines.now ≡ length results.now }
-    ensures { IfOk result (λ text. text ≡ ends_text lines.now results.now) }
+    requires count { length items.now ≡ length results.now }
+    ensures { IfOk result (λ text. text ≡ ends_text (numbered items.now) results.now) }
 {
     let mut bytes = ByteList::new(alloc);
     for (index, result) in results.iter().enumerate() {
-        let command = &lines[index].command;
-        let text = print_outcome(alloc, 0, index as u32 + 1, command, end_of(result))?;
+        let item = &items[index];
+        let line = item.line;
+        let end = end_of(result);
+        let text = print_outcome(alloc, line.lane, item.number, &line.command, end)?;
         bytes.append(text.as_slice())?;
     }
     Ok(bytes)

@@ -2,13 +2,9 @@
 #![tactic(auto)]
 
 mod ends;
-mod json;
-mod lines;
+mod items;
 mod notices;
 mod runner;
-mod script;
 mod top;
-mod values;
-mod words;
 
 pub use top::{Ran, run};

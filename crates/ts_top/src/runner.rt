@@ -1,16 +1,19 @@
 //! Doing jobs one after the other over a store that enters their calls in a journal.
-ghost use Rattle.std.specs.Prelude.{◌≡◌, ◌≤◌, ℕ, All, length, IfOk, OnErr};
-ghost use Rattle.ts_law.specs.Doing.{RanOver, AllRan};
-ghost use Rattle.ts_law.specs.Fresh.{id_of, job_from, jobs_of};
+ghost use Rattle.std.specs.Prelude.{◌≡◌, ℕ, All, length, IfOk, OnErr, IsTrue};
+ghost use Rattle.ts_law.specs.Doing.{RanOver};
+ghost use Rattle.ts_law.specs.Fresh.{IsStampOf, ends_at, id_of, job_from, lanes_of};
+ghost use Rattle.ts_model.specs.Commands.{fits};
 ghost use Rattle.ts_model.specs.Jobs.{IsFit, IsFitLine};
-ghost use Rattle.ts_top.specs.Runners.{JustMade, KeepsCount, run_forms};
+ghost use Rattle.ts_top.specs.Items.{numbered, numbered_line};
+ghost use Rattle.ts_top.specs.Runners.{RanLines, RanLine, JustMade, KeepsCount, run_codec};
 
+use crate::items::Item;
 use std::alloc::Global;
 use std::thread::Threads;
 use ts_actor::{Driven, PlainPieces, drive};
 use ts_base::{Duplicate, OutOfMemory, Stop};
-use ts_model::{Job, Line, Outcome};
-use ts_store::{Recorder, Store};
+use ts_model::{Command, Job, Line, Outcome};
+use ts_store::{Clock, Recorder, Store};
 use ts_world::AnyActor;
 
 /// Does a job to its end, or to where it is stopped.
@@ -21,7 +24,7 @@ pub(crate) fn run_job<R: Threads + Sync, S: Store>(
     job: Job,
 ) -> Driven<Outcome>
     requires { IsFit job }
-    ensures ran { (number : ℕ) → RanOver run_forms S.held (JustMade S.held S.last S.faults S.notes) number recorder.old.book.lane job recorder.old.store recorder.new.store recorder.old.book.journal recorder.new.book.journal result }
+    ensures ran { (number : ℕ) → RanOver run_codec S.held (JustMade S.held S.last S.faults S.notes) number recorder.old.book.lane job recorder.old.store recorder.new.store recorder.old.book.journal recorder.new.book.journal result }
     ensures lane { recorder.new.book.lane ≡ recorder.old.book.lane }
     ensures counted { KeepsCount (S.faults recorder.old.store) (S.faults recorder.new.store) recorder.old.book.journal recorder.new.book.journal }
 {
@@ -30,65 +33,94 @@ pub(crate) fn run_job<R: Threads + Sync, S: Store>(
     drive(rt, alloc, &mut actor, recorder, &stop)
 }
 
-/// Does the commands of these lines one after the other, and gives how each came out.
+/// Does the commands of these lines one after the other, each in its lane, and gives how each came
+/// out.
 ///
 /// The memory for all results is taken first: for want of it nothing is done.
-pub(crate) fn run_lines<R: Threads + Sync, S: Store>(
+pub(crate) fn run_items<R: Threads + Sync, S: Store, C: Clock>(
     rt: &R,
     alloc: Global,
+    clock: &C,
     recorder: &mut Recorder<S>,
     seed: u64,
-    lines: &[Line],
+    items: &[Item],
 ) -> Result<Vec<Driven<Outcome>>, OutOfMemory>
-    requires few { length lines.now ≤ 4096 }
-    requires fit { All IsFitLine lines.now }
-    ensures ran { IfOk result (λ results. AllRan run_forms S.held (JustMade S.held S.last S.faults S.notes) recorder.old.book.lane (jobs_of seed lines.now) recorder.old.store recorder.new.store recorder.old.book.journal recorder.new.book.journal results.items) }
-    ensures count { IfOk result (λ results. length results.items ≡ length lines.now) }
+    requires fit { All (λ item. IsFitLine item.line.now) items.now }
+    ensures ran { IfOk result (λ results. RanLines S.held (JustMade S.held S.last S.faults S.notes) (C.gives clock.now) seed (lanes_of (numbered items.now)) (numbered items.now) recorder.old.store recorder.new.store recorder.old.book.journal recorder.new.book.journal results.items) }
+    ensures count { IfOk result (λ results. length results.items ≡ length items.now) }
     ensures counted { KeepsCount (S.faults recorder.old.store) (S.faults recorder.new.store) recorder.old.book.journal recorder.new.book.journal }
     ensures short { OnErr result (recorder.new ≡ recorder.old) }
 {
-    let mut results = Vec::with_capacity(alloc, lines.len())?;
-    for (index, line) in lines.iter().enumerate() {
-        let result = run_line(rt, alloc, recorder, seed, index as u64 + 1, line);
+    let mut results = Vec::with_capacity(alloc, items.len())?;
+    for item in items.iter() {
+        let result = run_line(rt, alloc, clock, recorder, seed, item);
         results.push(result)?;
     }
     Ok(results)
 }
 
-// Does the command of a line, which has this number in its lane. Where there is no memory for its job
-// it ends so, and makes no call.
-fn run_line<R: Threads + Sync, S: Store>(
+// Does the command of a line in its lane. Where there is no memory for its job it ends so, and makes
+// no call.
+fn run_line<R: Threads + Sync, S: Store, C: Clock>(
     rt: &R,
     alloc: Global,
+    clock: &C,
     recorder: &mut Recorder<S>,
     seed: u64,
-    number: u64,
-    line: &Line,
+    item: &Item,
 ) -> Driven<Outcome>
-    requires few { number ≤ 4096 }
-    requires fit { IsFitLine line.now }
-    ensures ran { (n : ℕ) → RanOver run_forms S.held (JustMade S.held S.last S.faults S.notes) n recorder.old.book.lane (job_from (id_of seed 0 number) line.now) recorder.old.store recorder.new.store recorder.old.book.journal recorder.new.book.journal result }
-    ensures lane { recorder.new.book.lane ≡ recorder.old.book.lane }
+    requires fit { IsFitLine item.now.line.now }
+    ensures ran { RanLine S.held (JustMade S.held S.last S.faults S.notes) (C.gives clock.now) seed (numbered_line item.now) recorder.old.store recorder.new.store recorder.old.book.journal recorder.new.book.journal result }
     ensures counted { KeepsCount (S.faults recorder.old.store) (S.faults recorder.new.store) recorder.old.book.journal recorder.new.book.journal }
 {
-    match job_of(alloc, seed, number, line) {
+    let line = item.line;
+    let at = stamp_of(clock, line);
+    recorder.go_to(line.lane);
+    match job_of(alloc, seed, item.number, line, at) {
         Ok(job) => run_job(rt, alloc, recorder, job),
         Err(OutOfMemory) => Driven::Done(Outcome::OutOfMemory),
     }
 }
 
-// The job of a line of lane 0: its identifier is made of the seed, the lane and the number of the
-// command.
-fn job_of(alloc: Global, seed: u64, number: u64, line: &Line) -> Result<Job, OutOfMemory>
-    requires few { number ≤ 4096 }
+// The stamp of a line's command, as it starts: the line's own, or the clock's number now.
+fn stamp_of<C: Clock>(clock: &C, line: &Line) -> u64
     requires fit { IsFitLine line.now }
-    ensures is { IfOk result (λ job. job ≡ job_from (id_of seed 0 number) line.now) }
+    ensures { IsStampOf (C.gives clock.now) line.now result }
+{
+    match line.at {
+        Some(at) => at,
+        None => clock.now(),
+    }
+}
+
+// The job of a line at a stamp: its identifier is made of the seed, the lane and the number of the
+// command.
+fn job_of(alloc: Global, seed: u64, number: u32, line: &Line, at: u64) -> Result<Job, OutOfMemory>
+    requires fit { IsFitLine line.now }
+    ensures is { IfOk result (λ job. job ≡ job_from (id_of seed line.now.lane number) line.now at) }
     ensures fit { IfOk result IsFit }
 {
+    let command = line.command.copy(alloc)?;
     Ok(Job {
-        command: line.command.copy(alloc)?,
-        at: line.at,
-        id: (u128::from(seed) << 64) + u128::from(number),
+        command: ending_at(command, line.to_stamp, at),
+        at,
+        id: (u128::from(seed) << 64) + (u128::from(line.lane) << 32) + u128::from(number),
         stop: Stop::Never,
     })
+}
+
+// The command, whose interval ends at the stamp where that is asked for, as it can be of a read.
+fn ending_at(command: Command, to_stamp: bool, at: u64) -> Command
+    requires fit { IsTrue (fits command) }
+    ensures is { result ≡ ends_at to_stamp at command }
+    ensures fit { IsTrue (fits result) }
+{
+    match command {
+        Command::Read { from, to: _, query } if to_stamp => Command::Read {
+            from,
+            to: at,
+            query,
+        },
+        command => command,
+    }
 }

@@ -1,23 +1,28 @@
 //! The top call: from words and a script to printed text and a status.
-ghost use Rattle.std.specs.Prelude.{◌≡◌, ◌⊎◌, ◌↔◌, ◌+◌, ◌≤◌, ℕ, List, [], length, Err, Some, None, IfOk, IfErr, IsSomeAnd};
+ghost use Rattle.std.specs.Prelude.{◌≡◌, ◌⊎◌, ◌+◌, ◌≤◌, ℕ, List, [], length, Err, Some, None, true, IfOk, IfErr, IsErrOf, IsSomeAnd};
 ghost use Rattle.ts_store.specs.Counts.{capped, Rose};
 ghost use Rattle.ts_store.specs.Journals.{failures};
-ghost use Rattle.ts_top.specs.Words.{asked, spelled};
+ghost use Rattle.ts_script.specs.Words.{asked, spelled};
 ghost use Rattle.ts_top.specs.Runners.{JustMade};
-ghost use Rattle.ts_top.specs.Script.{Bad, NotBuilt, AreLimited, script_of};
+ghost use Rattle.ts_script.specs.declared.words.Asked.{Asked};
+ghost use Rattle.ts_script.specs.Meanings.{has_input, meaning};
+ghost use Rattle.ts_script.specs.Script.{Bad, NotBuilt, AreLimited};
+ghost use Rattle.ts_law.specs.Fresh.{in_lane_order};
 ghost use Rattle.ts_top.specs.Ends.{ends_text};
+ghost use Rattle.ts_top.specs.Items.{numbered};
 ghost use Rattle.ts_top.specs.Promise.{Promised};
-ghost use Rattle.ts_top.specs.Seen.{Stream, stream, HasReason, IsRead, Means, Plays, Prints, PrintsEnds, IsRunOf, status_of, stop_text};
+ghost use Rattle.ts_top.specs.Seen.{Stream, stream, AskFor, HasReason, IsPrepared, IsTaken, Plays, Prints, PrintsEnds, IsRunOf, WasRefused, status_alone, status_of, status_printed, stop_text};
 
 use crate::ends::print_ends;
+use crate::items::{Item, in_lane_order};
 use crate::notices::{bad_script_notice, not_built_notice, usage_notice};
-use crate::runner::run_lines;
-use crate::script::{ScriptFault, read_script};
-use crate::words::{Asked, read_words};
+use crate::runner::run_items;
 use std::alloc::Global;
 use std::thread::Threads;
+use ts_base::ByteList;
 use ts_model::{Driven, Line, LineList, Outcome};
-use ts_store::{InputFault, Journal, Recorder, Sink, Source, Store, read_input, write_all};
+use ts_script::{FormFault, ScriptFault, read_lines, read_words};
+use ts_store::{Clock, InputFault, Journal, Recorder, Sink, Source, Store, read_input, write_all};
 
 #[cfg(test)]
 mod tests;
@@ -25,8 +30,10 @@ mod tests;
 /// What a run leaves: its status, the store, and every call that was made of it, in order.
 pub struct Ran<S> {
     /// 0: the commands were done and their ends printed. 2: the words ask for nothing that can be
-    /// done. 3: a line of the script is bad. 4: the input could not be read. 5: the text could not be
-    /// written. 7: out of memory. 8: a line of the script names a command that is not built yet.
+    /// done. 3: a line of the input is bad. 4: the input could not be read. 5: the text could not be
+    /// written. 6: the words were a single command, which was refused. 7: out of memory; of a single
+    /// command its line may have been printed. 8: a line of the script names a command that is not
+    /// built yet.
     pub status: u8,
     /// The store that was handed over.
     pub store: S,
@@ -39,7 +46,7 @@ pub struct Ran<S> {
 pub(crate) enum Stop {
     /// The words ask for nothing that can be done.
     Usage,
-    /// The line of the script with this number, counted from 1, is bad.
+    /// The line of the input with this number, counted from 1, is bad.
     BadScript(u64),
     /// The line of the script with this number, counted from 1, names a command that is not built
     /// yet.
@@ -85,63 +92,118 @@ fn print_line<O: Sink>(out: &mut O, text: &[u8])
     let _ = write_all(out, text);
 }
 
-// Reads the words, and the script that they ask for.
-fn prepare<I: Source>(alloc: Global, words: &[&str], input: &mut I) -> Result<LineList, Stop>
-    ensures read { IfOk result (IsRead (spelled words.entry.now) (stream I.left I.faults input.old input.new)) }
-    ensures limited { IfOk result AreLimited }
+// What is to be done.
+#[derive(Drop)]
+struct Prepared {
+    // The lines, in order.
+    lines: LineList,
+    // Whether they are the one line of a single command.
+    single: bool,
+}
+
+// Reads the words, and the input where they ask for something that has one.
+fn prepare<I: Source>(alloc: Global, words: &[&str], input: &mut I) -> Result<Prepared, Stop>
+    ensures read { IfOk result (IsPrepared (spelled words.entry.now) (stream I.left I.faults input.old input.new)) }
+    ensures limited { IfOk result (λ prepared. AreLimited prepared.lines) }
     ensures reason { IfErr result (HasReason (spelled words.entry.now) (stream I.left I.faults input.old input.new)) }
 {
-    let Some(Asked::Play) = read_words(words) else {
-        return Err(Stop::Usage);
+    let asked = match read_words(alloc, words) {
+        Ok(asked) => asked,
+        Err(FormFault::Form) => return Err(Stop::Usage),
+        Err(FormFault::OutOfMemory) => return Err(Stop::OutOfMemory),
     };
-    let bytes = match read_input(alloc, input) {
+    let single = asked.is_single();
+    let bytes = match take_input(alloc, asked.has_input(), input) {
         Ok(bytes) => bytes,
         Err(InputFault::Failed) => return Err(Stop::ReadFault),
         Err(InputFault::OutOfMemory) => return Err(Stop::OutOfMemory),
     };
-    match read_script(alloc, bytes.as_slice()) {
-        Ok(lines) => Ok(lines),
+    match read_lines(alloc, asked, bytes.as_slice()) {
+        Ok(lines) => Ok(Prepared { lines, single }),
         Err(ScriptFault::Bad { line }) => Err(Stop::BadScript(line)),
         Err(ScriptFault::NotBuilt { line }) => Err(Stop::NoForm(line)),
         Err(ScriptFault::OutOfMemory) => Err(Stop::OutOfMemory),
     }
 }
 
-// Prints the ends of the commands, and gives the status: 0, or 5 where the sink fails, or 7 for
-// want of memory.
-fn print_all<O: Sink>(alloc: Global, out: &mut O, lines: &[Line], results: &[Driven<Outcome>]) -> u8
-    requires few { length lines.now ≤ 4096 }
-    requires count { length lines.now ≡ length results.now }
-    ensures { PrintsEnds (stream O.contents O.faults out.old out.new) (ends_text lines.now results.now) result }
+// Reads the input where there is one, and else nothing.
+fn take_input<I: Source>(alloc: Global, has: bool, input: &mut I) -> Result<ByteList, InputFault>
+    ensures taken { IfOk result (IsTaken has (stream I.left I.faults input.old input.new)) }
+    ensures failed { IsErrOf result InputFault.Failed → (has ≡ true) × Rose (I.faults input.old) (I.faults input.new) }
 {
-    let Ok(text) = print_ends(alloc, lines, results) else {
+    if has {
+        read_input(alloc, input)
+    } else {
+        Ok(ByteList::new(alloc))
+    }
+}
+
+// Prints the ends of the commands, and gives the status: the one that they give, or 5 where the sink
+// fails, or 7 for want of memory.
+fn print_all<O: Sink>(
+    alloc: Global,
+    out: &mut O,
+    items: &[Item],
+    results: &[Driven<Outcome>],
+    single: bool,
+) -> u8
+    requires count { length items.now ≡ length results.now }
+    ensures { PrintsEnds (stream O.contents O.faults out.old out.new) (ends_text (numbered items.now) results.now) (status_printed single results.now) result }
+{
+    let Ok(text) = print_ends(alloc, items, results) else {
         return 7;
     };
     match write_all(out, text.as_slice()) {
-        Ok(()) => 0,
+        Ok(()) => status_printed(single, results),
         Err(_) => 5,
     }
 }
 
+// The status that these ends give once they are printed.
+fn status_printed(single: bool, results: &[Driven<Outcome>]) -> u8
+    ensures { result ≡ status_printed single results.now }
+{
+    match results {
+        [Driven::Done(end)] if single => status_alone(end),
+        _ => 0,
+    }
+}
+
+// The status of a single command that ended so.
+fn status_alone(end: &Outcome) -> u8
+    ensures { result ≡ status_alone end.now }
+{
+    match end {
+        Outcome::Refused(_) => 6,
+        Outcome::OutOfMemory => 7,
+        _ => 0,
+    }
+}
+
 // Does the commands of a script over a store, and prints their ends.
-fn play<R: Threads + Sync, S: Store, O: Sink>(
+fn play<R: Threads + Sync, S: Store, O: Sink, C: Clock>(
     rt: &R,
     alloc: Global,
     seed: u64,
     store: S,
     out: &mut O,
     lines: &[Line],
+    single: bool,
+    clock: &C,
 ) -> Ran<S>
     requires { AreLimited lines.now }
-    ensures plays { (words : List (List ℕ)) (input : Stream) → Plays S.held (JustMade S.held S.last S.faults S.notes) (record { words = words; seed = seed; input = input; out = stream O.contents O.faults out.old out.new; store = store; later = result.store; status = result.status; journal = result.journal }) lines.now }
-    ensures known { (result.status ≡ 0) ⊎ (result.status ≡ 5) ⊎ (result.status ≡ 7) }
+    ensures plays { (words : List (List ℕ)) (input : Stream) → Plays S.held (JustMade S.held S.last S.faults S.notes) (record { words = words; seed = seed; gives = C.gives clock.now; input = input; out = stream O.contents O.faults out.old out.new; store = store; later = result.store; status = result.status; journal = result.journal }) single lines.now }
     ensures counted { capped (S.faults store + failures result.journal) ≤ S.faults result.store }
 {
     let mut recorder = Recorder::new(store, Journal::new(alloc), 0);
-    let Ok(results) = run_lines(rt, alloc, &mut recorder, seed, lines) else {
+    let Ok(items) = in_lane_order(alloc, lines) else {
         return left_by(recorder, 7);
     };
-    let status = print_all(alloc, out, lines, results.as_slice());
+    let items = items.as_slice();
+    let Ok(results) = run_items(rt, alloc, clock, &mut recorder, seed, items) else {
+        return left_by(recorder, 7);
+    };
+    let status = print_all(alloc, out, items, results.as_slice(), single);
     left_by(recorder, status)
 }
 
@@ -157,11 +219,14 @@ fn left_by<S: Store>(recorder: Recorder<S>, status: u8) -> Ran<S>
     }
 }
 
-/// Reads the words, reads the script where they ask for one, does its commands one after the other,
-/// and prints how each ended.
+/// Reads the words, and the input of what they ask for, does the commands one after the other, lane by
+/// lane, and prints how each ended.
 ///
-/// The words ask for something exactly where they are the one word `play`. Everything that is
-/// printed goes to `out`. `seed` stands in the upper 64 bits of each identifier that the run makes:
+/// The words ask for a script, or for a single command, which is done as a script of one line.
+/// Everything that is printed goes to `out`. The lines of lane 0 are done first, then those of lane 1,
+/// up to lane 7. A line without a stamp gets the number of the `clock`, in milliseconds since
+/// 1970-01-01, as its command starts. `seed` stands in the upper 64 bits of each identifier that the
+/// run makes:
 /// over a store that holds something it has to be one that no identifier there has, for what is said
 /// of answers.
 ///
@@ -176,7 +241,7 @@ fn left_by<S: Store>(recorder: Recorder<S>, status: u8) -> Ran<S>
 ///
 /// The clause `run` says of every command which calls it made and how it ended, and that no other calls
 /// were made of the store.
-pub fn run<R: Threads + Sync, S: Store, I: Source, O: Sink>(
+pub fn run<R: Threads + Sync, S: Store, I: Source, O: Sink, C: Clock>(
     rt: &R,
     alloc: Global,
     words: &[&str],
@@ -184,10 +249,12 @@ pub fn run<R: Threads + Sync, S: Store, I: Source, O: Sink>(
     store: S,
     input: &mut I,
     out: &mut O,
+    clock: &C,
 ) -> Ran<S>
     ensures run { IsRunOf S.held (JustMade S.held S.last S.faults S.notes) (record {
       words = spelled words.entry.now;
       seed = seed;
+      gives = C.gives clock.now;
       input = stream I.left I.faults input.old input.new;
       out = stream O.contents O.faults out.old out.new;
       store = store;
@@ -200,6 +267,7 @@ pub fn run<R: Threads + Sync, S: Store, I: Source, O: Sink>(
     ensures promise { Promised S.held (record {
       words = spelled words.entry.now;
       seed = seed;
+      gives = C.gives clock.now;
       input = stream I.left I.faults input.old input.new;
       out = stream O.contents O.faults out.old out.new;
       store = store;
@@ -212,21 +280,36 @@ pub fn run<R: Threads + Sync, S: Store, I: Source, O: Sink>(
     ensures counted { capped (S.faults store + failures result.journal) ≤ S.faults result.store }
 
     // Each status, with where it comes.
-    ensures usage { (result.status ≡ 2) ↔ (asked (spelled words.entry.now) ≡ None) }
-    ensures bad_script { result.status ≡ 3 → (n : ℕ) × Means (I.left input.old) (Err (Bad n)) }
-    ensures bad_script_there { asked (spelled words.entry.now) ≡ Some Asked.Play → (n : ℕ) → IsSomeAnd (I.left input.old) (λ all. script_of all ≡ Err (Bad n))
+    ensures usage { result.status ≡ 2 → asked (spelled words.entry.now) ≡ None }
+    ensures usage_there { asked (spelled words.entry.now) ≡ None → (result.status ≡ 2) ⊎ (result.status ≡ 7) }
+    ensures bad_script { result.status ≡ 3 → (n : ℕ) × AskFor (spelled words.entry.now) (I.left input.old) (Err (Bad n)) }
+    ensures bad_script_there { (job : Asked) → asked (spelled words.entry.now) ≡ Some job → (n : ℕ) → IsSomeAnd (I.left input.old) (λ all. meaning job all ≡ Err (Bad n))
         → (result.status ≡ 3) ⊎ (result.status ≡ 4) ⊎ (result.status ≡ 7) }
-    ensures not_built { result.status ≡ 8 → (n : ℕ) × Means (I.left input.old) (Err (NotBuilt n)) }
-    ensures not_built_there { asked (spelled words.entry.now) ≡ Some Asked.Play → (n : ℕ) → IsSomeAnd (I.left input.old) (λ all. script_of all ≡ Err (NotBuilt n))
+    ensures not_built { result.status ≡ 8 → (n : ℕ) × AskFor (spelled words.entry.now) (I.left input.old) (Err (NotBuilt n)) }
+    ensures not_built_there { (job : Asked) → asked (spelled words.entry.now) ≡ Some job → (n : ℕ) → IsSomeAnd (I.left input.old) (λ all. meaning job all ≡ Err (NotBuilt n))
         → (result.status ≡ 8) ⊎ (result.status ≡ 4) ⊎ (result.status ≡ 7) }
-    ensures read_fault { result.status ≡ 4 → Rose (I.faults input.old) (I.faults input.new) }
+    ensures read_fault { result.status ≡ 4 → IsSomeAnd (asked (spelled words.entry.now)) (λ job. has_input job ≡ true) × Rose (I.faults input.old) (I.faults input.new) }
     ensures write_fault { result.status ≡ 5 → Rose (O.faults out.old) (O.faults out.new) }
+    ensures refused { result.status ≡ 6 → WasRefused S.held (JustMade S.held S.last S.faults S.notes) (record {
+      words = spelled words.entry.now;
+      seed = seed;
+      gives = C.gives clock.now;
+      input = stream I.left I.faults input.old input.new;
+      out = stream O.contents O.faults out.old out.new;
+      store = store;
+      later = result.store;
+      status = result.status;
+      journal = result.journal;
+    }) }
 
     // Without a command no call is made of the store.
     ensures untouched { (result.status ≡ 2) ⊎ (result.status ≡ 3) ⊎ (result.status ≡ 4) ⊎ (result.status ≡ 8) → (result.journal ≡ []) × (result.store ≡ store) }
 {
     match prepare(alloc, words, input) {
-        Ok(lines) => play(rt, alloc, seed, store, out, lines.as_slice()),
+        Ok(prepared) => {
+            let lines = prepared.lines.as_slice();
+            play(rt, alloc, seed, store, out, lines, prepared.single, clock)
+        }
         Err(stop) => {
             print_stop(out, stop);
             Ran {

@@ -1,6 +1,7 @@
 //! Runs over stores and streams that fail, and over objects that no run left so. What a script shows
 //! stands in tests/cases.
 mod deletes;
+mod words;
 
 ghost use Rattle.std.specs.Prelude.{◌≡◌};
 ghost use Rattle.ts_base.specs.Names.{IsSpelled};
@@ -10,7 +11,7 @@ use std::alloc::Global;
 use std::test::Fail;
 use std::thread::Threads;
 use ts_base::{ByteList, CommitKind, FragKey, Key, Name, OutOfMemory, Part};
-use ts_store::{Call, Fault, FaultList, Journal, MemSink, MemSource, MemStore};
+use ts_store::{Call, Fault, FaultList, FixedClock, Journal, MemSink, MemSource, MemStore};
 
 /// The create of the array of most scripts.
 const C1: &str = "{'cmd':'create','at':0,'kind':'sparse',\
@@ -68,7 +69,16 @@ fn play<R: Threads + Sync + AllocGlobal>(
         status,
         store,
         journal,
-    } = run(rt, alloc, &["play"], seed, store, &mut input, &mut out);
+    } = run(
+        rt,
+        alloc,
+        &["play"],
+        seed,
+        store,
+        &mut input,
+        &mut out,
+        &FixedClock::new(7),
+    );
     Ok(Shown {
         status,
         printed: ByteList::of_bytes(alloc, out.bytes())?,

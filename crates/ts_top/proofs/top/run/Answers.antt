@@ -1,14 +1,15 @@
 -- A run stops before its first command, or it does the commands of its script; each status is told by what is seen of it.
-use Rattle.std.proofs.Common.{◌+◌, ◌≤◌, arith, refl, sym, subst, List}
+use Rattle.std.proofs.Common.{◌+◌, ◌≤◌, arith, refl, sym, subst, List, Bool}
+use Rattle.ts_script.specs.Meanings.{is_single}
 use Rattle.ts_store.specs.declared.journal.Entry.{Entry}
 use Rattle.ts_store.specs.Counts.{capped}
 use Rattle.ts_store.specs.Journals.{failures}
 use Rattle.ts_model.specs.declared.commands.Line.{Line}
 use Rattle.ts_top.specs.Runners.{JustMade}
 use Rattle.ts_top.specs.Seen.{Seen, Stream, stream, Plays, Stopped, IsRunOf, stopped, played}
-use Rattle.ts_top.specs.Words.{spelled}
+use Rattle.ts_script.specs.Words.{spelled}
 use Rattle.ts_top.proofs.Promises.{promise_stopped, promise_played}
-use Rattle.ts_top.proofs.Exact.{usage, bad_script, bad_script_there, not_built, not_built_there, read_fault, write_fault, untouched}
+use Rattle.ts_top.proofs.Exact.{usage, usage_there, refused, bad_script, bad_script_there, not_built, not_built_there, read_fault, write_fault, untouched}
 use Rattle.ts_top.proofs.top.run.Goals as goal
 
 pub returns-in-Ok : goal.returns-in-Ok
@@ -18,21 +19,26 @@ returns-in-Ok g c =
     let words = spelled c.args.words.now in
     let input : Stream = stream g.I.Source.left g.I.Source.faults c.args.input.now c.prepare.new.input in
     let out : Stream = stream g.O.Sink.contents g.O.Sink.faults c.args.out.now c.play.new.out in
-    let seen : Seen g.row.S.Denot = record { words = words; seed = c.args.seed; input = input; out = out; store = c.args.store; later = c.play.result.store; status = c.play.result.status; journal = c.play.result.journal } in
-    let P : List Line → Type 0 = λ lines. Plays held made seen lines in
-    let plays = subst P c.as_slice.ensures (c.play.ensures.plays words input) in
-    let is : IsRunOf held made seen = played c.in-Ok.lines (record { read = c.in-Ok.ensures.read; plays = plays }) in
+    let seen : Seen g.row.S.Denot = record { words = words; seed = c.args.seed; gives = g.C.Clock.gives c.args.clock.now; input = input; out = out; store = c.args.store; later = c.play.result.store; status = c.play.result.status; journal = c.play.result.journal } in
+    let lines = c.in-Ok.prepared.lines in
+    let (job, read, same) = c.in-Ok.ensures.read in
+    let P : List Line → Type 0 = λ ls. Plays held made seen c.in-Ok.prepared.single ls in
+    let Q : Bool → Type 0 = λ single. Plays held made seen single lines in
+    let plays = subst Q same (subst P c.as_slice-lines.ensures (c.play.ensures.plays words input)) in
+    let is : IsRunOf held made seen = played job lines (record { read = read; plays = plays }) in
     record {
       run = is;
-      promise = promise_played held made seen c.in-Ok.lines (omega arith) c.in-Ok.ensures.limited c.in-Ok.ensures.read.means plays;
+      promise = promise_played held made seen (is_single job) lines (omega arith) c.in-Ok.ensures.limited (job, read.asks, read.means) plays;
       counted = c.play.ensures.counted;
       usage = usage held made seen is;
+      usage_there = usage_there held made seen is;
       bad_script = bad_script held made seen is;
       bad_script_there = bad_script_there held made seen is;
       not_built = not_built held made seen is;
       not_built_there = not_built_there held made seen is;
       read_fault = read_fault held made seen is;
       write_fault = write_fault held made seen is;
+      refused = refused held made seen is;
       untouched = untouched held made seen is;
     }
 
@@ -43,7 +49,7 @@ returns-in-Err g c =
     let words = spelled c.args.words.now in
     let input : Stream = stream g.I.Source.left g.I.Source.faults c.args.input.now c.prepare.new.input in
     let out : Stream = stream g.O.Sink.contents g.O.Sink.faults c.args.out.now c.print_stop.new.out in
-    let seen : Seen g.row.S.Denot = record { words = words; seed = c.args.seed; input = input; out = out; store = c.args.store; later = c.args.store; status = c.status.result; journal = c.new.result } in
+    let seen : Seen g.row.S.Denot = record { words = words; seed = c.args.seed; gives = g.C.Clock.gives c.args.clock.now; input = input; out = out; store = c.args.store; later = c.args.store; status = c.status.result; journal = c.new.result } in
     let C : List Entry → Type 0 = λ es. capped (g.S.Store.faults c.args.store + failures es) ≤ g.S.Store.faults c.args.store in
     let halt : Stopped seen c.in-Err.stop = record { reason = c.in-Err.ensures.reason; status = c.status.ensures; printed = c.print_stop.ensures; journal = c.new.ensures; untouched = refl } in
     let is : IsRunOf held made seen = stopped c.in-Err.stop halt in
@@ -52,11 +58,13 @@ returns-in-Err g c =
       promise = promise_stopped held made seen c.in-Err.stop halt;
       counted = subst C (sym c.new.ensures) (omega arith);
       usage = usage held made seen is;
+      usage_there = usage_there held made seen is;
       bad_script = bad_script held made seen is;
       bad_script_there = bad_script_there held made seen is;
       not_built = not_built held made seen is;
       not_built_there = not_built_there held made seen is;
       read_fault = read_fault held made seen is;
       write_fault = write_fault held made seen is;
+      refused = refused held made seen is;
       untouched = untouched held made seen is;
     }

@@ -1,8 +1,0 @@
-use Rattle.std.proofs.Common.{◌≡◌, map}
-use Rattle.serde_json.specs.View.{members_view}
-use Rattle.ts_top.specs.Forms.{keys_within}
-use Rattle.ts_top.proofs.json.keys_within.Given as goal
-
-abbrev pub invariant-loop-key : goal.invariant-loop-key
-invariant-loop-key l =
-    keys_within (map (λ k. k.now) l.common) (map (λ k. k.now) l.own) (members_view l.key-iterator) ≡ keys_within (map (λ k. k.now) l.common) (map (λ k. k.now) l.own) (members_view l.members.entries)
