@@ -4,7 +4,7 @@ ghost use Rattle.std.specs.Io.KnownBytes.{Consumes};
 
 use crate::paths::{PathText, below, folder_of};
 use crate::trouble::Trouble;
-use std::alloc::Global;
+use std::alloc::{AllocError, Global};
 use std::fs::{Metadata, OpenFile, OpenOptions};
 use std::io::{ErrorKind, Read, Seek, SeekFrom, Write};
 use std::os::unix::fs::MetadataExt;
@@ -207,7 +207,14 @@ fn read_front<F: Read>(alloc: Global, file: &mut F, count: usize) -> Result<Vec<
     ensures count { IfOk result (λ bytes. length bytes.items ≡ count) }
     ensures front { IfOk result (λ bytes. Consumes (F.remaining file.old) (F.remaining file.new) bytes.items) }
 {
-    let mut bytes = vec![in alloc; 0u8; count]?;
+    let mut bytes = zeros(alloc, count)?;
     file.read_exact(bytes.as_mut_slice())?;
     Ok(bytes)
+}
+
+/// So many zero bytes, as room to read to.
+pub(crate) fn zeros(alloc: Global, count: usize) -> Result<Vec<u8>, AllocError>
+    ensures { IfOk result (λ bytes. length bytes.items ≡ count) }
+{
+    vec![in alloc; 0u8; count]
 }

@@ -22,6 +22,6 @@ loop-file-preserved-in-Continue-branch-3 c =
 
 pub returns-clause-every : goal.returns-clause-every
 returns-clause-every c =
-    let end = parts_are _ _ _ (λ b. b == 0) c.args.piece.now c.loop-file.yielded c.loop-file.yielded_by c.in-None.is c.next.ensures.steps (cc) (cc) (cc) (λ x r q k. search (rules, tests)) in
+    let end = parts_are _ _ _ (λ b. b == 0) c.args.listing.now c.loop-file.yielded c.loop-file.yielded_by c.in-None.is c.next.ensures.steps (cc) (cc) (cc) (λ x r q k. search (rules, tests)) in
     subst (All (HasNameOf c.args.prefix c.loop-file.names.keys)) end
     (All-map (HasNameOf c.args.prefix c.loop-file.names.keys) (λ file. file.now) c.loop-file.yielded c.loop-file.invariant.3)
