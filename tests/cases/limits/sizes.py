@@ -74,7 +74,7 @@ def labels():
     longest = {"name": "a" * 64, "type": "int8"}
     longer = {"name": "a" * 65, "type": "int8"}
     yield "64 letters", script(create(attrs=[longest])), text(("0.1", "create", "ok")), 0
-    yield "65 letters", script(create(attrs=[longer])), text(("not built", 1)), NOT_BUILT
+    yield "65 letters", script(create(attrs=[longer])), text(("bad script", 1)), BAD
 
 
 def nesting():
@@ -90,6 +90,10 @@ def commands():
     ends = text(*((f"0.{number}", "read", "refused", "NoSchema", 9) for number in range(1, 4097)))
     yield "4096 commands", reads, ends, 0
     yield "4097 commands", reads + b'{"cmd":"vacuum"}', text(("bad script", 8193)), BAD
+    lanes = script(*({**READ, "lane": number % 8} for number in range(4096)))
+    ends = text(*((f"{lane}.{number}", "read", "refused", "NoSchema", 9) for lane in range(8) for number in range(1, 513)))
+    yield "4096 commands in eight lanes", lanes, ends, 0
+    yield "4097 commands in eight lanes", lanes + script(READ), text(("bad script", 4097)), BAD
 
 
 def sizes():
