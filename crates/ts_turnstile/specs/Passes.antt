@@ -32,6 +32,7 @@ pub record Entered (v : View) (journal : List Entry) (call : Call) (said : Reply
   pub failed : said ≡ reply.Failed → did ≢ fate.Done
   pub served : said ≢ reply.Failed → did ≡ fate.Done
 
+-- for want of memory nothing is entered; else the call is entered with its reply
 abbrev pub EnteredIf : Bool → View → List Entry → Call → Reply → Type 0
 EnteredIf true v journal call said = GoesOn v journal
 EnteredIf false v journal call said = Entered v journal call said

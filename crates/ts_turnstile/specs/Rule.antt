@@ -38,6 +38,7 @@ pub record Standing : Type 0 where
   pub turn : Bool
   pub spent : Bool
 
+-- where a pass stands
 abbrev pub standing_of : View → Standing
 standing_of v = record { ticket = v.ticket; turn = v.turn; spent = v.spent }
 
@@ -64,6 +65,7 @@ pub record Sight : Type 0 where
   pub right : List Entry
   pub right_lanes : List ℕ
 
+-- what a pass has seen
 abbrev pub sight_of : View → Sight
 sight_of v = record { opening = v.opening; spent = v.spent; turn = v.turn; seen = v.seen; left = v.left; left_lanes = v.left_lanes; right = v.right; right_lanes = v.right_lanes }
 
@@ -82,6 +84,7 @@ pub record Share : Type 0 where
   pub lanes : List ℕ
   pub seen : List Entry
 
+-- the lanes of a pass, and what it has seen
 abbrev pub share_of : View → Share
 share_of v = record { lanes = lanes_of v; seen = v.seen }
 
@@ -96,6 +99,7 @@ pub record Claim : Type 0 where
   pub first : Bool
   pub split_off : List ℕ
 
+-- the lanes of a pass, and those that were split off it
 abbrev pub claim_of : View → Claim
 claim_of v = record { lanes = lanes_of v; first = v.first; split_off = v.split_off }
 

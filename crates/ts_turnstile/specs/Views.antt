@@ -26,6 +26,7 @@ abbrev pub view_in : List View → View
 view_in [] = spent_view
 view_in (v ∷ views) = v
 
+-- the lanes of a pass: none once it is spent
 abbrev pub lanes_if : Bool → ℕ → List ℕ → List ℕ
 lanes_if true lane joined = []
 lanes_if false lane joined = lane ∷ joined
