@@ -2,8 +2,10 @@
 use Rattle.std.specs.Prelude.{◌≡◌, ℕ, ◌<◌, ⊤}
 use Rattle.ts_store.specs.Calls.{IsSpelledCall}
 use Rattle.ts_model.specs.Codecs.{Stepped, Asks, Takes, Breaks}
+use Rattle.ts_store.specs.declared.call.Call.{Call}
 use Rattle.ts_actor.specs.declared.pieces.Fetched.{Fetched}
 use Rattle.ts_actor.specs.declared.pieces.Fetched.TheVariants as fetched
+use Rattle.ts_store.specs.declared.call.Call.TheVariants as call
 
 -- the fetch did what was computed, unless there was no memory
 abbrev pub IsStep : {F : Type 0} → Stepped F → F → Fetched → Type 0
@@ -17,7 +19,16 @@ abbrev pub FallsAtAsk : ℕ → ℕ → Fetched → Type 0
 FallsAtAsk before now (fetched.Ask c) = now < before
 FallsAtAsk before now _ = ⊤
 
--- a call that is asked for has a spelling
+-- the call removes nothing
+abbrev pub RemovesNothing : Call → Type 0
+RemovesNothing (call.Remove n) = ⊥
+RemovesNothing c = ⊤
+
+-- the call has a spelling, and removes nothing
+abbrev pub IsWorkCall : Call → Type 0
+IsWorkCall c = IsSpelledCall c × RemovesNothing c
+
+-- a call that is asked for has a spelling, and removes nothing
 abbrev pub AsksSpelled : Fetched → Type 0
-AsksSpelled (fetched.Ask c) = IsSpelledCall c
+AsksSpelled (fetched.Ask c) = IsWorkCall c
 AsksSpelled _ = ⊤

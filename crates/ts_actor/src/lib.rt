@@ -5,6 +5,7 @@
 mod actor;
 mod driving;
 mod ends;
+mod leases;
 mod machine;
 mod pieces;
 mod plain_pieces;

@@ -2,7 +2,8 @@
 ghost use Rattle.std.specs.Prelude.{◌≡◌, ◌<◌, ◌+◌, ◌^◌, ◌++◌, ℕ, All, IfOk, OnOk, option_to_list};
 ghost use Rattle.std.specs.Thread.{IsSync};
 ghost use Rattle.ts_base.specs.Names.{IsSpelled};
-ghost use Rattle.ts_store.specs.Calls.{IsSpelledCall, IsSpelledReply};
+ghost use Rattle.ts_store.specs.Calls.{IsSpelledReply};
+ghost use Rattle.ts_actor.specs.Fetches.{IsWorkCall};
 ghost use Rattle.ts_schema.specs.Evolutions.{schema_at};
 ghost use Rattle.ts_schema.specs.FrameTexts.{IsFrame, frame_of};
 ghost use Rattle.ts_schema.specs.SchemaTexts.{AreAttrs, schema_of};
@@ -85,7 +86,7 @@ pub fn get_all(name: Name) -> Call
 /// The call of a job that seeks its schema and the frame. It takes no memory.
 pub fn ask_seeking(seeking: &Seeking) -> Call
     ensures is { result ≡ seek_asks seeking.now }
-    ensures spelled { IsSpelledCall result }
+    ensures spelled { IsWorkCall result }
 {
     match seeking {
         Seeking::ListsCommits => Call::List(Prefix::Commits),

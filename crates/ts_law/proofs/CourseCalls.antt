@@ -22,11 +22,8 @@ use Rattle.ts_model.specs.declared.commands.Command.TheVariants.{Create, Evolve,
 use Rattle.ts_model.specs.Codecs.{Codec, is_look}
 use Rattle.ts_model.specs.Jobs.{key_of, frag_of_job}
 use Rattle.ts_model.specs.States.{Exchange, asks, goes, ended, refuse, place_of, put_of, putting, on_made}
-use Rattle.ts_model.proofs.Lacks.{ends_on}
-use Rattle.ts_model.specs.Driven.{AskedFrom, EndsFrom}
 use Rattle.ts_law.specs.Courses.{Found, SaysThere, IsGot, AreFound, IsLookOf, Looks, IsNext, lets_on, Along, EndsAt, refused_in, IsCause}
 use Rattle.ts_law.proofs.CourseGrows.{among_more, got_stays}
-use Rattle.ts_model.proofs.Asked.{next_call}
 use Rattle.ts_model.proofs.ListLemmas.{Contains-here, Contains-there}
 use Rattle.ts_cond.specs.declared.query.Query.{Query}
 use Rattle.ts_base.specs.declared.names.Name.TheVariants as name
@@ -132,6 +129,23 @@ item_in [] i x is = absurd (none-some x is)
 item_in (y ∷ xs) zero x is = subst (Contains (y ∷ xs)) (same_Some y x is) (Contains-here y xs)
 item_in (y ∷ xs) (suc i) x is = Contains-there y xs x (item_in xs i x is)
 
+-- ---- the calls of a job at its work
+
+module _ {F : Type 0} (codec : Codec F) (job : Job) where
+  -- each call is the one that is asked where those before it have led
+  abbrev pub WorkAsks : State F → List Exchange → Type 0
+  WorkAsks s [] = ⊤
+  WorkAsks s (x ∷ xs) = (asks codec job s ≡ Some x.call) × WorkAsks (goes codec job s x.reply) xs
+
+  -- how far the work has come by these calls
+  abbrev pub work_from : State F → List Exchange → State F
+  work_from s [] = s
+  work_from s (x ∷ xs) = work_from (goes codec job s x.reply) xs
+
+  -- the work ends where its calls have led it, or for want of memory
+  abbrev pub WorkEnds : State F → List Exchange → Outcome → Type 0
+  WorkEnds s xs end = (work_from s xs ≡ Over end) ⊎ (end ≡ outcome.OutOfMemory)
+
 -- ---- ends
 
 module _ {F : Type 0} (codec : Codec F) (job : Job) where
@@ -192,7 +206,7 @@ module _ {F : Type 0} (codec : Codec F) (job : Job) where
   ends_before whole seen found course rest x xs outcome.OutOfMemory on next (inl h) = inl (h.0, (on, (rest, next, h.1)))
   ends_before whole seen found course rest x xs outcome.OutOfMemory on next (inr h) = inr (h.0, at_cons (IsLookOf codec job found) seen course rest x xs h.0 on next h.1)
 
-  ends_cons : (seen : List Exchange) (found : Found) (course rest : List Call) (x : Exchange) (xs : List Exchange) (end : Outcome) → IsTrue (lets_on x.call x.reply) → IsNext (IsLookOf codec job found) seen course x.call rest
+  pub ends_cons : (seen : List Exchange) (found : Found) (course rest : List Call) (x : Exchange) (xs : List Exchange) (end : Outcome) → IsTrue (lets_on x.call x.reply) → IsNext (IsLookOf codec job found) seen course x.call rest
       → Ends (seen ++ x ∷ []) found rest xs end → Ends seen found course (x ∷ xs) end
   ends_cons seen found course rest x xs end on next h =
       ends_before (seen ++ x ∷ xs) seen found course rest x xs end on next (subst (λ whole. EndsIn whole (seen ++ x ∷ []) found rest xs end) (append_assoc seen (x ∷ []) xs) h)
@@ -204,10 +218,10 @@ module _ {F : Type 0} (codec : Codec F) (job : Job) where
   over_is o end e = cc
 
   -- a job that is over asks nothing, and has ended so, or for want of memory
-  pub over_ends : (o : Outcome) (xs : List Exchange) (end : Outcome) → AskedFrom codec job (Over o) xs → EndsFrom codec job (Over o) xs end → (xs ≡ []) × ((end ≡ o) ⊎ (end ≡ outcome.OutOfMemory))
+  pub over_ends : (o : Outcome) (xs : List Exchange) (end : Outcome) → WorkAsks codec job (Over o) xs → WorkEnds codec job (Over o) xs end → (xs ≡ []) × ((end ≡ o) ⊎ (end ≡ outcome.OutOfMemory))
   over_ends o [] end a (inl e) = (refl, inl (over_is o end e))
-  over_ends o [] end a (inr e) = (refl, inr e.0)
-  over_ends o (x ∷ xs) end a e = absurd (none-some x.call (next_call codec job (Over o) x.call a.0))
+  over_ends o [] end a (inr e) = (refl, inr e)
+  over_ends o (x ∷ xs) end a e = absurd (none-some x.call (a.0))
 
   -- ---- where states lead
 
@@ -217,11 +231,11 @@ module _ {F : Type 0} (codec : Codec F) (job : Job) where
 
   -- the calls from a state on say what was found, and end along the course
   abbrev pub Goes : List Exchange → Found → List Call → List Exchange → Outcome → State F → Type 0
-  Goes seen found course xs end s = AskedFrom codec job s xs → EndsFrom codec job s xs end → AreFound job found xs × Ends seen found course xs end
+  Goes seen found course xs end s = WorkAsks codec job s xs → WorkEnds codec job s xs end → AreFound job found xs × Ends seen found course xs end
 
   -- so do the calls after one more, which leads to a state
   abbrev pub Follows : List Exchange → Found → List Call → Exchange → List Exchange → Outcome → State F → Type 0
-  Follows seen found course x xs end s = AskedFrom codec job s xs → EndsFrom codec job s xs end → AreFound job found (x ∷ xs) × Ends seen found course (x ∷ xs) end
+  Follows seen found course x xs end s = WorkAsks codec job s xs → WorkEnds codec job s xs end → AreFound job found (x ∷ xs) × Ends seen found course (x ∷ xs) end
 
   -- one that leads on
   pub follows_on : (seen : List Exchange) (found : Found) (course rest : List Call) (x : Exchange) (xs : List Exchange) (end : Outcome) (s : State F) → SaysThere found job.command x.call x.reply → IsTrue (lets_on x.call x.reply) → Next seen found course x.call rest → Goes (seen ++ x ∷ []) found rest xs end s → Follows seen found course x xs end s
@@ -263,12 +277,12 @@ module _ {F : Type 0} (codec : Codec F) (job : Job) where
   -- a job that makes no call, and is not over, ends for want of memory
   pub goes_none : (seen : List Exchange) (found : Found) (course : List Call) (end : Outcome) (s : State F) → ((o : Outcome) → s ≡ Over o → ⊥) → Goes seen found course [] end s
   goes_none seen found course end s not_over a (inl e) = absurd (not_over end e)
-  goes_none seen found course end s not_over a (inr e) = (All-nil (λ y. SaysThere found job.command y.call y.reply), subst (Ends seen found course []) (sym e.0) (inl (course, refl)))
+  goes_none seen found course end s not_over a (inr e) = (All-nil (λ y. SaysThere found job.command y.call y.reply), subst (Ends seen found course []) (sym e) (inl (course, refl)))
 
   -- a call that a state asks, and what follows from where it leads
   pub goes_by : (seen : List Exchange) (found : Found) (course : List Call) (x : Exchange) (xs : List Exchange) (end : Outcome) (s : State F) (c : Call) → asks codec job s ≡ Some c → (x.call ≡ c → Follows seen found course (record { call = c; reply = x.reply }) xs end (goes codec job s x.reply)) → Goes seen found course (x ∷ xs) end s
   goes_by seen found course x xs end s c is follows a e =
-      subst (λ d. AreFound job found (record { call = d; reply = x.reply } ∷ xs) × Ends seen found course (record { call = d; reply = x.reply } ∷ xs) end) (sym (call_is c x.call (sym is ∙ next_call codec job s x.call a.0))) (follows (call_is c x.call (sym is ∙ next_call codec job s x.call a.0)) a.1 (ends_on codec job s x xs end e))
+      subst (λ d. AreFound job found (record { call = d; reply = x.reply } ∷ xs) × Ends seen found course (record { call = d; reply = x.reply } ∷ xs) end) (sym (call_is c x.call (sym is ∙ a.0))) (follows (call_is c x.call (sym is ∙ a.0)) a.1 e)
 
   -- ---- puts
 
@@ -290,7 +304,7 @@ module _ {F : Type 0} (codec : Codec F) (job : Job) where
   puts_go seen found objects o well elsewhere silent (x ∷ xs) end next = by_item (slice_get objects next) refl (λ y. puts_go (seen ++ y ∷ []) found objects o (well_stays seen found y o well) elsewhere silent xs end (suc next))
     where
       by_item : (i : Option NewObject) → slice_get objects next ≡ i → ((y : Exchange) → Goes (seen ++ y ∷ []) found (list_map put_of (drop (suc next) objects)) xs end (Puts objects (suc next) o)) → Goes seen found (list_map put_of (drop next objects)) (x ∷ xs) end (Puts objects next o)
-      by_item None is goes_on = λ a e. absurd (none-some x.call (sym (ap (option_map put_of) is) ∙ next_call codec job (Puts objects next o) x.call a.0))
+      by_item None is goes_on = λ a e. absurd (none-some x.call (sym (ap (option_map put_of) is) ∙ a.0))
       by_item (Some ob) is goes_on =
           let left : drop next objects ≡ ob ∷ drop (suc next) objects = drop_item objects next ob is in
           goes_by seen found (list_map put_of (drop next objects)) x xs end (Puts objects next o) (put_of ob) (ap (option_map put_of) is)

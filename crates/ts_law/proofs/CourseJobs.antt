@@ -1,9 +1,10 @@
 -- A job of each command makes the calls of its course, and ends by it.
-use Rattle.std.proofs.Common.{length, ◌≡◌, ℕ, suc, Bool, true, false, cond, List, [], ◌∷◌, ◌++◌, Option, Some, None, Result, Ok, Err, IsTrue, arith, refl, sym, ap, inl, inr, subst}
+use Rattle.std.proofs.Common.{length, ◌∙◌, ◌⊎◌, ◌≡◌, ℕ, suc, Bool, true, false, cond, List, [], ◌∷◌, ◌++◌, Option, Some, None, Result, Ok, Err, IsTrue, arith, refl, sym, ap, inl, inr, subst}
 use Rattle.std.specs.Prelude.{Contains, option_map, nat_eq, map as list_map}
 use Rattle.std.specs.Result.{result_err}
-use Rattle.std.proofs.lemmas.Bool.{lt-ltb, ne_eqb}
-use Rattle.std.proofs.lemmas.List.Elements.{All-nil}
+use Rattle.std.proofs.lemmas.Bool.{lt-ltb, ne_eqb, true≢false}
+use Rattle.std.proofs.lemmas.Option.{none-some, same_Some}
+use Rattle.std.proofs.lemmas.List.Elements.{All-cons, All-nil, All-push, Contains-push}
 use Rattle.ts_base.specs.declared.keys.Key.{Key}
 use Rattle.ts_base.specs.declared.keys.FragKey.{FragKey}
 use Rattle.ts_base.specs.declared.names.Name.{Name}
@@ -26,16 +27,26 @@ use Rattle.ts_model.specs.declared.answers.Outcome.{Outcome}
 use Rattle.ts_model.specs.declared.answers.Refusal.{Refusal}
 use Rattle.ts_model.specs.declared.states.State.{State}
 use Rattle.ts_model.specs.declared.states.NewObject.{NewObject}
-use Rattle.ts_model.specs.declared.states.State.TheVariants.{Creates, Seeks}
+use Rattle.ts_model.specs.declared.states.State.TheVariants.{Creates, Seeks, Over}
+use Rattle.ts_model.specs.declared.states.Stage.{Stage}
+use Rattle.ts_model.specs.declared.states.Stage.TheVariants.{PutsLease, Releases, Works}
+use Rattle.ts_base.specs.declared.names.LeaseMode.TheVariants.{Shr}
+use Rattle.ts_lease.specs.Leases.{verdict_in}
+use Rattle.ts_lease.specs.declared.verdicts.Verdict.{Verdict}
+use Rattle.ts_lease.specs.declared.verdicts.Verdict.TheVariants as verdict
+use Rattle.ts_model.proofs.Asked.{asked-push, next_call}
+use Rattle.ts_model.proofs.Lacks.{no_memory_ends}
 use Rattle.ts_model.specs.declared.states.Creating.TheVariants.{PutsFrame, ComparesFrame, ListsDeclared}
 use Rattle.ts_model.specs.declared.states.Seeking.TheVariants.{ListsCommits, ListsSchemas}
 use Rattle.ts_model.specs.declared.commands.Command.TheVariants.{Create, Evolve, Write, Read, Delete}
 use Rattle.ts_model.specs.Codecs.{Codec, AsksLooks}
 use Rattle.ts_model.specs.Commands.{laid, piece_of}
 use Rattle.ts_model.specs.Jobs.{key_of, frag_of_job, written_as, refused_before}
-use Rattle.ts_model.specs.States.{Exchange, goes, begins, begun, refuse, unless_refused, get_schema, get_frame, list_schemas, list_commits, looked_into, committed_in, deletes_in, meets, commit_of, part_objects, put_of, putting, puts_cells, schema_object_of, write_objects, frame_put, is_own_frame, nothing_listed, asks_for, reading_of, puts_delete, delete_object_of}
-use Rattle.ts_model.specs.Driven.{AskedFrom, EndsFrom}
-use Rattle.ts_law.specs.Courses.{Found, cell_puts, evolve_puts, course_of, IsSchemaIn, IsFrameIn, SaysThere, IsGot, AreFound, LooksThere, IsLookOf, lets_on, refused_in, IsCause, EndsAlong, MayEndAs, delete_puts}
+use Rattle.ts_model.specs.Stages.{after_lease, after_leases, end_at, first_stage, is_leased, is_release, lease_of, list_leases, on_verdict, put_lease, released, settled, stage_asks, stage_from, stage_of}
+use Rattle.ts_model.specs.Stops.{cuts}
+use Rattle.ts_model.specs.States.{Exchange, end_by, goes, begins, begun, refuse, unless_refused, get_schema, get_frame, list_schemas, list_commits, looked_into, committed_in, deletes_in, meets, commit_of, part_objects, put_of, putting, puts_cells, schema_object_of, write_objects, frame_put, is_own_frame, nothing_listed, asks_for, reading_of, puts_delete, delete_object_of}
+use Rattle.ts_model.specs.Driven.{AskedFrom, EndsBy, MayAsk}
+use Rattle.ts_law.specs.Courses.{EndsUnder, HasPut, IsCutAlong, IsCutOff, NotBegun, NotOwn, Removed, removal, Found, cell_puts, evolve_puts, course_of, IsSchemaIn, IsFrameIn, SaysThere, IsGot, AreFound, LooksThere, IsLookOf, lets_on, refused_in, IsCause, EndsAlong, MayEndAs, delete_puts}
 use Rattle.ts_model.proofs.ListLemmas.{Contains-nil, Contains-here, Contains-cons, Contains-only, filter-Contains}
 use Rattle.ts_law.proofs.CourseGrows.{among_more}
 use Rattle.ts_law.proofs.LaidRefusals.{IsOfColumns, FailsByColumns, laid_fails}
@@ -44,11 +55,16 @@ use Rattle.ts_cond.specs.declared.query.Query.{Query}
 use Rattle.ts_cond.specs.Tests.{Condition}
 use Rattle.ts_model.specs.Queries.{ready_in, delete_condition}
 use Rattle.ts_law.proofs.QueryRefusals.{IsOfQuery, FailsByQuery, ready_fails, delete_condition_fails}
-use Rattle.ts_law.proofs.CourseCalls.{Ends, Well, over_ends, Goes, Follows, follows_on, follows_refused, follows_ended, goes_none, goes_by, follows_putting, puts_go, Next}
+use Rattle.ts_law.proofs.CourseCalls.{Ends, WorkAsks, WorkEnds, Well, ends_cons, work_from, over_ends, Goes, Follows, follows_on, follows_refused, follows_ended, goes_none, goes_by, follows_putting, puts_go, Next}
 use Rattle.ts_law.proofs.CourseReads.{follows_opening, reads_on}
+use Rattle.ts_law.proofs.CutOff.{as_if, found_before, last_same, no_calls, unmade_of}
+use Rattle.ts_law.proofs.CourseStages.{Closed, IsWas, Open, OpenAsks, Split, bare_asks, bare_from, open-push, open_from, releasing_asks, same_work, settled_leased, split, work_open, work_was}
+use Rattle.ts_law.proofs.KeptLaws.{no_removal}
+use Rattle.ts_law.proofs.LeaseSteps.{release_is}
 use Rattle.ts_law.proofs.CourseThere.{no_schema, no_frame, found_as, OfBytes, schemas_found}
 use Rattle.ts_base.specs.declared.names.Name.TheVariants as name
 use Rattle.ts_store.specs.declared.call.Reply.TheVariants as reply
+use Rattle.ts_store.specs.declared.call.Call.TheVariants as call
 use Rattle.ts_model.specs.declared.answers.Outcome.TheVariants as outcome
 use Rattle.ts_model.specs.declared.answers.Refusal.TheVariants as refusal
 
@@ -85,7 +101,7 @@ module _ {F : Type 0} (codec : Codec F) (any : Job) where
 
   -- a job found something, and its calls from a state on say so and end along its course
   abbrev Finds : Job → List Exchange → Outcome → State F → Type 0
-  Finds job xs end s = AskedFrom codec job s xs → EndsFrom codec job s xs end → (found : Found) × AreTold job found xs end
+  Finds job xs end s = WorkAsks codec job s xs → WorkEnds codec job s xs end → (found : Found) × AreTold job found xs end
 
   -- a job with another command
   abbrev pub with : Command → Job
@@ -220,28 +236,33 @@ module _ {F : Type 0} (codec : Codec F) (any : Job) where
       (λ there frame seen x xs end since got says on look. delete_works text there frame seen x xs end got says on look (delete_condition frame there.attrs text) refl (delete_condition_fails frame there.attrs text)) [] xs end (λ x at. at) in
       (found_as there frame, goes_on a e)
 
+  -- the calls after those before say what a job found, and end along a course
+  abbrev AreAlong : Job → List Exchange → Found → List Call → List Exchange → Outcome → Type 0
+  AreAlong job before found course xs end = AreFound job found xs × Ends codec job before found course xs end
+
   -- a read
-  read_finds : AsksLooks codec → (from to : ℕ) (query : Query) (xs : List Exchange) (end : Outcome) → Finds (with (Read from to query)) xs end (Seeks ListsCommits)
-  read_finds looks from to query [] end a e = (found_as no_schema no_frame, goes_none codec (with (Read from to query)) [] (found_as no_schema no_frame) (list_commits ∷ list_schemas ∷ []) end (Seeks ListsCommits) (λ o q. cc) a e)
-  read_finds looks from to query (x ∷ xs) end a e =
+  read_finds : AsksLooks codec → (from to : ℕ) (query : Query) (before xs : List Exchange) (end : Outcome) → WorkAsks codec (with (Read from to query)) (Seeks ListsCommits) xs → WorkEnds codec (with (Read from to query)) (Seeks ListsCommits) xs end
+      → (found : Found) × AreAlong (with (Read from to query)) before found (list_commits ∷ list_schemas ∷ []) xs end
+  read_finds looks from to query before [] end a e = (found_as no_schema no_frame, goes_none codec (with (Read from to query)) before (found_as no_schema no_frame) (list_commits ∷ list_schemas ∷ []) end (Seeks ListsCommits) (λ o q. cc) a e)
+  read_finds looks from to query before (x ∷ xs) end a e =
       let (found, follows) = by_reply x.reply in
-      (found, goes_by codec (with (Read from to query)) [] found (list_commits ∷ list_schemas ∷ []) x xs end (Seeks ListsCommits) list_commits refl (λ same. follows) a e)
+      (found, goes_by codec (with (Read from to query)) before found (list_commits ∷ list_schemas ∷ []) x xs end (Seeks ListsCommits) list_commits refl (λ same. follows) a e)
     where
       job : Job
       job = with (Read from to query)
 
       CommitsFor : Reply → Type 0
-      CommitsFor r = (found : Found) × Follows codec job [] found (list_commits ∷ list_schemas ∷ []) (record { call = list_commits; reply = r }) xs end (goes codec job (Seeks ListsCommits) r)
+      CommitsFor r = (found : Found) × Follows codec job before found (list_commits ∷ list_schemas ∷ []) (record { call = list_commits; reply = r }) xs end (goes codec job (Seeks ListsCommits) r)
 
       by_reply : (r : Reply) → CommitsFor r
       by_reply (reply.Names names) =
           let y : Exchange = record { call = list_commits; reply = reply.Names names } in
           let (there, frame, later) =
-          schemas_found codec job refl (λ found seen c look. inl look) (λ found r. tt) (λ found k r is. tt) (λ found r is. tt) (λ found. []) (y ∷ []) (looked_into (Read from to query) names)
-          (λ there frame seen z zs end' since got says on look. read_works looks from to query names there frame seen z zs end' (since y (Contains-here y [])) got on look (ready_in frame there.attrs query) refl (ready_fails frame there.attrs query))
-          (y ∷ []) xs end (λ z at. at) in
-          (found_as there frame, follows_on codec job [] (found_as there frame) (list_commits ∷ list_schemas ∷ []) (list_schemas ∷ []) y xs end (Seeks (ListsSchemas (looked_into (Read from to query) names))) tt refl (inr refl) later)
-      by_reply r = (found_as no_schema no_frame, follows_ended codec job [] (found_as no_schema no_frame) (list_commits ∷ list_schemas ∷ []) (list_schemas ∷ []) list_commits r xs end tt tt (inr refl))
+          schemas_found codec job refl (λ found seen c look. inl look) (λ found r. tt) (λ found k r is. tt) (λ found r is. tt) (λ found. []) (before ++ y ∷ []) (looked_into (Read from to query) names)
+          (λ there frame seen z zs end' since got says on look. read_works looks from to query names there frame seen z zs end' (since y (Contains-push before y)) got on look (ready_in frame there.attrs query) refl (ready_fails frame there.attrs query))
+          (before ++ y ∷ []) xs end (λ z at. at) in
+          (found_as there frame, follows_on codec job before (found_as there frame) (list_commits ∷ list_schemas ∷ []) (list_schemas ∷ []) y xs end (Seeks (ListsSchemas (looked_into (Read from to query) names))) tt refl (inr refl) later)
+      by_reply r = (found_as no_schema no_frame, follows_ended codec job before (found_as no_schema no_frame) (list_commits ∷ list_schemas ∷ []) (list_schemas ∷ []) list_commits r xs end tt tt (inr refl))
 
   -- ---- a create
 
@@ -327,28 +348,308 @@ module _ {F : Type 0} (codec : Codec F) (any : Job) where
   ends_along job found course whole (outcome.Refused r) h = h
   ends_along job found course whole outcome.OutOfMemory h = h
 
-  -- what a job found, and how it may end
-  abbrev MayEnd : Job → Found → List Exchange → Outcome → Option Refusal → Type 0
-  MayEnd job found whole end r = AreFound job found whole × MayEndAs codec job found whole end r
+  -- ---- a read, under its lease
 
-  -- where no refusal comes before the first call
-  begins_finds : AsksLooks codec → (command : Command) (whole : List Exchange) (end : Outcome) → Finds (with command) whole end (begins command)
-  begins_finds looks (Create f) whole end = create_finds f whole end
-  begins_finds looks (Evolve change) whole end = evolve_finds change whole end
-  begins_finds looks (Write w) whole end = write_finds w whole end
-  begins_finds looks (Read from to query) whole end = read_finds looks from to query whole end
-  begins_finds looks (Delete text) whole end = delete_finds text whole end
+  module _ (looks : AsksLooks codec) (from to : ℕ) (query : Query) where
+    -- a job that reads
+    abbrev reading : Job
+    reading = with (Read from to query)
+
+    -- its lease
+    abbrev own_lease : Name
+    own_lease = name.Lease (key_of any) Shr
+
+    -- the put of it, with its reply
+    abbrev lease_put : Reply → Exchange
+    lease_put r = record { call = put_lease own_lease; reply = r }
+
+    -- the listing of the leases, with its reply
+    abbrev leases_listed : Reply → Exchange
+    leases_listed r = record { call = list_leases; reply = r }
+
+    -- the course of a read at its work
+    abbrev reads_course : List Call
+    reads_course = list_commits ∷ list_schemas ∷ []
+
+    -- something was found, and the calls up to the removal of the lease may come to this end
+    abbrev ComesTo : List Exchange → Outcome → Type 0
+    ComesTo front was = (found : Found) × AreFound reading found front × EndsAlong codec reading found (put_lease own_lease ∷ list_leases ∷ reads_course) front was
+
+    -- an end along the course is one
+    comes_to : (found : Found) (front : List Exchange) (was : Outcome) → AreFound reading found front × Ends codec reading [] found (put_lease own_lease ∷ list_leases ∷ reads_course) front was → ComesTo front was
+    comes_to found front was h = (found, h.0, ends_along reading found (put_lease own_lease ∷ list_leases ∷ reads_course) front was h.1)
+
+    -- the calls before the removal of the lease: there is none, the name of the lease was taken, or the lease is held
+    data Began (front : List Exchange) : Type 0 where
+      NoCall : front ≡ [] → Began front
+      WasTaken : front ≡ lease_put reply.Taken ∷ [] → Began front
+      HeldLease : HasPut own_lease front → is_leased (open_from codec reading own_lease refl (PutsLease own_lease) front) ≡ true
+          → ((was : Outcome) → IsWas codec reading own_lease refl (open_from codec reading own_lease refl (PutsLease own_lease) front) was → ComesTo front was) → Began front
+
+    -- an end that the job may come to where it removes its lease is one that it came to, or want of memory
+    of_was : (e was : Outcome) → IsWas codec reading own_lease refl (Releases own_lease e) was → ◌≡◌ {A = State F} (Over e) (Over was) ⊎ (was ≡ outcome.OutOfMemory)
+    of_was e was (inl is) = inl (ap Over (sym is))
+    of_was e was (inr none) = inr none
+
+    -- where the listing of the leases led
+    after_list : (r : Reply) (ys : List Exchange) → OpenAsks codec reading own_lease refl (after_leases own_lease (Seeks ListsCommits) r) ys → Began (lease_put reply.Made ∷ leases_listed r ∷ ys)
+    after_list (reply.Names names) ys asked = by_verdict (verdict_in names own_lease) refl asked
+      where
+        y : Exchange
+        y = leases_listed (reply.Names names)
+
+        by_verdict : (v : Verdict) → verdict_in names own_lease ≡ v → OpenAsks codec reading own_lease refl (on_verdict own_lease (Seeks ListsCommits) v) ys → Began (lease_put reply.Made ∷ y ∷ ys)
+        by_verdict verdict.Granted is a =
+            let (work, same) = work_open codec reading own_lease refl (Seeks ListsCommits) ys a in
+            let leads : open_from codec reading own_lease refl (PutsLease own_lease) (lease_put reply.Made ∷ y ∷ ys) ≡ settled (Some own_lease) (work_from codec reading (Seeks ListsCommits) ys) =
+            ap (λ v. open_from codec reading own_lease refl (on_verdict own_lease (Seeks ListsCommits) v) ys) is ∙ same in
+            HeldLease (refl, λ e. cc) (ap is_leased leads ∙ settled_leased codec reading own_lease refl (work_from codec reading (Seeks ListsCommits) ys))
+            (λ was is_was.
+              let ends = work_was codec reading own_lease refl (Seeks ListsCommits) ys was (subst (λ g. IsWas codec reading own_lease refl g was) leads is_was) in
+              let (found, told) = read_finds looks from to query (lease_put reply.Made ∷ y ∷ []) ys was work ends in
+              comes_to found (lease_put reply.Made ∷ y ∷ ys) was (
+                All-cons (λ z. SaysThere found (Read from to query) z.call z.reply) (lease_put reply.Made) (y ∷ ys) tt (All-cons (λ z. SaysThere found (Read from to query) z.call z.reply) y ys tt told.0),
+                ends_cons codec reading [] found (put_lease own_lease ∷ list_leases ∷ reads_course) (list_leases ∷ reads_course) (lease_put reply.Made) (y ∷ ys) was refl (inr refl)
+                    (ends_cons codec reading (lease_put reply.Made ∷ []) found (list_leases ∷ reads_course) reads_course y ys was refl (inr refl) told.1),
+              ))
+        by_verdict (verdict.Held other) is a =
+            let none = releasing_asks codec reading own_lease refl (outcome.Refused (refusal.Leased other)) ys a in
+            let at : on_verdict own_lease (Seeks ListsCommits) (verdict_in names own_lease) ≡ Releases own_lease (outcome.Refused (refusal.Leased other)) = ap (on_verdict own_lease (Seeks ListsCommits)) is in
+            subst (λ t. Began (lease_put reply.Made ∷ y ∷ t)) (sym none)
+            (HeldLease (refl, λ e. cc) (ap is_leased at)
+            (λ was is_was.
+              let found = found_as no_schema no_frame in
+              let ends : WorkEnds codec reading (refuse (refusal.Leased other)) [] was = of_was (outcome.Refused (refusal.Leased other)) was (subst (λ g. IsWas codec reading own_lease refl g was) at is_was) in
+              let told = follows_refused codec reading (lease_put reply.Made ∷ []) found (list_leases ∷ reads_course) reads_course y [] was (refusal.Leased other) tt (inr refl) (own_lease, refl, names, refl, is) tt ends in
+              comes_to found (lease_put reply.Made ∷ y ∷ []) was (
+                All-cons (λ z. SaysThere found (Read from to query) z.call z.reply) (lease_put reply.Made) (y ∷ []) tt told.0,
+                ends_cons codec reading [] found (put_lease own_lease ∷ list_leases ∷ reads_course) (list_leases ∷ reads_course) (lease_put reply.Made) (y ∷ []) was refl (inr refl) told.1,
+              )))
+    after_list r ys asked =
+        let none = releasing_asks codec reading own_lease refl (end_by list_leases r) ys asked in
+        subst (λ t. Began (lease_put reply.Made ∷ leases_listed r ∷ t)) (sym none)
+        (HeldLease (refl, λ e. cc) refl
+        (λ was is_was.
+          let found = found_as no_schema no_frame in
+          let told = follows_ended codec reading (lease_put reply.Made ∷ []) found (list_leases ∷ reads_course) reads_course list_leases r [] was tt tt (inr refl) tt (of_was (end_by list_leases r) was is_was) in
+          comes_to found (lease_put reply.Made ∷ leases_listed r ∷ []) was (
+            All-cons (λ z. SaysThere found (Read from to query) z.call z.reply) (lease_put reply.Made) (leases_listed r ∷ []) tt told.0,
+            ends_cons codec reading [] found (put_lease own_lease ∷ list_leases ∷ reads_course) (list_leases ∷ reads_course) (lease_put reply.Made) (leases_listed r ∷ []) was refl (inr refl) told.1,
+          )))
+
+    -- where the put of the lease led
+    after_put : (r : Reply) (xs : List Exchange) → OpenAsks codec reading own_lease refl (after_lease own_lease r) xs → Began (lease_put r ∷ xs)
+    after_put reply.Made [] asked =
+        HeldLease (refl, λ e. cc) refl
+        (λ was is_was.
+          let found = found_as no_schema no_frame in
+          let none : was ≡ outcome.OutOfMemory = elim is_was [ inl is ↦ is | inr is ↦ is ] in
+          comes_to found (lease_put reply.Made ∷ []) was (
+            All-cons (λ z. SaysThere found (Read from to query) z.call z.reply) (lease_put reply.Made) [] tt (All-nil (λ z. SaysThere found (Read from to query) z.call z.reply)),
+            subst (Ends codec reading [] found (put_lease own_lease ∷ list_leases ∷ reads_course) (lease_put reply.Made ∷ [])) (sym none) (inl (list_leases ∷ reads_course, (refl, (list_leases ∷ reads_course, inr refl, refl)))),
+          ))
+    after_put reply.Made (y ∷ ys) (asked, other, rest) =
+        subst (λ c. Began (lease_put reply.Made ∷ record { call = c; reply = y.reply } ∷ ys)) (same_Some list_leases y.call asked) (after_list y.reply ys rest)
+    after_put reply.Taken [] asked = WasTaken refl
+    after_put reply.Taken (y ∷ ys) asked = absurd (none-some y.call asked.0)
+    after_put r xs asked =
+        let none = releasing_asks codec reading own_lease refl (end_by (put_lease own_lease) r) xs asked in
+        subst (λ t. Began (lease_put r ∷ t)) (sym none)
+        (HeldLease (refl, λ e. cc) refl
+        (λ was is_was.
+          let found = found_as no_schema no_frame in
+          comes_to found (lease_put r ∷ []) was
+          (follows_ended codec reading [] found (put_lease own_lease ∷ list_leases ∷ reads_course) (list_leases ∷ reads_course) (put_lease own_lease) r [] was tt tt (inr refl) tt (of_was (end_by (put_lease own_lease) r) was is_was))))
+
+    -- the calls before the removal of the lease
+    began : (front : List Exchange) → OpenAsks codec reading own_lease refl (PutsLease own_lease) front → Began front
+    began [] asked = NoCall refl
+    began (x ∷ xs) (asked, other, rest) = subst (λ c. Began (record { call = c; reply = x.reply } ∷ xs)) (same_Some (put_lease own_lease) x.call asked) (after_put x.reply xs rest)
+
+    -- a lease that is not put is not removed
+    none_before : MayAsk codec reading (PutsLease own_lease) (call.Remove own_lease) → ⊥
+    none_before (inl asked) = no_removal own_lease own_lease [] (sym (same_Some (put_lease own_lease) (call.Remove own_lease) asked))
+    none_before (inr gives_up) = true≢false (sym gives_up.1)
+
+    -- nor does a job that is over make a call
+    none_over : (end : Outcome) (c : Call) → MayAsk codec reading (Works (Over end)) c → ⊥
+    none_over end c (inl asked) = none-some c asked
+    none_over end c (inr gives_up) = true≢false (sym gives_up.1)
+
+    -- where its lease is removed at the end of its calls, the job may end so
+    removed_ends : (front : List Exchange) (r : Reply) (was end : Outcome) → HasPut own_lease front → ComesTo front was → end ≡ released own_lease was r
+        → (found : Found) × AreFound reading found (front ++ removal own_lease r ∷ []) × EndsUnder codec reading found (lease_of reading) (front ++ removal own_lease r ∷ []) end
+    removed_ends front r was end put (found, told, ended) is = (found, All-push (λ z. SaysThere found (Read from to query) z.call z.reply) front (removal own_lease r) told tt, Removed front r was refl put ended is)
+
+    -- a read ends as one may that has a lease
+    leased_finds : (whole : List Exchange) (end : Outcome) → AskedFrom codec reading (PutsLease own_lease) whole → EndsBy codec reading whole end
+        → (found : Found) × AreFound reading found whole × EndsUnder codec reading found (lease_of reading) whole end
+    leased_finds whole end asked ends = by_split (split codec reading own_lease refl (PutsLease own_lease) whole asked)
+      where
+        none_found : Found
+        none_found = found_as no_schema no_frame
+
+        g_of : List Exchange → Stage F
+        g_of front = open_from codec reading own_lease refl (PutsLease own_lease) front
+
+        silent : (xs : List Exchange) → AreFound reading none_found xs
+        silent [] = All-nil (λ z. SaysThere none_found (Read from to query) z.call z.reply)
+        silent (x ∷ xs) = All-cons (λ z. SaysThere none_found (Read from to query) z.call z.reply) x xs tt (silent xs)
+
+        one_end : (o e : Outcome) → ◌≡◌ {A = Stage F} (Works (Over o)) (Works (Over e)) → e ≡ o
+        one_end o e same = cc
+
+        not_held : (g : Stage F) → is_leased g ≡ true → g ≡ Works (Over end) → ⊥
+        not_held g held over = true≢false (sym held ∙ ap is_leased over)
+
+        taken_ends : EndsBy codec reading (lease_put reply.Taken ∷ []) end → end ≡ outcome.Refused (refusal.Taken own_lease)
+        taken_ends (inl over) = one_end (outcome.Refused (refusal.Taken own_lease)) end over
+        taken_ends (inr short) = absurd (true≢false (sym short.1.1))
+
+        at_first : EndsBy codec reading [] end → end ≡ outcome.OutOfMemory
+        at_first (inl over) = absurd (not_work over)
+          where
+            not_work : ◌≡◌ {A = Stage F} (PutsLease own_lease) (Works (Over end)) → ⊥
+            not_work e = cc
+        at_first (inr short) = short.0
+
+        by_open : (front : List Exchange) → stage_of codec reading front ≡ g_of front → EndsBy codec reading front end → Began front
+            → (found : Found) × AreFound reading found front × EndsUnder codec reading found (lease_of reading) front end
+        by_open front same e (NoCall none) = (none_found, silent front, NotBegun none (at_first (subst (λ t. EndsBy codec reading t end) none e)))
+        by_open front same e (WasTaken is) = (none_found, silent front, NotOwn is (taken_ends (subst (λ t. EndsBy codec reading t end) is e)))
+        by_open front same (inl over) (HeldLease put held comes) = absurd (not_held (g_of front) held (sym same ∙ over))
+        by_open front same (inr short) (HeldLease put held comes) = absurd (true≢false (sym (ap is_leased same ∙ held) ∙ short.1.0))
+
+        by_closed : (front : List Exchange) (r : Reply) → MayAsk codec reading (g_of front) (call.Remove own_lease) → stage_of codec reading (front ++ removal own_lease r ∷ []) ≡ Works (Over (released own_lease (end_at (g_of front)) r))
+            → EndsBy codec reading (front ++ removal own_lease r ∷ []) end → Began front
+            → (found : Found) × AreFound reading found (front ++ removal own_lease r ∷ []) × EndsUnder codec reading found (lease_of reading) (front ++ removal own_lease r ∷ []) end
+        by_closed front r may same e (NoCall none) = absurd (none_before (subst (λ t. MayAsk codec reading (g_of t) (call.Remove own_lease)) none may))
+        by_closed front r may same e (WasTaken is) = absurd (none_over (outcome.Refused (refusal.Taken own_lease)) (call.Remove own_lease) (subst (λ t. MayAsk codec reading (g_of t) (call.Remove own_lease)) is may))
+        by_closed front r may same (inl over) (HeldLease put held comes) =
+            removed_ends front r (end_at (g_of front)) end put (comes (end_at (g_of front)) (inl refl)) (one_end (released own_lease (end_at (g_of front)) r) end (sym same ∙ over))
+        by_closed front r may same (inr short) (HeldLease put held comes) = removed_ends front r outcome.OutOfMemory end put (comes outcome.OutOfMemory (inr refl)) short.0
+
+        by_split : Split codec reading own_lease refl (PutsLease own_lease) whole → (found : Found) × AreFound reading found whole × EndsUnder codec reading found (lease_of reading) whole end
+        by_split (Open opened same) = by_open whole same ends (began whole opened)
+        by_split (Closed front r parts opened may same) =
+            subst (λ t. (found : Found) × AreFound reading found t × EndsUnder codec reading found (lease_of reading) t end) (sym parts)
+            (by_closed front r may (subst (λ t. stage_of codec reading t ≡ Works (Over (released own_lease (end_at (g_of front)) r))) parts same) (subst (λ t. EndsBy codec reading t end) parts ends) (began front opened))
+
+    -- a read that its stop cuts off
+    pub leased_cut : (whole : List Exchange) (c : Call) → AskedFrom codec reading (PutsLease own_lease) whole → MayAsk codec reading (stage_of codec reading whole) c → cuts any.stop (length whole) c ≡ true
+        → (found : Found) × AreFound reading found whole × IsCutOff codec reading found whole
+    leased_cut whole c asked may cut = by_split (split codec reading own_lease refl (PutsLease own_lease) whole asked)
+      where
+        g_of : List Exchange → Stage F
+        g_of front = open_from codec reading own_lease refl (PutsLease own_lease) front
+
+        at_removal : whole ≡ whole → MayAsk codec reading (g_of whole) (call.Remove own_lease) → cuts any.stop (length whole) (call.Remove own_lease) ≡ true → Began whole → (found : Found) × AreFound reading found whole × IsCutOff codec reading found whole
+        at_removal e m k (NoCall none) = absurd (none_before (subst (λ t. MayAsk codec reading (g_of t) (call.Remove own_lease)) none m))
+        at_removal e m k (WasTaken is) = absurd (none_over (outcome.Refused (refusal.Taken own_lease)) (call.Remove own_lease) (subst (λ t. MayAsk codec reading (g_of t) (call.Remove own_lease)) is m))
+        at_removal e m k (HeldLease put held comes) =
+            let (found, told, ended) = comes outcome.OutOfMemory (inr refl) in
+            (found, told, inr (record { lease = own_lease; own = refl; was = outcome.OutOfMemory; put = put; ended = ended; cut = k }))
+
+        along : (x : Exchange) → x ≡ as_if c → Began (whole ++ x ∷ []) → (found : Found) × AreFound reading found whole × IsCutOff codec reading found whole
+        along x is (NoCall none) = absurd (no_calls whole x none)
+        along x is (WasTaken taken) = let last = last_same whole [] x (lease_put reply.Taken) taken in let none : reply.NoMemory ≡ reply.Taken = ap (λ y. y.reply) (sym is ∙ last.1) in cc
+        along x is (HeldLease put held comes) =
+            let (found, told, ended) = comes outcome.OutOfMemory (inr refl) in
+            let u = unmade_of (IsLookOf codec reading found) (put_lease own_lease ∷ list_leases ∷ reads_course) whole c (subst (λ y. EndsAlong codec reading found (put_lease own_lease ∷ list_leases ∷ reads_course) (whole ++ y ∷ []) outcome.OutOfMemory) is ended) in
+            (found, found_before reading found whole x told, inl (record { begins = refl; left = u.0; along = u.2; unmade = c; rest = u.1; next = u.3; cut = cut }))
+
+        by_kind : (b : Bool) → is_release reading c ≡ b → OpenAsks codec reading own_lease refl (PutsLease own_lease) whole → stage_of codec reading whole ≡ g_of whole → (found : Found) × AreFound reading found whole × IsCutOff codec reading found whole
+        by_kind true is opened same =
+            let (lease, some, removes) = release_is reading c is in
+            let own : c ≡ call.Remove own_lease = removes ∙ ap call.Remove (sym (same_Some own_lease lease some)) in
+            at_removal refl (subst (MayAsk codec reading (g_of whole)) own (subst (λ g. MayAsk codec reading g c) same may)) (ap (cuts any.stop (length whole)) (sym own) ∙ cut) (began whole opened)
+        by_kind false other opened same = elim may [
+          | inl asks_it ↦ along (as_if c) refl (began (whole ++ as_if c ∷ []) (open-push codec reading own_lease refl (PutsLease own_lease) whole (as_if c) opened (ap (stage_asks codec reading) (sym same) ∙ asks_it) other))
+          | inr gives_up ↦ absurd (true≢false (sym gives_up.0 ∙ other))
+        ]
+
+        by_split : Split codec reading own_lease refl (PutsLease own_lease) whole → (found : Found) × AreFound reading found whole × IsCutOff codec reading found whole
+        by_split (Open opened same) = by_kind (is_release reading c) refl opened same
+        by_split (Closed front r parts opened m same) = absurd (none_over (released own_lease (end_at (g_of front)) r) c (subst (λ g. MayAsk codec reading g c) same may))
+
+  -- ---- a job of any command
+
+  -- where no refusal comes before the first call of a job without a lease
+  begins_finds : (command : Command) → lease_of (with command) ≡ None → (whole : List Exchange) (end : Outcome) → Finds (with command) whole end (begins command)
+  begins_finds (Create f) none whole end = create_finds f whole end
+  begins_finds (Evolve change) none whole end = evolve_finds change whole end
+  begins_finds (Write w) none whole end = write_finds w whole end
+  begins_finds (Delete text) none whole end = delete_finds text whole end
+  begins_finds (Read from to query) none whole end = absurd (none-some _ (sym none))
+
+  -- the ends of its work
+  bare_ends : (command : Command) → lease_of (with command) ≡ None → (whole : List Exchange) (end : Outcome) → (stage_from codec (with command) (Works (begun command)) whole ≡ Works (Over end)) ⊎ (end ≡ outcome.OutOfMemory) → WorkEnds codec (with command) (begun command) whole end
+  bare_ends command none whole end (inl over) = inl (same_work codec (with command) (sym (bare_from codec (with command) none (begun command) whole) ∙ over))
+  bare_ends command none whole end (inr short) = inr short
+
+  -- a job without a lease
+  pub bare_finds : (command : Command) → lease_of (with command) ≡ None → (whole : List Exchange) (end : Outcome) → AskedFrom codec (with command) (Works (begun command)) whole
+      → (stage_from codec (with command) (Works (begun command)) whole ≡ Works (Over end)) ⊎ (end ≡ outcome.OutOfMemory) → (found : Found) × AreFound (with command) found whole × MayEndAs codec (with command) found whole end (refused_before command)
+  bare_finds command none whole end asked ends = by_refusal (refused_before command) (bare_asks codec (with command) none (begun command) whole asked) (bare_ends command none whole end ends)
+    where
+      under : (found : Found) → EndsAlong codec (with command) found (course_of codec (with command) found) whole end → EndsUnder codec (with command) found (lease_of (with command)) whole end
+      under found h = subst (λ o. EndsUnder codec (with command) found o whole end) (sym none) h
+
+      by_refusal : (r : Option Refusal) → WorkAsks codec (with command) (unless_refused (begins command) r) whole → WorkEnds codec (with command) (unless_refused (begins command) r) whole end
+          → (found : Found) × AreFound (with command) found whole × MayEndAs codec (with command) found whole end r
+      by_refusal None a e =
+          let (found, told) = begins_finds command none whole end a e in
+          (found, told.0, under found (ends_along (with command) found (course_of codec (with command) found) whole end told.1))
+      by_refusal (Some r) a e =
+          let over = over_ends codec (with command) (outcome.Refused r) whole end a e in
+          (found_as no_schema no_frame, subst (AreFound (with command) (found_as no_schema no_frame)) (sym over.0) (All-nil (λ x. SaysThere (found_as no_schema no_frame) command x.call x.reply)), over)
+
+  -- how a job without a lease ended
+  bare_by : (command : Command) (whole : List Exchange) (end : Outcome) → first_stage {F = F} (with command) ≡ Works (begun command) → EndsBy codec (with command) whole end
+      → (stage_from codec (with command) (Works (begun command)) whole ≡ Works (Over end)) ⊎ (end ≡ outcome.OutOfMemory)
+  bare_by command whole end first (inl over) = inl (ap (λ g. stage_from codec (with command) g whole) (sym first) ∙ over)
+  bare_by command whole end first (inr short) = inr short.0
 
   -- a job of any command
-  pub begun_finds : AsksLooks codec → (command : Command) (whole : List Exchange) (end : Outcome) → AskedFrom codec (with command) (begun command) whole → EndsFrom codec (with command) (begun command) whole end
-      → (found : Found) × MayEnd (with command) found whole end (refused_before command)
-  begun_finds looks command whole end a e = by_refusal (refused_before command) a e
+  pub begun_finds : AsksLooks codec → (command : Command) (whole : List Exchange) (end : Outcome) → AskedFrom codec (with command) (first_stage (with command)) whole → EndsBy codec (with command) whole end
+      → (found : Found) × AreFound (with command) found whole × MayEndAs codec (with command) found whole end (refused_before command)
+  begun_finds looks (Read from to query) whole end asked ends = leased_finds looks from to query whole end asked ends
+  begun_finds looks (Create f) whole end asked ends = bare_finds (Create f) refl whole end asked (bare_by (Create f) whole end refl ends)
+  begun_finds looks (Evolve change) whole end asked ends = bare_finds (Evolve change) refl whole end asked (bare_by (Evolve change) whole end refl ends)
+  begun_finds looks (Write w) whole end asked ends = bare_finds (Write w) refl whole end asked (bare_by (Write w) whole end refl ends)
+  begun_finds looks (Delete text) whole end asked ends = bare_finds (Delete text) refl whole end asked (bare_by (Delete text) whole end refl ends)
+
+  -- a job without a lease that its stop cuts off
+  bare_cut : (command : Command) → lease_of (with command) ≡ None → first_stage {F = F} (with command) ≡ Works (begun command) → (whole : List Exchange) (c : Call) → AskedFrom codec (with command) (first_stage (with command)) whole
+      → MayAsk codec (with command) (stage_of codec (with command) whole) c → cuts any.stop (length whole) c ≡ true → (found : Found) × AreFound (with command) found whole × IsCutOff codec (with command) found whole
+  bare_cut command none first whole c asked may cut =
+      let begins : AskedFrom codec (with command) (Works (begun command)) whole = subst (λ g. AskedFrom codec (with command) g whole) first asked in
+      let at : stage_of codec (with command) whole ≡ Works (work_from codec (with command) (begun command) whole) = ap (λ g. stage_from codec (with command) g whole) first ∙ bare_from codec (with command) none (begun command) whole in
+      let here : MayAsk codec (with command) (stage_from codec (with command) (Works (begun command)) whole) c = subst (λ g. MayAsk codec (with command) (stage_from codec (with command) g whole) c) first may in
+      let asks_it = next_call codec (with command) (Works (work_from codec (with command) (begun command) whole)) c none (subst (λ g. MayAsk codec (with command) g c) at may) in
+      let more = asked-push codec (with command) (Works (begun command)) whole (as_if c) begins here in
+      let ends : stage_from codec (with command) (Works (begun command)) (whole ++ as_if c ∷ []) ≡ Works (Over outcome.OutOfMemory) =
+      bare_from codec (with command) none (begun command) (whole ++ as_if c ∷ [])
+      ∙ ap Works (work_from-push (begun command) whole (as_if c) ∙ no_memory_ends F codec (with command) (work_from codec (with command) (begun command) whole) c asks_it) in
+      let (found, told, ended) = bare_finds command none (whole ++ as_if c ∷ []) outcome.OutOfMemory more (inl ends) in
+      (found, found_before (with command) found whole (as_if c) told, inl (by_refusal found (refused_before command) refl ended))
     where
-      by_refusal : (r : Option Refusal) → AskedFrom codec (with command) (unless_refused (begins command) r) whole → EndsFrom codec (with command) (unless_refused (begins command) r) whole end
-          → (found : Found) × MayEnd (with command) found whole end r
-      by_refusal None a' e' =
-          let (found, told) = begins_finds looks command whole end a' e' in
-          (found, (told.0, ends_along (with command) found (course_of codec (with command) found) whole end told.1))
-      by_refusal (Some r) a' e' =
-          let over = over_ends codec (with command) (outcome.Refused r) whole end a' e' in
-          (found_as no_schema no_frame, (subst (AreFound (with command) (found_as no_schema no_frame)) (sym over.0) (All-nil (λ x. SaysThere (found_as no_schema no_frame) command x.call x.reply)), over))
+      work_from-push : (s : State F) (xs : List Exchange) (x : Exchange) → work_from codec (with command) s (xs ++ x ∷ []) ≡ goes codec (with command) (work_from codec (with command) s xs) x.reply
+      work_from-push s [] x = refl
+      work_from-push s (y ∷ xs) x = work_from-push (goes codec (with command) s y.reply) xs x
+
+      by_refusal : (found : Found) (r : Option Refusal) → refused_before command ≡ r → MayEndAs codec (with command) found (whole ++ as_if c ∷ []) outcome.OutOfMemory r → IsCutAlong codec (with command) found whole
+      by_refusal found None is h =
+          let ended = subst (λ o. EndsUnder codec (with command) found o (whole ++ as_if c ∷ []) outcome.OutOfMemory) none h in
+          let u = unmade_of (IsLookOf codec (with command) found) (course_of codec (with command) found) whole c ended in
+          record { begins = is; left = u.0; along = u.2; unmade = c; rest = u.1; next = u.3; cut = cut }
+      by_refusal found (Some r) is h = absurd (no_calls whole (as_if c) h.0)
+
+  -- a job of any command that its stop cuts off
+  pub begun_cut : AsksLooks codec → (command : Command) (whole : List Exchange) (c : Call) → AskedFrom codec (with command) (first_stage (with command)) whole → MayAsk codec (with command) (stage_of codec (with command) whole) c → cuts any.stop (length whole) c ≡ true
+      → (found : Found) × AreFound (with command) found whole × IsCutOff codec (with command) found whole
+  begun_cut looks (Read from to query) whole c asked may cut = leased_cut looks from to query whole c asked may cut
+  begun_cut looks (Create f) whole c asked may cut = bare_cut (Create f) refl refl whole c asked may cut
+  begun_cut looks (Evolve change) whole c asked may cut = bare_cut (Evolve change) refl refl whole c asked may cut
+  begun_cut looks (Write w) whole c asked may cut = bare_cut (Write w) refl refl whole c asked may cut
+  begun_cut looks (Delete text) whole c asked may cut = bare_cut (Delete text) refl refl whole c asked may cut

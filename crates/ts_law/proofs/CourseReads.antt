@@ -27,7 +27,6 @@ use Rattle.ts_model.specs.declared.commands.Command.TheVariants.{Read}
 use Rattle.ts_model.specs.Codecs.{Codec, Stepped, Asks, Takes, Breaks, is_look, AsksLooks}
 use Rattle.ts_model.specs.States.{Exchange, get_all, get_head, get_schema, on_bytes, after_fetched, opening, gathering, fetching, fetches_one, fetch_leads, fetch_begins, after_head, after_schema, known_schema, keys_named, want_of, answer_of, on_read, getting_deletes, with_deletion, deletion_named, get_delete, after_delete, wanted, committed_in, deletes_in}
 use Rattle.ts_law.specs.Courses.{Found, SaysThere, GotSchema, IsGot, IsOpened, IsFetched, IsUnderWay, IsListedIn, IsLookedInto, LooksInside, AtHead, AtSchema, AtDelete, InFetch, IsLookBy, IsLookOf, BreaksPart, IsNext, lets_on, refused_in}
-use Rattle.ts_model.proofs.Asked.{next_call}
 use Rattle.ts_model.proofs.KeyLemmas.{key_same, key_itself}
 use Rattle.ts_model.proofs.ListLemmas.{Contains-here, Contains-there, find-Some}
 use Rattle.ts_model.specs.declared.deeds.Deletion.{Deletion}
@@ -235,7 +234,7 @@ module _ {F : Type 0} (codec : Codec F) (job : Job) where
     heads_go seen x xs end later r opened objects = by_item (slice_get r.fragments (length opened)) refl
       where
         by_item : (i : Option FragKey) → slice_get r.fragments (length opened) ≡ i → Goes codec job seen found [] (x ∷ xs) end (Collects (GetsHeads r opened))
-        by_item None none = λ a e. absurd (none-some x.call (sym (ap (option_map (get_head codec r)) none) ∙ next_call codec job (Collects (GetsHeads r opened)) x.call a.0))
+        by_item None none = λ a e. absurd (none-some x.call (sym (ap (option_map (get_head codec r)) none) ∙ a.0))
         by_item (Some f) there = goes_by codec job seen found [] x xs end (Collects (GetsHeads r opened)) (get_head codec r f) (ap (option_map (get_head codec r)) there) (λ same. rw there (by_reply x.reply))
           where
             fragments : IsLookedInto seen from to f
@@ -267,7 +266,7 @@ module _ {F : Type 0} (codec : Codec F) (job : Job) where
     gets_go seen x xs end later r opened named schemas names objects = by_item (slice_get named (length schemas)) refl
       where
         by_item : (i : Option Key) → slice_get named (length schemas) ≡ i → Goes codec job seen found [] (x ∷ xs) end (Collects (GetsSchemas r opened named schemas))
-        by_item None none = λ a e. absurd (none-some x.call (sym (ap (option_map get_schema) none) ∙ next_call codec job (Collects (GetsSchemas r opened named schemas)) x.call a.0))
+        by_item None none = λ a e. absurd (none-some x.call (sym (ap (option_map get_schema) none) ∙ a.0))
         by_item (Some k) there = goes_by codec job seen found [] x xs end (Collects (GetsSchemas r opened named schemas)) (get_schema k) (ap (option_map get_schema) there) (λ same. rw there (by_reply x.reply))
           where
             look : IsLookOf codec job found seen (get_schema k)
@@ -300,7 +299,7 @@ module _ {F : Type 0} (codec : Codec F) (job : Job) where
     deletes_go seen x xs end later r opened schemas objects = by_item (slice_get r.delete_names (length r.deletions)) refl
       where
         by_item : (i : Option FragKey) → slice_get r.delete_names (length r.deletions) ≡ i → Goes codec job seen found [] (x ∷ xs) end (Collects (GetsDeletes r opened schemas))
-        by_item None none = λ a e. absurd (none-some x.call (sym (ap (option_map get_delete) none) ∙ next_call codec job (Collects (GetsDeletes r opened schemas)) x.call a.0))
+        by_item None none = λ a e. absurd (none-some x.call (sym (ap (option_map get_delete) none) ∙ a.0))
         by_item (Some f) there = goes_by codec job seen found [] x xs end (Collects (GetsDeletes r opened schemas)) (get_delete f) (ap (option_map get_delete) there) (λ same. rw there (by_reply x.reply))
           where
             look : IsLookOf codec job found seen (get_delete f)

@@ -9,15 +9,17 @@ use Rattle.ts_model.specs.declared.answers.Driven.{Driven}
 use Rattle.ts_model.specs.declared.answers.Driven.TheVariants.{Done}
 use Rattle.ts_model.specs.declared.answers.Outcome.{Outcome}
 use Rattle.ts_model.specs.declared.answers.Outcome.TheVariants.{OutOfMemory}
-use Rattle.ts_model.specs.declared.states.State.{State}
+use Rattle.ts_model.specs.declared.states.Stage.{Stage}
 use Rattle.ts_model.specs.Codecs.{Codec}
-use Rattle.ts_model.specs.States.{Exchange, begun, state_of}
+use Rattle.ts_model.specs.States.{Exchange}
+use Rattle.ts_model.specs.Stages.{first_stage, stage_of}
 use Rattle.ts_model.specs.Stops.{Uncut}
 use Rattle.ts_model.specs.Driven.{AskedFrom, ComesOut, IsDriven}
 use Rattle.ts_model.specs.Driving.{Leaves, RanTo, Ran}
 use Rattle.ts_model.specs.Told.{Suits}
 use Rattle.ts_model.proofs.Driving.{Makes, ran-none, ran-step}
-use Rattle.ts_model.proofs.Traces.{state_from-append}
+use Rattle.ts_model.proofs.Asked.{starts_unleased}
+use Rattle.ts_model.proofs.Traces.{stage_from-append}
 use Rattle.ts_law.specs.Doing.{RanOver}
 use Rattle.ts_law.specs.Runs.{exchanges}
 use Rattle.ts_law.proofs.Lanes.{own_exchanges}
@@ -28,7 +30,7 @@ module _ {F : Type 0} (codec : Codec F) {S : Type 0} (held : S → Option Held) 
     (one : (a b : S) (x : Exchange) (xs : List Exchange) → leads a (x ∷ xs) b → (between : S) × Makes lane (held a) (held between) (journal a) (journal between) x × leads between xs b) where
   -- a job makes more calls than before
   ran-more : (opening : Option Held) (before : List Entry) (past xs : List Exchange) (a b : S) → RanTo codec number lane job opening (held a) before (journal a) past
-      → AskedFrom codec job (state_of codec job past) xs → leads a xs b → RanTo codec number lane job opening (held b) before (journal b) (past ++ xs)
+      → AskedFrom codec job (stage_of codec job past) xs → leads a xs b → RanTo codec number lane job opening (held b) before (journal b) (past ++ xs)
   ran-more opening before past [] a b ran asked way =
       let P : S → Type 0 = λ s. RanTo codec number lane job opening (held s) before (journal s) (past ++ []) in
       let Q : List Exchange → Type 0 = λ t. RanTo codec number lane job opening (held a) before (journal a) t in
@@ -36,13 +38,13 @@ module _ {F : Type 0} (codec : Codec F) {S : Type 0} (held : S → Option Held) 
   ran-more opening before past (x ∷ xs) a b ran asked way =
       let (between, makes, rest) = one a b x xs way in
       let P : List Exchange → Type 0 = λ t. RanTo codec number lane job opening (held b) before (journal b) t in
-      let Q : State F → Type 0 = λ s. AskedFrom codec job s xs in
+      let Q : Stage F → Type 0 = λ s. AskedFrom codec job s xs in
       let more = ran-step codec number lane job opening (held a) (held between) before (journal a) (journal between) past x.call makes.fate x.reply ran asked.0 makes.short makes.fits makes.answers makes.enters in
       subst P (append_assoc past (x ∷ []) xs)
-      (ran-more opening before (past ++ x ∷ []) xs between b more (subst Q (sym (state_from-append codec job (begun job.command) past (x ∷ []))) asked.1) rest)
+      (ran-more opening before (past ++ x ∷ []) xs between b more (subst Q (sym (stage_from-append codec job (first_stage job) past (x ∷ []))) asked.1) rest)
 
   -- a job that asked for each of these calls, none of which its stop cut off, and came out so by them: they are the calls that were told
-  pub ran-told : (trace : List Exchange) (a b : S) (result : Driven Outcome) → leads a trace b → AskedFrom codec job (begun job.command) trace → Uncut job.stop 0 trace → ComesOut codec job trace result
+  pub ran-told : (trace : List Exchange) (a b : S) (result : Driven Outcome) → leads a trace b → AskedFrom codec job (first_stage job) trace → Uncut job.stop 0 trace → ComesOut codec job trace result
       → (ran : Ran codec number lane job (held a) (held b) (journal a) (journal b) result) × (exchanges ran.told ≡ trace)
   ran-told trace a b result way asked uncut ends =
       let ran = ran-more (held a) (journal a) [] trace a b (ran-none codec number lane job (held a) (journal a)) asked way in
@@ -58,7 +60,7 @@ ran-no_call {F} codec held made number lane job store journal none = record {
   ran = record {
     told = [];
     calls = record { own = All-nil (λ e. e.job ≡ Some number); suit = All-nil Suits; entries = sym (append-nil journal); over = nothing (held store) };
-    driven = record { asked = tt; uncut = tt; ends = inr (refl, (refl, refl)) };
+    driven = record { asked = tt; uncut = tt; ends = inr (refl, (starts_unleased F job, refl)) };
   };
   made_of = none;
 }

@@ -1,5 +1,5 @@
 -- The claims of a job stay by the calls of others.
-use Rattle.std.proofs.Common.{List, Some, [], subst, sym, ℕ, ◌++◌, ◌∷◌, ◌≡◌}
+use Rattle.std.proofs.Common.{List, Some, ap, [], subst, sym, ℕ, ◌++◌, ◌∷◌, ◌≡◌}
 use Rattle.ts_base.specs.Held.{Held}
 use Rattle.ts_law.proofs.Objects.{CarryAll, delete_carries, schema_carries, write_carries}
 use Rattle.ts_law.proofs.Stays.{absent_stays, clean_stays, end_stays, getting_deletes_stays, fetching_stays, frame_stays, gathering_stays, has_listed_stays, has_near_stays, new_stays, on_way_stays, opening_stays, works_stays}
@@ -7,8 +7,13 @@ use Rattle.ts_model.specs.Commands.{frame_made, piece_of}
 use Rattle.ts_model.specs.Deeds.{History, frame_in}
 use Rattle.ts_model.specs.Codecs.{Codec, Spelled, Tracking}
 use Rattle.ts_model.specs.Jobs.{frag_of_job, key_of, written_as}
-use Rattle.ts_law.specs.Kept.{Aims, Claims, Clean, Putting}
-use Rattle.ts_model.specs.States.{list_schemas}
+use Rattle.ts_law.specs.Kept.{Aims, Claims, Clean, Putting, StageClaims}
+use Rattle.ts_law.specs.Fresh.{id_in}
+use Rattle.ts_law.proofs.LeaseSteps.{lease_is}
+use Rattle.ts_model.specs.declared.states.Stage.{Stage}
+use Rattle.ts_model.specs.declared.states.Stage.TheVariants.{ListsLeases, PutsLease, Releases}
+use Rattle.ts_model.specs.declared.states.Stage.TheVariants as stages
+use Rattle.ts_model.specs.States.{begun, list_schemas}
 use Rattle.ts_law.specs.Steps.{Keeps}
 use Rattle.ts_model.specs.Told.{Told, after_told, history_told}
 use Rattle.ts_model.specs.declared.answers.Outcome.{Outcome}
@@ -116,3 +121,22 @@ pub claims_stay : {F : Type 0} (codec : Codec F) (spelled : Spelled) (tracks : T
     → (job.id ≡ id → ⊥) → (e.job ≡ Some number → ⊥) → Claims codec spelled tracks past jobs seen m number job s
     → Claims codec spelled tracks past jobs (seen ++ e ∷ []) (after_told m e) number job s
 claims_stay codec spelled tracks past jobs seen e m id keeps number job s other apart is = claims_stay_at codec spelled tracks past jobs seen e m id keeps number job other apart s is
+
+-- so do the claims of its stage
+pub stage_stays : {F : Type 0} (codec : Codec F) (spelled : Spelled) (tracks : Tracking F) (past : History) (jobs : List Job) (seen : List Told) (e : Told) (m : Held) (id : ℕ)
+    → Keeps m (after_told m e) (history_told jobs past seen) (history_told jobs past (seen ++ e ∷ [])) id → (number : ℕ) (job : Job) (stage : Stage F)
+    → (job.id ≡ id → ⊥) → (e.job ≡ Some number → ⊥) → StageClaims codec spelled tracks past jobs seen m number job stage
+    → StageClaims codec spelled tracks past jobs (seen ++ e ∷ []) (after_told m e) number job stage
+stage_stays codec spelled tracks past jobs seen e m id keeps number job (PutsLease lease) other apart is =
+    let (mode, named) = lease_is job lease is.0.0 in
+    (
+      (is.0.0, claims_stay codec spelled tracks past jobs seen e m id keeps number job (begun job.command) other apart is.0.1),
+      absent_stays m (after_told m e) (history_told jobs past seen) (history_told jobs past (seen ++ e ∷ [])) id keeps lease job.id (ap id_in named) other is.1,
+    )
+stage_stays codec spelled tracks past jobs seen e m id keeps number job (ListsLeases lease) other apart is = (is.0, claims_stay codec spelled tracks past jobs seen e m id keeps number job (begun job.command) other apart is.1)
+stage_stays codec spelled tracks past jobs seen e m id keeps number job (stages.Works s) other apart is = claims_stay codec spelled tracks past jobs seen e m id keeps number job s other apart is
+stage_stays codec spelled tracks past jobs seen e m id keeps number job (Releases lease end) other apart is = (
+  is.0,
+  end_stays past jobs seen e m (after_told m e) id keeps number job end other is.1,
+  new_stays m (after_told m e) (history_told jobs past seen) (history_told jobs past (seen ++ e ∷ [])) id keeps (key_of job) other is.2,
+)

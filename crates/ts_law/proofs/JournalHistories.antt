@@ -10,7 +10,8 @@ use Rattle.std.proofs.lemmas.List.Elements.{All-nil, All-cons, All-head, All-tai
 use Rattle.ts_base.specs.declared.keys.Key.{Key}
 use Rattle.ts_base.specs.declared.names.Name.{Name}
 use Rattle.ts_base.specs.declared.names.CommitKind.TheVariants.{Wrt, Del}
-use Rattle.ts_base.specs.declared.names.Prefix.TheVariants.{Commits, Schemas}
+use Rattle.ts_base.specs.declared.names.Prefix.TheVariants.{Commits, Leases, Schemas}
+use Rattle.ts_base.specs.declared.names.LeaseMode.{LeaseMode}
 use Rattle.ts_base.specs.Held.{Held}
 use Rattle.ts_schema.specs.FrameTexts.{frame_object, frame_of}
 use Rattle.ts_schema.specs.Parts.{IsShort}
@@ -35,21 +36,26 @@ use Rattle.ts_model.specs.declared.states.Collecting.TheVariants.{GetsHeads, Get
 use Rattle.ts_model.specs.Commands.{frame_made, create_refusal, fits}
 use Rattle.ts_model.specs.Deeds.{History}
 use Rattle.ts_model.specs.Codecs.{Codec, CodecLaws, Spelled, Tracking}
-use Rattle.ts_model.specs.Jobs.{IsFit, AreApart, job_with}
-use Rattle.ts_model.specs.States.{asks, frame_put, get_delete, get_head, get_schema, made_by, put_of, state_of, want_of}
+use Rattle.ts_model.specs.Jobs.{IsFit, AreApart, job_with, key_of}
+use Rattle.ts_model.specs.States.{asks, frame_put, get_delete, get_head, get_schema, made_by, put_of, want_of}
+use Rattle.ts_model.specs.Stages.{list_leases, put_lease, stage_of}
+use Rattle.ts_model.specs.Driven.{MayAsk}
+use Rattle.ts_model.specs.declared.states.Stage.{Stage}
+use Rattle.ts_model.specs.declared.states.Stage.TheVariants.{ListsLeases, PutsLease, Releases}
+use Rattle.ts_model.specs.declared.states.Stage.TheVariants as stages
+use Rattle.ts_law.proofs.LeaseSteps.{lease_is, release_is}
 use Rattle.ts_model.specs.Told.{Told, trace_of, IsShortCall, IsReplied, Replied, after_told, changes, held_told, entry_of, entries_of, found_in, found_after, schemas_found, declared_by, written_by, deleted_by, deed_of, deed_in, deed_told, grown, history_from, history_told}
-use Rattle.ts_model.proofs.Asked.{next_call}
 use Rattle.ts_model.proofs.HistoryLaws.{job_of_id}
 use Rattle.ts_model.proofs.ListLemmas.{Contains-here, Contains-slice_get}
 use Rattle.ts_model.proofs.Traces.{exchange_of_own, exchange_of_other, deed_told_own}
 use Rattle.ts_law.specs.Fresh.{id_in}
 use Rattle.ts_law.specs.Histories.{found_by, deed_carried, deed_put, deed_entered, grown_by, history_by, history_of}
 use Rattle.ts_law.specs.Lanes.{lane_by, IsOwned, IsBefore, InTurn}
-use Rattle.ts_law.specs.Kept.{AreAllowed, Aims, Claims, IsAllowed, Kept, Works}
+use Rattle.ts_law.specs.Kept.{AreAllowed, Aims, Claims, IsAllowed, Kept, StageClaims, Works}
 use Rattle.ts_law.proofs.Declaring.{created_frame, frame_again}
 use Rattle.ts_law.proofs.Frames.{aims-carry}
 use Rattle.ts_law.proofs.Journals.{journal_held}
-use Rattle.ts_law.proofs.KeptLaws.{one_name, no_listing, no_get, asked_by, speaks_no_put, every_prefix, Replied-front}
+use Rattle.ts_law.proofs.KeptLaws.{one_name, no_listing, no_removal, no_get, asked_by, speaks_no_put, every_prefix, Replied-front}
 use Rattle.ts_base.specs.declared.names.Name.TheVariants as name
 use Rattle.ts_store.specs.declared.call.Call.TheVariants as call
 use Rattle.ts_store.specs.declared.call.Reply.TheVariants as reply
@@ -245,6 +251,15 @@ pub record PutsItsOwn (past : History) (jobs : List Job) (seen : List Told) (num
   carries : id_in n ≡ Some job.id
   pub finds : ((f : FrameIn) × (job.command ≡ Create f)) ⊎ ((there : Schema) × Works past jobs seen number job there)
 
+-- where there is nothing behind any, there is nothing
+none_then : {A B : Type 0} (o : Option A) → ◌≡◌ {A = Option B} None (option_and_then (λ a. None) o)
+none_then None = refl
+none_then (Some a) = refl
+
+-- the name is one of a lease
+abbrev pub IsALease : Name → Type 0
+IsALease n = (k : Key) × (mode : LeaseMode) × (n ≡ name.Lease k mode)
+
 module _ {F : Type 0} (codec : Codec F) (spelled : Spelled) (tracks : Tracking F) (laws : CodecLaws codec spelled tracks) (past : History) (jobs : List Job) (seen : List Told) (m : Held) where
   -- what stands behind a put by its end
   aims_find : (number : ℕ) (job : Job) (objects : List NewObject) (end : Outcome) → Aims codec past jobs seen number job objects end
@@ -294,6 +309,17 @@ module _ {F : Type 0} (codec : Codec F) (spelled : Spelled) (tracks : Tracking F
       let held = laws.asks r.frame on.schema way.piece (on.spells).look (want_of r (on.schema).attrs) fetch c way.way in
       absurd (speaks_no_put c (name.Part ((way.piece).head).frag held.part) n bytes held.named (same_Some c (call.Put n bytes) asked))
   put_from number job (Over end) n bytes claims asked = absurd (none-some _ asked)
+
+  -- a put of a job in whatever stage: of a frame, of its own object, or of its lease
+  pub put_staged : (number : ℕ) (job : Job) (stage : Stage F) (n : Name) (bytes : List ℕ) → StageClaims codec spelled tracks past jobs seen m number job stage → MayAsk codec job stage (call.Put n bytes)
+      → (PutsAFrame job n bytes ⊎ PutsItsOwn past jobs seen number job n) ⊎ IsALease n
+  put_staged number job (PutsLease lease) n bytes claims (inl asked) =
+      let (mode, named) = lease_is job lease claims.0.0 in
+      inr (key_of job, mode, sym (one_name lease n [] bytes (same_Some (put_lease lease) (call.Put n bytes) asked)) ∙ named)
+  put_staged number job (ListsLeases lease) n bytes claims (inl asked) = absurd (no_listing Leases n bytes (same_Some _ _ asked))
+  put_staged number job (stages.Works s) n bytes claims (inl asked) = inl (put_from number job s n bytes claims asked)
+  put_staged number job (Releases lease end) n bytes claims (inl asked) = absurd (no_removal lease n bytes (same_Some _ _ asked))
+  put_staged number job stage n bytes claims (inr gives_up) = let (lease, some, removes) = release_is job (call.Put n bytes) gives_up.0 in absurd (no_removal lease n bytes (sym removes))
 
 -- the deed of a put is the one that its bytes and its name tell
 put_deed : (past : History) (jobs : List Job) (seen : List Told) (g : History) (found : Option (List Key)) (number : ℕ) (job : Job) (n : Name) (bytes : List ℕ) → AreApart jobs → slice_get jobs number ≡ Some job → IsFit job → IsShort bytes
@@ -353,13 +379,21 @@ module _ {F : Type 0} (codec : Codec F) (spelled : Spelled) (tracks : Tracking F
         ∙ by_call e.call refl
         ∙ ap (λ o. deed_entered jobs g (found_by m (lane o) None (entries_of lane seen)) e.call) (sym allowed.own)
       where
+        found : Option (List Key)
+        found = found_by m (lane (Some allowed.number)) None (entries_of lane seen)
+
+        by_put : (n : Name) (bytes : List ℕ) → e.call ≡ call.Put n bytes → (PutsAFrame allowed.job n bytes ⊎ PutsItsOwn past jobs seen allowed.number allowed.job n) ⊎ IsALease n → deed_of g allowed.job (schemas_found (trace_of allowed.number seen)) n ≡ deed_put jobs g found n bytes
+        by_put n bytes is (inl puts) =
+            put_deed past jobs seen g found allowed.number allowed.job n bytes kept.apart allowed.is_job
+            (All-contains IsFit jobs allowed.job kept.fit (Contains-slice_get jobs allowed.number allowed.job allowed.is_job)) (subst IsShortCall is allowed.short) found_then puts
+        by_put n bytes is (inr lease) =
+            let Same : Name → Type 0 = λ k. deed_of g allowed.job (schemas_found (trace_of allowed.number seen)) k ≡ deed_put jobs g found k bytes in
+            subst Same (sym lease.2) (none_then (job_with jobs (lease.0).id))
+
         by_call : (c : Call) → e.call ≡ c → deed_in g allowed.job (schemas_found (trace_of allowed.number seen)) c ≡ deed_entered jobs g (found_by m (lane (Some allowed.number)) None (entries_of lane seen)) c
         by_call (call.Put n bytes) is =
-            put_deed past jobs seen g (found_by m (lane (Some allowed.number)) None (entries_of lane seen)) allowed.number allowed.job n bytes kept.apart allowed.is_job
-            (All-contains IsFit jobs allowed.job kept.fit (Contains-slice_get jobs allowed.number allowed.job allowed.is_job)) (subst IsShortCall is allowed.short) found_then
-            (put_from codec spelled tracks laws past jobs seen (held_told m seen) allowed.number allowed.job (state_of codec allowed.job (trace_of allowed.number seen)) n bytes
-            (kept.claims allowed.number allowed.job allowed.is_job allowed.alive)
-            (next_call codec allowed.job (state_of codec allowed.job (trace_of allowed.number seen)) e.call allowed.asked ∙ ap Some is))
+            by_put n bytes is (put_staged codec spelled tracks laws past jobs seen (held_told m seen) allowed.number allowed.job (stage_of codec allowed.job (trace_of allowed.number seen)) n bytes
+            (kept.claims allowed.number allowed.job allowed.is_job allowed.alive) (subst (MayAsk codec allowed.job (stage_of codec allowed.job (trace_of allowed.number seen))) is allowed.asked))
         by_call (call.Remove n) is = refl
         by_call (call.List p) is = refl
         by_call (call.Get n from len) is = refl

@@ -9,26 +9,31 @@ use Rattle.ts_base.specs.Held.{Held}
 use Rattle.ts_base.specs.declared.names.CommitKind.TheVariants.{Del}
 use Rattle.ts_base.specs.declared.names.Name.{Name}
 use Rattle.ts_base.specs.declared.names.Prefix.{Prefix}
-use Rattle.ts_base.specs.declared.names.Prefix.TheVariants.{Commits, Schemas}
+use Rattle.ts_base.specs.declared.names.Prefix.TheVariants.{Commits, Leases, Schemas}
 use Rattle.ts_law.proofs.DeleteSteps.{deletes_steps}
 use Rattle.ts_law.proofs.FetchSteps.{fetch_steps}
-use Rattle.ts_law.proofs.Frames.{aims-carry, claims_stay}
-use Rattle.ts_model.proofs.Asked.{next_call}
+use Rattle.ts_law.proofs.Frames.{aims-carry, stage_stays}
 use Rattle.ts_model.proofs.HistoryLaws.{job_of_id}
 use Rattle.ts_model.proofs.ListLemmas.{Contains-slice_get}
 use Rattle.ts_law.proofs.ListSteps.{commits_steps, schemas_steps}
 use Rattle.ts_law.proofs.PutSteps.{compare_steps, declared_steps, frame_steps, puts_steps}
 use Rattle.ts_law.proofs.ReadSteps.{framed_steps, further_steps, heads_steps, schema_steps}
-use Rattle.ts_model.proofs.Traces.{state_of-other, state_of-own}
+use Rattle.ts_model.proofs.Traces.{stage_of-other, stage_of-own}
 use Rattle.ts_model.specs.Commands.{frame_made}
 use Rattle.ts_model.specs.Deeds.{History}
 use Rattle.ts_law.specs.Ends.{IsTrueEnd}
 use Rattle.ts_model.specs.Codecs.{Codec, CodecLaws, SpeaksOf, Spelled, Tracking}
 use Rattle.ts_law.specs.Fresh.{id_in}
 use Rattle.ts_model.specs.Jobs.{IsFit, job_with}
-use Rattle.ts_law.specs.Kept.{AreAllowed, Claims, IsAllowed, IsOfJobs, Kept}
-use Rattle.ts_model.specs.States.{asks, frame_put, get_delete, get_head, get_schema, made_by, put_of, state_of, want_of}
-use Rattle.ts_law.specs.Steps.{Advances, Comes}
+use Rattle.ts_law.specs.Kept.{AreAllowed, Claims, IsAllowed, IsOfJobs, Kept, StageClaims}
+use Rattle.ts_model.specs.Driven.{MayAsk}
+use Rattle.ts_model.specs.declared.states.Stage.{Stage}
+use Rattle.ts_model.specs.declared.states.Stage.TheVariants.{ListsLeases, PutsLease, Releases}
+use Rattle.ts_model.specs.declared.states.Stage.TheVariants as stages
+use Rattle.ts_law.proofs.LeaseSteps.{lease_is, release_is, stage_step}
+use Rattle.ts_model.specs.States.{asks, frame_put, get_delete, get_head, get_schema, made_by, put_of, want_of}
+use Rattle.ts_model.specs.Stages.{is_release, lease_of, put_lease, stage_asks, stage_of}
+use Rattle.ts_law.specs.Steps.{Advances, Comes, StageAdvances}
 use Rattle.ts_model.specs.Told.{IsReplied, Replied, Told, after_told, held_told, trace_of}
 use Rattle.ts_model.specs.declared.answers.Outcome.{Outcome}
 use Rattle.ts_model.specs.declared.commands.Job.{Job}
@@ -55,6 +60,10 @@ no_listing p q more same = cc
 -- a get is no put
 pub no_get : (n : Name) (from len : ℕ) (q : Name) (more : List ℕ) → call.Get n from len ≡ call.Put q more → ⊥
 no_get n from len q more same = cc
+
+-- a removal is no put
+pub no_removal : (n q : Name) (more : List ℕ) → call.Remove n ≡ call.Put q more → ⊥
+no_removal n q more same = cc
 
 -- the item by which a job asks
 pub asked_by : {A : Type 0} (of : A → Call) (o : Option A) (c : Call) → option_map of o ≡ Some c → (x : A) × (o ≡ Some x) × (of x ≡ c)
@@ -96,18 +105,29 @@ module _ {F : Type 0} (codec : Codec F) (spelled : Spelled) (tracks : Tracking F
       absurd (speaks_no_put c (name.Part ((way.piece).head).frag held.part) n bytes held.named (same_Some c (call.Put n bytes) asked))
   own_put number job (Over end) n bytes id claims asked carried = absurd (none-some _ asked)
 
+  -- so does a put of a job in whatever stage
+  stage_put : (number : ℕ) (job : Job) (stage : Stage F) (n : Name) (bytes : List ℕ) (id : ℕ) → StageClaims codec spelled tracks past jobs seen m number job stage
+      → MayAsk codec job stage (call.Put n bytes) → id_in n ≡ Some id → job.id ≡ id
+  stage_put number job (PutsLease lease) n bytes id claims (inl asked) carried =
+      let (mode, named) = lease_is job lease claims.0.0 in
+      same_Some job.id id (ap id_in (sym named ∙ one_name lease n [] bytes (same_Some (put_lease lease) (call.Put n bytes) asked)) ∙ carried)
+  stage_put number job (ListsLeases lease) n bytes id claims (inl asked) carried = absurd (no_listing Leases n bytes (same_Some _ _ asked))
+  stage_put number job (stages.Works s) n bytes id claims (inl asked) carried = own_put number job s n bytes id claims asked carried
+  stage_put number job (Releases lease end) n bytes id claims (inl asked) carried = absurd (no_removal lease n bytes (same_Some _ _ asked))
+  stage_put number job stage n bytes id claims (inr gives_up) carried = let (lease, some, removes) = release_is job (call.Put n bytes) gives_up.0 in absurd (no_removal lease n bytes (sym removes))
+
 -- ---- one call
 
 module _ {F : Type 0} (codec : Codec F) (spelled : Spelled) (tracks : Tracking F) (laws : CodecLaws codec spelled tracks) (past : History) (jobs : List Job) (dead : List ℕ) (seen : List Told) (m : Held)
     (e : Told) (kept : Kept codec spelled tracks past jobs dead seen m) (may : IsAllowed codec jobs dead seen e)
-    (steps : Advances codec spelled tracks past jobs seen e m may.number may.job (state_of codec may.job (trace_of may.number seen))) where
+    (steps : StageAdvances codec spelled tracks past jobs seen e m may.number may.job (stage_of codec may.job (trace_of may.number seen))) where
   -- the call is one of a job
   is_of_jobs : IsOfJobs jobs e
   is_of_jobs = record {
     numbered = λ other is. subst (λ n. n < length jobs) (same_Some may.number other (sym may.own ∙ is)) (slice_get_within jobs may.number may.job may.is_job);
     puts = λ n bytes id is carried.
-        let same = own_put codec spelled tracks laws past jobs seen m may.number may.job (state_of codec may.job (trace_of may.number seen)) n bytes id
-        (kept.claims may.number may.job may.is_job may.alive) (next_call codec may.job (state_of codec may.job (trace_of may.number seen)) e.call may.asked ∙ ap Some is) carried in
+        let same = stage_put codec spelled tracks laws past jobs seen m may.number may.job (stage_of codec may.job (trace_of may.number seen)) n bytes id
+        (kept.claims may.number may.job may.is_job may.alive) (subst (MayAsk codec may.job (stage_of codec may.job (trace_of may.number seen))) is may.asked) carried in
         subst (λ i. IsSome (job_with jobs i)) same (rw (job_of_id jobs may.number may.job kept.apart may.is_job) refl);
   }
 
@@ -121,13 +141,13 @@ module _ {F : Type 0} (codec : Codec F) (spelled : Spelled) (tracks : Tracking F
     claims = λ number job at alive. elim (cases_eq may.number number) [
       | inl own ↦
           let same : may.job ≡ job = same_Some may.job job (sym may.is_job ∙ ap (slice_get jobs) own ∙ at) in
-          subst (λ n. Claims codec spelled tracks past jobs (seen ++ e ∷ []) (after_told m e) n job (state_of codec job (trace_of n (seen ++ e ∷ [])))) own
-          (subst (λ j. Claims codec spelled tracks past jobs (seen ++ e ∷ []) (after_told m e) may.number j (state_of codec j (trace_of may.number (seen ++ e ∷ [])))) same
-          (subst (Claims codec spelled tracks past jobs (seen ++ e ∷ []) (after_told m e) may.number may.job) (sym (state_of-own codec may.job may.number seen e may.own)) steps.own))
+          subst (λ n. StageClaims codec spelled tracks past jobs (seen ++ e ∷ []) (after_told m e) n job (stage_of codec job (trace_of n (seen ++ e ∷ [])))) own
+          (subst (λ j. StageClaims codec spelled tracks past jobs (seen ++ e ∷ []) (after_told m e) may.number j (stage_of codec j (trace_of may.number (seen ++ e ∷ [])))) same
+          (subst (StageClaims codec spelled tracks past jobs (seen ++ e ∷ []) (after_told m e) may.number may.job) (sym (stage_of-own codec may.job may.number seen e may.own)) steps.own))
       | inr apart ↦
           let other : (e.job ≡ Some number → ⊥) = λ own. apart (same_Some may.number number (sym may.own ∙ own)) in
-          subst (Claims codec spelled tracks past jobs (seen ++ e ∷ []) (after_told m e) number job) (sym (state_of-other codec job number seen e other))
-          (claims_stay codec spelled tracks past jobs seen e m (may.job).id (steps.leads).leaves number job (state_of codec job (trace_of number seen))
+          subst (StageClaims codec spelled tracks past jobs (seen ++ e ∷ []) (after_told m e) number job) (sym (stage_of-other codec job number seen e other))
+          (stage_stays codec spelled tracks past jobs seen e m (may.job).id (steps.leads).leaves number job (stage_of codec job (trace_of number seen))
           (λ one_id. apart (kept.apart may.number number may.job job may.is_job at (sym one_id))) other (kept.claims number job at alive))
     ];
   }
@@ -135,8 +155,8 @@ module _ {F : Type 0} (codec : Codec F) (spelled : Spelled) (tracks : Tracking F
 -- what the end of a job that was not dropped tells of the history is true
 pub end_is_true : {F : Type 0} (codec : Codec F) (spelled : Spelled) (tracks : Tracking F) (past : History) (jobs : List Job) (dead : List ℕ) (seen : List Told) (m : Held)
     → Kept codec spelled tracks past jobs dead seen m → (number : ℕ) (job : Job) (end : Outcome) → slice_get jobs number ≡ Some job → (Contains dead number → ⊥)
-    → state_of codec job (trace_of number seen) ≡ Over end → IsTrueEnd jobs past seen number job end
-end_is_true codec spelled tracks past jobs dead seen m kept number job end at alive over = subst (Claims codec spelled tracks past jobs seen m number job) over (kept.claims number job at alive)
+    → stage_of codec job (trace_of number seen) ≡ stages.Works (Over end) → IsTrueEnd jobs past seen number job end
+end_is_true codec spelled tracks past jobs dead seen m kept number job end at alive over = subst (StageClaims codec spelled tracks past jobs seen m number job) over (kept.claims number job at alive)
 
 -- ---- fronts of calls
 
@@ -176,7 +196,7 @@ module _ {F : Type 0} (codec : Codec F) (spelled : Spelled) (tracks : Tracking F
       → IsAllowed codec jobs dead seen e → IsReplied m e → Kept codec spelled tracks past jobs dead (seen ++ e ∷ []) (after_told m e)
   step_kept past jobs dead seen m e kept may replied =
       advance_kept codec spelled tracks laws past jobs dead seen m e kept may
-      (own_step past jobs seen e m may.number may.job (state_of codec may.job (trace_of may.number seen)) (record {
+      (stage_step codec spelled tracks past jobs seen e m may.number may.job (own_step past jobs seen e m may.number may.job) (stage_of codec may.job (trace_of may.number seen)) (record {
         stands = kept.stands;
         apart = kept.apart;
         fit = All-contains IsFit jobs may.job kept.fit (Contains-slice_get jobs may.number may.job may.is_job);
@@ -184,7 +204,7 @@ module _ {F : Type 0} (codec : Codec F) (spelled : Spelled) (tracks : Tracking F
         is_job = may.is_job;
         replied = replied;
         short = may.short;
-        asked = next_call codec may.job (state_of codec may.job (trace_of may.number seen)) e.call may.asked;
+        asked = may.asked;
         claims = kept.claims may.number may.job may.is_job may.alive;
       }))
 

@@ -11,7 +11,8 @@ use Rattle.ts_store.specs.Calls.{is_no_memory}
 use Rattle.ts_model.specs.declared.commands.Job.{Job}
 use Rattle.ts_model.specs.Driven.{MayAsk, AskedFrom}
 use Rattle.ts_model.specs.Codecs.{Codec}
-use Rattle.ts_model.specs.States.{Exchange, begun, state_of}
+use Rattle.ts_model.specs.States.{Exchange}
+use Rattle.ts_model.specs.Stages.{first_stage, stage_of}
 use Rattle.ts_model.specs.Told.{Told, trace_of, only_lane, entry_of, entries_of}
 use Rattle.ts_model.proofs.Asked.{asked-push}
 use Rattle.ts_model.proofs.ListLemmas.{Contains-here, Contains-there, slice_get_push}
@@ -94,19 +95,19 @@ module _ {F : Type 0} (codec : Codec F) where
 
   -- a job makes one more call, which it may make where those before have led it
   pub one_more_call : (jobs : List Job) (told : List Told) (e : Told) (number : ℕ) (job : Job) → AreInLanes codec own_lane jobs told → e.job ≡ Some number → slice_get jobs number ≡ Some job
-      → MayAsk codec job (state_of codec job (trace_of number told)) e.call → AreInLanes codec own_lane jobs (told ++ e ∷ [])
+      → MayAsk codec job (stage_of codec job (trace_of number told)) e.call → AreInLanes codec own_lane jobs (told ++ e ∷ [])
   one_more_call jobs told e number job lanes own at asked_it = record {
     within = All-push (IsWithin jobs) told e lanes.within (λ n by_it. let same = same_Some number n (sym own ∙ by_it) in let less = slice_get_within jobs number job at in omega (arith, same, less));
     asked = λ k j j_at. elim (cases_eq number k) [
       | inl same ↦
           let by_it = own ∙ ap Some same in
           let same_job : job ≡ j = same_Some job j (sym at ∙ ap (slice_get jobs) same ∙ j_at) in
-          let P : ℕ → Job → Type 0 = λ n i. MayAsk codec i (state_of codec i (trace_of n told)) e.call in
-          let Q : List Exchange → Type 0 = λ t. AskedFrom codec j (begun j.command) t in
+          let P : ℕ → Job → Type 0 = λ n i. MayAsk codec i (stage_of codec i (trace_of n told)) e.call in
+          let Q : List Exchange → Type 0 = λ t. AskedFrom codec j (first_stage j) t in
           subst Q (sym (trace_of-own k told e by_it))
-          (asked-push codec j (begun j.command) (trace_of k told) (record { call = e.call; reply = e.reply }) (lanes.asked k j j_at) (subst (λ i. P k i) same_job (subst (λ n. P n job) same asked_it)))
+          (asked-push codec j (first_stage j) (trace_of k told) (record { call = e.call; reply = e.reply }) (lanes.asked k j j_at) (subst (λ i. P k i) same_job (subst (λ n. P n job) same asked_it)))
       | inr apart ↦
-          let Q : List Exchange → Type 0 = λ t. AskedFrom codec j (begun j.command) t in
+          let Q : List Exchange → Type 0 = λ t. AskedFrom codec j (first_stage j) t in
           subst Q (sym (trace_of-other k told e (λ by_it. apart (same_Some number k (sym own ∙ by_it))))) (lanes.asked k j j_at)
     ];
     in_turn = apart_in_turn (told ++ e ∷ []);
@@ -120,7 +121,7 @@ module _ {F : Type 0} (codec : Codec F) where
       | inl before ↦ lanes.asked k j before
       | inr last ↦
           let none : trace_of k told ≡ [] = none_made k told (All-weaker (IsWithin jobs) (λ e. e.job ≡ Some k → ⊥) (λ e below by_it. let less = below k by_it in omega (arith, less, last.0)) told lanes.within) in
-          let Q : List Exchange → Type 0 = λ t. AskedFrom codec j (begun j.command) t in
+          let Q : List Exchange → Type 0 = λ t. AskedFrom codec j (first_stage j) t in
           subst Q (sym none) tt
     ];
     in_turn = lanes.in_turn;

@@ -36,6 +36,9 @@ pub mod CourseCalls
 pub mod CourseReads
 pub mod CourseThere
 pub mod CourseJobs
+pub mod CutOff
+pub mod CourseStages
+pub mod LeaseSteps
 pub mod Segments
 pub mod Short
 pub mod Clipped

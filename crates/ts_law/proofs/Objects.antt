@@ -20,7 +20,8 @@ use Rattle.ts_law.specs.Fresh.{id_in}
 use Rattle.ts_law.specs.Kept.{Aims, Clean, Putting}
 use Rattle.ts_law.specs.Stands.{IsNoLease}
 use Rattle.ts_model.specs.Jobs.{key_of}
-use Rattle.ts_model.specs.States.{delete_object_of, lease_of, mode_of, part_objects, schema_object_of}
+use Rattle.ts_model.specs.States.{delete_object_of, part_objects, schema_object_of}
+use Rattle.ts_model.specs.Stages.{lease_of, mode_of}
 use Rattle.ts_model.specs.Told.{Told, history_told}
 use Rattle.ts_model.specs.declared.answers.Outcome.{Outcome}
 use Rattle.ts_model.specs.declared.commands.Job.{Job}

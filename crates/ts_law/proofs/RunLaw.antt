@@ -9,7 +9,8 @@ use Rattle.ts_model.specs.declared.commands.Job.{Job}
 use Rattle.ts_model.specs.declared.answers.Driven.{Driven}
 use Rattle.ts_model.specs.declared.answers.Outcome.{Outcome}
 use Rattle.ts_model.specs.Codecs.{Codec, Spelled, Tracking, CodecLaws}
-use Rattle.ts_model.specs.States.{Exchange, begun}
+use Rattle.ts_model.specs.States.{Exchange}
+use Rattle.ts_model.specs.Stages.{first_stage}
 use Rattle.ts_model.specs.Told.{Told, trace_of}
 use Rattle.ts_model.specs.Driven.{AskedFrom}
 use Rattle.ts_model.specs.Driving.{Leaves}
@@ -26,7 +27,7 @@ use Rattle.ts_law.proofs.TrueRuns.{true_run}
 
 -- each job that was driven made the calls that it asks
 asked_by : {F : Type 0} (codec : Codec F) (jobs : List Job) (results : List (Driven Outcome)) (told : List Told) → AreDriven codec jobs results told
-    → (number : ℕ) (job : Job) → slice_get jobs number ≡ Some job → AskedFrom codec job (begun job.command) (trace_of number told)
+    → (number : ℕ) (job : Job) → slice_get jobs number ≡ Some job → AskedFrom codec job (first_stage job) (trace_of number told)
 asked_by codec jobs results told all number job at =
     let there = item_at jobs results number (sym all.one_each) (slice_get_within jobs number job at) in
     (all.driven number job there.0 at there.1).asked

@@ -30,18 +30,23 @@ use Rattle.ts_model.specs.declared.states.Collecting.TheVariants.{GetsHeads, Get
 use Rattle.ts_model.specs.declared.states.NewObject.{NewObject}
 use Rattle.ts_model.specs.Commands.{frame_made}
 use Rattle.ts_model.specs.Deeds.{History, key_in, keys}
-use Rattle.ts_model.specs.Driven.{EndsFrom, MayAsk, can_lack}
+use Rattle.ts_model.specs.Driven.{EndsBy, MayAsk, lacks_after, lacks_from}
 use Rattle.ts_model.specs.Codecs.{Codec, CodecLaws, Spelled, Tracking}
 use Rattle.ts_model.specs.Jobs.{AreApart, key_of}
-use Rattle.ts_model.specs.States.{Exchange, asks, begun, frame_put, get_delete, get_head, get_schema, goes, goes_on, is_over, made_by, on_made, put_of, putting, state_from, state_of, takes_memory, unless_refused, want_of, with_item}
+use Rattle.ts_model.specs.States.{Exchange, asks, begun, frame_put, get_delete, get_head, get_schema, goes, is_over, made_by, on_made, put_of, putting, takes_memory, unless_refused, want_of, with_item}
+use Rattle.ts_model.specs.Stages.{begins_at, first_stage, goes_on, is_done, lease_of, stage_of, stage_takes_memory}
+use Rattle.ts_model.specs.declared.states.Stage.{Stage}
+use Rattle.ts_model.specs.declared.states.Stage.TheVariants.{ListsLeases, PutsLease, Releases}
+use Rattle.ts_model.specs.declared.states.Stage.TheVariants as stages
+use Rattle.ts_law.proofs.LeaseSteps.{before_clean, going_undone, leased_history, stage_undone}
 use Rattle.ts_model.specs.Told.{IsReplied, Replied, Told, after_told, deed_in, deed_of, deed_told, exchange_of, grown, held_told, history_told, schemas_found, trace_of}
 use Rattle.ts_law.specs.Ends.{IsUndone}
-use Rattle.ts_law.specs.Kept.{Aims, AreAllowed, Claims, IsAllowed, Kept}
-use Rattle.ts_model.proofs.Asked.{next_call}
+use Rattle.ts_law.specs.Kept.{Aims, AreAllowed, Claims, IsAllowed, Kept, StageClaims}
+use Rattle.ts_model.proofs.Asked.{next_call, no_release}
 use Rattle.ts_model.proofs.HistoryLaws.{absent_from_new, keys-append, new_from_absent}
-use Rattle.ts_model.proofs.Lacks.{last_lacks}
+use Rattle.ts_model.proofs.Lacks.{bare_goes, lacks-push}
 use Rattle.ts_model.proofs.ListLemmas.{Contains-filter_map, Contains-here, Contains-nil, Contains-only, Contains-there, filter_map-Contains}
-use Rattle.ts_model.proofs.Traces.{deed_told_own, exchange_of_other, exchange_of_own, history_told-push, state_from-append, state_of-own, trace_of-append}
+use Rattle.ts_model.proofs.Traces.{deed_told_own, exchange_of_other, exchange_of_own, history_told-push, stage_from-append, stage_of-own, trace_of-append}
 use Rattle.ts_law.proofs.Effects.{Added, PutWent, Still, put_went}
 use Rattle.ts_law.proofs.KeptLaws.{asked_by, every_prefix, no_get, no_listing, one_name, speaks_no_put}
 use Rattle.ts_law.proofs.Spawns.{deed_in_key, frame_has_no_key}
@@ -160,27 +165,6 @@ module _ {F : Type 0} (codec : Codec F) (spelled : Spelled) (tracks : Tracking F
   abbrev Says : State F → Type 0
   Says s = Claims codec spelled tracks past jobs seen m number job s
 
-  -- a job that is not over did nothing yet
-  going_undone : (s : State F) → is_over s ≡ false → Says s → IsUndone (history_told jobs past seen) job
-  going_undone (Puts objects next end) going is = is.undone
-  going_undone (Over end) going is = absurd (true≢false going)
-  going_undone (Creates PutsFrame) going is = is.0.undone
-  going_undone (Creates ComparesFrame) going is = is.0.undone
-  going_undone (Creates ListsDeclared) going is = is.0.undone
-  going_undone (Seeks ListsCommits) going is = is.0.undone
-  going_undone (Seeks (ListsSchemas listing)) going is = is.0.undone
-  going_undone (Seeks (GetsSchema listing there)) going is = is.0.undone
-  going_undone (Seeks (GetsFrame listing there)) going is = is.0.undone
-  going_undone (Collects (GetsHeads r opened)) going is = is.0.undone
-  going_undone (Collects (GetsSchemas r opened named schemas)) going is = is.0.undone
-  going_undone (Collects (GetsDeletes r opened schemas)) going is = is.0.undone
-  going_undone (Collects (Fetches r opened schemas next frag got fetch c)) going is = is.0.undone
-
-  -- a job that asks for a call is not over
-  asks_going : (s : State F) (c : Call) → asks codec job s ≡ Some c → is_over s ≡ false
-  asks_going (Over end) c asked = absurd (none-some c asked)
-  asks_going _ c asked = refl
-
   -- where a reply takes memory the job puts nothing but the frame
   asks_frame : (s : State F) (n : Name) (bytes : List ℕ) → takes_memory s ≡ true → Says s → asks codec job s ≡ Some (call.Put n bytes) → n ≡ name.Domain
   asks_frame (Creates PutsFrame) n bytes takes is asked =
@@ -262,13 +246,13 @@ replied_at m (d ∷ a) e b replied = replied_at (after_told m d) a e b replied.1
 
 module _ {F : Type 0} (codec : Codec F) (spelled : Spelled) (tracks : Tracking F) (laws : CodecLaws codec spelled tracks) (past : History) (jobs : List Job) (m : Held) (told : List Told)
     (begins : Kept codec spelled tracks past jobs [] [] m) (may : AreAllowed codec jobs [] [] told) (replied : Replied m told) (number : ℕ) (job : Job) (is_job : slice_get jobs number ≡ Some job) where
-  -- what the job's state says after a first part of the calls
-  says_at : (a b : List Told) → told ≡ a ++ b → Claims codec spelled tracks past jobs a (held_told m a) number job (state_of codec job (trace_of number a))
+  -- what the job's stage says after a first part of the calls
+  says_at : (a b : List Told) → told ≡ a ++ b → StageClaims codec spelled tracks past jobs a (held_told m a) number job (stage_of codec job (trace_of number a))
   says_at a b parts = (every_prefix codec spelled tracks laws past jobs [] [] m told a b begins may replied parts).claims number job is_job (Contains-nil number)
 
   -- after its last call the job did nothing
-  last_undone : (is : LastCall number told) → EndsFrom codec job (begun job.command) (trace_of number told) outcome.OutOfMemory → IsUndone (history_told jobs past (is.before ++ is.last ∷ [])) job
-  last_undone is ends = by_memory (takes_memory s) refl
+  last_undone : (is : LastCall number told) → EndsBy codec job (trace_of number told) outcome.OutOfMemory → IsUndone (history_told jobs past (is.before ++ is.last ∷ [])) job
+  last_undone is ends = by_lease (lease_of job) refl
     where
       a : List Told
       a = is.before
@@ -279,18 +263,18 @@ module _ {F : Type 0} (codec : Codec F) (spelled : Spelled) (tracks : Tracking F
       x : Exchange
       x = record { call = e.call; reply = e.reply }
 
-      s : State F
-      s = state_of codec job (trace_of number a)
+      g : Stage F
+      g = stage_of codec job (trace_of number a)
 
-      says : Claims codec spelled tracks past jobs a (held_told m a) number job s
+      says : StageClaims codec spelled tracks past jobs a (held_told m a) number job g
       says = says_at a (e ∷ is.later) is.parts
 
-      asked : asks codec job s ≡ Some e.call
-      asked =
+      may_ask : MayAsk codec job g e.call
+      may_ask =
           let allowed = allowed_at codec jobs [] [] a e is.later (subst (AreAllowed codec jobs [] []) is.parts may) in
           let same : allowed.number ≡ number = same_Some allowed.number number (sym allowed.own ∙ is.own) in
           let it : allowed.job ≡ job = same_Some allowed.job job (sym allowed.is_job ∙ ap (slice_get jobs) same ∙ is_job) in
-          next_call codec job s e.call (subst (λ i. MayAsk codec job (state_of codec job (trace_of i a)) e.call) same (subst (λ j. MayAsk codec j (state_of codec j (trace_of allowed.number a)) e.call) it allowed.asked))
+          subst (λ i. MayAsk codec job (stage_of codec job (trace_of i a)) e.call) same (subst (λ j. MayAsk codec j (stage_of codec j (trace_of allowed.number a)) e.call) it allowed.asked)
 
       trace : trace_of number told ≡ trace_of number a ++ x ∷ []
       trace =
@@ -302,45 +286,77 @@ module _ {F : Type 0} (codec : Codec F) (spelled : Spelled) (tracks : Tracking F
           none_later [] none = refl
           none_later (d ∷ ds) none = ap (λ o. cons_option o (trace_of number ds)) (exchange_of_other number d (none d (Contains-here d ds))) ∙ none_later ds (λ c at. none c (Contains-there d ds c at))
 
-      leads : state_from codec job (begun job.command) (trace_of number told) ≡ goes codec job s e.reply
-      leads = ap (state_from codec job (begun job.command)) trace ∙ state_from-append codec job (begun job.command) (trace_of number a) (x ∷ [])
-
-      -- where the job goes on after the call, what its state says there tells it
-      by_going : is_over (goes codec job s e.reply) ≡ false → IsUndone (history_told jobs past (a ++ e ∷ [])) job
-      by_going going =
-          let here = says_at (a ++ e ∷ []) is.later (is.parts ∙ sym (append_assoc a (e ∷ []) is.later)) in
-          going_undone codec spelled tracks laws past jobs (a ++ e ∷ []) (held_told m (a ++ e ∷ [])) number job (state_of codec job (trace_of number (a ++ e ∷ [])))
-          (ap is_over (state_of-own codec job number a e is.own) ∙ going) here
+      leads : stage_of codec job (trace_of number told) ≡ goes_on codec job g x
+      leads = ap (stage_of codec job) trace ∙ stage_from-append codec job (first_stage job) (trace_of number a) (x ∷ [])
 
       undone : IsUndone (history_told jobs past a) job
-      undone = going_undone codec spelled tracks laws past jobs a (held_told m a) number job s (asks_going codec spelled tracks laws past jobs a (held_told m a) number job s e.call asked) says
+      undone = stage_undone codec spelled tracks past jobs a (held_told m a) number job g e.call may_ask says
 
       adds : AddsNone number e → IsUndone (history_told jobs past (a ++ e ∷ [])) job
       adds none = undone_after jobs past number job is_job begins.apart a e none undone
 
-      by_end : takes_memory s ≡ false → EndsFrom codec job (begun job.command) (trace_of number told) outcome.OutOfMemory → IsUndone (history_told jobs past (a ++ e ∷ [])) job
-      by_end takes (inl over) =
-          adds (Unchanged (put_still codec spelled tracks laws past jobs a (held_told m a) number job s e takes says asked (replied_at m a e is.later (subst (Replied m) is.parts replied)) (sym leads ∙ over)))
-      by_end takes (inr short) =
-          let lacks : (takes_memory s || not (is_over (goes_on codec job s x))) ≡ true = sym (last_lacks codec job (begun job.command) (trace_of number a) x) ∙ ap (can_lack codec job (begun job.command)) (sym trace) ∙ short.1.1 in
-          by_going (going_from (is_over (goes codec job s e.reply)) (ap (λ b. b || not (is_over (goes_on codec job s x))) (sym takes) ∙ lacks))
+      -- a job without a lease is at its work
+      at_work : lease_of job ≡ None → (s : State F) → g ≡ stages.Works s → IsUndone (history_told jobs past (a ++ e ∷ [])) job
+      at_work none s works = by_memory (takes_memory s) refl
         where
-          going_from : (b : Bool) → not b ≡ true → b ≡ false
-          going_from true is = absurd (true≢false (sym is))
-          going_from false is = refl
+          says_work : Claims codec spelled tracks past jobs a (held_told m a) number job s
+          says_work = subst (StageClaims codec spelled tracks past jobs a (held_told m a) number job) works says
 
-      by_memory : (b : Bool) → takes_memory s ≡ b → IsUndone (history_told jobs past (a ++ e ∷ [])) job
-      by_memory true takes = adds (Keyless (λ n bytes put. asks_frame codec spelled tracks laws past jobs a (held_told m a) number job s n bytes takes says (asked ∙ ap Some put)))
-      by_memory false takes = by_end takes ends
+          asked : asks codec job s ≡ Some e.call
+          asked = next_call codec job (stages.Works s) e.call none (subst (λ t. MayAsk codec job t e.call) works may_ask)
+
+          goes_bare : goes_on codec job g x ≡ stages.Works (goes codec job s e.reply)
+          goes_bare = ap (λ t. goes_on codec job t x) works ∙ bare_goes codec job s x none
+
+          -- where the job goes on after the call, what its state says there tells it
+          by_going : is_over (goes codec job s e.reply) ≡ false → IsUndone (history_told jobs past (a ++ e ∷ [])) job
+          by_going going =
+              let here = says_at (a ++ e ∷ []) is.later (is.parts ∙ sym (append_assoc a (e ∷ []) is.later)) in
+              going_undone codec spelled tracks past jobs (a ++ e ∷ []) (held_told m (a ++ e ∷ [])) number job (goes codec job s e.reply) going
+              (subst (StageClaims codec spelled tracks past jobs (a ++ e ∷ []) (held_told m (a ++ e ∷ [])) number job) (stage_of-own codec job number a e is.own ∙ goes_bare) here)
+
+          same_work : {s t : State F} → ◌≡◌ {A = Stage F} (stages.Works s) (stages.Works t) → s ≡ t
+          same_work same = cc
+
+          by_end : takes_memory s ≡ false → EndsBy codec job (trace_of number told) outcome.OutOfMemory → IsUndone (history_told jobs past (a ++ e ∷ [])) job
+          by_end takes (inl over) =
+              adds (Unchanged (put_still codec spelled tracks laws past jobs a (held_told m a) number job s e takes says_work asked (replied_at m a e is.later (subst (Replied m) is.parts replied)) (same_work (sym goes_bare ∙ sym leads ∙ over))))
+          by_end takes (inr short) =
+              let before = lacks_from codec job true (first_stage job) (trace_of number a) in
+              let lacks : lacks_after codec job before g x ≡ true = sym (lacks-push codec job true (first_stage job) (trace_of number a) x) ∙ ap (lacks_from codec job true (first_stage job)) (sym trace) ∙ short.1.1 in
+              let left : not (is_done (goes_on codec job g x)) ≡ true = ap (λ b. b || not (is_done (goes_on codec job g x))) (sym takes ∙ ap stage_takes_memory (sym works)) ∙ ap (λ b. cond b before (stage_takes_memory g || not (is_done (goes_on codec job g x)))) (sym (no_release job e.call none)) ∙ lacks in
+              by_going (going_from (is_over (goes codec job s e.reply)) (ap (λ t. not (is_done t)) (sym goes_bare) ∙ left))
+            where
+              going_from : (b : Bool) → not b ≡ true → b ≡ false
+              going_from true is = absurd (true≢false (sym is))
+              going_from false is = refl
+
+          by_memory : (b : Bool) → takes_memory s ≡ b → IsUndone (history_told jobs past (a ++ e ∷ [])) job
+          by_memory true takes = adds (Keyless (λ n bytes put. asks_frame codec spelled tracks laws past jobs a (held_told m a) number job s n bytes takes says_work (asked ∙ ap Some put)))
+          by_memory false takes = by_end takes ends
+
+      by_stage : lease_of job ≡ None → (t : Stage F) → g ≡ t → StageClaims codec spelled tracks past jobs a (held_told m a) number job t → IsUndone (history_told jobs past (a ++ e ∷ [])) job
+      by_stage none (stages.Works s) same claims = at_work none s same
+      by_stage none (PutsLease lease) same claims = absurd (none-some lease (sym none ∙ claims.0.0))
+      by_stage none (ListsLeases lease) same claims = absurd (none-some lease (sym none ∙ claims.0))
+      by_stage none (Releases lease end) same claims = absurd (none-some lease (sym none ∙ claims.0))
+
+      by_lease : (o : Option Name) → lease_of job ≡ o → IsUndone (history_told jobs past (a ++ e ∷ [])) job
+      by_lease None none = by_stage none g refl says
+      by_lease (Some lease) some = subst (λ h. IsUndone h job) (sym (leased_history past jobs a e number job lease is.own is_job some)) undone
 
   -- a job that ended for want of memory did nothing
-  pub short_undone : EndsFrom codec job (begun job.command) (trace_of number told) outcome.OutOfMemory → IsUndone (history_told jobs past told) job
+  pub short_undone : EndsBy codec job (trace_of number told) outcome.OutOfMemory → IsUndone (history_told jobs past told) job
   short_undone ends = by_last (last_call number told)
     where
+      by_first : (o : Option Name) → lease_of job ≡ o → StageClaims codec spelled tracks past jobs told (held_told m told) number job (begins_at o (begun job.command)) → IsUndone (history_told jobs past told) job
+      by_first None none says = begun_undone codec spelled tracks laws past jobs told (held_told m told) number job says
+      by_first (Some lease) some says = (before_clean codec spelled tracks past jobs told (held_told m told) number job lease some says.0.1).undone
+
       by_last : (trace_of number told ≡ []) ⊎ LastCall number told → IsUndone (history_told jobs past told) job
       by_last (inl none) =
-          begun_undone codec spelled tracks laws past jobs told (held_told m told) number job
-          (subst (λ t. Claims codec spelled tracks past jobs told (held_told m told) number job (state_of codec job t)) none (says_at told [] (sym (append-nil told))))
+          by_first (lease_of job) refl
+          (subst (λ t. StageClaims codec spelled tracks past jobs told (held_told m told) number job (stage_of codec job t)) none (says_at told [] (sym (append-nil told))))
       by_last (inr is) =
           subst (λ t. IsUndone (history_told jobs past t) job) (append_assoc is.before (is.last ∷ []) is.later ∙ sym is.parts)
           (undone_on jobs past number job is_job begins.apart (is.before ++ is.last ∷ []) is.later is.others (last_undone is ends))

@@ -28,9 +28,14 @@ use Rattle.ts_law.specs.Ends.{HasDeclared, IsCreated, IsTrueEnd, IsTrueRefusal, 
 use Rattle.ts_model.specs.Codecs.{Codec, Spelled, Tracking}
 use Rattle.ts_law.specs.Fresh.{IsCarried, IsNewId, id_in}
 use Rattle.ts_model.specs.Jobs.{AreApart, IsFit, deletion_as, job_with, key_of, looked_at, schema_of_job, written_as}
-use Rattle.ts_law.specs.Kept.{Aims, AreDeletions, AreGot, AreOpen, AreSchemas, Claims, Clean, GettingDeletes, Fetching, Gathering, HasListed, HasLooked, IsOfJobs, Kept, LooksInto, OnWay, Opening, Putting, ReadsAt, ReadsIn, Works, heads_of}
+use Rattle.ts_law.specs.Kept.{Aims, AreDeletions, AreGot, AreOpen, AreSchemas, Claims, Clean, GettingDeletes, Fetching, Gathering, HasListed, HasLooked, IsOfJobs, Kept, LooksInto, OnWay, Opening, Putting, ReadsAt, ReadsIn, StageClaims, Works, heads_of}
 use Rattle.ts_law.specs.Stands.{HoldsIn, WentInto, Stands}
-use Rattle.ts_model.specs.States.{begun, keys_named, made_by, state_of, unless_refused}
+use Rattle.ts_model.specs.States.{begun, keys_named, made_by, unless_refused}
+use Rattle.ts_model.specs.Stages.{begins_at, first_stage, lease_of, stage_of}
+use Rattle.ts_model.specs.declared.states.Stage.{Stage}
+use Rattle.ts_model.specs.declared.states.Stage.TheVariants.{ListsLeases, PutsLease, Releases}
+use Rattle.ts_model.specs.declared.states.Stage.TheVariants as stages
+use Rattle.ts_law.proofs.LeaseSteps.{lease_is}
 use Rattle.ts_model.specs.Told.{Told, cells_of, condition_of, declared_by, deed_in, deed_of, deed_told, deleted_by, deleted_in, grown, history_from, history_told, is_by, schema_used, schemas_found, trace_of, written_by, written_in}
 use Rattle.ts_model.specs.declared.answers.Outcome.{Outcome}
 use Rattle.ts_model.specs.declared.answers.Refusal.{Refusal}
@@ -531,6 +536,13 @@ module _ (jobs : List Job) (job : Job) where
     )
     claims_more (Over end) is = end_more end is
 
+    -- the claims of its stage hold among all
+    stage_more : (stage : Stage F) → StageClaims codec spelled tracks past jobs seen m number j stage → StageClaims codec spelled tracks past all seen m number j stage
+    stage_more (PutsLease lease) is = ((is.0.0, claims_more (begun j.command) is.0.1), is.1)
+    stage_more (ListsLeases lease) is = (is.0, claims_more (begun j.command) is.1)
+    stage_more (stages.Works s) is = claims_more s is
+    stage_more (Releases lease end) is = (is.0, end_more end is.1, subst (λ g. IsUndone g j) now is.2)
+
   module _ {F : Type 0} (codec : Codec F) (spelled : Spelled) (tracks : Tracking F) (past : History) (dead : List ℕ) (seen : List Told) (m : Held)
       (kept : Kept codec spelled tracks past jobs dead seen m) (is : IsNewId m past jobs job.id) where
     -- no two of all jobs have one identifier
@@ -547,11 +559,18 @@ module _ (jobs : List Job) (job : Job) where
     ]
 
     -- the claims of the job that comes
-    new_claims : Claims codec spelled tracks past all seen m (length jobs) job (begun job.command)
-    new_claims = begun_claims codec spelled tracks m past all seen (length jobs) job (record {
-      free = λ n carries _. new_is_free m past job.id is.free n carries;
-      undone = subst (λ g. IsNewKey g (key_of job)) (sym (history_more past seen kept.known)) (new_key m past jobs seen job is);
-    }) job.command refl
+    new_claims : StageClaims codec spelled tracks past all seen m (length jobs) job (first_stage job)
+    new_claims = by_lease (lease_of job) refl
+      where
+        begins : Claims codec spelled tracks past all seen m (length jobs) job (begun job.command)
+        begins = begun_claims codec spelled tracks m past all seen (length jobs) job (record {
+          free = λ n carries _. new_is_free m past job.id is.free n carries;
+          undone = subst (λ g. IsNewKey g (key_of job)) (sym (history_more past seen kept.known)) (new_key m past jobs seen job is);
+        }) job.command refl
+
+        by_lease : (o : Option Name) → lease_of job ≡ o → StageClaims codec spelled tracks past all seen m (length jobs) job (begins_at o (begun job.command))
+        by_lease None none = begins
+        by_lease (Some lease) some = let (mode, named) = lease_is job lease some in ((some, begins), new_is_free m past job.id is.free lease (ap id_in named))
 
     -- what is kept is kept among all
     more_kept : IsFit job → Kept codec spelled tracks past all dead seen m
@@ -562,11 +581,11 @@ module _ (jobs : List Job) (job : Job) where
       known = All-weaker (IsOfJobs jobs) (IsOfJobs all) of_all seen kept.known;
       claims = λ number j at alive. elim (slice_get_push jobs job number j at) [
         | inl before ↦
-            claims_more codec spelled tracks past seen kept.known m number j (state_of codec j (trace_of number seen)) (kept.claims number j before alive)
+            stage_more codec spelled tracks past seen kept.known m number j (stage_of codec j (trace_of number seen)) (kept.claims number j before alive)
         | inr last ↦
-            subst (λ n. Claims codec spelled tracks past all seen m n j (state_of codec j (trace_of n seen))) (sym last.0)
-            (subst (λ i. Claims codec spelled tracks past all seen m (length jobs) i (state_of codec i (trace_of (length jobs) seen))) last.1
-            (subst (λ t. Claims codec spelled tracks past all seen m (length jobs) job (state_of codec job t)) (sym (no_calls seen kept.known)) new_claims))
+            subst (λ n. StageClaims codec spelled tracks past all seen m n j (stage_of codec j (trace_of n seen))) (sym last.0)
+            (subst (λ i. StageClaims codec spelled tracks past all seen m (length jobs) i (stage_of codec i (trace_of (length jobs) seen))) last.1
+            (subst (λ t. StageClaims codec spelled tracks past all seen m (length jobs) job (stage_of codec job t)) (sym (no_calls seen kept.known)) new_claims))
       ];
     }
 

@@ -1,5 +1,5 @@
 -- Jobs that are driven by their automata over a store which stands for a history make a true run.
-use Rattle.std.proofs.Common.{◌≡◌, ℕ, ◌^◌, ◌<◌, Bool, inl, inr, List, [], ◌∷◌, ◌++◌, Some, length, refl, sym, ◌∙◌, ap, subst, append_assoc, arith}
+use Rattle.std.proofs.Common.{◌≡◌, ℕ, ◌^◌, ◌<◌, Bool, ◌⊎◌, inl, inr, List, [], ◌∷◌, ◌++◌, Some, length, refl, sym, ◌∙◌, ap, subst, append_assoc, arith}
 use Rattle.std.specs.Prelude.{All, Contains, option_and_then, slice_get}
 use Rattle.std.specs.List.{cons_option}
 use Rattle.std.proofs.lemmas.Bool.{cases_eq}
@@ -16,26 +16,25 @@ use Rattle.ts_model.specs.declared.answers.Outcome.{Outcome}
 use Rattle.ts_model.specs.Deeds.{History, schema_with}
 use Rattle.ts_model.specs.Codecs.{Codec, Spelled, Tracking, CodecLaws}
 use Rattle.ts_model.specs.Jobs.{IsFit, AreFit, AreApart, looked_at}
-use Rattle.ts_law.specs.Stands.{Stands}
-use Rattle.ts_model.specs.States.{begun, state_of}
+use Rattle.ts_law.specs.Stands.{IsNoLease, Stands}
+use Rattle.ts_model.specs.Stages.{first_stage, stage_of, lease_of}
 use Rattle.ts_law.specs.Fresh.{IsCarried, IsNewId, IsFreshSeed, Numbered, AreJobsOf}
 use Rattle.ts_law.specs.Lanes.{lane_by, IsOwned, IsWithin, InTurn}
 use Rattle.ts_model.specs.Told.{Told, IsShortCall, Suits, trace_of, held_told, history_told, Replied, entries_of, schema_used, schemas_found}
 use Rattle.ts_law.specs.Ends.{IsTrueEnd}
-use Rattle.ts_model.specs.Driven.{AskedFrom, EndsFrom, MayAsk}
+use Rattle.ts_model.specs.Driven.{AskedFrom, EndsBy, MayAsk}
 use Rattle.ts_model.specs.declared.commands.Command.TheVariants.{Create}
 use Rattle.ts_model.specs.declared.commands.FrameIn.{FrameIn}
-use Rattle.ts_model.specs.declared.states.State.{State}
+use Rattle.ts_model.specs.declared.states.Stage.{Stage}
 use Rattle.ts_schema.specs.declared.schemas.Schema.{Schema}
 use Rattle.ts_schema.specs.Evolutions.{schema_at}
 use Rattle.ts_base.specs.declared.names.Name.{Name}
 use Rattle.ts_store.specs.declared.call.Call.TheVariants as call
-use Rattle.ts_model.proofs.Asked.{next_call}
 use Rattle.ts_law.specs.Runs.{AreDriven, IsTrueRun}
 use Rattle.ts_law.specs.Histories.{history_of}
 use Rattle.ts_law.specs.Kept.{Kept, AreAllowed, Works}
 use Rattle.ts_model.proofs.ListLemmas.{Contains-nil, Contains-here, Contains-there, slice_get-Contains, slice_get_left}
-use Rattle.ts_model.proofs.Traces.{exchange_of_own, exchange_of_other, state_of-own, state_of-other}
+use Rattle.ts_model.proofs.Traces.{exchange_of_own, exchange_of_other, stage_of-own, stage_of-other}
 use Rattle.ts_law.proofs.Clipped.{true_over}
 use Rattle.ts_law.proofs.KeptLaws.{end_is_true, all_kept, every_prefix}
 use Rattle.ts_law.proofs.LineJobs.{AreInOrder, ids_apart, id_has_seed, jobs_fit}
@@ -43,7 +42,7 @@ use Rattle.ts_law.proofs.Lists.{item_at}
 use Rattle.ts_law.proofs.Short.{short_undone}
 use Rattle.ts_law.proofs.Spawns.{starts_kept, spawn_kept}
 use Rattle.ts_law.proofs.Journals.{journal_held}
-use Rattle.ts_law.proofs.JournalHistories.{allowed_at, front_history, front_told, lanes_turn, put_from}
+use Rattle.ts_law.proofs.JournalHistories.{IsALease, allowed_at, front_history, front_told, lanes_turn, put_staged}
 
 -- ---- the calls are allowed
 
@@ -58,7 +57,7 @@ short_from_suits told suit e at = (All-contains Suits told e suit at).short
 module _ {F : Type 0} (codec : Codec F) where
   -- calls that jobs made may come, where each job asked for its own
   pub driven_allowed : (jobs : List Job) (seen told : List Told) → All IsOwned told → All (IsWithin jobs) told → AreShort told
-      → ((k : ℕ) (job : Job) → slice_get jobs k ≡ Some job → AskedFrom codec job (state_of codec job (trace_of k seen)) (trace_of k told)) → AreAllowed codec jobs [] seen told
+      → ((k : ℕ) (job : Job) → slice_get jobs k ≡ Some job → AskedFrom codec job (stage_of codec job (trace_of k seen)) (trace_of k told)) → AreAllowed codec jobs [] seen told
   driven_allowed jobs seen [] owned within short asked = tt
   driven_allowed jobs seen (e ∷ told) owned within short asked =
       let (number, mine) = All-head IsOwned e told owned in
@@ -68,20 +67,25 @@ module _ {F : Type 0} (codec : Codec F) where
       )
     where
       -- what a job asks from the call on, where it made the call
-      own : (k : ℕ) (j : Job) → e.job ≡ Some k → slice_get jobs k ≡ Some j → AskedFrom codec j (state_of codec j (trace_of k seen)) (record { call = e.call; reply = e.reply } ∷ trace_of k told)
-      own k j by_it j_at = subst (λ o. AskedFrom codec j (state_of codec j (trace_of k seen)) (cons_option o (trace_of k told))) (exchange_of_own k e by_it) (asked k j j_at)
+      own : (k : ℕ) (j : Job) → e.job ≡ Some k → slice_get jobs k ≡ Some j → AskedFrom codec j (stage_of codec j (trace_of k seen)) (record { call = e.call; reply = e.reply } ∷ trace_of k told)
+      own k j by_it j_at = subst (λ o. AskedFrom codec j (stage_of codec j (trace_of k seen)) (cons_option o (trace_of k told))) (exchange_of_own k e by_it) (asked k j j_at)
 
       -- and after it
-      next : (number : ℕ) → e.job ≡ Some number → (k : ℕ) (j : Job) → slice_get jobs k ≡ Some j → AskedFrom codec j (state_of codec j (trace_of k (seen ++ e ∷ []))) (trace_of k told)
+      next : (number : ℕ) → e.job ≡ Some number → (k : ℕ) (j : Job) → slice_get jobs k ≡ Some j → AskedFrom codec j (stage_of codec j (trace_of k (seen ++ e ∷ []))) (trace_of k told)
       next number mine k j j_at = elim (cases_eq number k) [
         | inl same ↦
             let by_it = mine ∙ ap Some same in
-            subst (λ s. AskedFrom codec j s (trace_of k told)) (sym (state_of-own codec j k seen e by_it)) (own k j by_it j_at).1
+            subst (λ s. AskedFrom codec j s (trace_of k told)) (sym (stage_of-own codec j k seen e by_it)) (own k j by_it j_at).1
         | inr apart ↦
             let others : e.job ≡ Some k → ⊥ = λ by_it. apart (same_Some number k (sym mine ∙ by_it)) in
-            subst (λ s. AskedFrom codec j s (trace_of k told)) (sym (state_of-other codec j k seen e others))
-            (subst (λ o. AskedFrom codec j (state_of codec j (trace_of k seen)) (cons_option o (trace_of k told))) (exchange_of_other k e others) (asked k j j_at))
+            subst (λ s. AskedFrom codec j s (trace_of k told)) (sym (stage_of-other codec j k seen e others))
+            (subst (λ o. AskedFrom codec j (stage_of codec j (trace_of k seen)) (cons_option o (trace_of k told))) (exchange_of_other k e others) (asked k j j_at))
       ]
+
+-- a put of no lease is one of a frame or of an own object
+not_leased : {A : Type 0} (n : Name) → IsNoLease n → A ⊎ IsALease n → A
+not_leased n none (inl puts) = puts
+not_leased n none (inr lease) = absurd (subst IsNoLease lease.2 none)
 
 -- ---- the run
 
@@ -91,7 +95,7 @@ module _ {F : Type 0} (codec : Codec F) (spelled : Spelled) (tracks : Tracking F
   may : AreAllowed codec jobs [] [] told
   may = driven_allowed codec jobs [] told owned within (short_from_suits told suit) asked
     where
-      asked : (k : ℕ) (job : Job) → slice_get jobs k ≡ Some job → AskedFrom codec job (begun job.command) (trace_of k told)
+      asked : (k : ℕ) (job : Job) → slice_get jobs k ≡ Some job → AskedFrom codec job (first_stage job) (trace_of k told)
       asked k job at =
           let there = item_at jobs results k (sym driven.one_each) (slice_get_within jobs k job at) in
           (driven.driven k job there.0 at there.1).asked
@@ -121,16 +125,16 @@ module _ {F : Type 0} (codec : Codec F) (spelled : Spelled) (tracks : Tracking F
 
   -- a job that puts an object and is no create works in the schema that it uses
   pub works_where_used : (seen back : List Told) (e : Told) → told ≡ seen ++ e ∷ back → (number : ℕ) (job : Job) → e.job ≡ Some number → slice_get jobs number ≡ Some job
-      → ((f : FrameIn) → job.command ≡ Create f → ⊥) → looked_at job ≡ job.at → (n : Name) (bytes : List ℕ) → e.call ≡ call.Put n bytes
+      → ((f : FrameIn) → job.command ≡ Create f → ⊥) → looked_at job ≡ job.at → (n : Name) (bytes : List ℕ) → e.call ≡ call.Put n bytes → IsNoLease n
       → (there : Schema) → schema_used (history_told jobs h seen) job (schemas_found (trace_of number seen)) ≡ Some there → Works h jobs seen number job there
-  works_where_used seen back e parts number job mine is_job no_create looks n bytes puts there uses =
+  works_where_used seen back e parts number job mine is_job no_create looks n bytes puts no_lease there uses =
       let kept = every_prefix codec spelled tracks laws h jobs [] [] m told seen (e ∷ back) begins may replied parts in
       let allowed = allowed_at codec jobs [] seen back e (subst (AreAllowed codec jobs [] []) parts may) in
       let same_number : allowed.number ≡ number = same_Some allowed.number number (sym allowed.own ∙ mine) in
       let same_job : allowed.job ≡ job = same_Some allowed.job job (sym allowed.is_job ∙ ap (slice_get jobs) same_number ∙ is_job) in
-      let state : Job → ℕ → State F = λ j k. state_of codec j (trace_of k seen) in
+      let state : Job → ℕ → Stage F = λ j k. stage_of codec j (trace_of k seen) in
       let asked : MayAsk codec job (state job number) e.call = subst (λ k. MayAsk codec job (state job k) e.call) same_number (subst (λ j. MayAsk codec j (state j allowed.number) e.call) same_job allowed.asked) in
-      elim (put_from codec spelled tracks laws h jobs seen (held_told m seen) number job (state job number) n bytes (kept.claims number job is_job (Contains-nil number)) (next_call codec job (state job number) e.call asked ∙ ap Some puts)) [
+      elim (not_leased n no_lease (put_staged codec spelled tracks laws h jobs seen (held_told m seen) number job (state job number) n bytes (kept.claims number job is_job (Contains-nil number)) (subst (MayAsk codec job (state job number)) puts asked))) [
         | inl frame ↦ absurd (no_create frame.made frame.creates)
         | inr own ↦ elim own.finds [
           | inl creates ↦ absurd (no_create creates.0 creates.1)
@@ -151,7 +155,7 @@ module _ {F : Type 0} (codec : Codec F) (spelled : Spelled) (tracks : Tracking F
     journal = journal_stands;
     answers = λ number job end at end_at.
         true_over spelled m jobs h told number job end (λ front back parts. (every_prefix codec spelled tracks laws h jobs [] [] m told front back begins may replied parts).stands)
-        (λ short. short_undone codec spelled tracks laws h jobs m told begins may replied number job at (subst (EndsFrom codec job (begun job.command) (trace_of number told)) short (driven.driven number job (Done end) at end_at).ends))
+        (λ short. short_undone codec spelled tracks laws h jobs m told begins may replied number job at (subst (EndsBy codec job (trace_of number told)) short (driven.driven number job (Done end) at end_at).ends))
         (true_end number job end at end_at);
   }
 

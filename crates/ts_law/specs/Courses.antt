@@ -28,6 +28,9 @@ use Rattle.ts_schema.specs.SchemaTexts.{schema_of}
 use Rattle.ts_model.specs.declared.commands.Command.TheVariants.{Create, Evolve, Write, Read, Delete}
 use Rattle.ts_model.specs.Stops.{cuts, Uncut}
 use Rattle.ts_model.specs.States.{schemas_in, place_of, get_all, put_of, made_by, frame_put, schema_object_of, write_objects, is_own_frame, get_frame, list_schemas, list_commits, get_schema, get_delete, committed_in, deletes_in, meets, delete_object_of, wanted, Exchange}
+use Rattle.ts_model.specs.Stages.{lease_of, list_leases, put_lease, released}
+use Rattle.ts_lease.specs.Leases.{verdict_in}
+use Rattle.ts_lease.specs.declared.verdicts.Verdict.TheVariants.{Held}
 use Rattle.ts_model.specs.Codecs.{Codec, Asks, Breaks, is_look}
 use Rattle.ts_model.specs.Jobs.{key_of, frag_of_job, refused_before, looked_at}
 use Rattle.ts_model.specs.Commands.{laid}
@@ -67,7 +70,12 @@ abbrev pub delete_puts : Job → Result Condition Refusal → List Call
 delete_puts job (Ok condition) = put_of (delete_object_of job condition) ∷ []
 delete_puts job (Err r) = []
 
--- the puts and listings of a job, in order
+-- before the course of a job that has a lease: the put of it, and the listing of the leases
+abbrev pub under_lease : Option Name → List Call → List Call
+under_lease None course = course
+under_lease (Some lease) course = put_lease lease ∷ list_leases ∷ course
+
+-- the puts and listings of a job at its work, in order
 abbrev pub course_by : {F : Type 0} → Codec F → Job → Found → Command → List Call
 course_by codec job found (Create f) = frame_put f ∷ (cond found.taken (list_schemas ∷ []) [] ++ put_of (schema_object_of job f.attrs) ∷ [])
 course_by codec job found (Evolve change) = list_schemas ∷ evolve_puts job found change (evolution_fault (found.frame).domain (found.there).attrs change)
@@ -75,9 +83,9 @@ course_by codec job found (Write w) = list_schemas ∷ cell_puts codec job found
 course_by codec job found (Read from to query) = list_commits ∷ list_schemas ∷ []
 course_by codec job found (Delete text) = list_schemas ∷ delete_puts job (delete_condition found.frame (found.there).attrs text)
 
--- the course of a job that found this
+-- the course of a job that found this, up to the removal of its lease
 abbrev pub course_of : {F : Type 0} → Codec F → Job → Found → List Call
-course_of codec job found = course_by codec job found job.command
+course_of codec job found = under_lease (lease_of job) (course_by codec job found job.command)
 
 -- ---- what a job found
 
@@ -272,11 +280,17 @@ IsThere f last =
     ((bytes : List ℕ) × (last ≡ record { call = get_frame; reply = reply.Bytes bytes }) × (is_own_frame (Some f) bytes ≡ false))
     ⊎ ((names : List Name) × (last ≡ record { call = list_schemas; reply = reply.Names names }) × (nat_lt 0 (length names) ≡ true))
 
+-- a lease holds a job up: of the leases that it listed this is the first that opposes its own one
+abbrev pub IsHeldUp : Job → Exchange → Name → Type 0
+IsHeldUp job last other =
+    (own : Name) × (lease_of job ≡ Some own) × (names : List Name) × (last ≡ record { call = list_leases; reply = reply.Names names }) × (verdict_in names own ≡ Held other)
+
 -- a refusal has its cause: in the last call with its reply, or in what the job found and got
 abbrev pub IsCause : {F : Type 0} → Codec F → Job → Found → List Exchange → Exchange → Refusal → Type 0
 IsCause codec job found trace last refusal.ArrayExists = (f : FrameIn) × (job.command ≡ Create f) × IsThere f last
 IsCause codec job found trace last (refusal.NoSchema at) =
     (made_by job.command ≡ None) × (names : List Name) × (last ≡ record { call = list_schemas; reply = reply.Names names }) × (at ≡ looked_at job) × (schema_at (schemas_in names) at ≡ None)
+IsCause codec job found trace last (refusal.Leased other) = IsHeldUp job last other
 IsCause codec job found trace last (refusal.Taken n) = (n ≡ name.Domain → ⊥) × (bytes : List ℕ) × (last ≡ record { call = call.Put n bytes; reply = reply.Taken })
 IsCause codec job found trace last (refusal.StoreFault p) = (p ≡ place_of last.call) × (last.reply ≡ reply.Failed)
 IsCause codec job found trace last (refusal.Missing n) = (place_of last.call ≡ place.Name n) × (last.reply ≡ reply.Absent)
@@ -296,13 +310,37 @@ EndsAlong codec job found course trace (outcome.Written f) = Along (IsLookOf cod
 EndsAlong codec job found course trace (outcome.Deleted f) = Along (IsLookOf codec job found) [] course trace [] × ((text : List ℕ) × (job.command ≡ Delete text)) × (f ≡ frag_of_job job) × IsGot job found trace × (refused_in found job.command ≡ None)
 EndsAlong codec job found course trace (outcome.Read answer) = Along (IsLookOf codec job found) [] course trace [] × ((from : ℕ) × (to : ℕ) × (query : Query) × (job.command ≡ Read from to query)) × IsGot job found trace × (refused_in found job.command ≡ None)
 
+-- the calls begin with the put of the lease, whose name was not taken
+abbrev pub HasPut : Name → List Exchange → Type 0
+HasPut lease [] = ⊥
+HasPut lease (x ∷ xs) = (x.call ≡ put_lease lease) × (x.reply ≢ reply.Taken)
+
+-- the removal of a lease, with its reply
+abbrev pub removal : Name → Reply → Exchange
+removal lease r = record { call = call.Remove lease; reply = r }
+
+-- how a job that has a lease may end
+pub data LeaseEnds {F : Type 0} (codec : Codec F) (job : Job) (found : Found) (lease : Name) (trace : List Exchange) (end : Outcome) : Type 0 where
+  -- before its first call, for want of memory
+  NotBegun : trace ≡ [] → end ≡ outcome.OutOfMemory → LeaseEnds codec job found lease trace end
+  -- by the put of its lease, whose name was taken: that lease is not its own
+  NotOwn : trace ≡ record { call = put_lease lease; reply = reply.Taken } ∷ [] → end ≡ outcome.Refused (refusal.Taken lease) → LeaseEnds codec job found lease trace end
+  -- by the removal of its lease, which is its last call whatever end its other calls came to
+  Removed : (front : List Exchange) (r : Reply) (was : Outcome) → trace ≡ front ++ removal lease r ∷ [] → HasPut lease front → EndsAlong codec job found (course_of codec job found) front was → end ≡ released lease was r
+      → LeaseEnds codec job found lease trace end
+
+-- how a job may end that has this lease, if it has one
+abbrev pub EndsUnder : {F : Type 0} → Codec F → Job → Found → Option Name → List Exchange → Outcome → Type 0
+EndsUnder codec job found None trace end = EndsAlong codec job found (course_of codec job found) trace end
+EndsUnder codec job found (Some lease) trace end = LeaseEnds codec job found lease trace end
+
 -- how a job may end: one that is refused before its first call makes none
 abbrev pub MayEndAs : {F : Type 0} → Codec F → Job → Found → List Exchange → Outcome → Option Refusal → Type 0
-MayEndAs codec job found trace end None = EndsAlong codec job found (course_of codec job found) trace end
+MayEndAs codec job found trace end None = EndsUnder codec job found (lease_of job) trace end
 MayEndAs codec job found trace end (Some r) = (trace ≡ []) × ((end ≡ outcome.Refused r) ⊎ (end ≡ outcome.OutOfMemory))
 
 -- the calls went along the course, and the stop cut the job off where it would have made one more call, which may come next there
-pub record IsCutOff {F : Type 0} (codec : Codec F) (job : Job) (found : Found) (trace : List Exchange) : Type 0 where
+pub record IsCutAlong {F : Type 0} (codec : Codec F) (job : Job) (found : Found) (trace : List Exchange) : Type 0 where
   pub begins : refused_before job.command ≡ None
   pub left : List Call
   pub along : Along (IsLookOf codec job found) [] (course_of codec job found) trace left
@@ -310,6 +348,19 @@ pub record IsCutOff {F : Type 0} (codec : Codec F) (job : Job) (found : Found) (
   pub rest : List Call
   pub next : IsNext (IsLookOf codec job found) trace left unmade rest
   pub cut : cuts job.stop (length trace) unmade ≡ true
+
+-- the stop cut the job off where it would have removed its lease, whatever end its calls had come to
+pub record IsCutLeased {F : Type 0} (codec : Codec F) (job : Job) (found : Found) (trace : List Exchange) : Type 0 where
+  pub lease : Name
+  pub own : lease_of job ≡ Some lease
+  pub was : Outcome
+  pub put : HasPut lease trace
+  pub ended : EndsAlong codec job found (course_of codec job found) trace was
+  pub cut : cuts job.stop (length trace) (call.Remove lease) ≡ true
+
+-- the stop cut the job off
+abbrev pub IsCutOff : {F : Type 0} → Codec F → Job → Found → List Exchange → Type 0
+IsCutOff codec job found trace = IsCutAlong codec job found trace ⊎ IsCutLeased codec job found trace
 
 -- how a job may come out: with an end, or cut off by its stop
 abbrev pub MayComeOut : {F : Type 0} → Codec F → Job → Found → List Exchange → Driven Outcome → Type 0

@@ -15,6 +15,9 @@ use Rattle.ts_model.specs.declared.commands.WriteIn.{WriteIn}
 use Rattle.ts_model.specs.declared.answers.Outcome.{Outcome}
 use Rattle.ts_model.specs.declared.deeds.Written.{Written}
 use Rattle.ts_model.specs.declared.states.State.{State}
+use Rattle.ts_model.specs.declared.states.Stage.{Stage}
+use Rattle.ts_model.specs.declared.states.Stage.TheVariants.{PutsLease, ListsLeases, Releases}
+use Rattle.ts_model.specs.declared.states.Stage.TheVariants as stages
 use Rattle.ts_model.specs.declared.states.Creating.{Creating}
 use Rattle.ts_model.specs.declared.states.Seeking.{Seeking}
 use Rattle.ts_model.specs.declared.states.Collecting.{Collecting}
@@ -44,7 +47,8 @@ use Rattle.ts_domain.specs.declared.boxes.SubBox.{SubBox}
 use Rattle.ts_domain.specs.Boxes.{is_in_box}
 use Rattle.ts_model.specs.Queries.{ready_in, delete_condition}
 use Rattle.ts_model.specs.Driven.{MayAsk}
-use Rattle.ts_model.specs.States.{delete_object_of, schema_object_of, write_objects, keys_named, want_of, lease_of, state_of}
+use Rattle.ts_model.specs.States.{delete_object_of, schema_object_of, write_objects, keys_named, want_of, begun}
+use Rattle.ts_model.specs.Stages.{lease_of, stage_of}
 use Rattle.ts_model.specs.Codecs.{Codec, Spelled, Tracking}
 use Rattle.ts_model.specs.Jobs.{key_of, frag_of_job, AreFit, AreApart, looked_at, job_with}
 use Rattle.ts_law.specs.Stands.{HoldsIn, WentInto, Stands}
@@ -247,6 +251,17 @@ Claims codec spelled tracks past jobs seen m number job (Puts objects next end) 
 Claims codec spelled tracks past jobs seen m number job (Collects s) = CollectClaims codec spelled tracks past jobs seen m number job s
 Claims codec spelled tracks past jobs seen m number job (Over end) = IsTrueEnd jobs past seen number job end
 
+-- a job holds its lease, or is to put it, and its work has not begun
+abbrev pub IsBefore : {F : Type 0} → Codec F → Spelled → Tracking F → History → List Job → List Told → Held → ℕ → Job → Name → Type 0
+IsBefore codec spelled tracks past jobs seen m number job lease = (lease_of job ≡ Some lease) × Claims codec spelled tracks past jobs seen m number job (begun job.command)
+
+-- what a job's stage says is true: before its work it is clean, but for its lease, and that it removes its lease leaves the end that it came to true
+abbrev pub StageClaims : {F : Type 0} → Codec F → Spelled → Tracking F → History → List Job → List Told → Held → ℕ → Job → Stage F → Type 0
+StageClaims codec spelled tracks past jobs seen m number job (PutsLease lease) = IsBefore codec spelled tracks past jobs seen m number job lease × (map.get m lease ≡ None)
+StageClaims codec spelled tracks past jobs seen m number job (ListsLeases lease) = IsBefore codec spelled tracks past jobs seen m number job lease
+StageClaims codec spelled tracks past jobs seen m number job (stages.Works s) = Claims codec spelled tracks past jobs seen m number job s
+StageClaims codec spelled tracks past jobs seen m number job (Releases lease end) = (lease_of job ≡ Some lease) × IsTrueEnd jobs past seen number job end × IsUndone (history_told jobs past seen) job
+
 -- ---- what is kept
 
 -- the identifiers that a call's put carries are those of its own job
@@ -260,7 +275,7 @@ pub record Kept {F : Type 0} (codec : Codec F) (spelled : Spelled) (tracks : Tra
   pub apart : AreApart jobs
   pub fit : AreFit jobs
   pub known : All (IsOfJobs jobs) seen
-  pub claims : (number : ℕ) (job : Job) → slice_get jobs number ≡ Some job → (Contains dead number → ⊥) → Claims codec spelled tracks past jobs seen m number job (state_of codec job (trace_of number seen))
+  pub claims : (number : ℕ) (job : Job) → slice_get jobs number ≡ Some job → (Contains dead number → ⊥) → StageClaims codec spelled tracks past jobs seen m number job (stage_of codec job (trace_of number seen))
 
 -- ---- which calls may come
 
@@ -271,7 +286,7 @@ pub record IsAllowed {F : Type 0} (codec : Codec F) (jobs : List Job) (dead : Li
   pub own : e.job ≡ Some number
   pub is_job : slice_get jobs number ≡ Some job
   pub alive : Contains dead number → ⊥
-  pub asked : MayAsk codec job (state_of codec job (trace_of number seen)) e.call
+  pub asked : MayAsk codec job (stage_of codec job (trace_of number seen)) e.call
   pub short : IsShortCall e.call
 
 -- each of these calls may come after those before it

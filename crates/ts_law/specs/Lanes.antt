@@ -3,7 +3,7 @@ use Rattle.std.specs.Prelude.{◌≡◌, ℕ, ◌-◌, ◌^◌, ◌<◌, ◌≤�
 use Rattle.ts_model.specs.declared.commands.Job.{Job}
 use Rattle.ts_model.specs.Driven.{AskedFrom}
 use Rattle.ts_model.specs.Told.{Told, trace_of}
-use Rattle.ts_model.specs.States.{begun}
+use Rattle.ts_model.specs.Stages.{first_stage}
 use Rattle.ts_model.specs.Codecs.{Codec}
 
 -- the lane of a call that no job made
@@ -43,5 +43,5 @@ InTurn lanes (e ∷ told) = All (IsBefore lanes e) told × InTurn lanes told
 -- the calls of jobs in lanes: each is one of these jobs', each job makes just calls that it may make, and the jobs of a lane come one after the other
 pub record AreInLanes {F : Type 0} (codec : Codec F) (lanes : ℕ → ℕ) (jobs : List Job) (told : List Told) : Type 0 where
   pub within : All (IsWithin jobs) told
-  pub asked : (number : ℕ) (job : Job) → slice_get jobs number ≡ Some job → AskedFrom codec job (begun job.command) (trace_of number told)
+  pub asked : (number : ℕ) (job : Job) → slice_get jobs number ≡ Some job → AskedFrom codec job (first_stage job) (trace_of number told)
   pub in_turn : InTurn lanes told

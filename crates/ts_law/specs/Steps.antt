@@ -5,11 +5,14 @@ use Rattle.ts_base.specs.declared.names.Name.{Name}
 use Rattle.ts_model.specs.declared.commands.Job.{Job}
 use Rattle.ts_model.specs.declared.states.State.{State}
 use Rattle.ts_base.specs.Held.{Held}
-use Rattle.ts_law.specs.Kept.{Claims}
+use Rattle.ts_law.specs.Kept.{Claims, StageClaims}
 use Rattle.ts_model.specs.Told.{Told, after_told, IsShortCall, IsReplied, history_told}
 use Rattle.ts_law.specs.Fresh.{id_in}
 use Rattle.ts_law.specs.Stands.{Stands, IsNoLease}
-use Rattle.ts_model.specs.States.{asks, goes_on}
+use Rattle.ts_model.specs.States.{asks, goes}
+use Rattle.ts_model.specs.Stages.{goes_on}
+use Rattle.ts_model.specs.Driven.{MayAsk}
+use Rattle.ts_model.specs.declared.states.Stage.{Stage}
 use Rattle.ts_model.specs.Codecs.{Codec, Spelled, Tracking}
 use Rattle.ts_model.specs.Jobs.{IsFit, AreApart}
 use Rattle.ts_model.specs.Deeds.{History, keys}
@@ -33,12 +36,12 @@ pub record Leads (spelled : Spelled) (past : History) (jobs : List Job) (seen : 
   pub stands : Stands spelled (after_told m e) (history_told jobs past (seen ++ e ∷ []))
   pub leaves : Keeps m (after_told m e) (history_told jobs past seen) (history_told jobs past (seen ++ e ∷ [])) id
 
--- and the claims of the job itself are those of where it comes
+-- and the claims of the job itself are those of where its work comes
 pub record Advances {F : Type 0} (codec : Codec F) (spelled : Spelled) (tracks : Tracking F) (past : History) (jobs : List Job) (seen : List Told) (e : Told) (m : Held) (number : ℕ) (job : Job) (s : State F) : Type 0 where
   pub leads : Leads spelled past jobs seen e m job.id
-  pub own : Claims codec spelled tracks past jobs (seen ++ e ∷ []) (after_told m e) number job (goes_on codec job s (record { call = e.call; reply = e.reply }))
+  pub own : Claims codec spelled tracks past jobs (seen ++ e ∷ []) (after_told m e) number job (goes codec job s e.reply)
 
--- a call of a job that comes after these, in a state whose claims hold
+-- a call of a job at its work that comes after these, in a state whose claims hold
 pub record Comes {F : Type 0} (codec : Codec F) (spelled : Spelled) (tracks : Tracking F) (past : History) (jobs : List Job) (seen : List Told) (e : Told) (m : Held) (number : ℕ) (job : Job) (s : State F) : Type 0 where
   pub stands : Stands spelled m (history_told jobs past seen)
   pub apart : AreApart jobs
@@ -49,3 +52,20 @@ pub record Comes {F : Type 0} (codec : Codec F) (spelled : Spelled) (tracks : Tr
   pub short : IsShortCall e.call
   pub asked : asks codec job s ≡ Some e.call
   pub claims : Claims codec spelled tracks past jobs seen m number job s
+
+-- and the claims of the job itself are those of the stage where it comes
+pub record StageAdvances {F : Type 0} (codec : Codec F) (spelled : Spelled) (tracks : Tracking F) (past : History) (jobs : List Job) (seen : List Told) (e : Told) (m : Held) (number : ℕ) (job : Job) (stage : Stage F) : Type 0 where
+  pub leads : Leads spelled past jobs seen e m job.id
+  pub own : StageClaims codec spelled tracks past jobs (seen ++ e ∷ []) (after_told m e) number job (goes_on codec job stage (record { call = e.call; reply = e.reply }))
+
+-- a call of a job that comes after these, in a stage whose claims hold
+pub record StageComes {F : Type 0} (codec : Codec F) (spelled : Spelled) (tracks : Tracking F) (past : History) (jobs : List Job) (seen : List Told) (e : Told) (m : Held) (number : ℕ) (job : Job) (stage : Stage F) : Type 0 where
+  pub stands : Stands spelled m (history_told jobs past seen)
+  pub apart : AreApart jobs
+  pub fit : IsFit job
+  pub own : e.job ≡ Some number
+  pub is_job : slice_get jobs number ≡ Some job
+  pub replied : IsReplied m e
+  pub short : IsShortCall e.call
+  pub asked : MayAsk codec job stage e.call
+  pub claims : StageClaims codec spelled tracks past jobs seen m number job stage

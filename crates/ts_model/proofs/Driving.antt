@@ -11,7 +11,8 @@ use Rattle.ts_store.specs.Calls.{after, is_no_memory, FitsCall}
 use Rattle.ts_store.specs.Stores.{Steps, Answers}
 use Rattle.ts_store.specs.Journals.{Enters, EntersIf, entry}
 use Rattle.ts_model.specs.declared.commands.Job.{Job}
-use Rattle.ts_model.specs.States.{Exchange, begun, state_of}
+use Rattle.ts_model.specs.States.{Exchange}
+use Rattle.ts_model.specs.Stages.{first_stage, stage_of}
 use Rattle.ts_model.specs.Codecs.{Codec}
 use Rattle.ts_model.specs.Told.{Told, IsShortCall, Suits, IsReplied, Replied, after_told, held_told, changes, only_lane, entry_of, entries_of}
 use Rattle.ts_model.specs.Driven.{MayAsk}
@@ -72,7 +73,7 @@ entered number lane now c fate r before after_ told journal b is q enters =
 
 -- a job that has made these calls makes one that it may make after them
 pub ran-step : {F : Type 0} (codec : Codec F) (number lane : ℕ) (job : Job) (held now later : Option Held) (before journal after_ : List Entry) (trace : List Exchange) (c : Call) (fate : Fate) (r : Reply)
-    → RanTo codec number lane job held now before journal trace → MayAsk codec job (state_of codec job trace) c → IsShortCall c → FitsCall c r → Answers now later fate c r → Enters journal after_ lane c fate r
+    → RanTo codec number lane job held now before journal trace → MayAsk codec job (stage_of codec job trace) c → IsShortCall c → FitsCall c r → Answers now later fate c r → Enters journal after_ lane c fate r
     → RanTo codec number lane job held later before after_ (trace ++ record { call = c; reply = r } ∷ [])
 ran-step codec number lane job held now later before journal after_ trace c fate r ran asks_it short fits answers enters =
     let e : Told = told_as number now c fate r in
@@ -85,7 +86,7 @@ ran-step codec number lane job held now later before journal after_ trace c fate
         over = over-push number held now later ran.told c fate r ran.calls.over answers.told;
       };
       same = trace_of-own number ran.told e refl ∙ ap (λ xs. xs ++ record { call = c; reply = r } ∷ []) ran.same;
-      asked = asked-push codec job (begun job.command) trace (record { call = c; reply = r }) ran.asked asks_it;
+      asked = asked-push codec job (first_stage job) trace (record { call = c; reply = r }) ran.asked asks_it;
     }
 
 -- a job that has made no call

@@ -1,5 +1,7 @@
 -- Where memory can be wanting, and where a job comes whose call found none.
-use Rattle.std.proofs.Common.{◌≡◌, Bool, true, false, not, ◌||◌, inl, inr, List, [], ◌∷◌, ◌++◌, Option, Some, None, suc, length, refl, ◌∙◌, ap}
+use Rattle.std.proofs.Common.{◌≡◌, Bool, true, false, cond, not, ◌||◌, List, [], ◌∷◌, ◌++◌, Option, Some, None, suc, length, refl, sym, ◌∙◌, ap, subst}
+use Rattle.std.proofs.lemmas.Bool.{true≢false}
+use Rattle.ts_base.specs.declared.names.Name.{Name}
 use Rattle.std.specs.Prelude.{slice_get}
 use Rattle.std.proofs.lemmas.Option.{none-some}
 use Rattle.ts_store.specs.declared.call.Call.{Call}
@@ -10,12 +12,40 @@ use Rattle.ts_model.specs.declared.states.State.TheVariants.{Creates, Seeks, Put
 use Rattle.ts_model.specs.declared.states.Creating.TheVariants.{PutsFrame, ComparesFrame, ListsDeclared}
 use Rattle.ts_model.specs.declared.states.Seeking.TheVariants.{ListsCommits, ListsSchemas, GetsSchema, GetsFrame}
 use Rattle.ts_model.specs.declared.states.Collecting.TheVariants.{GetsHeads, GetsSchemas, GetsDeletes, Fetches}
-use Rattle.ts_model.specs.Driven.{can_lack, EndsFrom}
+use Rattle.ts_model.specs.declared.states.Stage.{Stage}
+use Rattle.ts_model.specs.declared.states.Stage.TheVariants.{Works}
+use Rattle.ts_model.specs.Driven.{lacks_after, lacks_from}
+use Rattle.ts_model.specs.Stages.{stage_goes, goes_on, stage_from, stage_takes_memory, is_done, is_release, lease_of, end_at, released, releases, settled}
+use Rattle.ts_model.proofs.Asked.{no_release}
 use Rattle.ts_model.specs.Codecs.{Codec}
-use Rattle.ts_model.specs.States.{Exchange, asks, goes, goes_on, state_from, takes_memory, is_over, ended, on_bytes, on_made, with_item, putting, put_of, made_by, after_frame, after_head, after_schema, after_delete, frame_put, get_schema, get_delete, get_head}
+use Rattle.ts_model.specs.States.{Exchange, asks, goes, ended, on_bytes, on_made, with_item, putting, put_of, made_by, after_frame, after_head, after_schema, after_delete, frame_put, get_schema, get_delete, get_head}
 use Rattle.ts_store.specs.declared.call.Call.TheVariants as call
 use Rattle.ts_store.specs.declared.call.Reply.TheVariants as reply
 use Rattle.ts_model.specs.declared.answers.Outcome.TheVariants as outcome
+
+-- ---- the removal of a lease
+
+module _ {F : Type 0} (codec : Codec F) (job : Job) where
+  -- a call that removes the lease of the job leads it to its end
+  pub release_ends : (stage : Stage F) (x : Exchange) (lease : Name) → lease_of job ≡ Some lease → is_release job x.call ≡ true → goes_on codec job stage x ≡ Works (Over (released lease (end_at stage) x.reply))
+  release_ends stage x lease some is =
+      ap (λ b. cond b (releases stage (lease_of job) x.reply) (stage_goes codec job stage x.reply)) is ∙ ap (λ o. releases stage o x.reply) some
+
+  -- another call leads on by its reply
+  pub other_goes : (stage : Stage F) (x : Exchange) → is_release job x.call ≡ false → goes_on codec job stage x ≡ stage_goes codec job stage x.reply
+  other_goes stage x other = ap (λ b. cond b (releases stage (lease_of job) x.reply) (stage_goes codec job stage x.reply)) other
+
+  -- the work of a job without a lease leads on by its reply
+  pub bare_goes : (s : State F) (x : Exchange) → lease_of job ≡ None → goes_on codec job (Works s) x ≡ Works (goes codec job s x.reply)
+  bare_goes s x none = other_goes (Works s) x (no_release job x.call none) ∙ ap (λ o. settled o (goes codec job s x.reply)) none
+
+  -- after the removal of the lease nothing is left to do
+  release_done : (stage : Stage F) (x : Exchange) → is_release job x.call ≡ true → is_done (goes_on codec job stage x) ≡ true
+  release_done stage x is = by_lease (lease_of job) refl
+    where
+      by_lease : (o : Option Name) → lease_of job ≡ o → is_done (goes_on codec job stage x) ≡ true
+      by_lease None none = absurd (true≢false (sym is ∙ no_release job x.call none))
+      by_lease (Some lease) some = ap is_done (release_ends stage x lease some is)
 
 -- ---- where memory can be wanting
 
@@ -27,38 +57,37 @@ or_second false b is = is
 -- one of two tests, the first of which holds
 or_first : (a b : Bool) → a ≡ true → (a || b) ≡ true
 or_first true b is = refl
-or_first false b is = absurd (false_not_true is)
-  where
-    false_not_true : false ≡ true → ⊥
-    false_not_true e = cc
+or_first false b is = absurd (true≢false (sym is))
 
 module _ {F : Type 0} (codec : Codec F) (job : Job) where
-  -- memory can be wanting for the next call of a job that is not over
-  pub going_lacks : (s : State F) (trace : List Exchange) → is_over (state_from codec job s trace) ≡ false → can_lack codec job s trace ≡ true
-  going_lacks s [] going = refl
-  going_lacks s (x ∷ []) going = or_second (takes_memory s) (not (is_over (goes_on codec job s x))) (ap not going)
-  going_lacks s (x ∷ y ∷ xs) going = going_lacks (goes_on codec job s x) (y ∷ xs) going
+  -- what is wanting after one call more
+  pub lacks-push : (before : Bool) (stage : Stage F) (trace : List Exchange) (x : Exchange)
+      → lacks_from codec job before stage (trace ++ x ∷ []) ≡ lacks_after codec job (lacks_from codec job before stage trace) (stage_from codec job stage trace) x
+  lacks-push before stage [] x = refl
+  lacks-push before stage (y ∷ trace) x = lacks-push (lacks_after codec job before stage y) (goes_on codec job stage y) trace x
 
-  -- after the last of some calls it can be wanting where what that leads to takes memory, or where the job goes on
-  pub last_lacks : (s : State F) (trace : List Exchange) (x : Exchange)
-      → can_lack codec job s (trace ++ x ∷ []) ≡ (takes_memory (state_from codec job s trace) || not (is_over (goes_on codec job (state_from codec job s trace) x)))
-  last_lacks s [] x = refl
-  last_lacks s (y ∷ []) x = last_lacks (goes_on codec job s y) [] x
-  last_lacks s (y ∷ z ∷ trace) x = last_lacks (goes_on codec job s y) (z ∷ trace) x
+  -- memory can be wanting after a call where something is left to do
+  going_after : (before : Bool) (stage : Stage F) (x : Exchange) → is_done (goes_on codec job stage x) ≡ false → lacks_after codec job before stage x ≡ true
+  going_after before stage x going = by_kind (is_release job x.call) refl
+    where
+      by_kind : (b : Bool) → is_release job x.call ≡ b → lacks_after codec job before stage x ≡ true
+      by_kind true is = absurd (true≢false (sym (release_done codec job stage x is) ∙ going))
+      by_kind false is = ap (λ b. cond b before (stage_takes_memory stage || not (is_done (goes_on codec job stage x)))) is ∙ or_second (stage_takes_memory stage) (not (is_done (goes_on codec job stage x))) (ap not going)
+
+  -- it can be wanting for the next call of a job that has something left to do
+  pub going_lacks : (before : Bool) (stage : Stage F) (trace : List Exchange) → (trace ≡ [] → before ≡ true) → is_done (stage_from codec job stage trace) ≡ false → lacks_from codec job before stage trace ≡ true
+  going_lacks before stage [] first going = first refl
+  going_lacks before stage (x ∷ xs) first going =
+      going_lacks (lacks_after codec job before stage x) (goes_on codec job stage x) xs
+      (λ none. going_after before stage x (subst (λ t. is_done (stage_from codec job (goes_on codec job stage x) t) ≡ false) none going)) going
 
   -- it can be wanting for what a reply leads to, where that takes memory
-  pub reply_lacks : (s : State F) (trace : List Exchange) (x : Exchange) → takes_memory (state_from codec job s trace) ≡ true → can_lack codec job s (trace ++ x ∷ []) ≡ true
-  reply_lacks s trace x takes = last_lacks s trace x ∙ or_first (takes_memory (state_from codec job s trace)) (not (is_over (goes_on codec job (state_from codec job s trace) x))) takes
-
-  -- what is wanting after calls is wanting after all of them but the first
-  lacks_on : (s : State F) (x : Exchange) (xs : List Exchange) → can_lack codec job s (x ∷ xs) ≡ true → can_lack codec job (goes_on codec job s x) xs ≡ true
-  lacks_on s x [] lacks = refl
-  lacks_on s x (y ∷ xs) lacks = lacks
-
-  -- a job that ends by its calls ends by those after the first one
-  pub ends_on : (s : State F) (x : Exchange) (xs : List Exchange) (end : Outcome) → EndsFrom codec job s (x ∷ xs) end → EndsFrom codec job (goes_on codec job s x) xs end
-  ends_on s x xs end (inl over) = inl over
-  ends_on s x xs end (inr short) = inr (short.0, (short.1.0, lacks_on s x xs short.1.1))
+  pub reply_lacks : (before : Bool) (stage : Stage F) (trace : List Exchange) (x : Exchange) → is_release job x.call ≡ false → stage_takes_memory (stage_from codec job stage trace) ≡ true → lacks_from codec job before stage (trace ++ x ∷ []) ≡ true
+  reply_lacks before stage trace x other takes =
+      let here = stage_from codec job stage trace in
+      lacks-push before stage trace x
+      ∙ ap (λ b. cond b (lacks_from codec job before stage trace) (stage_takes_memory here || not (is_done (goes_on codec job here x)))) other
+      ∙ or_first (stage_takes_memory here) (not (is_done (goes_on codec job here x))) takes
 
 -- ---- a call that found no memory
 

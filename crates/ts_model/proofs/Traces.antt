@@ -11,11 +11,12 @@ use Rattle.ts_base.specs.declared.keys.Key.{Key}
 use Rattle.ts_base.specs.declared.names.Prefix.TheVariants.{Schemas}
 use Rattle.ts_model.specs.Deeds.{History}
 use Rattle.ts_model.specs.Codecs.{Codec}
-use Rattle.ts_model.specs.States.{Exchange, begun, goes_on, list_schemas, state_from, state_of}
+use Rattle.ts_model.specs.States.{Exchange, list_schemas}
+use Rattle.ts_model.specs.Stages.{first_stage, goes_on, stage_from, stage_of}
 use Rattle.ts_model.specs.Told.{Told, after_told, deed_in, deed_told, exchange_of, found_after, found_in, grown, held_told, history_from, history_told, schemas_found, trace_of}
 use Rattle.ts_model.specs.declared.commands.Job.{Job}
 use Rattle.ts_model.specs.declared.deeds.Deed.{Deed}
-use Rattle.ts_model.specs.declared.states.State.{State}
+use Rattle.ts_model.specs.declared.states.Stage.{Stage}
 use Rattle.ts_store.specs.declared.call.Call.{Call}
 use Rattle.ts_store.specs.declared.call.Reply.{Reply}
 use Rattle.ts_store.specs.declared.call.Call.TheVariants as call
@@ -151,21 +152,21 @@ schemas_found-stays number seen e unlisted = from_maker e.job refl
       | inr apart ↦ ap schemas_found (trace_of-other number seen e (λ own. apart (same_Some other number (sym is ∙ own))))
     ]
 
--- ---- states
+-- ---- stages
 
 module _ {F : Type 0} (codec : Codec F) (job : Job) where
   -- more exchanges lead on from where those before led
-  pub state_from-append : (s : State F) (xs ys : List Exchange) → state_from codec job s (xs ++ ys) ≡ state_from codec job (state_from codec job s xs) ys
-  state_from-append s [] ys = refl
-  state_from-append s (x ∷ xs) ys = state_from-append (goes_on codec job s x) xs ys
+  pub stage_from-append : (stage : Stage F) (xs ys : List Exchange) → stage_from codec job stage (xs ++ ys) ≡ stage_from codec job (stage_from codec job stage xs) ys
+  stage_from-append stage [] ys = refl
+  stage_from-append stage (x ∷ xs) ys = stage_from-append (goes_on codec job stage x) xs ys
 
   -- a call of a job leads it on
-  pub state_of-own : (number : ℕ) (seen : List Told) (e : Told) → e.job ≡ Some number
-      → state_of codec job (trace_of number (seen ++ e ∷ [])) ≡ goes_on codec job (state_of codec job (trace_of number seen)) (record { call = e.call; reply = e.reply })
-  state_of-own number seen e own =
-      ap (state_of codec job) (trace_of-own number seen e own) ∙ state_from-append (begun job.command) (trace_of number seen) (record { call = e.call; reply = e.reply } ∷ [])
+  pub stage_of-own : (number : ℕ) (seen : List Told) (e : Told) → e.job ≡ Some number
+      → stage_of codec job (trace_of number (seen ++ e ∷ [])) ≡ goes_on codec job (stage_of codec job (trace_of number seen)) (record { call = e.call; reply = e.reply })
+  stage_of-own number seen e own =
+      ap (stage_of codec job) (trace_of-own number seen e own) ∙ stage_from-append (first_stage job) (trace_of number seen) (record { call = e.call; reply = e.reply } ∷ [])
 
   -- a call of another leaves a job where it is
-  pub state_of-other : (number : ℕ) (seen : List Told) (e : Told) → (e.job ≡ Some number → ⊥)
-      → state_of codec job (trace_of number (seen ++ e ∷ [])) ≡ state_of codec job (trace_of number seen)
-  state_of-other number seen e apart = ap (state_of codec job) (trace_of-other number seen e apart)
+  pub stage_of-other : (number : ℕ) (seen : List Told) (e : Told) → (e.job ≡ Some number → ⊥)
+      → stage_of codec job (trace_of number (seen ++ e ∷ [])) ≡ stage_of codec job (trace_of number seen)
+  stage_of-other number seen e apart = ap (stage_of codec job) (trace_of-other number seen e apart)

@@ -7,7 +7,8 @@ use Rattle.ts_model.specs.declared.answers.Driven.{Driven}
 use Rattle.ts_base.specs.Held.{Held}
 use Rattle.ts_model.specs.Driven.{AskedFrom, IsDriven}
 use Rattle.ts_model.specs.Told.{Told, trace_of, held_told, Suits, Replied, only_lane, entries_of}
-use Rattle.ts_model.specs.States.{begun, Exchange}
+use Rattle.ts_model.specs.States.{Exchange}
+use Rattle.ts_model.specs.Stages.{first_stage}
 use Rattle.ts_model.specs.Codecs.{Codec}
 
 -- over a store that held m each call is replied to as by a store of one thread, and the store now holds what the calls leave
@@ -27,7 +28,7 @@ pub record RanTo {F : Type 0} (codec : Codec F) (number lane : ℕ) (job : Job) 
   pub told : List Told
   pub calls : Calls number lane held now before after told
   pub same : trace_of number told ≡ trace
-  pub asked : AskedFrom codec job (begun job.command) trace
+  pub asked : AskedFrom codec job (first_stage job) trace
 
 -- the job made calls that it may make, and came out so by their replies
 pub record Ran {F : Type 0} (codec : Codec F) (number lane : ℕ) (job : Job) (held now : Option Held) (before after : List Entry) (result : Driven Outcome) : Type 0 where

@@ -8,6 +8,7 @@ pub mod Places
 pub mod Selections
 pub mod Codecs
 pub mod States
+pub mod Stages
 pub mod Stops
 pub mod Told
 pub mod Driven

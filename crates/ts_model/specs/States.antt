@@ -490,37 +490,10 @@ goes codec job (Puts objects next end) r = with_item (λ o. on_made (put_of o) (
 goes codec job (Collects s) r = collect_goes codec s r
 goes codec job (Over o) r = Over o
 
--- ---- leases
-
--- how the lease of a command lets other leases stand beside it, if the command has one; none has one yet
-abbrev pub mode_of : Command → Option LeaseMode
-mode_of command = None
-
--- the lease of a job, if it has one
-abbrev pub lease_of : Job → Option Name
-lease_of job = option_map (name.Lease (key_of job)) (mode_of job.command)
-
--- the call removes the object
-abbrev pub is_removal : Call → Name → Bool
-is_removal (call.Remove n) lease = name_eq n lease
-is_removal c lease = false
-
--- the call removes the job's own lease
-abbrev pub is_release : Job → Call → Bool
-is_release job c = option_map_or (is_removal c) (lease_of job) false
-
 -- the job is over
 abbrev pub is_over : {F : Type 0} → State F → Bool
 is_over (Over end) = true
 is_over s = false
-
--- in this state the lease of a job that has one is put, and not yet removed: its put comes before every state that there is yet, and its removal before the job is over
-abbrev pub is_leased : {F : Type 0} → State F → Bool
-is_leased s = not (is_over s)
-
--- the job holds its lease: it has one, which is put and not yet removed
-abbrev pub holds_lease : {F : Type 0} → Job → State F → Bool
-holds_lease job s = option_map_or (λ lease. is_leased s) (lease_of job) false
 
 -- ---- want of memory
 
@@ -536,16 +509,3 @@ takes_memory s = true
 pub record Exchange : Type 0 where
   pub call : Call
   pub reply : Reply
-
--- where a call and its reply lead a job: the removal of the lease that it holds is its last call
-abbrev pub goes_on : {F : Type 0} → Codec F → Job → State F → Exchange → State F
-goes_on codec job s x = cond (is_release job x.call) (Over outcome.OutOfMemory) (goes codec job s x.reply)
-
--- how far a job has come by these calls
-abbrev pub state_from : {F : Type 0} → Codec F → Job → State F → List Exchange → State F
-state_from codec job s [] = s
-state_from codec job s (x ∷ xs) = state_from codec job (goes_on codec job s x) xs
-
--- how far a job has come by all its calls
-abbrev pub state_of : {F : Type 0} → Codec F → Job → List Exchange → State F
-state_of codec job trace = state_from codec job (begun job.command) trace

@@ -69,6 +69,8 @@ pub enum Refusal {
     UnknownField { field: Label },
     /// The text of a condition has this fault. The fault is never want of memory.
     Condition(CondFault),
+    /// When the command listed the leases, this was the first that opposes its own one.
+    Leased(Name),
     /// An object of this name was there already when the command put it.
     Taken(Name),
     /// The call on this object, or on what is below this prefix, failed.

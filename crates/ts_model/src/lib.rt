@@ -32,5 +32,5 @@ pub use scan::reference;
 pub use selection::{fills_of, rows_of, types_shown};
 pub use states::{
     Collecting, Creating, Listed, NewObject, NewObjectList, Opened, OpenedList, Reading, Seeking,
-    State,
+    Stage, State,
 };

@@ -198,3 +198,23 @@ pub enum State<F> {
     /// The job has ended.
     Over(Outcome),
 }
+
+/// How far a job has come with its lease, and under it with its work.
+///
+/// A job without a lease works from its first call to its last.
+#[derive(Debug, Drop)]
+pub enum Stage<F> {
+    /// It puts its lease.
+    PutsLease(Name),
+    /// It holds its lease, and lists the leases.
+    ListsLeases(Name),
+    /// It works, under its lease where it has one.
+    Works(State<F>),
+    /// It removes its lease, and then ends so.
+    Releases {
+        /// The lease.
+        lease: Name,
+        /// The end, unless the removal fails.
+        end: Outcome,
+    },
+}

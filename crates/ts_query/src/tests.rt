@@ -2,7 +2,7 @@
 use crate::print_outcome;
 use std::alloc::Global;
 use std::test::Fail;
-use ts_base::{CommitKind, FragKey, Key, LabelList, Name, Place, Prefix};
+use ts_base::{CommitKind, FragKey, Key, LabelList, LeaseMode, Name, Place, Prefix};
 use ts_cond::{CondFault, NamedBoxList, Query};
 use ts_domain::Layout;
 use ts_model::{Command, Outcome, Refusal};
@@ -52,7 +52,12 @@ fn prints_where_the_store_failed(rt: HostRuntime) -> Result<(), Fail> {
     };
     let erasure = Name::Commit(frag, CommitKind::Del);
     let schema = Name::Schema(Key { t: 5, id: 2 });
+    let lease = Name::Lease(Key { t: 9, id: 7 }, LeaseMode::Exc);
     for (refusal, why) in [
+        (
+            Refusal::Leased(lease),
+            "Leased\t__leases/__9_9_00000000000000000000000000000007.exc",
+        ),
         (
             Refusal::Taken(schema),
             "Taken\t__schema/__5_5_00000000000000000000000000000002",

@@ -3,7 +3,7 @@ use Rattle.std.specs.Prelude.{ℕ, ◌<◌, List, Option, Some, None, Result, Ok
 use Rattle.ts_base.specs.declared.keys.FragKey.{FragKey}
 use Rattle.ts_base.specs.declared.heads.Version.{Version}
 use Rattle.ts_base.specs.declared.names.Name.TheVariants as name
-use Rattle.ts_store.specs.Calls.{IsSpelledCall}
+use Rattle.ts_actor.specs.Fetches.{IsWorkCall}
 use Rattle.ts_store.specs.declared.call.Reply.TheVariants as reply
 use Rattle.ts_schema.specs.declared.schemas.Schema.{Schema}
 use Rattle.ts_model.specs.declared.answers.Outcome.TheVariants as outcome
@@ -44,7 +44,7 @@ state_after_step r opened schemas next frag got on (fetch_step.Ends end) = Over 
 
 -- a call that is asked for has a spelling
 abbrev pub AsksSpelled : {F : Type 0} → FetchStep F → Type 0
-AsksSpelled (fetch_step.Asks f c) = IsSpelledCall c
+AsksSpelled (fetch_step.Asks f c) = IsWorkCall c
 AsksSpelled _ = ⊤
 
 -- a fetch that asks for a call has fewer left than this

@@ -12,7 +12,7 @@ use Rattle.ts_base.specs.declared.heads.Stop.TheVariants.{Never}
 use Rattle.ts_base.specs.declared.heads.Version.{Version}
 use Rattle.ts_domain.specs.Boxes.{IsBox, Covers, cells_of}
 use Rattle.ts_domain.specs.Domains.{whole_domain}
-use Rattle.ts_store.specs.Calls.{IsSpelledCall}
+use Rattle.ts_actor.specs.Fetches.{IsWorkCall}
 use Rattle.ts_schema.specs.declared.schemas.Schema.{Schema}
 use Rattle.ts_schema.specs.FrameTexts.{IsFrame}
 use Rattle.ts_schema.specs.SchemaTexts.{AreAttrs}
@@ -97,7 +97,7 @@ abbrev pub IsCollecting : {F : Type 0} → Codec F → Collecting F → Type 0
 IsCollecting codec (GetsHeads r opened) = IsReading r × AreSpelled opened
 IsCollecting codec (GetsSchemas r opened keys schemas) = IsReading r × AreSpelled opened × AreFirst keys schemas
 IsCollecting codec (GetsDeletes r opened schemas) = IsKnown r opened schemas
-IsCollecting codec (Fetches r opened schemas next frag got f c) = IsFetching codec r opened schemas next got f × IsSpelledCall c
+IsCollecting codec (Fetches r opened schemas next frag got f c) = IsFetching codec r opened schemas next got f × IsWorkCall c
 
 -- the state is one of a read that collects
 abbrev pub MayCollect : {F : Type 0} → Codec F → State F → Type 0

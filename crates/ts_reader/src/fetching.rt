@@ -1,7 +1,7 @@
 //! Fetching: one fragment after the other.
 ghost use Rattle.std.specs.Prelude.{◌≡◌, ◌≤◌, ◌<◌, ◌-◌, ◌+◌, ◌^◌, ◌++◌, suc, drop, length, IfOk};
 ghost use Rattle.ts_base.specs.Names.{IsSpelledFrag};
-ghost use Rattle.ts_store.specs.Calls.{IsSpelledCall};
+ghost use Rattle.ts_actor.specs.Fetches.{IsWorkCall};
 ghost use Rattle.ts_model.specs.States.{after_fetched, fetch_leads, fetching, known_schema};
 ghost use Rattle.ts_domain.specs.declared.boxes.SubBox.{SubBox as AnyBox};
 ghost use Rattle.ts_actor.specs.PieceLaws.{AreInBox, IsFetchIn};

@@ -2,8 +2,7 @@
 ghost use Rattle.std.specs.Prelude.{◌≡◌, IsTrue};
 ghost use Rattle.ts_model.specs.declared.commands.Command.TheVariants.{Read};
 ghost use Rattle.ts_model.specs.Commands.{fits};
-ghost use Rattle.ts_model.specs.States.{begun};
-ghost use Rattle.ts_model.specs.Driven.{EndsFrom};
+ghost use Rattle.ts_model.specs.Driven.{EndsBy};
 ghost use Rattle.ts_actor.specs.Traces.{start};
 ghost use Rattle.ts_reader.specs.Readers.{Follows, calls_left};
 ghost use Rattle.ts_reader.specs.Reading.{IsReadJob, read_job};
@@ -74,7 +73,7 @@ impl<P: Pieces> Actor for Reader<P> {
 
     ghost follows = { λ reader t. Follows P.codec reader.machine.job reader.machine.phase t };
 
-    ghost ends = { λ job past end. EndsFrom P.codec job (begun job.command) past end };
+    ghost ends = { λ job past end. EndsBy P.codec job past end };
 
     ghost measure = { λ reader. calls_left P.left reader.machine.job reader.machine.phase };
 

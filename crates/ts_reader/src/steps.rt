@@ -2,7 +2,8 @@
 ghost use Rattle.std.specs.Prelude.{◌≡◌, ◌≢◌, ◌<◌, true, None, option_map, slice_get, length, All, IfOk, IfSome, OnErr};
 ghost use Rattle.ts_base.specs.Names.{IsSpelledFrag};
 ghost use Rattle.std.specs.Thread.{IsSync};
-ghost use Rattle.ts_store.specs.Calls.{IsSpelledCall, IsSpelledReply};
+ghost use Rattle.ts_store.specs.Calls.{IsSpelledReply};
+ghost use Rattle.ts_actor.specs.Fetches.{IsWorkCall};
 ghost use Rattle.ts_model.specs.States.{asks, collect_asks, collect_goes, get_delete, get_head, get_schema, goes, takes_memory};
 ghost use Rattle.ts_reader.specs.Reading.{AreListed, IsCollecting, IsReadJob, IsReadState, IsSpelledDelete, MayCollect, MayRead, collect_left, collects_left, reads_left};
 
@@ -35,6 +36,8 @@ impl<P: Pieces> Automaton for Reads<P> {
     ghost may = { MayRead P.codec };
 
     ghost left = { reads_left P.left };
+
+    ghost ends = { λ job end. tt };
 
     fn begin(_alloc: Global, job: &Job) -> State<P::Fetch> {
         match &job.command {
@@ -123,7 +126,7 @@ fn ask_collecting<P: Pieces>(
 ) -> Result<Option<Call>, OutOfMemory>
     requires { IsCollecting P.codec collecting.now }
     ensures is { IfOk result (λ call. call ≡ collect_asks P.codec collecting.now) }
-    ensures spelled { IfOk result (λ call. IfSome call IsSpelledCall) }
+    ensures spelled { IfOk result (λ call. IfSome call IsWorkCall) }
 {
     match collecting {
         Collecting::GetsHeads { reading, opened } => Ok(head_asked::<P>(reading, opened)),
@@ -224,7 +227,7 @@ fn go_collecting<P: Pieces, R: Threads + Sync>(
 fn head_asked<P: Pieces>(reading: &Reading, opened: &OpenedList) -> Option<Call>
     requires { All IsSpelledFrag reading.now.fragments }
     ensures is { result ≡ option_map (get_head P.codec reading.now) (slice_get reading.now.fragments (length opened.now)) }
-    ensures spelled { IfSome result IsSpelledCall }
+    ensures spelled { IfSome result IsWorkCall }
 {
     let place = opened.len();
     if place < reading.fragments.len() {
@@ -238,7 +241,7 @@ fn head_asked<P: Pieces>(reading: &Reading, opened: &OpenedList) -> Option<Call>
 // The get of the next further schema, if there is one.
 fn schema_asked(keys: &KeyList, schemas: &SchemaList) -> Option<Call>
     ensures is { result ≡ option_map get_schema (slice_get keys.now (length schemas.now)) }
-    ensures spelled { IfSome result IsSpelledCall }
+    ensures spelled { IfSome result IsWorkCall }
 {
     let place = schemas.len();
     if place < keys.len() {
@@ -252,7 +255,7 @@ fn schema_asked(keys: &KeyList, schemas: &SchemaList) -> Option<Call>
 fn delete_asked(reading: &Reading) -> Option<Call>
     requires { All IsSpelledDelete reading.now.delete_names }
     ensures is { result ≡ option_map get_delete (slice_get reading.now.delete_names (length reading.now.deletions)) }
-    ensures spelled { IfSome result IsSpelledCall }
+    ensures spelled { IfSome result IsWorkCall }
 {
     let place = reading.deletions.len();
     if place < reading.delete_names.len() {

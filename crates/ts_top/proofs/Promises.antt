@@ -58,6 +58,7 @@ use Rattle.ts_law.specs.Fresh.{IsFreshSeed, IsJobOf, AreJobsOf, Numbered, comman
 use Rattle.ts_law.specs.Lanes.{one_lane, IsOwned, IsWithin, IsBefore, InTurn}
 use Rattle.ts_law.specs.Runs.{AreDriven, exchanges, IsRunOver, IsTrueRun}
 use Rattle.ts_law.proofs.Clipped.{true_end_of}
+use Rattle.ts_law.specs.Stands.{IsNoLease}
 use Rattle.ts_law.proofs.FirstStands.{nothing_stands, fresh_over_nothing}
 use Rattle.ts_law.proofs.Doing.{ran-no_call}
 use Rattle.ts_law.proofs.KeptLaws.{Replied-front}
@@ -137,6 +138,11 @@ place_of (x ∷ a) early e late b = ap (λ l. x ∷ l) (place_of a early e late 
 
 abbrev Late : ℕ → List Told → Type 0
 Late n told = (e : Told) → Contains told e → (number : ℕ) → e.job ≡ Some number → n ≤ number
+
+-- an object whose put is a deed is no lease
+deed_no_lease : (h : History) (job : Job) (found : Option (List Key)) (n : Name) (d : Deed) → deed_of h job found n ≡ Some d → IsNoLease n
+deed_no_lease h job found (name.Lease k mode) d is = absurd (none-some d is)
+deed_no_lease h job found _ d is = tt
 
 module _ (jobs : List Job) (past : History) where
   -- the history after a first part of what was told goes on to the one after it all
@@ -579,7 +585,8 @@ module _ (gives : ℕ → Bool) (seed : ℕ) (items : List Numbered) (jobs : Lis
       let uses : schema_used (history_told jobs past seen) job (schemas_found (trace_of i seen)) ≡ Some there = ap (λ h. schema_used h job (schemas_found (trace_of i seen))) now ∙ used in
       let begins = kept_first run_codec run_spelled NeverWaits gives seed items jobs past m are order stands fresh seed_fits in
       let found = works_where_used run_codec run_spelled NeverWaits plain_laws one_lane jobs past m told results begins replied suit owned within in_turn driven
-      seen (is.late ++ b) e place i job mine is_job (no_create job.command works) looks n bytes puts there uses in
+      seen (is.late ++ b) e place i job mine is_job (no_create job.command works) looks n bytes puts
+      (deed_no_lease (history_told jobs past a ++ front) job (schemas_found (trace_of i seen)) n d (subst (λ x. deed_in (history_told jobs past a ++ front) job (schemas_found (trace_of i seen)) x ≡ Some d) puts deed)) there uses in
       subst (λ h. HeldOnce (history_told jobs past a) h (key_of job) there) now
       (held_once jobs past a is.early seen refl i early found.schemas (key_of job) there found.undone (ap (schema_there (history_told jobs past (found.schemas).before)) (sym looks) ∙ found.holds)))
       deed

@@ -15,7 +15,8 @@ use Rattle.ts_store.specs.Journals.{entry}
 use Rattle.ts_model.specs.declared.commands.Job.{Job}
 use Rattle.ts_model.specs.Deeds.{History}
 use Rattle.ts_model.specs.Jobs.{IsFit}
-use Rattle.ts_model.specs.States.{Exchange, begun, state_from, state_of}
+use Rattle.ts_model.specs.States.{Exchange}
+use Rattle.ts_model.specs.Stages.{stage_of}
 use Rattle.ts_law.specs.Stands.{Stands}
 use Rattle.ts_law.specs.Fresh.{IsNewId}
 use Rattle.ts_law.specs.Lanes.{IsWithin}
@@ -44,7 +45,7 @@ use Rattle.ts_law.proofs.Lists.{item_at}
 use Rattle.ts_world.proofs.Lists.{get_changed, get_unchanged}
 
 -- the call that an actor waits for is one that its job may make where the calls before it have led
-pub asks_it : {P F : Type 0} (codec : Codec F) (a : AnyActor P F) (past : List Exchange) (c : Call) → Follows codec a (asking past c) → MayAsk codec (job_of a) (state_from codec (job_of a) (begun (job_of a).command) past) c
+pub asks_it : {P F : Type 0} (codec : Codec F) (a : AnyActor P F) (past : List Exchange) (c : Call) → Follows codec a (asking past c) → MayAsk codec (job_of a) (stage_of codec (job_of a) past) c
 asks_it codec (Creator a) past c follows = asks_next codec IsCreateJob IsCreateState a.machine.job a.machine.phase past c follows
 asks_it codec (Evolver a) past c follows = asks_next codec IsEvolveJob (λ job s. IsLaterState s) a.machine.job a.machine.phase past c follows
 asks_it codec (Writer a) past c follows = asks_next codec IsWriteJob (λ job s. IsLaterState s) a.machine.job a.machine.phase past c follows
@@ -60,10 +61,10 @@ module _ {P F : Type 0} (codec : Codec F) (spelled : Spelled) (tracks : Tracking
   pub running_at : (number : ℕ) (r : Running P F) (job : Job) → slice_get slots number ≡ Some (slot.Runs r) → slice_get jobs number ≡ Some job → IsRunning codec job (trace_of number told) r
   running_at number r job at of = (is.actors number job (slot.Runs r) of at).slot_is
 
-  pub running_asks : (number : ℕ) (r : Running P F) (job : Job) → slice_get slots number ≡ Some (slot.Runs r) → slice_get jobs number ≡ Some job → MayAsk codec job (state_of codec job (trace_of number told)) r.asked
+  pub running_asks : (number : ℕ) (r : Running P F) (job : Job) → slice_get slots number ≡ Some (slot.Runs r) → slice_get jobs number ≡ Some job → MayAsk codec job (stage_of codec job (trace_of number told)) r.asked
   running_asks number r job at of =
       let runs = running_at number r job at of in
-      subst (λ (j : Job). MayAsk codec j (state_of codec j (trace_of number told)) r.asked) runs.task (asks_it codec r.actor (trace_of number told) r.asked runs.follows)
+      subst (λ (j : Job). MayAsk codec j (stage_of codec j (trace_of number told)) r.asked) runs.task (asks_it codec r.actor (trace_of number told) r.asked runs.follows)
 
   -- ---- one call
 
@@ -72,8 +73,8 @@ module _ {P F : Type 0} (codec : Codec F) (spelled : Spelled) (tracks : Tracking
     abbrev last : Exchange
     last = record { call = e.call; reply = e.reply }
 
-    asked_now : MayAsk codec job (state_of codec job (trace_of number told)) e.call
-    asked_now = subst (MayAsk codec job (state_of codec job (trace_of number told))) (sym calls) (running_asks number r job at of)
+    asked_now : MayAsk codec job (stage_of codec job (trace_of number told)) e.call
+    asked_now = subst (MayAsk codec job (stage_of codec job (trace_of number told))) (sym calls) (running_asks number r job at of)
 
     kept_now : CodecLaws codec spelled tracks → Kept codec spelled tracks past jobs [] (told ++ e ∷ []) (after_told held e)
     kept_now laws = step_kept codec spelled tracks laws past jobs [] told held e is.kept (record { number = number; job = job; own = own; is_job = of; alive = Contains-nil number; asked = asked_now; short = short }) replied

@@ -15,8 +15,7 @@ use Rattle.ts_model.specs.Codecs.{Codec, Spelled, Tracking, AsksLooks}
 use Rattle.ts_model.specs.Stops.{Uncut}
 use Rattle.ts_model.specs.Told.{Told, trace_of}
 use Rattle.ts_law.specs.Ends.{IsTrueEnd}
-use Rattle.ts_model.specs.Driven.{EndsFrom, IsDriven}
-use Rattle.ts_model.specs.States.{begun}
+use Rattle.ts_model.specs.Driven.{EndsBy, IsDriven}
 use Rattle.ts_model.proofs.ListLemmas.{Contains-nil}
 use Rattle.ts_law.proofs.KeptLaws.{end_is_true}
 use Rattle.ts_law.proofs.Segments.{segment_of}
@@ -40,7 +39,7 @@ module _ {P F : Type 0} (codec : Codec F) (spelled : Spelled) (tracks : Tracking
   abbrev seen : WorldView
   seen = record { past = past; jobs = jobs; told = told; held = held; journal = journal; actors = standings slots }
 
-  true_end : (number : ℕ) (job : Job) (end : Outcome) → slice_get jobs number ≡ Some job → EndsFrom codec job (begun job.command) (trace_of number told) end → IsTrueEnd jobs past told number job end
+  true_end : (number : ℕ) (job : Job) (end : Outcome) → slice_get jobs number ≡ Some job → EndsBy codec job (trace_of number told) end → IsTrueEnd jobs past told number job end
   true_end number job end at (inl over) = end_is_true codec spelled tracks past jobs [] told held is.kept number job end at (Contains-nil number) over
   true_end number job end at (inr none) = subst (IsTrueEnd jobs past told number job) (sym none.0) tt
 

@@ -20,7 +20,7 @@ use Rattle.ts_model.specs.Commands.{fits}
 use Rattle.ts_model.specs.Codecs.{Codec, Spelled}
 use Rattle.ts_model.specs.Jobs.{AreApart}
 use Rattle.ts_law.specs.Stands.{Stands}
-use Rattle.ts_model.specs.States.{state_of}
+use Rattle.ts_model.specs.Stages.{stage_of}
 use Rattle.ts_law.specs.Fresh.{id_in}
 use Rattle.ts_law.specs.Lanes.{own_lane, AreInLanes}
 use Rattle.ts_model.specs.Told.{trace_of, entries_of, IsReplied, Replied, after_told, held_told, history_told}
@@ -54,7 +54,7 @@ pub record IsSound {F : Type 0} (codec : Codec F) (spelled : Spelled) (w : World
   -- each actor makes calls that its job may make, whatever became of it, in a lane of its own
   pub in_lanes : AreInLanes codec own_lane w.jobs w.told
   -- an actor that runs has one more call to make
-  pub runs : (number : ℕ) (job : Job) → slice_get w.jobs number ≡ Some job → slice_get w.actors number ≡ Some Runs → (c : Call) × MayAsk codec job (state_of codec job (trace_of number w.told)) c
+  pub runs : (number : ℕ) (job : Job) → slice_get w.jobs number ≡ Some job → slice_get w.actors number ≡ Some Runs → (c : Call) × MayAsk codec job (stage_of codec job (trace_of number w.told)) c
   -- an actor that ended did so by its own calls, and told the truth
   pub ends : (number : ℕ) (job : Job) (end : Outcome) → slice_get w.jobs number ≡ Some job → slice_get w.actors number ≡ Some (Ended end) → EndsTruly codec w number job end
 
@@ -101,7 +101,7 @@ pub record Called {F : Type 0} (codec : Codec F) (number : ℕ) (fate : Fate) (m
   pub is_job : slice_get w.jobs number ≡ Some job
   pub ran : slice_get w.actors number ≡ Some Runs
   pub call : Call
-  pub asked : MayAsk codec job (state_of codec job (trace_of number w.told)) call
+  pub asked : MayAsk codec job (stage_of codec job (trace_of number w.told)) call
   pub reply : Reply
   pub memory : is_no_memory reply ≡ false
   pub changed : Bool

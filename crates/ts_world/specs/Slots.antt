@@ -15,12 +15,12 @@ use Rattle.ts_store.specs.Journals.{entry}
 use Rattle.ts_store.specs.Memory.{held_in}
 use Rattle.ts_model.specs.declared.commands.Job.{Job}
 use Rattle.ts_model.specs.Deeds.{History}
-use Rattle.ts_model.specs.States.{Exchange, begun}
+use Rattle.ts_model.specs.States.{Exchange}
 use Rattle.ts_model.specs.Told.{Told, IsShortCall, trace_of, entries_of, changes}
 use Rattle.ts_model.specs.Codecs.{Codec, Spelled, Tracking}
 use Rattle.ts_law.specs.Fresh.{id_in}
 use Rattle.ts_law.specs.Lanes.{own_lane, AreInLanes}
-use Rattle.ts_model.specs.Driven.{EndsFrom}
+use Rattle.ts_model.specs.Driven.{EndsBy}
 use Rattle.ts_law.specs.Kept.{Kept}
 use Rattle.ts_actor.specs.Traces.{asking}
 use Rattle.ts_world.specs.declared.events.WorldFault.{WorldFault}
@@ -51,7 +51,7 @@ pub record IsRunning {P F : Type 0} (codec : Codec F) (job : Job) (trace : List 
 -- the slot of an actor with this job, after these calls of its own
 abbrev pub IsSlot : {P F : Type 0} → Codec F → Job → List Exchange → Slot P F → Type 0
 IsSlot codec job trace (slot.Runs r) = IsRunning codec job trace r
-IsSlot codec job trace (slot.Ended end) = EndsFrom codec job (begun job.command) trace end
+IsSlot codec job trace (slot.Ended end) = EndsBy codec job trace end
 IsSlot codec job trace slot.Dropped = ⊤
 
 -- what is kept of the actor with a number: its job has no stop of its own, and its slot is one after the calls that it made

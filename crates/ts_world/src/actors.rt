@@ -1,8 +1,7 @@
 //! The actor of any command.
 ghost use Rattle.std.specs.Prelude.{◌≡◌};
 ghost use Rattle.ts_model.specs.Jobs.{IsFit};
-ghost use Rattle.ts_model.specs.States.{begun};
-ghost use Rattle.ts_model.specs.Driven.{EndsFrom};
+ghost use Rattle.ts_model.specs.Driven.{EndsBy};
 ghost use Rattle.ts_actor.specs.Traces.{start};
 ghost use Rattle.ts_world.specs.Actors.{job_of, Follows, calls_left};
 
@@ -55,7 +54,7 @@ impl<P: Pieces> Actor for AnyActor<P> {
 
     ghost follows = { Follows P.codec };
 
-    ghost ends = { λ job past end. EndsFrom P.codec job (begun job.command) past end };
+    ghost ends = { λ job past end. EndsBy P.codec job past end };
 
     ghost measure = { calls_left P.left };
 

@@ -1,6 +1,7 @@
 //! How a create goes: the call that it makes next, and where the reply leads it.
 ghost use Rattle.std.specs.Prelude.{◌≡◌, ◌≢◌, ◌<◌, ◌^◌, ◌+◌, true, None, Some, option_map, IfOk, IfSome, OnErr, IsTrue};
-ghost use Rattle.ts_store.specs.Calls.{IsSpelledCall, IsSpelledReply};
+ghost use Rattle.ts_store.specs.Calls.{IsSpelledReply};
+ghost use Rattle.ts_actor.specs.Fetches.{IsWorkCall};
 ghost use Rattle.ts_model.specs.declared.commands.Command.TheVariants.{Create};
 ghost use Rattle.ts_model.specs.Commands.{create_refusal, fits, frame_made};
 ghost use Rattle.ts_model.specs.Jobs.{refused_before};
@@ -36,6 +37,8 @@ impl<P: Pieces> Automaton for Creates<P> {
     ghost may = { IsCreateState };
 
     ghost left = { calls_left };
+
+    ghost ends = { λ job end. tt };
 
     fn begin(alloc: Global, job: &Job) -> State<P::Fetch> {
         match &job.command {
@@ -89,7 +92,7 @@ fn ask_creating(alloc: Global, job: &Job, creating: &Creating) -> Result<Option<
     requires serves { IsCreateJob job.now }
     requires state { IsCreatingState job.now creating.now }
     ensures is { IfOk result (λ call. call ≡ create_asks job.now creating.now) }
-    ensures spelled { IfOk result (λ call. IfSome call IsSpelledCall) }
+    ensures spelled { IfOk result (λ call. IfSome call IsWorkCall) }
 {
     match creating {
         Creating::PutsFrame => Ok(Some(Call::Put(Name::Domain, own_object(alloc, job)?))),

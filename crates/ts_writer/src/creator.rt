@@ -3,8 +3,7 @@ ghost use Rattle.std.specs.Prelude.{◌≡◌, IsTrue};
 ghost use Rattle.ts_model.specs.declared.commands.Command.TheVariants.{Create};
 ghost use Rattle.ts_model.specs.Commands.{fits};
 ghost use Rattle.ts_model.specs.Jobs.{IsFit};
-ghost use Rattle.ts_model.specs.States.{begun};
-ghost use Rattle.ts_model.specs.Driven.{EndsFrom};
+ghost use Rattle.ts_model.specs.Driven.{EndsBy};
 ghost use Rattle.ts_actor.specs.Traces.{start};
 ghost use Rattle.ts_writer.specs.Creators.{Follows, calls_left};
 ghost use Rattle.ts_writer.specs.Writing.{IsCreate, job_for};
@@ -66,7 +65,7 @@ impl<P: Pieces> Actor for Creator<P> {
 
     ghost follows = { λ creator t. Follows P.codec creator.machine.job creator.machine.phase t };
 
-    ghost ends = { λ job past end. EndsFrom P.codec job (begun job.command) past end };
+    ghost ends = { λ job past end. EndsBy P.codec job past end };
 
     ghost measure = { λ creator. calls_left creator.machine.job creator.machine.phase };
 

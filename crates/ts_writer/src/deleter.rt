@@ -3,8 +3,7 @@ ghost use Rattle.std.specs.Prelude.{◌≡◌, IsTrue};
 ghost use Rattle.ts_model.specs.declared.commands.Command.TheVariants.{Delete};
 ghost use Rattle.ts_model.specs.Commands.{fits};
 ghost use Rattle.ts_model.specs.Jobs.{IsFit};
-ghost use Rattle.ts_model.specs.States.{begun};
-ghost use Rattle.ts_model.specs.Driven.{EndsFrom};
+ghost use Rattle.ts_model.specs.Driven.{EndsBy};
 ghost use Rattle.ts_actor.specs.Traces.{start};
 ghost use Rattle.ts_writer.specs.Deleters.{Follows, calls_left};
 ghost use Rattle.ts_writer.specs.Writing.{IsDelete, job_for};
@@ -68,7 +67,7 @@ impl<P: Pieces> Actor for Deleter<P> {
 
     ghost follows = { λ deleter t. Follows P.codec deleter.machine.job deleter.machine.phase t };
 
-    ghost ends = { λ job past end. EndsFrom P.codec job (begun job.command) past end };
+    ghost ends = { λ job past end. EndsBy P.codec job past end };
 
     ghost measure = { λ deleter. calls_left deleter.machine.job deleter.machine.phase };
 

@@ -3,8 +3,7 @@ ghost use Rattle.std.specs.Prelude.{◌≡◌, IsTrue};
 ghost use Rattle.ts_model.specs.declared.commands.Command.TheVariants.{Evolve};
 ghost use Rattle.ts_model.specs.Commands.{fits};
 ghost use Rattle.ts_model.specs.Jobs.{IsFit};
-ghost use Rattle.ts_model.specs.States.{begun};
-ghost use Rattle.ts_model.specs.Driven.{EndsFrom};
+ghost use Rattle.ts_model.specs.Driven.{EndsBy};
 ghost use Rattle.ts_actor.specs.Traces.{start};
 ghost use Rattle.ts_writer.specs.Evolvers.{Follows, calls_left};
 ghost use Rattle.ts_writer.specs.Writing.{IsEvolve, job_for};
@@ -67,7 +66,7 @@ impl<P: Pieces> Actor for Evolver<P> {
 
     ghost follows = { λ evolver t. Follows P.codec evolver.machine.job evolver.machine.phase t };
 
-    ghost ends = { λ job past end. EndsFrom P.codec job (begun job.command) past end };
+    ghost ends = { λ job past end. EndsBy P.codec job past end };
 
     ghost measure = { λ evolver. calls_left evolver.machine.job evolver.machine.phase };
 

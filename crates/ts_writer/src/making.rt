@@ -2,9 +2,10 @@
 ghost use Rattle.std.specs.Prelude.{◌≡◌, ◌≢◌, ◌<◌, ◌^◌, true, List, None, IfOk, IfSome, OnErr};
 ghost use Rattle.std.specs.Thread.{IsSync};
 ghost use Rattle.ts_base.specs.declared.names.Name.{Name as AnyName};
-ghost use Rattle.ts_store.specs.Calls.{IsSpelledCall, IsSpelledReply};
+ghost use Rattle.ts_store.specs.Calls.{IsSpelledReply};
 ghost use Rattle.ts_schema.specs.FrameTexts.{IsFrame};
 ghost use Rattle.ts_schema.specs.SchemaTexts.{AreAttrs};
+ghost use Rattle.ts_actor.specs.Fetches.{IsWorkCall};
 ghost use Rattle.ts_model.specs.declared.commands.Job.{Job as AnyJob};
 ghost use Rattle.ts_model.specs.declared.states.Listed.{Listed as AnyListed};
 ghost use Rattle.ts_model.specs.declared.states.Seeking.TheVariants as seeking_state;
@@ -77,6 +78,8 @@ impl<M: Makes> Automaton for Making<M> {
     ghost may = { λ job state. IsLaterState state };
 
     ghost left = { calls_left };
+
+    ghost ends = { λ job end. tt };
 
     fn begin(alloc: Global, job: &Job) -> State<M::Fetch> {
         M::begin(alloc, job)

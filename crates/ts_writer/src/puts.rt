@@ -1,6 +1,6 @@
 //! How jobs put their objects, one after the other.
 ghost use Rattle.std.specs.Prelude.{◌≡◌, ◌<◌, ◌^◌, suc, ◌-◌, [], ◌∷◌, length, slice_get, option_map, IfOk, IfSome};
-ghost use Rattle.ts_store.specs.Calls.{IsSpelledCall};
+ghost use Rattle.ts_actor.specs.Fetches.{IsWorkCall};
 ghost use Rattle.ts_model.specs.Deeds.{IsKey};
 ghost use Rattle.ts_model.specs.Jobs.{frag_of_job, key_of};
 ghost use Rattle.ts_base.specs.Names.{IsSpelledFrag};
@@ -65,7 +65,7 @@ pub(crate) fn next_put(
 ) -> Result<Option<Call>, OutOfMemory>
     requires { AreSpelled objects.now }
     ensures is { IfOk result (λ call. call ≡ option_map put_of (slice_get objects.now next)) }
-    ensures spelled { IfOk result (λ call. IfSome call IsSpelledCall) }
+    ensures spelled { IfOk result (λ call. IfSome call IsWorkCall) }
 {
     if next < objects.len() {
         let object = objects.at(next);

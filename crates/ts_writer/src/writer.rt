@@ -3,8 +3,7 @@ ghost use Rattle.std.specs.Prelude.{◌≡◌, IsTrue};
 ghost use Rattle.ts_model.specs.declared.commands.Command.TheVariants.{Write};
 ghost use Rattle.ts_model.specs.Commands.{fits};
 ghost use Rattle.ts_model.specs.Jobs.{IsFit};
-ghost use Rattle.ts_model.specs.States.{begun};
-ghost use Rattle.ts_model.specs.Driven.{EndsFrom};
+ghost use Rattle.ts_model.specs.Driven.{EndsBy};
 ghost use Rattle.ts_actor.specs.Traces.{start};
 ghost use Rattle.ts_writer.specs.Writers.{Follows, calls_left};
 ghost use Rattle.ts_writer.specs.Writing.{IsWrite, job_for};
@@ -83,7 +82,7 @@ impl<P: Pieces> Actor for Writer<P> {
 
     ghost follows = { λ w t. Follows P.codec w.machine.job w.machine.phase t };
 
-    ghost ends = { λ job past end. EndsFrom P.codec job (begun job.command) past end };
+    ghost ends = { λ job past end. EndsBy P.codec job past end };
 
     ghost measure = { λ w. calls_left w.machine.job w.machine.phase };
 

@@ -143,8 +143,9 @@ fn the_journal_has_each_call(rt: HostRuntime) -> Result<(), Fail> {
     let text = "0.1|create|ok\n0.2|write|ok|__1_1_<2>_1\n0.3|read|ok|1|0\n5|10\n";
     assert_eq!(rt; shown.status, 0);
     assert_eq!(rt; shown.printed, said(rt.alloc(), text)?);
-    // Two puts; two gets between a listing and two puts; three gets after two listings.
-    assert_eq!(rt; shown.journal.len(), 12);
+    // Two puts; two gets between a listing and two puts; three gets after two listings, and the put of
+    // a lease and a listing before them, its removal behind.
+    assert_eq!(rt; shown.journal.len(), 15);
     match &shown.journal.at(5).call {
         Call::Put(_, bytes) => {
             assert_eq!(rt; bytes.len(), 145);
@@ -181,13 +182,13 @@ fn failing_streams_lose_nothing(rt: HostRuntime) -> Result<(), Fail> {
     )?;
     assert_eq!(rt; unprinted.status, 5);
     assert_eq!(rt; unprinted.printed.len(), 0);
-    assert_eq!(rt; unprinted.journal.len(), 12);
+    assert_eq!(rt; unprinted.journal.len(), 15);
     Ok(())
 }
 
 /// Calls of a create, a write and a read that fail, each as a failed call that was done and as one
 /// that was not: what is printed behind the create.
-const FAILED: [(u64, bool, &str); 10] = [
+const FAILED: [(u64, bool, &str); 14] = [
     (
         2,
         true,
@@ -221,23 +222,43 @@ const FAILED: [(u64, bool, &str); 10] = [
     (
         7,
         true,
-        "0.2|write|ok|__1_1_<2>_1\n0.3|read|refused|StoreFault|__commits/\n",
+        "0.2|write|ok|__1_1_<2>_1\n0.3|read|refused|StoreFault|__leases/__9_9_<3>.shr\n",
     ),
     (
         8,
         false,
-        "0.2|write|ok|__1_1_<2>_1\n0.3|read|refused|StoreFault|__schema/\n",
+        "0.2|write|ok|__1_1_<2>_1\n0.3|read|refused|StoreFault|__leases/\n",
+    ),
+    (
+        9,
+        true,
+        "0.2|write|ok|__1_1_<2>_1\n0.3|read|refused|StoreFault|__commits/\n",
     ),
     (
         10,
+        false,
+        "0.2|write|ok|__1_1_<2>_1\n0.3|read|refused|StoreFault|__schema/\n",
+    ),
+    (
+        12,
         true,
         "0.2|write|ok|__1_1_<2>_1\n0.3|read|refused|StoreFault|__domain.tdb\n",
     ),
     (
-        11,
+        13,
         true,
         "0.2|write|ok|__1_1_<2>_1\n\
         0.3|read|refused|StoreFault|__fragments/__1_1_<2>_1/plain.tdb\n",
+    ),
+    (
+        14,
+        true,
+        "0.2|write|ok|__1_1_<2>_1\n0.3|read|refused|StoreFault|__leases/__9_9_<3>.shr\n",
+    ),
+    (
+        14,
+        false,
+        "0.2|write|ok|__1_1_<2>_1\n0.3|read|refused|StoreFault|__leases/__9_9_<3>.shr\n",
     ),
 ];
 

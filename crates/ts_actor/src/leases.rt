@@ -1,0 +1,100 @@
+//! The lease of a job: the put of it, the verdict on the leases of a listing, and its removal.
+ghost use Rattle.std.specs.Prelude.{◌≡◌, ℕ, IfSome};
+ghost use Rattle.ts_store.specs.Calls.{IsSpelledCall};
+ghost use Rattle.ts_model.specs.declared.states.State.{State};
+ghost use Rattle.ts_model.specs.declared.states.Stage.TheVariants.{Works};
+ghost use Rattle.ts_model.specs.Stages.{after_lease, after_leases, lease_of, put_lease, released, settled};
+
+use crate::ends::end_by;
+use std::alloc::Global;
+use ts_base::{ByteList, Key, LeaseMode, Name, NameList, Place, Prefix};
+use ts_lease::{Verdict, decide};
+use ts_model::{Command, Job, Outcome, Refusal, Stage, State};
+use ts_store::{Call, Reply};
+
+/// The lease of a job, if it has one: a read shares the store with other reads.
+pub(crate) fn lease_of(job: &Job) -> Option<Name>
+    ensures { result ≡ lease_of job.now }
+{
+    match &job.command {
+        Command::Read {
+            from: _,
+            to: _,
+            query: _,
+        } => Some(Name::Lease(
+            Key {
+                t: job.at,
+                id: job.id,
+            },
+            LeaseMode::Shr,
+        )),
+        _ => None,
+    }
+}
+
+/// The put of a lease. It takes no memory.
+pub(crate) fn put_lease(alloc: Global, lease: Name) -> Call
+    ensures { result ≡ put_lease lease }
+{
+    Call::Put(lease, ByteList::new(alloc))
+}
+
+/// Where a state of the work leads: a job that has a lease removes it before it is over.
+pub(crate) fn settled<F: Drop>(lease: Option<Name>, state: State<F>) -> Stage<F>
+    ensures { result ≡ settled lease state }
+{
+    match (lease, state) {
+        (Some(lease), State::Over(end)) => Stage::Releases { lease, end },
+        (_, state) => Stage::Works(state),
+    }
+}
+
+/// Where the reply to the put of a lease leads.
+pub(crate) fn after_lease<F: Drop>(lease: Name, reply: &Reply) -> Stage<F>
+    ensures { result ≡ after_lease lease reply.now }
+{
+    match reply {
+        Reply::Made => Stage::ListsLeases(lease),
+        Reply::Taken => Stage::Works(State::Over(Outcome::Refused(Refusal::Taken(lease)))),
+        Reply::Failed => Stage::Releases {
+            lease,
+            end: Outcome::Refused(Refusal::StoreFault(Place::Name(lease))),
+        },
+        _ => Stage::Releases {
+            lease,
+            end: Outcome::OutOfMemory,
+        },
+    }
+}
+
+/// Where the reply to the listing of the leases leads, before the work in this state.
+pub(crate) fn after_leases<F: Drop>(lease: Name, begins: State<F>, reply: &Reply) -> Stage<F>
+    ensures { result ≡ after_leases lease begins reply.now }
+{
+    match reply {
+        Reply::Names(names) => match decide(names, lease) {
+            Verdict::Granted => settled(Some(lease), begins),
+            Verdict::Held(other) => Stage::Releases {
+                lease,
+                end: Outcome::Refused(Refusal::Leased(other)),
+            },
+        },
+        other => Stage::Releases {
+            lease,
+            end: end_by(&Call::List(Prefix::Leases), other),
+        },
+    }
+}
+
+/// How a job ends whose lease is removed, by the reply to that.
+pub(crate) fn released(lease: Name, end: Outcome, reply: &Reply) -> Outcome
+    ensures { result ≡ released lease end reply.now }
+{
+    match (end, reply) {
+        (Outcome::Refused(refusal), _) => Outcome::Refused(refusal),
+        (Outcome::OutOfMemory, _) => Outcome::OutOfMemory,
+        (end, Reply::Removed) => end,
+        (_, Reply::Failed) => Outcome::Refused(Refusal::StoreFault(Place::Name(lease))),
+        _ => Outcome::OutOfMemory,
+    }
+}

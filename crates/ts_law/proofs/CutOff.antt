@@ -1,0 +1,71 @@
+-- A job that its stop cuts off would have made one more call.
+use Rattle.std.proofs.Common.{length, ◌≡◌, true, ◌⊎◌, List, [], ◌∷◌, ◌++◌, Option, Some, None, refl, sym, ◌∙◌, ap, inl, inr, subst, append_assoc}
+use Rattle.std.proofs.lemmas.List.{append-nil}
+use Rattle.std.proofs.lemmas.List.Elements.{All-pop}
+use Rattle.ts_store.specs.declared.call.Call.{Call}
+use Rattle.ts_model.specs.declared.commands.Job.{Job}
+use Rattle.ts_model.specs.declared.answers.Driven.{Driven}
+use Rattle.ts_model.specs.declared.answers.Outcome.{Outcome}
+use Rattle.ts_model.specs.declared.answers.Refusal.{Refusal}
+use Rattle.ts_model.specs.Codecs.{Codec, AsksLooks}
+use Rattle.ts_model.specs.Jobs.{refused_before}
+use Rattle.ts_model.specs.States.{Exchange}
+use Rattle.ts_model.specs.Stops.{cuts}
+use Rattle.ts_model.specs.Driven.{MayAsk, AskedFrom, ComesOut, IsDriven}
+use Rattle.ts_model.specs.Told.{Told, trace_of}
+use Rattle.ts_law.specs.Runs.{AreDriven, AreSegments}
+use Rattle.ts_law.specs.Courses.{Found, course_of, SaysThere, AreFound, IsLookOf, Looks, IsNext, Along, EndsAt, MayEndAs, IsCutOff, MayComeOut, IsSegment}
+use Rattle.ts_store.specs.declared.call.Reply.TheVariants as reply
+use Rattle.ts_model.specs.declared.answers.Driven.TheVariants as driven
+use Rattle.ts_model.specs.declared.answers.Outcome.TheVariants as outcome
+
+-- ---- a job that is cut off
+
+-- the calls up to one more along a course, and that one
+pub along_last : (looks : Looks) (seen : List Exchange) (course : List Call) (trace : List Exchange) (x : Exchange) (left : List Call) → Along looks seen course (trace ++ x ∷ []) left
+    → (here : List Call) × (rest : List Call) × Along looks seen course trace here × IsNext looks (seen ++ trace) here x.call rest
+along_last looks seen course [] x left (on, (rest, next, more)) = (course, rest, refl, subst (λ t. IsNext looks t course x.call rest) (sym (append-nil seen)) next)
+along_last looks seen course (y ∷ trace) x left (on, (rest, next, more)) =
+    let last = along_last looks (seen ++ y ∷ []) rest trace x left more in
+    (last.0, last.1, (on, (rest, next, last.2)), subst (λ t. IsNext looks t last.0 x.call last.1) (append_assoc seen (y ∷ []) trace) last.3)
+
+-- lists with one last item are one
+pub last_same : (a b : List Exchange) (x y : Exchange) → a ++ x ∷ [] ≡ b ++ y ∷ [] → (a ≡ b) × (x ≡ y)
+last_same [] [] x y e = (refl, cc)
+last_same [] (z ∷ []) x y e = cc
+last_same [] (z ∷ w ∷ b) x y e = cc
+last_same (z ∷ []) [] x y e = cc
+last_same (z ∷ w ∷ a) [] x y e = cc
+last_same (z ∷ a) (w ∷ b) x y e =
+    let tails : a ++ x ∷ [] ≡ b ++ y ∷ [] = cc in
+    let heads : z ≡ w = cc in
+    let rest = last_same a b x y tails in
+    (ap (λ h. h ∷ a) heads ∙ ap (λ t. w ∷ t) rest.0, rest.1)
+
+-- the call that was not made, as if there had been no memory for it
+abbrev pub as_if : Call → Exchange
+as_if c = record { call = c; reply = reply.NoMemory }
+
+-- where one more call would have come along the course
+abbrev pub Unmade : Looks → List Call → List Exchange → Call → Type 0
+Unmade looks course trace c = (left : List Call) × (rest : List Call) × Along looks [] course trace left × IsNext looks trace left c rest
+
+-- the call that was not made would have come along the course
+pub unmade_of : (looks : Looks) (course : List Call) (trace : List Exchange) (c : Call)
+    → ((left : List Call) × Along looks [] course (trace ++ as_if c ∷ []) left) ⊎ ((last : Exchange) × EndsAt looks [] course (trace ++ as_if c ∷ []) last) → Unmade looks course trace c
+unmade_of looks course trace c (inl h) = along_last looks [] course trace (as_if c) h.0 h.1
+unmade_of looks course trace c (inr (last, at)) =
+    let same = last_same trace at.front (as_if c) last at.parts in
+    let P : List Exchange → Type 0 = λ t. Along looks [] course t at.left in
+    let Q : Exchange → Type 0 = λ x. IsNext looks trace at.left x.call at.rest in
+    let R : List Exchange → Type 0 = λ t. IsNext looks t at.left last.call at.rest in
+    (at.left, at.rest, subst P (sym same.0) at.along, subst Q (sym same.1) (subst R (sym same.0) at.next))
+
+-- a trace with one more call has some
+pub no_calls : (trace : List Exchange) (x : Exchange) → trace ++ x ∷ [] ≡ [] → ⊥
+no_calls [] x e = cc
+no_calls (y ∷ trace) x e = cc
+
+-- what all replies say, those before the last say
+pub found_before : (job : Job) (found : Found) (trace : List Exchange) (x : Exchange) → AreFound job found (trace ++ x ∷ []) → AreFound job found trace
+found_before job found trace x all = (All-pop (λ y. SaysThere found job.command y.call y.reply) (trace ++ x ∷ []) trace (Some x) refl all).0
