@@ -86,13 +86,13 @@ const FAILED: [(u64, bool, &str); 7] = [
         "0.3|delete|refused|StoreFault|__commits/__2_2_<3>_1.del\n0.4|read|ok|1|0\n5|10\n",
     ),
     (
-        15,
+        17,
         false,
         "0.3|delete|ok|__2_2_<3>_1\n\
         0.4|read|refused|StoreFault|__fragments/__1_1_<2>_1/plain.tdb\n",
     ),
     (
-        16,
+        18,
         false,
         "0.3|delete|ok|__2_2_<3>_1\n\
         0.4|read|refused|StoreFault|__commits/__2_2_<3>_1.del\n",
