@@ -7,7 +7,7 @@ use Rattle.ts_commit.specs.declared.vacs.VacOf.{VacOf}
 use Rattle.ts_commit.specs.declared.vacs.Limits.{Limits}
 use Rattle.ts_commit.specs.declared.vacs.Planned.TheVariants as planned
 use Rattle.ts_commit.specs.Selections.{is_usable, usable, loaded, clipped_names, removal_set, names_merged}
-use Rattle.ts_commit.specs.Plans.{plan_of}
+use Rattle.ts_commit.specs.Plans.{plan_of, attributes_in}
 
 abbrev key : ℕ → ℕ → Key
 key t id = record { t = t; id = id }
@@ -78,31 +78,83 @@ clips_merged = refl
 
 -- ---- plans
 
-takes_both : plan_of (first true ∷ second true ∷ []) [] (λ k. 1) 0 9 (limits 64) ≡ planned.Take (frag 1 1 2 ∷ frag 5 5 3 ∷ [])
-takes_both = refl
+-- two writes to a sparse array, stamped 1 and 2: a consolidation at 3 takes both, and where they are named by its `.vac` the next one has only the merged one
+abbrev write : ℕ → ℕ → Head
+write t id = head false (frag t t id) 1 t t (key t id ∷ [])
 
--- of one fragment there is nothing to merge; nor of those that are merged
-takes_nothing : plan_of (first true ∷ []) [] (λ k. 1) 0 9 (limits 64) ≡ planned.Nothing 1
-takes_nothing = refl
+abbrev merged_writes : Head
+merged_writes = head false (frag 1 2 4) 1 1 2 (key 1 2 ∷ key 2 3 ∷ [])
 
-leaves_merged : plan_of (all false) merged (λ k. 1) 0 9 (limits 64) ≡ planned.Nothing 1
+takes_two_writes : plan_of (write 1 2 ∷ write 2 3 ∷ []) [] (λ k. 1) 0 3 (limits 64) ≡ planned.Take (frag 1 1 2 ∷ frag 2 2 3 ∷ [])
+takes_two_writes = refl
+
+leaves_merged : plan_of (write 1 2 ∷ merged_writes ∷ write 2 3 ∷ []) (record { frag = frag 1 2 4; names = frag 1 1 2 ∷ frag 2 2 3 ∷ [] } ∷ []) (λ k. 1) 0 9 (limits 64) ≡ planned.Nothing 1
 leaves_merged = refl
 
--- where the interval is empty nothing is eligible
+-- of one write there is nothing to merge
+takes_nothing : plan_of (write 1 2 ∷ []) [] (λ k. 1) 0 9 (limits 64) ≡ planned.Nothing 1
+takes_nothing = refl
+
+-- two writes to a dense array whose boxes overlap
+takes_both : plan_of (first true ∷ second true ∷ []) [] (λ k. 1) 0 6 (limits 64) ≡ planned.Take (frag 1 1 2 ∷ frag 5 5 3 ∷ [])
+takes_both = refl
+
+-- a fragment that ends behind the interval is not eligible, and in an empty interval none is
+ends_behind : plan_of (all false) [] (λ k. 1) 0 4 (limits 64) ≡ planned.Nothing 1
+ends_behind = refl
+
 nothing_between : plan_of (all false) [] (λ k. 1) 9 0 (limits 64) ≡ planned.Nothing 0
 nothing_between = refl
 
+-- two writes of two schemas share none
+two_schemas : plan_of (head false (frag 1 1 2) 1 5 5 [] ∷ head false (frag 6 6 4) 3 5 5 [] ∷ []) [] (λ k. 1) 0 7 (limits 64) ≡ planned.Nothing 2
+two_schemas = refl
+
 -- the first schema that two of the fragments share is taken, with as many fragments as may be
-shares_schema : plan_of (head false (frag 1 1 1) 7 0 0 [] ∷ head false (frag 2 2 2) 8 0 0 [] ∷ head false (frag 3 3 3) 9 0 0 [] ∷ head false (frag 4 4 4) 9 0 0 [] ∷ head false (frag 5 5 5) 8 0 0 [] ∷ head false (frag 6 6 6) 8 0 0 [] ∷ []) [] (λ k. 1) 0 9 (limits 2)
-    ≡ planned.Take (frag 2 2 2 ∷ frag 5 5 5 ∷ [])
+abbrev of : ℕ → ℕ → Head
+of schema t = head false (frag t t t) schema 0 0 []
+
+shares_schema : plan_of (of 7 1 ∷ of 8 2 ∷ of 9 3 ∷ of 9 4 ∷ of 8 5 ∷ of 8 6 ∷ []) [] (λ k. 1) 0 9 (limits 2) ≡ planned.Take (frag 2 2 2 ∷ frag 5 5 5 ∷ [])
 shares_schema = refl
 
--- the weight is that of the common hull: 2^23 cells of one attribute are just not too many, one cell more is
+-- a fragment that a `.vac` names does not count for its schema
+merged_counts_not : plan_of (of 7 1 ∷ of 7 2 ∷ of 8 3 ∷ of 8 4 ∷ []) (record { frag = frag 2 2 9; names = frag 2 2 2 ∷ [] } ∷ []) (λ k. 1) 0 9 (limits 64) ≡ planned.Take (frag 3 3 3 ∷ frag 4 4 4 ∷ [])
+merged_counts_not = refl
+
+-- where one fragment is enough one is taken, where none is enough still a schema is asked for, and where more are asked for than may be taken nothing is
+one_is_enough : plan_of (of 7 1 ∷ of 8 2 ∷ of 8 3 ∷ []) [] (λ k. 1) 0 9 (record { min = 1; max = 64 }) ≡ planned.Take (frag 1 1 1 ∷ [])
+one_is_enough = refl
+
+none_is_no_plan : plan_of [] [] (λ k. 1) 0 9 (record { min = 0; max = 64 }) ≡ planned.Nothing 0
+none_is_no_plan = refl
+
+more_than_may_be : plan_of (of 7 1 ∷ of 7 2 ∷ of 7 3 ∷ []) [] (λ k. 1) 0 9 (record { min = 3; max = 2 }) ≡ planned.Nothing 3
+more_than_may_be = refl
+
+-- the weight of dense fragments is that of the common hull: 2^23 cells of one attribute are just not too many, one cell more is
 just_light : plan_of (head true (frag 1 1 1) 7 1 1 [] ∷ head true (frag 2 2 2) 7 0x800000 0x800000 [] ∷ []) [] (λ k. 1) 0 9 (limits 64) ≡ planned.Take (frag 1 1 1 ∷ frag 2 2 2 ∷ [])
 just_light = refl
 
 too_heavy : plan_of (head true (frag 1 1 1) 7 0 0 [] ∷ head true (frag 2 2 2) 7 0x800000 0x800000 [] ∷ []) [] (λ k. 1) 0 9 (limits 64) ≡ planned.Nothing 2
 too_heavy = refl
+
+-- that of sparse ones is the sum, here of cells of three attributes
+abbrev heavy : ℕ → ℕ → Head
+heavy cells t = record (of 7 t) { cells = cells }
+
+sum_is_light : plan_of (heavy 0x200000 1 ∷ heavy 0x200000 2 ∷ []) [] (λ k. 3) 0 9 (limits 64) ≡ planned.Take (frag 1 1 1 ∷ frag 2 2 2 ∷ [])
+sum_is_light = refl
+
+sum_is_heavy : plan_of (heavy 0x200000 1 ∷ heavy 0x200001 2 ∷ []) [] (λ k. 3) 0 9 (limits 64) ≡ planned.Nothing 2
+sum_is_heavy = refl
+
+-- what stands behind a fragment that is too heavy is not taken
+stops_at_the_first : plan_of (heavy 1 1 ∷ heavy 1 2 ∷ heavy 0x800000 3 ∷ heavy 1 4 ∷ []) [] (λ k. 1) 0 9 (limits 64) ≡ planned.Take (frag 1 1 1 ∷ frag 2 2 2 ∷ [])
+stops_at_the_first = refl
+
+-- the number of attributes stands for the first head of the schema
+finds_attributes : attributes_in (of 7 1 ∷ of 8 2 ∷ of 7 3 ∷ []) (5 ∷ 6 ∷ 5 ∷ []) (key 0 8) ≡ 6
+finds_attributes = refl
 
 -- ---- names
 

@@ -1,15 +1,20 @@
-//! What a listing of the commits says: which fragments a read loads, what a consolidation names, and
-//! which fragments a vacuum removes.
+//! What a listing of the commits says: which fragments a read loads, what a consolidation merges and
+//! names, and which fragments a vacuum removes.
 #![tactic(auto)]
 
+mod choices;
+mod hulls;
 mod lines;
 mod named;
+mod plans;
 mod selection;
 #[cfg(test)]
 mod tests;
+mod totals;
 mod vacs;
 
 pub use lines::{decode_vac, encode_vac};
 pub use named::{names_merged, removal_set};
+pub use plans::plan;
 pub use selection::{Selection, select};
 pub use vacs::{Limits, Planned, VacList, VacOf};

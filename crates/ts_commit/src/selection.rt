@@ -200,8 +200,8 @@ fn meets(frag: FragKey, a: u64, b: u64) -> bool
     a <= b && frag.t1 <= b && a <= frag.t2
 }
 
-/// Whether the span of the fragment lies in the interval.
-pub(crate) fn lies_in(frag: FragKey, a: u64, b: u64) -> bool
+// Whether the span of the fragment lies in the interval.
+fn lies_in(frag: FragKey, a: u64, b: u64) -> bool
     ensures { result ≡ lies_in a b frag }
 {
     a <= frag.t1 && frag.t2 <= b

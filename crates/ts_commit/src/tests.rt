@@ -1,11 +1,16 @@
-//! Worked rows: what reads load, what is named and removed, and `.vac` objects byte by byte.
+//! Worked rows: what reads load, what consolidations take, what is named and removed, and `.vac` objects byte by byte.
 ghost use Rattle.std.specs.Prelude.{◌≡◌, ◌++◌, ◌∷◌, [], IfOk, OnOk, map as list_map};
 ghost use Rattle.ts_commit.specs.Asked.{AreOfKind};
 
-use crate::{Selection, VacList, VacOf, decode_vac, encode_vac, names_merged, removal_set, select};
+use crate::{
+    Limits, Planned, Selection, VacList, VacOf, decode_vac, encode_vac, names_merged, plan,
+    removal_set, select,
+};
 use std::alloc::Global;
 use std::test::Fail;
-use ts_base::{ByteList, Coords, FragKey, FragList, Head, HeadList, Key, KeyList, OutOfMemory};
+use ts_base::{
+    ByteList, Coords, CountList, FragKey, FragList, Head, HeadList, Key, KeyList, OutOfMemory,
+};
 use ts_wire::ReadFault;
 
 // Two writes, stamped 1 and 5, and what a consolidation merged them into.
@@ -158,6 +163,93 @@ fn each_name_is_given_once(rt: HostRuntime) -> Result<(), Fail> {
     let sources = FragList::from_vec(vec![in alloc; BOTH, THIRD]?);
     let names = names_merged(alloc, &vacs, &sources)?;
     assert_eq!(rt; names.as_slice(), [FIRST, BOTH, SECOND, THIRD].as_slice());
+    Ok(())
+}
+
+// The head of a write to a sparse array: so many cells stamped t, in the schema of that identifier.
+fn write_of(alloc: Global, t: u64, schema: u128, cells: u64) -> Result<Head, OutOfMemory> {
+    let key = Key { t, id: t as u128 };
+    Ok(Head {
+        frag: FragKey {
+            t1: t,
+            t2: t,
+            id: t as u128,
+            v: 1,
+        },
+        schema: Key { t: 0, id: schema },
+        dense: false,
+        consolidated: false,
+        low: Coords::new(&[0]),
+        high: Coords::new(&[9]),
+        cells,
+        origins: keys_of(alloc, &[key])?,
+    })
+}
+
+// What a consolidation takes of writes in these schemas, stamped 1, 2 and so on, each of so many cells
+// of one attribute: their stamps, or how many are eligible.
+fn planned(
+    alloc: Global,
+    schemas: &[u128],
+    cells: u64,
+    vacs: &VacList,
+    interval: (u64, u64),
+    limits: Limits,
+) -> Result<Planned, OutOfMemory> {
+    let mut heads = HeadList::new(alloc);
+    let mut attrs = CountList::new(alloc);
+    for (place, schema) in schemas.iter().enumerate() {
+        heads.push(write_of(alloc, place as u64 + 1, *schema, cells)?)?;
+        attrs.push(1)?;
+    }
+    plan(alloc, &heads, vacs, &attrs, interval.0, interval.1, limits)
+}
+
+// The plan that takes the writes with these stamps.
+fn takes(alloc: Global, stamps: &[u64]) -> Result<Planned, OutOfMemory> {
+    let mut frags = FragList::new(alloc);
+    for t in stamps {
+        frags.push(FragKey {
+            t1: *t,
+            t2: *t,
+            id: *t as u128,
+            v: 1,
+        })?;
+    }
+    Ok(Planned::Take(frags))
+}
+
+#[test]
+fn a_plan_takes_what_one_schema_shares(rt: HostRuntime) -> Result<(), Fail> {
+    let alloc = rt.alloc();
+    let none = VacList::new(alloc);
+    let mut vacs = VacList::new(alloc);
+    let names = FragList::from_vec(vec![in alloc; write_of(alloc, 1, 7, 1)?.frag]?);
+    vacs.push(VacOf { frag: BOTH, names })?;
+    let (usual, two) = (Limits { min: 2, max: 64 }, Limits { min: 2, max: 2 });
+    let found = planned(alloc, &[7, 7], 1, &none, (0, 9), usual)?;
+    assert_eq!(rt; found, takes(alloc, &[1, 2])?);
+    let found = planned(alloc, &[7], 1, &none, (0, 9), usual)?;
+    assert_eq!(rt; found, Planned::Nothing { eligible: 1 });
+    let found = planned(alloc, &[7, 7, 7], 1, &vacs, (0, 9), usual)?;
+    assert_eq!(rt; found, takes(alloc, &[2, 3])?);
+    let found = planned(alloc, &[7, 7], 1, &none, (2, 9), usual)?;
+    assert_eq!(rt; found, Planned::Nothing { eligible: 1 });
+    let found = planned(alloc, &[7, 7], 1, &none, (9, 0), usual)?;
+    assert_eq!(rt; found, Planned::Nothing { eligible: 0 });
+    let found = planned(alloc, &[7, 8, 9, 9, 8, 8], 1, &none, (0, 9), two)?;
+    assert_eq!(rt; found, takes(alloc, &[2, 5])?);
+
+    // Cells of one attribute weigh two each: 2^24 for two writes, and more.
+    let found = planned(alloc, &[7, 7, 7], 4194304, &none, (0, 9), usual)?;
+    assert_eq!(rt; found, takes(alloc, &[1, 2])?);
+    let found = planned(alloc, &[7, 7, 7], 4194305, &none, (0, 9), usual)?;
+    assert_eq!(rt; found, Planned::Nothing { eligible: 3 });
+
+    // Of 250 writes as many as may be.
+    let found = planned(alloc, &[7; 250], 100, &none, (0, 250), usual)?;
+    let stamps: Vec<u64> = (1..65).collect(alloc)?;
+    assert_eq!(rt; found, takes(alloc, stamps.as_slice())?);
     Ok(())
 }
 
