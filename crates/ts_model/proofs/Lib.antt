@@ -21,3 +21,8 @@ pub mod Scans
 pub mod Referred
 pub mod Erased
 pub mod WorkedHistories
+pub mod Members
+pub mod UnionLaws
+pub mod MergedPieces
+pub mod MergedFits
+pub mod Alike

@@ -14,6 +14,7 @@ use Rattle.ts_base.specs.declared.heads.Version.{Version}
 use Rattle.ts_base.specs.Keys.{key_lt, greater, greatest}
 use Rattle.ts_base.specs.Coords.{coords_eq}
 use Rattle.ts_base.proofs.Equal.{coords_decide}
+use Rattle.ts_model.specs.Merging.{newest_at}
 use Rattle.ts_model.specs.Pieces.{Newest, with_version, newest_after, newest_of}
 use Rattle.ts_model.proofs.KeyLemmas.{not_below_on, not_below_back}
 
@@ -87,10 +88,6 @@ version_key v = v.key
 -- the versions of a coordinate
 abbrev pub versions_at : List Version → List ℤ → List Version
 versions_at vs c = filter (λ v. coords_eq v.coords c) vs
-
--- the newest version of a coordinate in a list
-abbrev pub newest_at : List Version → List ℤ → Option Version
-newest_at vs c = greatest version_key (versions_at vs c)
 
 -- a version that takes the place of an older one, or leaves it
 placed : (m : Newest) (v : Version) (o : Option Version) → map.get m v.coords ≡ o → map.get (with_version m v) v.coords ≡ greater version_key o (Some v)

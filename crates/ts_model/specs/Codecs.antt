@@ -12,10 +12,12 @@ use Rattle.ts_store.specs.declared.call.Reply.{Reply}
 use Rattle.ts_schema.specs.declared.frames.Frame.{Frame}
 use Rattle.ts_schema.specs.declared.schemas.Schema.{Schema}
 use Rattle.ts_schema.specs.declared.wants.Want.{Want}
+use Rattle.ts_schema.specs.FrameTexts.{IsFrame}
+use Rattle.ts_schema.specs.SchemaTexts.{AreAttrs}
 use Rattle.ts_schema.specs.Wants.{taken}
 use Rattle.ts_schema.specs.Parts.{Look, look_in, IsShort}
 use Rattle.ts_store.specs.Calls.{part_of}
-use Rattle.ts_model.specs.Pieces.{IsOrdinary}
+use Rattle.ts_model.specs.Consolidated.{NamesOwn, IsStorable}
 use Rattle.ts_base.specs.declared.names.Name.TheVariants as name
 use Rattle.ts_store.specs.declared.call.Call.TheVariants as call
 use Rattle.ts_store.specs.declared.call.Reply.TheVariants as reply
@@ -92,11 +94,13 @@ pub record OpensWell {F : Type 0} (codec : Codec F) (tracks : F → Call → Typ
 
 -- the laws of one way to write fragments and to read them
 pub record CodecLaws {F : Type 0} (codec : Codec F) (spelled : Spelled) (tracks : Tracking F) : Type 0 where
-  -- the parts of a piece that one write makes spell it, where each is short enough to be got at once
-  pub parts : (frame : Frame) (s : Schema) (p : Piece) → IsOrdinary frame s.attrs p → All (λ x. IsShort x.bytes) (codec.parts frame s p) → spelled frame s p (look_in (codec.parts frame s p))
+  -- the parts of a piece that can be written spell it, where each is short enough to be got at once
+  pub parts : (frame : Frame) (s : Schema) (p : Piece) → IsStorable frame s.attrs p → All (λ x. IsShort x.bytes) (codec.parts frame s p) → spelled frame s p (look_in (codec.parts frame s p))
   -- the part that has the head is the last
-  pub last : (frame : Frame) (s : Schema) (p : Piece) → IsOrdinary frame s.attrs p
+  pub last : (frame : Frame) (s : Schema) (p : Piece) → IsStorable frame s.attrs p
       → (front : List PartBytes) × (bytes : List ℕ) × (codec.parts frame s p ≡ front ++ record { part = codec.head_part frame; bytes = bytes } ∷ [])
+  -- a piece that is spelled can be written once more, so that it can be a source of a consolidation; one of a single write has to be named by it
+  pub storable : (frame : Frame) (s : Schema) (p : Piece) (look : Look) → IsFrame frame → AreAttrs s.attrs → NamesOwn p.head → spelled frame s p look → IsStorable frame s.attrs p
   -- no part comes twice
   pub once : (frame : Frame) (s : Schema) (p : Piece) (i k : ℕ) (x y : PartBytes) → slice_get (codec.parts frame s p) i ≡ Some x → slice_get (codec.parts frame s p) k ≡ Some y → x.part ≡ y.part → i ≡ k
   -- the part with the head is there, and its object is read as the piece's head

@@ -3,6 +3,8 @@ pub mod Answers
 pub mod Jobs
 pub mod Commands
 pub mod Pieces
+pub mod Consolidated
+pub mod Merging
 pub mod Queries
 pub mod Places
 pub mod Selections

@@ -12,6 +12,7 @@ mod deeds;
 mod deletions;
 mod fields;
 mod finding;
+mod merging;
 mod places;
 mod queries;
 mod scan;
@@ -26,6 +27,7 @@ pub use checking::{bound_outside, box_of, check_delete, check_query, over_most, 
 pub use commands::{ColIn, ColInList, Command, FrameIn, Job, JobList, Line, LineList, WriteIn};
 pub use deeds::{Deed, Deletion, DeletionList, History, Written};
 pub use fields::{attr_fields, fields_in};
+pub use merging::VersionPlace;
 pub use places::{GlobalPlace, place_in, place_of};
 pub use queries::{PlaceList, QueryFault, Ready, Shown, ShownList};
 pub use scan::reference;
