@@ -3,6 +3,7 @@ pub mod Lists
 pub mod Effects
 pub mod NewestBy
 pub mod OriginLaws
+pub mod MergingLaw
 pub mod Grows
 pub mod Stays
 pub mod Frames

@@ -14,6 +14,7 @@ use Rattle.ts_model.specs.Deeds.{row_at, has_cell}
 use Rattle.ts_model.specs.Pieces.{version_at, version_of}
 use Rattle.ts_model.proofs.ListLemmas.{Contains-nil, Contains-filter, filter-Contains, find-Some, find-filter}
 use Rattle.ts_model.proofs.KeyLemmas.{greatest-None, greatest-Some, same_from_both}
+pub use Rattle.ts_model.proofs.Members.{newest_is_at, found_there}
 use Rattle.ts_law.specs.Origins.{last_of, last_version, newest_at}
 
 -- the version that a row makes
@@ -40,17 +41,6 @@ key_of_version w c v = elim (row_at c w.cells) as (λ o. option_map (version_wit
   | None ↦ λ e. absurd (none-some v e)
   | Some row ↦ λ e. ap (λ u. u.key) (sym (same_Some _ v e))
 ]
-
--- the newest version of a coordinate is the one of its key
-pub newest_is_at : (vs : List Version) (c : List ℤ) (v : Version) → newest_at vs c ≡ Some v → version_at vs v.key c ≡ Some v
-newest_is_at vs c v newest =
-    sym (find-filter (λ u. key_eq u.key v.key) (λ u. coords_eq u.coords c) vs) ∙ (greatest-Some (λ u. u.key) (filter (λ u. coords_eq u.coords c) vs) v newest).first
-
--- a version that is found stands among those of its coordinate
-pub found_there : (vs : List Version) (k : Key) (c : List ℤ) (v : Version) → version_at vs k c ≡ Some v → Contains (filter (λ u. coords_eq u.coords c) vs) v
-found_there vs k c v e =
-    let found = find-Some _ vs v e in
-    Contains-filter (λ u. coords_eq u.coords c) vs v found.0 (and_parts (key_eq v.key k) (coords_eq v.coords c) found.1).1
 
 -- the last write that has a coordinate is one of the writes, and has it
 pub last_is : (ws : List Written) (c : List ℤ) (w : Written) → last_of ws c ≡ Some w → Contains ws w × (has_cell c w ≡ true)

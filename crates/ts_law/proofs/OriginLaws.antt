@@ -18,24 +18,10 @@ use Rattle.ts_model.proofs.ListLemmas.{Contains-nil, Contains-here, Contains-the
 use Rattle.ts_model.proofs.KeyLemmas.{key_same, key_itself, greatest-None, greatest-Some, same_from_both}
 use Rattle.ts_model.proofs.HistoryLaws.{one_write}
 use Rattle.ts_law.specs.Origins.{origins_of, last_of, last_version, made_by, with_key, kept_of, HoldsWrites, newest_at}
+pub use Rattle.ts_model.proofs.Members.{key_there, any_member, member_any, key_found, with_key-is, with_own_key}
 use Rattle.ts_law.proofs.NewestBy.{key_of_version, last_is, newest_by}
 
 -- ---- origins
-
--- a key that is found among others is one of them
-pub key_there : (k : Key) (ks : List Key) → list_any (key_eq k) ks ≡ true → Contains ks k
-key_there k [] e = absurd (true≢false (sym e))
-key_there k (l ∷ ks) e = elim (key_eq k l) as (λ t. key_eq k l ≡ t → t || list_any (key_eq k) ks ≡ true → Contains (l ∷ ks) k) [
-  | true ↦ λ same _. subst (λ x. Contains (x ∷ ks) k) (key_same k l same) (Contains-here k ks)
-  | false ↦ λ other rest. Contains-there l ks k (key_there k ks rest)
-] refl e
-
--- a test that a member passes is passed by one, and the other way
-pub any_member : {X : Type 0} (q : X → Bool) (xs : List X) (x : X) → Contains xs x → q x ≡ true → list_any q xs ≡ true
-any_member q xs x at passes = list_any-from_Any q xs (at.0, x, at.1, at.2, passes)
-
-pub member_any : {X : Type 0} (q : X → Bool) (xs : List X) → list_any q xs ≡ true → (x : X) × Contains xs x × (q x ≡ true)
-member_any q xs e = let found = Any-from_list_any q xs e in (found.1, (found.0, found.2, found.3), found.4)
 
 -- a test that all pass leaves all
 pub filter_all : {X : Type 0} (q : X → Bool) (xs : List X) → ((x : X) → Contains xs x → q x ≡ true) → filter q xs ≡ xs
@@ -106,19 +92,6 @@ made_by_filter f ws k c = ap (option_and_then (λ w. version_of w c)) (find-filt
     by false is = ap (option_and_then (λ w. version_of w c)) (find_none _ ws (λ w. just_test f w.key k false is))
 
 -- ---- versions and their keys
-
--- a version that has a key
-pub with_key-is : (k : Key) (o : Option Version) (v : Version) → with_key k o ≡ Some v → (o ≡ Some v) × (v.key ≡ k)
-with_key-is k None v e = absurd (none-some v e)
-with_key-is k (Some u) v e = by (key_eq u.key k) refl e
-  where
-    by : (b : Bool) → key_eq u.key k ≡ b → cond b (Some u) None ≡ Some v → (Some u ≡ Some v) × (v.key ≡ k)
-    by true same is = (is, subst (λ x. x.key ≡ k) (same_Some u v is) (key_same u.key k same))
-    by false other is = absurd (none-some v is)
-
--- a version has its own key
-pub with_own_key : (o : Option Version) (v : Version) → o ≡ Some v → with_key v.key o ≡ Some v
-with_own_key o v is = ap (with_key v.key) is ∙ ap (λ b. cond b (Some v) None) (key_itself v.key)
 
 -- the write of a key, and its version
 pub made_by-is : (ws : List Written) (k : Key) (c : List ℤ) (v : Version) → made_by ws k c ≡ Some v → (w : Written) × Contains ws w × (version_of w c ≡ Some v) × (w.key ≡ k)

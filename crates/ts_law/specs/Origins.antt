@@ -15,6 +15,9 @@ use Rattle.ts_commit.specs.Selections.{has_origin, keeps_last, meets, is_usable}
 use Rattle.ts_model.specs.declared.deeds.Written.{Written}
 use Rattle.ts_model.specs.Deeds.{History, writes, has_cell}
 use Rattle.ts_model.specs.Pieces.{version_at, version_of}
+use Rattle.ts_model.specs.Consolidated.{NamesOwn}
+pub use Rattle.ts_model.specs.Consolidated.{IsSpan, box_in}
+pub use Rattle.ts_model.specs.Merging.{newest_at, with_key}
 
 -- ---- the writes that went into fragments
 
@@ -34,19 +37,11 @@ last_of ws c = greatest (λ w. w.key) (filter (has_cell c) ws)
 abbrev pub last_version : List Written → List ℤ → Option Version
 last_version ws c = option_and_then (λ w. version_of w c) (last_of ws c)
 
--- the newest version of a coordinate in a list
-abbrev pub newest_at : List Version → List ℤ → Option Version
-newest_at vs c = greatest (λ v. v.key) (filter (λ v. coords_eq v.coords c) vs)
-
 -- ---- what is kept of them
 
 -- the version that the write of a key makes of a coordinate
 abbrev pub made_by : List Written → Key → List ℤ → Option Version
 made_by ws k c = option_and_then (λ w. version_of w c) (find (λ w. key_eq w.key k) ws)
-
--- a version, if it has the key
-abbrev pub with_key : Key → Option Version → Option Version
-with_key k o = option_and_then (λ v. cond (key_eq v.key k) (Some v) None) o
 
 -- what is kept of a key and a coordinate: the version of that write; where the last versions are kept alone, only if it is the last one
 abbrev pub kept_of : Bool → List Written → Key → List ℤ → Option Version
@@ -54,13 +49,6 @@ kept_of true ws k c = with_key k (last_version ws c)
 kept_of false ws k c = made_by ws k c
 
 -- ---- what a piece holds
-
--- the span of a fragment reaches from the least timestamp of its origins to the greatest
-pub record IsSpan (f : FragKey) (origins : List Key) : Type 0 where
-  pub from_on : (k : Key) → Contains origins k → f.t1 ≤ k.t
-  pub up_to : (k : Key) → Contains origins k → k.t ≤ f.t2
-  pub least : (k : Key) × Contains origins k × (k.t ≡ f.t1)
-  pub greatest_is : (k : Key) × Contains origins k × (k.t ≡ f.t2)
 
 -- the box has each cell of these writes
 abbrev pub HasCells : SubBox → List Written → Type 0
@@ -70,10 +58,6 @@ HasCells sub ws = (w : Written) (c : List ℤ) → Contains ws w → has_cell c 
 pub record IsHullOfCells (sub : SubBox) (ws : List Written) : Type 0 where
   pub cells : HasCells sub ws
   pub least : (outer : SubBox) → HasCells outer ws → Covers outer sub
-
--- the box between the corners of a head
-abbrev pub box_in : Head → SubBox
-box_in head = record { low = head.low; high = head.high }
 
 -- the key is that of a write in a schema
 abbrev pub IsWriteIn : History → Key → Key → Type 0
@@ -86,7 +70,7 @@ pub record HoldsWrites (h : History) (p : Piece) : Type 0 where
   pub ascend : IsStrictlySortedBy key_cmp p.head.origins
   pub span : IsSpan p.head.frag p.head.origins
   -- a piece that no consolidation made has one origin, which names it
-  pub ordinary : p.head.consolidated ≡ false → (k : Key) × (p.head.origins ≡ k ∷ []) × (p.head.frag ≡ frag_of k)
+  pub ordinary : NamesOwn p.head
   -- at each key and coordinate it has what is kept of its origins
   pub versions : (k : Key) (c : List ℤ) → version_at p.versions k c ≡ kept_of (keeps_last p.head) (origins_of h p.head) k c
   -- a dense one lies between the corners of its origins' cells
