@@ -3,3 +3,4 @@ pub mod DrivenSoFar
 pub mod JobRuns
 pub mod Below
 pub mod Collected
+pub mod Newer

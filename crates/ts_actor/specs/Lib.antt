@@ -6,5 +6,8 @@ pub mod Fetches
 pub mod PieceLaws
 pub mod PlainCodec
 pub mod PlainWrites
+pub mod PlainMerges
+pub mod PlainSources
 pub mod PlainLaws
 pub mod PlainHeads
+pub mod Newest

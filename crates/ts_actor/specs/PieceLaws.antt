@@ -24,6 +24,7 @@ use Rattle.ts_schema.specs.Wants.{taken}
 use Rattle.ts_plain.specs.Merges.{IsOrdered}
 use Rattle.ts_model.specs.Codecs.{Codec, Spelled, Stepped, Asks, Takes, Breaks, SpeaksOf}
 use Rattle.ts_model.specs.Pieces.{IsOrdinary}
+use Rattle.ts_model.specs.Consolidated.{IsConsolidated}
 
 -- what was got of the parts, and the sizes that were told, break the grammar first in a part at an offset
 abbrev pub Off : Type 1
@@ -142,6 +143,10 @@ Writable = Frame → List Attr → Piece → Type 0
 -- a piece that one write makes can be written
 abbrev pub WritesOrdinary : Writable → Type 0
 WritesOrdinary writable = (frame : Frame) (attrs : List Attr) (p : Piece) → IsOrdinary frame attrs p → writable frame attrs p
+
+-- a piece that a consolidation makes can be written
+abbrev pub WritesConsolidated : Writable → Type 0
+WritesConsolidated writable = (frame : Frame) (attrs : List Attr) (p : Piece) → IsConsolidated frame attrs p → writable frame attrs p
 
 -- of a piece that can be written
 pub record WritesWell {F : Type 0} (codec : Codec F) (spelled : Spelled) (writable : Writable) : Type 0 where

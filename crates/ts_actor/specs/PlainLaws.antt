@@ -35,10 +35,12 @@ use Rattle.ts_plain.proofs.OrderedPieces as ordered
 use Rattle.ts_model.specs.Codecs.{CodecLaws, OpensWell, Stepped, Asks, Takes, Breaks}
 use Rattle.ts_actor.specs.PlainCodec.{plain_object, plain_parts, plain_codec, NeverWaits, IsPlainBroken}
 use Rattle.ts_actor.specs.PieceLaws.{whole_got, SpellsOne, RefusesBroken, OpensUnbroken, Begun, Went, AreInBox, TakesInside, IsFetchOf, First, Then, EndsWith, AtOnce, AfterReply, JudgesRight, AsksBounded, AsksOwn, TakesOrdered, TakesSpelled, WritesWell}
-use Rattle.ts_actor.specs.PlainWrites.{IsStorable, ordinary_storable}
+use Rattle.ts_actor.specs.PlainWrites.{IsPlainStorable}
+use Rattle.ts_actor.specs.PlainMerges.{storable_plain}
+use Rattle.ts_actor.specs.PlainSources.{plain_source}
 
 -- the object of a piece that can be stored holds it, where it is short enough to be got at once
-object_holds : (frame : Frame) (attrs : List Attr) (p : Piece) → IsStorable frame attrs p → IsShort (plain_object p) → IsPlainObject frame attrs p (plain_object p)
+object_holds : (frame : Frame) (attrs : List Attr) (p : Piece) → IsPlainStorable frame attrs p → IsShort (plain_object p) → IsPlainObject frame attrs p (plain_object p)
 object_holds frame attrs p is short = record {
   stored = stored_for p;
   fits = is.fits;
@@ -48,7 +50,7 @@ object_holds frame attrs p is short = record {
 }
 
 -- the one part of such a piece spells it
-parts_spell : (frame : Frame) (s : Schema) (p : Piece) → IsStorable frame s.attrs p → All (λ x. IsShort x.bytes) (plain_parts frame s p) → IsPlain frame s p (look_in (plain_parts frame s p))
+parts_spell : (frame : Frame) (s : Schema) (p : Piece) → IsPlainStorable frame s.attrs p → All (λ x. IsShort x.bytes) (plain_parts frame s p) → IsPlain frame s p (look_in (plain_parts frame s p))
 parts_spell frame s p is short = (plain_object p, refl, object_holds frame s.attrs p is (All-head (λ (x : PartBytes). IsShort x.bytes) _ [] short))
 
 -- a list of one item has no second one
@@ -74,8 +76,9 @@ takes_all f g c e = cc
 -- the laws of plain fragments
 pub plain_laws : CodecLaws plain_codec IsPlain NeverWaits
 plain_laws = record {
-  parts = λ frame s p is short. parts_spell frame s p (ordinary_storable frame s.attrs p is) short;
+  parts = λ frame s p is short. parts_spell frame s p (storable_plain frame s.attrs p is) short;
   last = λ frame s p is. ([], plain_object p, refl);
+  storable = λ frame s p look is_frame are_attrs own is. plain_source frame s.attrs p is.0 is_frame are_attrs own is.2;
   once = λ frame s p i k x y at_i at_k _. only_place _ x i at_i ∙ sym (only_place _ y k at_k);
   head = λ frame s p look is. (is.0, is.1, head_again frame s.attrs p is.0 is.2);
   looks = λ f r g c asked. absurd (takes_all f g c asked);
@@ -85,7 +88,7 @@ plain_laws = record {
 }
 
 -- the laws of what can be stored
-pub plain_writes : WritesWell plain_codec IsPlain IsStorable
+pub plain_writes : WritesWell plain_codec IsPlain IsPlainStorable
 plain_writes = record {
   parts = parts_spell;
   last = λ frame s p is. ([], plain_object p, refl);

@@ -58,7 +58,7 @@ inside_first : (d : Dim) (dims : List Dim) (x : ℤ) (coords : List ℤ) → Ins
 inside_first d dims x coords h = and_parts (int_le d.low x && int_le x d.high) (is_in_domain dims coords) h
 
 -- the sides between two corners in the domain are those of a hull
-hull_fits : (dims : List Dim) (low high : List ℤ) → All IsDim dims → Inside dims low → Inside dims high → IsTrue (are_bounds low high) → EachFits FitsSide dims (sides_of low high)
+pub hull_fits : (dims : List Dim) (low high : List ℤ) → All IsDim dims → Inside dims low → Inside dims high → IsTrue (are_bounds low high) → EachFits FitsSide dims (sides_of low high)
 hull_fits [] [] [] are a b c = tt
 hull_fits [] [] (h ∷ high) are a b c = absurd (cc)
 hull_fits [] (l ∷ low) high are a b c = absurd (cc)
@@ -75,7 +75,7 @@ hull_fits (d ∷ dims) (l ∷ low) (h ∷ high) are a b c =
     )
 
 -- coordinates between two corners lie on the sides
-coords_fit : (dims : List Dim) (low high coords : List ℤ) → All IsDim dims → Inside dims coords → IsTrue (is_between low high coords) → EachFits FitsCoord (sides_of low high) coords
+pub coords_fit : (dims : List Dim) (low high coords : List ℤ) → All IsDim dims → Inside dims coords → IsTrue (is_between low high coords) → EachFits FitsCoord (sides_of low high) coords
 coords_fit dims [] [] [] are a b = tt
 coords_fit dims [] [] (x ∷ coords) are a b = absurd (cc)
 coords_fit dims [] (h ∷ high) coords are a b = absurd (cc)
@@ -88,21 +88,21 @@ coords_fit (d ∷ dims) (l ∷ low) (h ∷ high) (x ∷ coords) are a b =
     ((coord_fits d x (All-head IsDim d dims are) inside.0, on.0), coords_fit dims low high coords (All-tail IsDim d dims are) inside.1 on.1)
 
 -- the corners of the sides between two corners are those corners
-lows_back : (low high : List ℤ) → IsTrue (are_bounds low high) → low ≡ map (λ (side : Side). side.low) (sides_of low high)
+pub lows_back : (low high : List ℤ) → IsTrue (are_bounds low high) → low ≡ map (λ (side : Side). side.low) (sides_of low high)
 lows_back [] [] h = refl
 lows_back [] (y ∷ high) h = absurd (cc)
 lows_back (x ∷ low) [] h = absurd (cc)
 lows_back (x ∷ low) (y ∷ high) h = ap (λ xs. x ∷ xs) (lows_back low high (and_parts (int_le x y) (are_bounds low high) h).1)
 
 -- the same of the other corner
-highs_back : (low high : List ℤ) → IsTrue (are_bounds low high) → high ≡ map (λ (side : Side). side.high) (sides_of low high)
+pub highs_back : (low high : List ℤ) → IsTrue (are_bounds low high) → high ≡ map (λ (side : Side). side.high) (sides_of low high)
 highs_back [] [] h = refl
 highs_back [] (y ∷ high) h = absurd (cc)
 highs_back (x ∷ low) [] h = absurd (cc)
 highs_back (x ∷ low) (y ∷ high) h = ap (λ ys. y ∷ ys) (highs_back low high (and_parts (int_le x y) (are_bounds low high) h).1)
 
 -- as many cells lie between the sides as between the corners
-volume_between : (low high : List ℤ) → IsTrue (are_bounds low high) → volume (sides_of low high) ≡ cells_between low high
+pub volume_between : (low high : List ℤ) → IsTrue (are_bounds low high) → volume (sides_of low high) ≡ cells_between low high
 volume_between [] [] h = refl
 volume_between [] (y ∷ high) h = absurd (cc)
 volume_between (x ∷ low) [] h = absurd (cc)
@@ -130,7 +130,7 @@ own_fits frag consolidated origins own fits named ordinary only =
 -- ---- the cells
 
 -- each value of a row has a spelling, and its attribute may have it
-row_fits : (attrs : List Attr) (row : List Val) → RowFits attrs row → EachFits FitsValue attrs row
+pub row_fits : (attrs : List Attr) (row : List Val) → RowFits attrs row → EachFits FitsValue attrs row
 row_fits [] [] h = tt
 row_fits [] (v ∷ row) h = absurd h
 row_fits (a ∷ attrs) [] h = absurd h
@@ -148,7 +148,7 @@ StartsBehind frame before (v ∷ vs) = Behind frame before v.coords
 
 module _ (frame : Frame) where
   -- what comes behind other coordinates is not at them
-  not_same : (c d : List ℤ) → global_order frame c d ≡ Less → coords_eq c d ≡ false
+  pub not_same : (c d : List ℤ) → global_order frame c d ≡ Less → coords_eq c d ≡ false
   not_same c d less = by (coords_eq c d) refl
     where
       by : (b : Bool) → coords_eq c d ≡ b → b ≡ false
@@ -254,16 +254,16 @@ ordinary_back frame attrs p is =
 -- ---- which pieces can be stored
 
 -- what is stored of the piece keeps all rules, and holds the piece
-pub record IsStorable (frame : Frame) (attrs : List Attr) (p : Piece) : Type 0 where
+pub record IsPlainStorable (frame : Frame) (attrs : List Attr) (p : Piece) : Type 0 where
   pub fits : FitsPlain frame attrs p.head.frag (stored_for p)
   pub same : p ≡ piece_of p.head.frag (stored_for p)
 
 -- a piece that one write makes can be stored
-pub ordinary_storable : WritesOrdinary IsStorable
+pub ordinary_storable : WritesOrdinary IsPlainStorable
 ordinary_storable frame attrs p is = record { fits = ordinary_fits frame attrs p is; same = ordinary_back frame attrs p is }
 
 -- so can each piece that some plain object holds, one of many writes too
-pub plain_storable : (frame : Frame) (attrs : List Attr) (p : Piece) → HasPlain frame attrs p → IsStorable frame attrs p
+pub plain_storable : (frame : Frame) (attrs : List Attr) (p : Piece) → HasPlain frame attrs p → IsPlainStorable frame attrs p
 plain_storable frame attrs p has =
     let is = has.spelled in
     let stored : stored_for p ≡ is.stored = ap stored_for is.same ∙ stored_back frame attrs p.head.frag is.stored is.fits in
@@ -273,5 +273,5 @@ plain_storable frame attrs p has =
     }
 
 -- each version of such a piece can name its write
-pub storable_names : (frame : Frame) (attrs : List Attr) (p : Piece) → IsStorable frame attrs p → NamesWrites p
+pub storable_names : (frame : Frame) (attrs : List Attr) (p : Piece) → IsPlainStorable frame attrs p → NamesWrites p
 storable_names frame attrs p is = subst NamesWrites (sym is.same) (names_of frame attrs p.head.frag (stored_for p) is.fits)

@@ -13,7 +13,7 @@ ghost use Rattle.ts_plain.specs.Merges.{global_order, LiesInside, VersionsAscend
 ghost use Rattle.ts_store.specs.declared.call.Call.{Call as AnyCall};
 ghost use Rattle.ts_model.specs.Codecs.{Codec, CodecLaws};
 ghost use Rattle.ts_actor.specs.Fetches.{IsStep, FallsAtAsk, AsksSpelled};
-ghost use Rattle.ts_actor.specs.PieceLaws.{SpellsOne, RefusesBroken, OpensUnbroken, TakesInside, TakesOrdered, TakesSpelled, JudgesRight, AsksBounded, AsksOwn, NamesHead, SettlesHeads, WritesOrdinary, WritesWell};
+ghost use Rattle.ts_actor.specs.PieceLaws.{SpellsOne, RefusesBroken, OpensUnbroken, TakesInside, TakesOrdered, TakesSpelled, JudgesRight, AsksBounded, AsksOwn, NamesHead, SettlesHeads, WritesOrdinary, WritesConsolidated, WritesWell};
 
 use std::alloc::Global;
 use std::thread::Threads;
@@ -127,6 +127,9 @@ pub trait Pieces: Spelling {
 
     /// A piece that one write makes can be written.
     ghost ordinary: { WritesOrdinary writable };
+
+    /// A piece that a consolidation makes can be written.
+    ghost consolidated: { WritesConsolidated writable };
 
     /// The parts of a piece that can be written spell it.
     ghost writes: { WritesWell codec Self.spelled writable };
