@@ -1,0 +1,4 @@
+pub mod Steps
+pub mod Hulls
+pub mod Placed
+pub mod Merged

@@ -1,0 +1,7 @@
+-- The greatest timestamp so far.
+use Rattle.std.proofs.Common.{◌≡◌, take}
+use Rattle.ts_model.specs.Merging.{last_from}
+use Rattle.ts_consolidate.proofs.heads.last_from.Given as goal
+
+abbrev pub invariant-loop-head : goal.invariant-loop-head
+invariant-loop-head l = l.greatest ≡ last_from l.fn.t (take l.head-index l.heads)

@@ -1,0 +1,2 @@
+pub mod Consolidations
+pub mod Placing
