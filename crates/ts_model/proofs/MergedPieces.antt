@@ -1,6 +1,6 @@
 -- What a piece and others are merged into holds their origins, between the first and the last of their timestamps, in the least box that has theirs.
-use Rattle.std.proofs.Common.{◌≡◌, ℕ, suc, ℤ, ◌≤◌, ◌⊎◌, Bool, true, false, cond, ◌||◌, inl, inr, List, [], ◌∷◌, length, refl, sym, ◌∙◌, ap, subst, arith}
-use Rattle.std.specs.Prelude.{Contains, min, max, map as list_map}
+use Rattle.std.proofs.Common.{◌≡◌, ℕ, suc, ℤ, ◌≤◌, ◌⊎◌, Bool, true, false, ◌||◌, inl, inr, List, [], ◌∷◌, length, refl, sym, ◌∙◌, ap, subst, arith}
+use Rattle.std.specs.Prelude.{Contains, min, max}
 use Rattle.std.specs.BTreeSet.{insert_key}
 use Rattle.std.specs.Cmp.{IsTotalOrder}
 use Rattle.std.specs.List.{list_any, flat_map, fold, AllByRecursion}

@@ -1,5 +1,5 @@
 -- What commands make, and what they are refused for.
-use Rattle.std.specs.Prelude.{ℕ, ℤ, pos, ◌<◌, ◌≤◌, IsTrue, All, ◌+◌, ◌-◌, ◌*◌, ◌^◌, Bool, true, false, cond, not, ◌≡◌, ◌&&◌, ◌||◌, if◌then◌else◌, List, [], ◌∷◌, ◌++◌, Option, Some, None, option_map, option_and_then, filter_map, length, nat_le, nat_lt, nat_eq, int_le, int_lt, slice_get, Result, Ok, Err, find, is_some, suc, zero, neg_ℤ, map as list_map}
+use Rattle.std.specs.Prelude.{ℕ, ℤ, pos, ◌<◌, ◌≤◌, IsTrue, All, ◌+◌, ◌-◌, ◌*◌, ◌^◌, Bool, true, false, cond, ◌≡◌, ◌&&◌, ◌||◌, if◌then◌else◌, List, [], ◌∷◌, ◌++◌, Option, Some, None, option_map, option_and_then, filter_map, length, nat_le, nat_lt, nat_eq, int_le, int_lt, slice_get, Result, Ok, Err, find, is_some, suc, zero, neg_ℤ, map as list_map}
 use Rattle.ts_base.specs.declared.keys.Key.{Key}
 use Rattle.ts_base.specs.declared.heads.Version.{Version}
 use Rattle.ts_base.specs.declared.heads.Piece.{Piece}

@@ -9,7 +9,7 @@ use Rattle.ts_model.specs.declared.states.State.TheVariants.{Over}
 use Rattle.ts_model.specs.declared.states.Stage.TheVariants.{Works}
 use Rattle.ts_model.specs.Stops.{cuts, Uncut}
 use Rattle.ts_model.specs.States.{Exchange}
-use Rattle.ts_model.specs.Stages.{first_stage, stage_asks, is_release, holds_lease, is_done, stage_takes_memory, goes_on, stage_from, stage_of}
+use Rattle.ts_model.specs.Stages.{first_stage, stage_asks, is_release, holds_lease, is_done, stage_takes_memory, goes_on, stage_of}
 use Rattle.ts_model.specs.Codecs.{Codec}
 use Rattle.ts_model.specs.declared.answers.Outcome.TheVariants as outcome
 use Rattle.ts_model.specs.declared.answers.Driven.TheVariants as driven

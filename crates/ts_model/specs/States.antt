@@ -3,7 +3,6 @@ use Rattle.std.specs.Prelude.{ℕ, ℤ, ◌-◌, ◌^◌, Bool, true, false, con
 use Rattle.ts_base.specs.declared.keys.Key.{Key}
 use Rattle.ts_base.specs.declared.keys.FragKey.{FragKey}
 use Rattle.ts_base.specs.declared.names.Name.{Name}
-use Rattle.ts_base.specs.declared.names.LeaseMode.{LeaseMode}
 use Rattle.ts_base.specs.declared.names.Place.{Place}
 use Rattle.ts_base.specs.declared.names.PartBytes.{PartBytes}
 use Rattle.ts_base.specs.declared.heads.Version.{Version}
@@ -35,7 +34,7 @@ use Rattle.std.specs.List.{list_any}
 use Rattle.std.specs.Option.{option_map_or}
 use Rattle.std.specs.Str.{bytes_eq}
 use Rattle.ts_base.specs.Keys.{key_eq, key_cmp, key_lt}
-use Rattle.ts_base.specs.Names.{name_eq, wrt_of, del_of}
+use Rattle.ts_base.specs.Names.{wrt_of, del_of}
 use Rattle.ts_domain.specs.declared.boxes.SubBox.{SubBox}
 use Rattle.ts_domain.specs.Boxes.{coords_of_box}
 use Rattle.ts_cond.specs.CondTexts.{cond_object, cond_of}
