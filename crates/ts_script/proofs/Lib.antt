@@ -1,5 +1,6 @@
 pub mod Cuts
 pub mod Texts
 pub mod Whole
+pub mod Typed
 pub mod Meanings
 pub mod Asking

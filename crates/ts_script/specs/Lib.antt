@@ -1,5 +1,6 @@
 pub mod Shapes
 pub mod Values
+pub mod Typed
 pub mod Lines
 pub mod Parts
 pub mod Script

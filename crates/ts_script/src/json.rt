@@ -1,5 +1,6 @@
 //! Reading a JSON value by its form: which values a form takes, and what they then stand for.
-ghost use Rattle.std.specs.Prelude.{◌≡◌, [], Option, map, option_map};
+ghost use Rattle.std.specs.Prelude.{◌≡◌, ◌^◌, [], Bool, true, Option, IfOk, IsTrue, map, nat_lt, option_map};
+ghost use Rattle.std.specs.List.{list_all};
 ghost use Rattle.serde_json.specs.Find.{as_bool, as_str};
 ghost use Rattle.serde_json.specs.Data.{Data};
 ghost use Rattle.serde_json.specs.View.{view, items_view, members_view};
@@ -35,14 +36,20 @@ impl From<OutOfMemory> for FormFault {
 pub(crate) trait FromJson: Drop + Sized {
     ghost form: { Data → Option Self };
 
+    /// What the type ensures of each of its values.
+    ghost typed: { Self → Bool };
+
     /// Reads a value. `Form` comes exactly where the form gives None.
     fn from_json(alloc: Global, value: &Value) -> Result<Self, FormFault>
-        ensures { Gives result (form (view value.now)) };
+        ensures gives { Gives result (form (view value.now)) }
+        ensures typed { IfOk result (λ read. IsTrue (typed read)) };
 }
 
 /// A whole number from -2^63 to 2^64 - 1.
 impl FromJson for i128 {
     ghost form = { integer };
+
+    ghost typed = { λ _. true };
 
     fn from_json(_alloc: Global, value: &Value) -> Result<i128, FormFault> {
         match value.as_number().and_then(Number::as_i128) {
@@ -56,6 +63,8 @@ impl FromJson for i128 {
 impl FromJson for u64 {
     ghost form = { unsigned };
 
+    ghost typed = { λ number. nat_lt number (2 ^ 64) };
+
     fn from_json(_alloc: Global, value: &Value) -> Result<u64, FormFault> {
         match value.as_u64() {
             Some(number) => Ok(number),
@@ -67,6 +76,8 @@ impl FromJson for u64 {
 /// A whole number from 0 to 2^32 - 1.
 impl FromJson for u32 {
     ghost form = { unsigned_32 };
+
+    ghost typed = { λ _. true };
 
     fn from_json(_alloc: Global, value: &Value) -> Result<u32, FormFault> {
         match value.as_u64() {
@@ -80,6 +91,8 @@ impl FromJson for u32 {
 impl FromJson for bool {
     ghost form = { as_bool };
 
+    ghost typed = { λ _. true };
+
     fn from_json(_alloc: Global, value: &Value) -> Result<bool, FormFault> {
         match value.as_bool() {
             Some(is) => Ok(is),
@@ -92,6 +105,8 @@ impl FromJson for bool {
 impl<T: FromJson> FromJson for Sequence<T> {
     ghost form = { list_of T.form };
 
+    ghost typed = { list_all T.typed };
+
     fn from_json(alloc: Global, value: &Value) -> Result<Sequence<T>, FormFault> {
         match value.as_array() {
             Some(items) => read_items(alloc, items.as_slice()),
@@ -101,8 +116,10 @@ impl<T: FromJson> FromJson for Sequence<T> {
 }
 
 /// Reads each item of an array.
+#[tactic(auto, using(crate::proofs::Typed::one_more))]
 fn read_items<T: FromJson>(alloc: Global, items: &[Value]) -> Result<Sequence<T>, FormFault>
-    ensures { Gives result (items_onto T.form [] (items_view items.now)) }
+    ensures gives { Gives result (items_onto T.form [] (items_view items.now)) }
+    ensures typed { IfOk result (λ list. IsTrue (list_all T.typed list)) }
 {
     let mut done = Sequence::new(alloc);
     for item in items {
@@ -113,7 +130,8 @@ fn read_items<T: FromJson>(alloc: Global, items: &[Value]) -> Result<Sequence<T>
 
 /// Reads the value under a key, which has to be there.
 pub(crate) fn required<T: FromJson>(alloc: Global, value: &Value, key: &str) -> Result<T, FormFault>
-    ensures { Gives result (required T.form key.now (view value.now)) }
+    ensures gives { Gives result (required T.form key.now (view value.now)) }
+    ensures typed { IfOk result (λ read. IsTrue (T.typed read)) }
 {
     match value.get(key) {
         Some(found) => T::from_json(alloc, found),
@@ -128,7 +146,9 @@ pub(crate) fn optional<T: FromJson>(
     key: &str,
     missing: T,
 ) -> Result<T, FormFault>
-    ensures { Gives result (optional T.form missing key.now (view value.now)) }
+    requires { IsTrue (T.typed missing) }
+    ensures gives { Gives result (optional T.form missing key.now (view value.now)) }
+    ensures typed { IfOk result (λ read. IsTrue (T.typed read)) }
 {
     match value.get(key) {
         Some(found) => T::from_json(alloc, found),

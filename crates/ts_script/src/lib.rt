@@ -3,6 +3,7 @@
 #![tactic(auto)]
 
 mod commands;
+mod fitting;
 mod jobs;
 mod json;
 mod lines;

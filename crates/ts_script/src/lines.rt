@@ -1,15 +1,12 @@
 //! The commands that a script may have, as JSON objects.
-ghost use Rattle.std.specs.Prelude.{◌≡◌, ◌&&◌, ◌^◌, pos, neg_ℤ, int_le, int_lt, nat_lt, true, IfOk, map, option_map};
-ghost use Rattle.ts_base.specs.Labels.{is_label};
-ghost use Rattle.ts_schema.specs.FrameTexts.{is_bound};
-ghost use Rattle.std.specs.List.{list_all};
-ghost use Rattle.std.specs.Option.{option_map_or};
+ghost use Rattle.std.specs.Prelude.{◌≡◌, ◌&&◌, true, IfOk, IsTrue, map, option_map};
 ghost use Rattle.serde_json.specs.View.{view};
-ghost use Rattle.ts_model.specs.Commands.{fits, is_spelled_attr, is_spelled_box, is_spelled_col, is_spelled_dim, is_spelled_query, is_spelled_val, is_byte, is_text};
 ghost use Rattle.ts_model.specs.Jobs.{IsFitLine};
 ghost use Rattle.ts_script.specs.Shapes.{Gives};
+ghost use Rattle.ts_script.specs.Typed.{is_typed, is_typed_query};
 ghost use Rattle.ts_script.specs.Lines.{name_of, kind_named, create_of, evolve_of, write_of, query_of, read_of, delete_of, command_of, form_of, is_to_stamp, line_of, is_not_built};
 
+use crate::fitting::{as_text, fits};
 use crate::json::{
     FormFault, FromJson, has_only, if_there, is_one_of, optional, required, text_under,
 };
@@ -17,11 +14,11 @@ use crate::values::{read_box, read_columns, read_filter};
 use crate::words::ObjectForm;
 use serde_json::Value;
 use std::alloc::Global;
-use ts_base::{ByteList, Label, LabelList, Val};
-use ts_cond::{NamedBox, Query};
-use ts_domain::{Dim, DimList, Layout, Order};
-use ts_model::{ColIn, Command, FrameIn, Line, WriteIn};
-use ts_schema::{Attr, AttrList, Evolution};
+use ts_base::{ByteList, LabelList};
+use ts_cond::Query;
+use ts_domain::{DimList, Layout, Order};
+use ts_model::{Command, FrameIn, Line, WriteIn};
+use ts_schema::{AttrList, Evolution};
 
 /// The keys that every command of a script may have.
 const COMMON: [&str; 3] = ["cmd", "lane", "at"];
@@ -38,6 +35,8 @@ const CAPACITY: u32 = 10_000;
 /// Reads a line: a command in its lane, with its stamp where it has one.
 impl FromJson for Line {
     ghost form = { line_of };
+
+    ghost typed = { λ _. true };
 
     #[tactic(auto, unfolding(crate::specs::Lines::line_of))]
     fn from_json(alloc: Global, value: &Value) -> Result<Line, FormFault>
@@ -92,7 +91,8 @@ pub(crate) fn is_not_built(value: &Value) -> bool
 /// Reads the command of this name.
 #[tactic(auto, unfolding(crate::specs::Lines::command_of))]
 fn read_command(alloc: Global, name: &str, value: &Value) -> Result<Command, FormFault>
-    ensures { Gives result (command_of name.now (view value.now)) }
+    ensures gives { Gives result (command_of name.now (view value.now)) }
+    ensures typed { IfOk result (λ command. IsTrue (is_typed command)) }
 {
     if name == "create" {
         read_create(alloc, &COMMON, value)
@@ -115,7 +115,8 @@ pub(crate) fn read_form(
     form: ObjectForm,
     value: &Value,
 ) -> Result<Command, FormFault>
-    ensures { Gives result (form_of form (view value.now)) }
+    ensures gives { Gives result (form_of form (view value.now)) }
+    ensures typed { IfOk result (λ command. IsTrue (is_typed command)) }
 {
     match form {
         ObjectForm::Create => read_create(alloc, &[], value),
@@ -127,7 +128,8 @@ pub(crate) fn read_form(
 /// Reads a create.
 #[tactic(auto, unfolding(crate::specs::Lines::create_of))]
 fn read_create(alloc: Global, common: &[&str], value: &Value) -> Result<Command, FormFault>
-    ensures { Gives result (create_of (map (λ key. key.now) common.entry.now) (view value.now)) }
+    ensures gives { Gives result (create_of (map (λ key. key.now) common.entry.now) (view value.now)) }
+    ensures typed { IfOk result (λ command. IsTrue (is_typed command)) }
 {
     let Some(kind) = text_under(value, "kind") else {
         return Err(FormFault::Form);
@@ -175,7 +177,8 @@ fn is_dense(kind: &str) -> Option<bool>
 /// Reads an evolve, which adds attributes or drops some, or both.
 #[tactic(auto, unfolding(crate::specs::Lines::evolve_of))]
 fn read_evolve(alloc: Global, common: &[&str], value: &Value) -> Result<Command, FormFault>
-    ensures { Gives result (evolve_of (map (λ key. key.now) common.entry.now) (view value.now)) }
+    ensures gives { Gives result (evolve_of (map (λ key. key.now) common.entry.now) (view value.now)) }
+    ensures typed { IfOk result (λ command. IsTrue (is_typed command)) }
 {
     let add = optional(alloc, value, "add", AttrList::new(alloc))?;
     let less = optional(alloc, value, "drop", LabelList::new(alloc))?;
@@ -189,7 +192,8 @@ fn read_evolve(alloc: Global, common: &[&str], value: &Value) -> Result<Command,
 /// Reads a write: its columns, and to a dense array its box and the order of the cells in it.
 #[tactic(auto, unfolding(crate::specs::Lines::write_of))]
 fn read_write(alloc: Global, common: &[&str], value: &Value) -> Result<Command, FormFault>
-    ensures { Gives result (write_of (map (λ key. key.now) common.entry.now) (view value.now)) }
+    ensures gives { Gives result (write_of (map (λ key. key.now) common.entry.now) (view value.now)) }
+    ensures typed { IfOk result (λ command. IsTrue (is_typed command)) }
 {
     let Some(found) = value.get("cols") else {
         return Err(FormFault::Form);
@@ -206,7 +210,8 @@ fn read_write(alloc: Global, common: &[&str], value: &Value) -> Result<Command, 
 /// Reads a read: its interval begins and ends at 0 where it does not say else.
 #[tactic(auto, unfolding(crate::specs::Lines::read_of))]
 fn read_read(alloc: Global, common: &[&str], value: &Value) -> Result<Command, FormFault>
-    ensures { Gives result (read_of (map (λ key. key.now) common.entry.now) (view value.now)) }
+    ensures gives { Gives result (read_of (map (λ key. key.now) common.entry.now) (view value.now)) }
+    ensures typed { IfOk result (λ command. IsTrue (is_typed command)) }
 {
     let from = optional(alloc, value, "from", 0)?;
     let to = optional(alloc, value, "to", 0)?;
@@ -221,7 +226,8 @@ fn read_read(alloc: Global, common: &[&str], value: &Value) -> Result<Command, F
 /// Reads what a read asks for: its box, its fields, its filter and its layout.
 #[tactic(auto, unfolding(crate::specs::Lines::query_of))]
 fn read_query(alloc: Global, value: &Value) -> Result<Query, FormFault>
-    ensures { Gives result (query_of (view value.now)) }
+    ensures gives { Gives result (query_of (view value.now)) }
+    ensures typed { IfOk result (λ query. IsTrue (is_typed_query query)) }
 {
     let sub = read_box(alloc, value.get("box"))?;
     let fields = optional(alloc, value, "fields", LabelList::new(alloc))?;
@@ -241,203 +247,15 @@ fn read_query(alloc: Global, value: &Value) -> Result<Query, FormFault>
 /// Reads a delete: its condition.
 #[tactic(auto, unfolding(crate::specs::Lines::delete_of))]
 fn read_delete(alloc: Global, common: &[&str], value: &Value) -> Result<Command, FormFault>
-    ensures { Gives result (delete_of (map (λ key. key.now) common.entry.now) (view value.now)) }
+    ensures gives { Gives result (delete_of (map (λ key. key.now) common.entry.now) (view value.now)) }
+    ensures typed { IfOk result (λ command. IsTrue (is_typed command)) }
 {
     let Some(text) = text_under(value, "where") else {
         return Err(FormFault::Form);
     };
-    let text = ByteList::of_bytes(alloc, text.as_bytes())?;
+    let text = as_text(ByteList::of_bytes(alloc, text.as_bytes())?);
     if !has_only(value, common, &["where"]) {
         return Err(FormFault::Form);
     }
     Ok(Command::Delete(text))
-}
-
-/// Whether the command is one that there can be: its names are labels, its numbers lie in their
-/// ranges, its columns have values, and an array has a dimension and a capacity.
-pub(crate) fn fits(command: &Command) -> bool
-    ensures { result ≡ fits command.now }
-{
-    match command {
-        Command::Create(made) => {
-            let capacity = made.capacity;
-            !made.dims.is_empty()
-                && are_spelled_dims(made.dims.as_slice())
-                && 1 <= capacity
-                && capacity <= 1_000_000
-                && are_spelled_attrs(made.attrs.as_slice())
-        }
-        Command::Evolve(change) => are_spelled_attrs(change.add.as_slice()),
-        Command::Write(cells) => {
-            are_spelled_cols(cells.cols.as_slice()) && are_spelled_boxes(cells.sub.as_slice())
-        }
-        Command::Read { from, to, query } => {
-            is_stamp(*from) && is_stamp(*to) && is_spelled_query(query)
-        }
-        Command::Delete(text) => is_text(text.as_slice()),
-    }
-}
-
-/// Whether each name of a query is a label, its bounds are bounds, and its filter is a text.
-fn is_spelled_query(query: &Query) -> bool
-    ensures { result ≡ is_spelled_query query.now }
-{
-    are_spelled_boxes(query.sub.as_slice())
-        && are_labels(query.fields.as_slice())
-        && is_filter(query.filter.as_ref())
-}
-
-/// Whether each box is one that there can be.
-fn are_spelled_boxes(boxes: &[NamedBox]) -> bool
-    ensures { result ≡ list_all is_spelled_box boxes.now }
-{
-    boxes.iter().all(|sub| is_spelled_box(sub))
-}
-
-/// Whether a box has bounds between -2^64 and 2^64, the low one at most the high one.
-fn is_spelled_box(sub: &NamedBox) -> bool
-    ensures { result ≡ is_spelled_box sub.now }
-{
-    is_label(&sub.name) && is_bound(sub.low) && is_bound(sub.high) && sub.low <= sub.high
-}
-
-/// Whether each label is one, as each is.
-fn are_labels(labels: &[Label]) -> bool
-    ensures { result ≡ list_all is_label labels.now }
-{
-    labels.iter().all(|label| is_label(label))
-}
-
-/// Whether a filter, where there is one, is a text, as each is that fits in memory.
-fn is_filter(filter: Option<&ByteList>) -> bool
-    ensures { result ≡ option_map_or is_text (option_map (λ text. text.now) filter.entry) true }
-{
-    match filter {
-        Some(text) => is_text(text.as_slice()),
-        None => true,
-    }
-}
-
-/// A timestamp has 64 bits: the type says so, and nothing is tested.
-fn is_stamp(at: u64) -> bool
-    ensures { result ≡ nat_lt at (2 ^ 64) }
-{
-    true
-}
-
-/// Whether a label is one, as each is.
-fn is_label(label: &Label) -> bool
-    ensures { result ≡ is_label label.now }
-{
-    Label::new(label.text()).is_some()
-}
-
-/// Whether each dimension is one that there can be.
-fn are_spelled_dims(dims: &[Dim]) -> bool
-    ensures { result ≡ list_all is_spelled_dim dims.now }
-{
-    dims.iter().all(|dim| is_spelled_dim(dim))
-}
-
-/// Whether a dimension has an integer type and numbers between -2^64 and 2^64.
-fn is_spelled_dim(dim: &Dim) -> bool
-    ensures { result ≡ is_spelled_dim dim.now }
-{
-    is_label(&dim.name)
-        && dim.ty.is_integer()
-        && is_bound(dim.low)
-        && is_bound(dim.high)
-        && is_bound(dim.extent)
-}
-
-/// Whether a number lies between -2^64 and 2^64.
-fn is_bound(number: i128) -> bool
-    ensures { result ≡ is_bound number }
-{
-    -18_446_744_073_709_551_616 <= number && number <= 18_446_744_073_709_551_616
-}
-
-/// Whether each attribute has a spelling.
-fn are_spelled_attrs(attrs: &[Attr]) -> bool
-    ensures { result ≡ list_all is_spelled_attr attrs.now }
-{
-    attrs.iter().all(|attr| is_spelled_attr(attr))
-}
-
-/// Whether an attribute has a spelling.
-fn is_spelled_attr(attr: &Attr) -> bool
-    ensures { result ≡ is_spelled_attr attr.now }
-{
-    is_label(&attr.name) && is_spelled_val(&attr.fill)
-}
-
-/// Whether each column has a value, and its values a spelling.
-fn are_spelled_cols(cols: &[ColIn]) -> bool
-    ensures { result ≡ list_all is_spelled_col cols.now }
-{
-    cols.iter().all(|col| is_spelled_col(col))
-}
-
-/// Whether a column has a value, and each of its values a spelling.
-fn is_spelled_col(col: &ColIn) -> bool
-    ensures { result ≡ is_spelled_col col.now }
-{
-    is_label(&col.name)
-        && col.values.len() > 0
-        && is_size(col.values.as_slice().len())
-        && are_spelled_vals(col.values.as_slice())
-}
-
-/// Whether each value has a spelling.
-fn are_spelled_vals(vals: &[Val]) -> bool
-    ensures { result ≡ list_all is_spelled_val vals.now }
-{
-    vals.iter().all(|val| is_spelled_val(val))
-}
-
-/// Whether a value has a spelling, as each value has that fits in memory.
-fn is_spelled_val(val: &Val) -> bool
-    ensures { result ≡ is_spelled_val val.now }
-{
-    match val {
-        Val::Null => true,
-        Val::Int(number) => is_wide(*number),
-        Val::Bytes(bytes) => is_text(bytes.as_slice()),
-    }
-}
-
-/// An integer has 128 bits: the type says so, and nothing is tested.
-fn is_wide(number: i128) -> bool
-    ensures { result ≡ (int_le (neg_ℤ (pos (2 ^ 127))) number && int_lt number (pos (2 ^ 127))) }
-{
-    true
-}
-
-/// Whether there are so few bytes that their number has 64 bits, and each is below 256, as it is of
-/// all bytes in memory.
-fn is_text(bytes: &[u8]) -> bool
-    ensures { result ≡ is_text bytes.now }
-{
-    is_size(bytes.len()) && are_bytes(bytes)
-}
-
-/// Whether each byte is below 256.
-fn are_bytes(bytes: &[u8]) -> bool
-    ensures { result ≡ list_all is_byte bytes.now }
-{
-    bytes.iter().all(|byte| is_byte(*byte))
-}
-
-/// A size has 64 bits: the type says so, and nothing is tested.
-fn is_size(size: usize) -> bool
-    ensures { result ≡ nat_lt size (2 ^ 64) }
-{
-    true
-}
-
-/// A byte is below 256: the type says so, and nothing is tested.
-fn is_byte(byte: u8) -> bool
-    ensures { result ≡ is_byte byte }
-{
-    true
 }

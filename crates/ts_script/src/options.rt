@@ -1,7 +1,8 @@
 //! The texts of options: numbers, lists of fields, and boxes.
-ghost use Rattle.std.specs.Prelude.{◌≡◌, ◌≤◌, ◌<◌, ◌^◌, [], map, nat_lt, IsTrue, length, option_map, position, IfSome};
+ghost use Rattle.std.specs.Prelude.{◌≡◌, ◌≤◌, ◌<◌, ◌^◌, [], map, nat_lt, IsTrue, length, option_map, position, IfOk, IfSome};
 ghost use Rattle.std.specs.Char.{is_ascii_digit};
 ghost use Rattle.std.specs.List.{list_all};
+ghost use Rattle.ts_base.specs.Labels.{is_label};
 ghost use Rattle.ts_script.specs.Shapes.{Gives, both_items, when};
 ghost use Rattle.ts_script.specs.Options.{number_from, is_number_text, number_of, is_number_byte, integer_of, labels_onto, labels_of, three_items, bounds_of, named_box_of, has_name, is_below, place_of, placed, boxes_onto, boxes_of};
 
@@ -85,15 +86,18 @@ fn are_number_bytes(text: &[u8]) -> bool
 /// Labels with commas between.
 #[tactic(auto, unfolding(crate::specs::Options::labels_of))]
 pub(crate) fn read_labels(alloc: Global, text: &[u8]) -> Result<LabelList, FormFault>
-    ensures { Gives result (labels_of text.now) }
+    ensures gives { Gives result (labels_of text.now) }
+    ensures typed { IfOk result (λ labels. IsTrue (list_all is_label labels)) }
 {
     let parts = parts_at(alloc, text, b',')?;
     labels_of_parts(alloc, parts.as_slice())
 }
 
 /// A label from each part.
+#[tactic(auto, using(crate::proofs::Typed::one_more, crate::proofs::Typed::label_typed))]
 fn labels_of_parts(alloc: Global, parts: &[&[u8]]) -> Result<LabelList, FormFault>
-    ensures { Gives result (labels_onto [] (map (λ part. part.now) parts.entry.now)) }
+    ensures gives { Gives result (labels_onto [] (map (λ part. part.now) parts.entry.now)) }
+    ensures typed { IfOk result (λ labels. IsTrue (list_all is_label labels)) }
 {
     let mut done = LabelList::new(alloc);
     for part in parts {

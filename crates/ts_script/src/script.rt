@@ -6,8 +6,9 @@ ghost use Rattle.ts_model.specs.Jobs.{IsFitLine};
 ghost use Rattle.ts_script.specs.Script.{byte_limit, is_blank, json_of, line_at, with_line, script_of, object_in, object_command, IsScript, AreLimited};
 ghost use Rattle.ts_model.specs.Commands.{fits};
 
+use crate::fitting::fits;
 use crate::json::{FormFault, FromJson};
-use crate::lines::{fits, is_not_built, read_form};
+use crate::lines::{is_not_built, read_form};
 use crate::parts::next_part;
 use crate::words::ObjectForm;
 use serde_json::{Category, Value};

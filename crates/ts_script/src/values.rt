@@ -1,9 +1,15 @@
 //! Names, types, values, dimensions and attributes as JSON values.
-ghost use Rattle.std.specs.Prelude.{◌≡◌, [], IfOk, option_map};
+ghost use Rattle.std.specs.Prelude.{◌≡◌, [], true, IfOk, IsTrue, option_map};
+ghost use Rattle.std.specs.List.{list_all};
+ghost use Rattle.std.specs.Option.{option_map_or};
+ghost use Rattle.ts_base.specs.Labels.{is_label};
+ghost use Rattle.ts_model.specs.Commands.{is_spelled_attr, is_spelled_val, is_text};
 ghost use Rattle.serde_json.specs.View.{view, members_view};
 ghost use Rattle.ts_script.specs.Shapes.{Gives};
+ghost use Rattle.ts_script.specs.Typed.{is_typed_col};
 ghost use Rattle.ts_script.specs.Values.{label, type_named, val_type, order, layout, layout_named, value, fill_said, fill, dim, attr, columns_onto, columns, bounds_onto, box, filter};
 
+use crate::fitting::as_text;
 use crate::json::{FormFault, FromJson, both_items, has_only, optional, required};
 use serde_json::{Map, Value};
 use std::alloc::Global;
@@ -18,6 +24,9 @@ use ts_value::default_fill;
 impl FromJson for Label {
     ghost form = { label };
 
+    ghost typed = { is_label };
+
+    #[tactic(auto, using(crate::proofs::Typed::label_typed))]
     fn from_json(_alloc: Global, value: &Value) -> Result<Label, FormFault> {
         match value.as_str().and_then(Label::new) {
             Some(label) => Ok(label),
@@ -29,6 +38,8 @@ impl FromJson for Label {
 /// A type by its name.
 impl FromJson for ValType {
     ghost form = { val_type };
+
+    ghost typed = { λ _. true };
 
     fn from_json(_alloc: Global, value: &Value) -> Result<ValType, FormFault> {
         match value.as_str().and_then(type_named) {
@@ -61,6 +72,8 @@ fn type_named(name: &str) -> Option<ValType>
 impl FromJson for Order {
     ghost form = { order };
 
+    ghost typed = { λ _. true };
+
     #[tactic(auto, unfolding(crate::specs::Values::order))]
     fn from_json(_alloc: Global, value: &Value) -> Result<Order, FormFault> {
         match value.as_str() {
@@ -74,6 +87,8 @@ impl FromJson for Order {
 /// A layout: `row`, `col` or `global`.
 impl FromJson for Layout {
     ghost form = { layout };
+
+    ghost typed = { λ _. true };
 
     #[tactic(auto, unfolding(crate::specs::Values::layout))]
     fn from_json(_alloc: Global, value: &Value) -> Result<Layout, FormFault> {
@@ -100,6 +115,8 @@ pub(crate) fn layout_named(name: &str) -> Option<Layout>
 impl FromJson for Val {
     ghost form = { value };
 
+    ghost typed = { is_spelled_val };
+
     fn from_json(alloc: Global, value: &Value) -> Result<Val, FormFault> {
         match value {
             Value::Null => Ok(Val::Null),
@@ -107,20 +124,25 @@ impl FromJson for Val {
                 Some(integer) => Ok(Val::Int(integer)),
                 None => Err(FormFault::Form),
             },
-            Value::String(text) => Ok(Val::Bytes(ByteList::of_bytes(alloc, text.as_bytes())?)),
+            Value::String(text) => {
+                let bytes = ByteList::of_bytes(alloc, text.as_bytes())?;
+                Ok(Val::Bytes(as_text(bytes)))
+            }
             _ => Err(FormFault::Form),
         }
     }
 }
 
 /// The fill of an attribute: the one that is given, or else the default one of its type.
+#[tactic(auto, using(crate::proofs::Typed::fill_typed))]
 fn read_fill(
     alloc: Global,
     ty: ValType,
     nullable: bool,
     given: Option<&Value>,
 ) -> Result<Val, FormFault>
-    ensures { Gives result (fill ty nullable (option_map (λ d. view d.now) given.entry)) }
+    ensures gives { Gives result (fill ty nullable (option_map (λ d. view d.now) given.entry)) }
+    ensures typed { IfOk result (λ val. IsTrue (is_spelled_val val)) }
 {
     match given {
         Some(found) => Ok(fill_said(alloc, ty, Val::from_json(alloc, found)?)?),
@@ -130,11 +152,13 @@ fn read_fill(
 
 /// What a fill says of an attribute of a type: for a blob it has the digits of the bytes.
 fn fill_said(alloc: Global, ty: ValType, val: Val) -> Result<Val, OutOfMemory>
-    ensures { IfOk result (λ said. said ≡ fill_said ty val) }
+    requires { IsTrue (is_spelled_val val) }
+    ensures said { IfOk result (λ said. said ≡ fill_said ty val) }
+    ensures typed { IfOk result (λ said. IsTrue (is_spelled_val said)) }
 {
     match (ty, val) {
         (ValType::Blob, Val::Bytes(text)) => match blob_bytes(alloc, text.as_slice())? {
-            Some(bytes) => Ok(Val::Bytes(bytes)),
+            Some(bytes) => Ok(Val::Bytes(as_text(bytes))),
             None => Ok(Val::Int(0)),
         },
         (_, val) => Ok(val),
@@ -144,6 +168,8 @@ fn fill_said(alloc: Global, ty: ValType, val: Val) -> Result<Val, OutOfMemory>
 /// A dimension.
 impl FromJson for Dim {
     ghost form = { dim };
+
+    ghost typed = { λ _. true };
 
     #[tactic(auto, unfolding(crate::specs::Values::dim))]
     fn from_json(alloc: Global, value: &Value) -> Result<Dim, FormFault> {
@@ -171,6 +197,8 @@ impl FromJson for Dim {
 impl FromJson for Attr {
     ghost form = { attr };
 
+    ghost typed = { is_spelled_attr };
+
     #[tactic(auto, unfolding(crate::specs::Values::attr))]
     fn from_json(alloc: Global, value: &Value) -> Result<Attr, FormFault> {
         let name = required(alloc, value, "name")?;
@@ -191,7 +219,8 @@ impl FromJson for Attr {
 
 /// The columns of a write: an object from names to lists of values.
 pub(crate) fn read_columns(alloc: Global, value: &Value) -> Result<ColInList, FormFault>
-    ensures { Gives result (columns (view value.now)) }
+    ensures gives { Gives result (columns (view value.now)) }
+    ensures typed { IfOk result (λ cols. IsTrue (list_all is_typed_col cols)) }
 {
     match value.as_object() {
         Some(members) => read_members(alloc, members),
@@ -200,8 +229,10 @@ pub(crate) fn read_columns(alloc: Global, value: &Value) -> Result<ColInList, Fo
 }
 
 /// Reads a column from each member of an object.
+#[tactic(auto, using(crate::proofs::Typed::one_more))]
 fn read_members(alloc: Global, members: &Map<String, Value>) -> Result<ColInList, FormFault>
-    ensures { Gives result (columns_onto [] (members_view members.now.entries)) }
+    ensures gives { Gives result (columns_onto [] (members_view members.now.entries)) }
+    ensures typed { IfOk result (λ cols. IsTrue (list_all is_typed_col cols)) }
 {
     let mut done = ColInList::new(alloc);
     for (key, value) in members.iter() {
@@ -250,13 +281,17 @@ pub(crate) fn read_filter(
     alloc: Global,
     given: Option<&Value>,
 ) -> Result<Option<ByteList>, FormFault>
-    ensures { Gives result (filter (option_map (λ d. view d.now) given.entry)) }
+    ensures gives { Gives result (filter (option_map (λ d. view d.now) given.entry)) }
+    ensures typed { IfOk result (λ text. IsTrue (option_map_or is_text text true)) }
 {
     let Some(found) = given else {
         return Ok(None);
     };
     match found.as_str() {
-        Some(text) => Ok(Some(ByteList::of_bytes(alloc, text.as_bytes())?)),
+        Some(text) => {
+            let bytes = ByteList::of_bytes(alloc, text.as_bytes())?;
+            Ok(Some(as_text(bytes)))
+        }
         None => Err(FormFault::Form),
     }
 }

@@ -1,5 +1,9 @@
 //! The words of a command line: what they ask for.
-ghost use Rattle.std.specs.Prelude.{◌≡◌, [], Some, None, false, map, option_map, option_and_then, IfOk};
+ghost use Rattle.std.specs.Prelude.{◌≡◌, [], Some, None, true, false, map, option_map, option_and_then, IfOk, IsTrue};
+ghost use Rattle.std.specs.List.{list_all};
+ghost use Rattle.std.specs.Option.{option_map_or};
+ghost use Rattle.ts_base.specs.Labels.{is_label};
+ghost use Rattle.ts_model.specs.Commands.{is_text};
 ghost use Rattle.clap.specs.Walk.{first_of, rows_of};
 ghost use Rattle.clap.specs.Matches.{found_of};
 ghost use Rattle.clap.specs.Simple.{subcommand_rows_of};
@@ -8,8 +12,8 @@ ghost use Rattle.ts_script.specs.Meanings.{IsFitAsked};
 ghost use Rattle.ts_script.specs.Words.{asked, asked_by, box_in, delete_asked, fields_in, layout_in, number_in, object_asked, read_asked, spelled};
 
 use crate::commands::tilestore_command;
+use crate::fitting::{as_text, fits};
 use crate::json::FormFault;
-use crate::lines::fits;
 use crate::options::{number_of, read_boxes, read_labels};
 use crate::values::layout_named;
 use clap::ArgMatches;
@@ -157,13 +161,10 @@ fn read_delete(alloc: Global, options: &ArgMatches<'_>) -> Result<Asked, FormFau
     let Some(text) = text_in(options, "where") else {
         return Err(FormFault::Form);
     };
-    let command = Command::Delete(ByteList::of_bytes(alloc, text.as_bytes())?);
-    if !fits(&command) {
-        return Err(FormFault::Form);
-    }
+    let text = as_text(ByteList::of_bytes(alloc, text.as_bytes())?);
     Ok(Asked::Command(Line {
         lane: 0,
-        command,
+        command: Command::Delete(text),
         at,
         to_stamp: false,
     }))
@@ -191,7 +192,8 @@ fn number_in(options: &ArgMatches<'_>, name: &str) -> Result<Option<u64>, FormFa
 
 /// The fields that are asked for.
 fn fields_in(alloc: Global, given: Option<&str>) -> Result<LabelList, FormFault>
-    ensures { Gives result (fields_in (option_map (λ text. text.now) given.entry)) }
+    ensures gives { Gives result (fields_in (option_map (λ text. text.now) given.entry)) }
+    ensures typed { IfOk result (λ labels. IsTrue (list_all is_label labels)) }
 {
     match given {
         Some(text) => read_labels(alloc, text.as_bytes()),
@@ -224,10 +226,14 @@ fn layout_in(given: Option<&str>) -> Result<Layout, FormFault>
 
 /// The text of the filter that is asked for.
 fn filter_in(alloc: Global, given: Option<&str>) -> Result<Option<ByteList>, FormFault>
-    ensures { Gives result (Some (option_map (λ text. text.now) given.entry)) }
+    ensures gives { Gives result (Some (option_map (λ text. text.now) given.entry)) }
+    ensures typed { IfOk result (λ text. IsTrue (option_map_or is_text text true)) }
 {
     match given {
-        Some(text) => Ok(Some(ByteList::of_bytes(alloc, text.as_bytes())?)),
+        Some(text) => {
+            let bytes = ByteList::of_bytes(alloc, text.as_bytes())?;
+            Ok(Some(as_text(bytes)))
+        }
         None => Ok(None),
     }
 }
