@@ -1,4 +1,4 @@
--- Trees by coordinates and by keys, seen as finite maps, and lists by the places of a box.
+-- Trees by keys, seen as finite maps, and lists by the places of a box.
 use Rattle.std.specs.Prelude.{ℤ, List, Option, cond, filter, not, map as list_map}
 use Rattle.std.specs.BTreeMap.{BTreeMap}
 use Rattle.std.specs.FinMap as map
@@ -9,10 +9,6 @@ use Rattle.ts_domain.specs.declared.boxes.SubBox.{SubBox}
 use Rattle.ts_domain.specs.Boxes.{coords_of_box}
 use Rattle.ts_model.specs.declared.states.Opened.{Opened}
 use Rattle.ts_model.specs.Pieces.{Newest}
-
--- the versions of a tree by their coordinates
-abbrev pub newest_in : BTreeMap (List ℤ) Version → Newest
-newest_in tree = map.from_entries tree.entries
 
 -- the newest version of each cell of a box, in row order
 abbrev pub slots_in : SubBox → Newest → List (Option Version)

@@ -8,9 +8,9 @@ ghost use Rattle.ts_reader.specs.Deletes.{one_shown, picks_under, bindings_of};
 ghost use Rattle.ts_reader.specs.Reading.{AreRising, IsReading};
 
 use crate::bindings::{Binding, Bindings, binding_at, bindings_of, is_erased};
-use crate::newest::newest_of;
 use crate::slots::slots_of;
 use std::alloc::Global;
+use ts_actor::newest_of;
 use ts_base::{FragList, OutOfMemory, Row, Version, VersionList};
 use ts_domain::Order;
 use ts_model::{Answer, Reading, Shown, ShownList, fills_of, rows_of, types_shown};

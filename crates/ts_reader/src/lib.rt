@@ -8,7 +8,7 @@ mod fetching;
 mod getting_deletes;
 mod known;
 mod listing;
-mod newest;
+mod named;
 mod opening;
 mod reader;
 mod slots;

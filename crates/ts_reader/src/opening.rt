@@ -11,7 +11,7 @@ ghost use Rattle.ts_reader.specs.Reading.{AreFirst, AreListed, AreSpelled, IsRea
 use crate::ends::{damaged, ended};
 use crate::fetching::Gathered;
 use crate::getting_deletes::next_delete;
-use crate::newest::keys_named;
+use crate::named::keys_named;
 use std::alloc::Global;
 use std::thread::Threads;
 use ts_actor::{Pieces, get_all};

@@ -6,8 +6,8 @@ ghost use Rattle.ts_model.specs.Pieces.{Newest, newest_of, with_version};
 ghost use Rattle.ts_model.specs.Queries.{most_cells};
 ghost use Rattle.ts_reader.specs.Newest.{slots_in};
 
-use crate::newest::is_new;
 use std::alloc::Global;
+use ts_actor::is_new;
 use ts_base::{OutOfMemory, Sequence, Version, VersionList};
 use ts_domain::{Order, SubBox};
 use ts_order::position_of;

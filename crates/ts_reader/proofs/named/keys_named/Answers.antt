@@ -3,7 +3,7 @@ use Rattle.std.proofs.Common.{◌∙◌, sym, subst}
 use Rattle.std.specs.List.Sorted.{IsStrictlySortedBy}
 use Rattle.ts_base.specs.Keys.{key_cmp}
 use Rattle.ts_reader.proofs.Newer.{keys_in_order}
-use Rattle.ts_reader.proofs.newest.keys_named.Goals as goal
+use Rattle.ts_reader.proofs.named.keys_named.Goals as goal
 
 pub returns-clause-is : goal.returns-clause-is
 returns-clause-is c =

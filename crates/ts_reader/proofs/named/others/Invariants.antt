@@ -1,6 +1,6 @@
 use Rattle.std.proofs.Common.{◌≡◌, map, reverse}
 use Rattle.ts_reader.specs.Newest.{keys_in, keys_of_others}
-use Rattle.ts_reader.proofs.newest.others.Given as goal
+use Rattle.ts_reader.proofs.named.others.Given as goal
 
 -- the keys that the fragments so far name, which are the last ones of the list
 abbrev pub invariant-loop-fragment : goal.invariant-loop-fragment
