@@ -4,6 +4,7 @@ pub mod Effects
 pub mod NewestBy
 pub mod OriginLaws
 pub mod MergingLaw
+pub mod TakenWhole
 pub mod Grows
 pub mod Stays
 pub mod Frames

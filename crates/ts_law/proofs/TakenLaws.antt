@@ -53,7 +53,7 @@ fits_long (a ∷ attrs) [] fit = absurd fit
 fits_long (a ∷ attrs) (v ∷ row) fit = ap suc (fits_long attrs row fit.2)
 
 -- a row that fits is left whole
-whole_row : (attrs : List Attr) (row : List Val) → RowFits attrs row → cut_row (places_from 0 (length attrs)) row ≡ row
+pub whole_row : (attrs : List Attr) (row : List Val) → RowFits attrs row → cut_row (places_from 0 (length attrs)) row ≡ row
 whole_row attrs row fit = ap (λ n. cut_row (places_from 0 n) row) (fits_long attrs row fit) ∙ all_places row
 
 -- ---- searches

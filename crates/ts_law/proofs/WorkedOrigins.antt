@@ -1,5 +1,5 @@
 -- Worked rows: what fragments hold of the writes that went into them, and which of them a read can use.
-use Rattle.std.proofs.Common.{◌≡◌, ℕ, ℤ, Bool, true, false, [], ◌∷◌, Some, None, refl}
+use Rattle.std.proofs.Common.{◌≡◌, ℕ, ℤ, Bool, true, false, List, [], ◌∷◌, Some, None, refl}
 use Rattle.std.specs.Prelude.{pos}
 use Rattle.ts_base.specs.declared.keys.Key.{Key}
 use Rattle.ts_base.specs.declared.heads.Cell.{Cell}
@@ -10,6 +10,7 @@ use Rattle.ts_commit.specs.Selections.{is_usable}
 use Rattle.ts_model.specs.declared.deeds.Deed.TheVariants.{Wrote}
 use Rattle.ts_model.specs.declared.deeds.Written.{Written}
 use Rattle.ts_model.specs.Deeds.{History}
+use Rattle.ts_model.specs.Merging.{left_of}
 use Rattle.ts_law.specs.Origins.{origins_of, wrote_in, last_version, newest_at, kept_of}
 
 -- a key of a stamp and an identifier
@@ -113,3 +114,23 @@ sparse_is_usable = refl
 
 dense_is_usable_by_all : is_usable 0 9 (merged true) ≡ true
 dense_is_usable_by_all = refl
+
+-- ---- merging
+
+-- all versions of the two writes' own fragments
+abbrev versions : List Version
+versions = version first (pos 0) (pos 10) ∷ version first (pos 1) (pos 11) ∷ version second (pos 1) (pos 21) ∷ version second (pos 2) (pos 22) ∷ []
+
+-- where the newest are left alone, the first write's version of the cell 1 is dropped
+older_is_dropped : left_of true versions (key 1 2) (pos 1 ∷ []) ≡ None
+older_is_dropped = refl
+
+newer_is_left : left_of true versions (key 5 3) (pos 1 ∷ []) ≡ Some (version second (pos 1) (pos 21))
+newer_is_left = refl
+
+-- else both are left
+older_is_left : left_of false versions (key 1 2) (pos 1 ∷ []) ≡ Some (version first (pos 1) (pos 11))
+older_is_left = refl
+
+both_are_left : left_of false versions (key 5 3) (pos 1 ∷ []) ≡ Some (version second (pos 1) (pos 21))
+both_are_left = refl
