@@ -1,5 +1,5 @@
 -- A fault of the store has its cause in a call that has another fate than Done.
-use Rattle.std.proofs.Common.{◌≡◌, ◌≢◌, ℕ, Bool, true, false, cond, List, Option, Some, None, inl, inr, ◌⊎◌, [], ◌∷◌, ◌++◌, refl, sym, ◌∙◌, ap, subst}
+use Rattle.std.proofs.Common.{◌≡◌, ◌≢◌, ℕ, Bool, true, false, cond, List, Option, Some, None, inl, inr, ◌⊎◌, [], ◌∷◌, refl, sym, ◌∙◌, ap, subst}
 use Rattle.std.specs.Prelude.{All, Contains, option_map}
 use Rattle.std.specs.Option.{option_or}
 use Rattle.std.proofs.lemmas.Option.{same_Some, none-some}
@@ -88,7 +88,7 @@ fault_has_cause codec number job own p suit segment = by_refusal (refused_before
     by_lease None ends = by_along (course_of codec job segment.found) (trace_of number own) (λ x at. at) ends
     by_lease (Some lease) (NotBegun none is) = cc
     by_lease (Some lease) (NotOwn only is) = cc
-    by_lease (Some lease) (Removed front r was parts put ended is) = elim (was_fault lease was r p is) [
+    by_lease (Some lease) (Removed front r was parts put heeds ended is) = elim (was_fault lease was r p is) [
       | inl same ↦
           by_along (course_of codec job segment.found) front (λ x at. subst (λ t. Contains t x) (sym parts) (Contains-append_left front (removal lease r ∷ []) x at))
           (subst (EndsAlong codec job segment.found (course_of codec job segment.found) front) same ended)

@@ -46,7 +46,7 @@ use Rattle.ts_model.specs.Stages.{after_lease, after_leases, end_at, first_stage
 use Rattle.ts_model.specs.Stops.{cuts}
 use Rattle.ts_model.specs.States.{Exchange, end_by, goes, begins, begun, refuse, unless_refused, get_schema, get_frame, list_schemas, list_commits, looked_into, committed_in, deletes_in, meets, commit_of, part_objects, put_of, putting, puts_cells, schema_object_of, write_objects, frame_put, is_own_frame, nothing_listed, asks_for, reading_of, puts_delete, delete_object_of}
 use Rattle.ts_model.specs.Driven.{AskedFrom, EndsBy, MayAsk}
-use Rattle.ts_law.specs.Courses.{EndsUnder, HasPut, IsCutAlong, IsCutOff, NotBegun, NotOwn, Removed, removal, Found, cell_puts, evolve_puts, course_of, IsSchemaIn, IsFrameIn, SaysThere, IsGot, AreFound, LooksThere, IsLookOf, lets_on, refused_in, IsCause, EndsAlong, MayEndAs, delete_puts}
+use Rattle.ts_law.specs.Courses.{EndsUnder, HasPut, HeedsLeases, IsCutAlong, IsCutOff, NotBegun, NotOwn, Removed, removal, Found, cell_puts, evolve_puts, course_of, IsSchemaIn, IsFrameIn, SaysThere, IsGot, AreFound, LooksThere, IsLookOf, lets_on, refused_in, IsCause, EndsAlong, MayEndAs, delete_puts}
 use Rattle.ts_model.proofs.ListLemmas.{Contains-nil, Contains-here, Contains-cons, Contains-only, filter-Contains}
 use Rattle.ts_law.proofs.CourseGrows.{among_more}
 use Rattle.ts_law.proofs.LaidRefusals.{IsOfColumns, FailsByColumns, laid_fails}
@@ -384,7 +384,12 @@ module _ {F : Type 0} (codec : Codec F) (any : Job) where
       NoCall : front ≡ [] → Began front
       WasTaken : front ≡ lease_put reply.Taken ∷ [] → Began front
       HeldLease : HasPut own_lease front → is_leased (open_from codec reading own_lease refl (PutsLease own_lease) front) ≡ true
-          → ((was : Outcome) → IsWas codec reading own_lease refl (open_from codec reading own_lease refl (PutsLease own_lease) front) was → ComesTo front was) → Began front
+          → ((was : Outcome) → IsWas codec reading own_lease refl (open_from codec reading own_lease refl (PutsLease own_lease) front) was → ComesTo front was)
+          → ((was : Outcome) → IsWas codec reading own_lease refl (open_from codec reading own_lease refl (PutsLease own_lease) front) was → HeedsLeases own_lease front was) → Began front
+
+    -- calls of which the second one is no listing of the leases that told names heed them
+    none_listed : (was : Outcome) (front : List Exchange) → ((put : Exchange) (names : List Name) (more : List Exchange) → front ≡ put ∷ leases_listed (reply.Names names) ∷ more → ⊥) → HeedsLeases own_lease front was
+    none_listed was front none put names more other is opposes = absurd (none put names more is)
 
     -- an end that the job may come to where it removes its lease is one that it came to, or want of memory
     of_was : (e was : Outcome) → IsWas codec reading own_lease refl (Releases own_lease e) was → ◌≡◌ {A = State F} (Over e) (Over was) ⊎ (was ≡ outcome.OutOfMemory)
@@ -398,6 +403,19 @@ module _ {F : Type 0} (codec : Codec F) (any : Job) where
         y : Exchange
         y = leases_listed (reply.Names names)
 
+        one_names : (x put : Exchange) (others : List Name) (more zs : List Exchange) → x ∷ y ∷ zs ≡ put ∷ leases_listed (reply.Names others) ∷ more → others ≡ names
+        one_names x put others more zs same =
+            let one : y ≡ leases_listed (reply.Names others) = cc in
+            let replies : reply.Names names ≡ reply.Names others = ap (λ z. z.reply) one in
+            cc
+
+        listed_same : (put : Exchange) (others : List Name) (more : List Exchange) → lease_put reply.Made ∷ y ∷ ys ≡ put ∷ leases_listed (reply.Names others) ∷ more → others ≡ names
+        listed_same put others more same = one_names (lease_put reply.Made) put others more ys same
+
+        told_was : (other another : Name) (was : Outcome) → other ≡ another → IsWas codec reading own_lease refl (Releases own_lease (outcome.Refused (refusal.Leased other))) was → (was ≡ outcome.Refused (refusal.Leased another)) ⊎ (was ≡ outcome.OutOfMemory)
+        told_was other another was one (inl e) = inl (e ∙ ap (λ o. outcome.Refused (refusal.Leased o)) one)
+        told_was other another was one (inr e) = inr e
+
         by_verdict : (v : Verdict) → verdict_in names own_lease ≡ v → OpenAsks codec reading own_lease refl (on_verdict own_lease (Seeks ListsCommits) v) ys → Began (lease_put reply.Made ∷ y ∷ ys)
         by_verdict verdict.Granted is a =
             let (work, same) = work_open codec reading own_lease refl (Seeks ListsCommits) ys a in
@@ -405,49 +423,64 @@ module _ {F : Type 0} (codec : Codec F) (any : Job) where
             ap (λ v. open_from codec reading own_lease refl (on_verdict own_lease (Seeks ListsCommits) v) ys) is ∙ same in
             HeldLease (refl, λ e. cc) (ap is_leased leads ∙ settled_leased codec reading own_lease refl (work_from codec reading (Seeks ListsCommits) ys))
             (λ was is_was.
-              let ends = work_was codec reading own_lease refl (Seeks ListsCommits) ys was (subst (λ g. IsWas codec reading own_lease refl g was) leads is_was) in
-              let (found, told) = read_finds looks from to query (lease_put reply.Made ∷ y ∷ []) ys was work ends in
-              comes_to found (lease_put reply.Made ∷ y ∷ ys) was (
-                All-cons (λ z. SaysThere found (Read from to query) z.call z.reply) (lease_put reply.Made) (y ∷ ys) tt (All-cons (λ z. SaysThere found (Read from to query) z.call z.reply) y ys tt told.0),
-                ends_cons codec reading [] found (put_lease own_lease ∷ list_leases ∷ reads_course) (list_leases ∷ reads_course) (lease_put reply.Made) (y ∷ ys) was refl (inr refl)
-                    (ends_cons codec reading (lease_put reply.Made ∷ []) found (list_leases ∷ reads_course) reads_course y ys was refl (inr refl) told.1),
-              ))
+            let ends = work_was codec reading own_lease refl (Seeks ListsCommits) ys was (subst (λ g. IsWas codec reading own_lease refl g was) leads is_was) in
+            let (found, told) = read_finds looks from to query (lease_put reply.Made ∷ y ∷ []) ys was work ends in
+            comes_to found (lease_put reply.Made ∷ y ∷ ys) was (
+              All-cons (λ z. SaysThere found (Read from to query) z.call z.reply) (lease_put reply.Made) (y ∷ ys) tt (All-cons (λ z. SaysThere found (Read from to query) z.call z.reply) y ys tt told.0),
+              ends_cons codec reading [] found (put_lease own_lease ∷ list_leases ∷ reads_course) (list_leases ∷ reads_course) (lease_put reply.Made) (y ∷ ys) was refl (inr refl)
+                  (ends_cons codec reading (lease_put reply.Made ∷ []) found (list_leases ∷ reads_course) reads_course y ys was refl (inr refl) told.1),
+            ))
+            (λ was is_was put others more other same opposes.
+            let same_names : others ≡ names = listed_same put others more same in
+            let granted : verdict.Granted ≡ verdict.Held other = sym is ∙ ap (λ ns. verdict_in ns own_lease) (sym same_names) ∙ opposes in
+            cc)
         by_verdict (verdict.Held other) is a =
             let none = releasing_asks codec reading own_lease refl (outcome.Refused (refusal.Leased other)) ys a in
             let at : on_verdict own_lease (Seeks ListsCommits) (verdict_in names own_lease) ≡ Releases own_lease (outcome.Refused (refusal.Leased other)) = ap (on_verdict own_lease (Seeks ListsCommits)) is in
             subst (λ t. Began (lease_put reply.Made ∷ y ∷ t)) (sym none)
             (HeldLease (refl, λ e. cc) (ap is_leased at)
             (λ was is_was.
-              let found = found_as no_schema no_frame in
-              let ends : WorkEnds codec reading (refuse (refusal.Leased other)) [] was = of_was (outcome.Refused (refusal.Leased other)) was (subst (λ g. IsWas codec reading own_lease refl g was) at is_was) in
-              let told = follows_refused codec reading (lease_put reply.Made ∷ []) found (list_leases ∷ reads_course) reads_course y [] was (refusal.Leased other) tt (inr refl) (own_lease, refl, names, refl, is) tt ends in
-              comes_to found (lease_put reply.Made ∷ y ∷ []) was (
-                All-cons (λ z. SaysThere found (Read from to query) z.call z.reply) (lease_put reply.Made) (y ∷ []) tt told.0,
-                ends_cons codec reading [] found (put_lease own_lease ∷ list_leases ∷ reads_course) (list_leases ∷ reads_course) (lease_put reply.Made) (y ∷ []) was refl (inr refl) told.1,
-              )))
+            let found = found_as no_schema no_frame in
+            let ends : WorkEnds codec reading (refuse (refusal.Leased other)) [] was = of_was (outcome.Refused (refusal.Leased other)) was (subst (λ g. IsWas codec reading own_lease refl g was) at is_was) in
+            let told = follows_refused codec reading (lease_put reply.Made ∷ []) found (list_leases ∷ reads_course) reads_course y [] was (refusal.Leased other) tt (inr refl) (own_lease, refl, names, refl, is) tt ends in
+            comes_to found (lease_put reply.Made ∷ y ∷ []) was (
+              All-cons (λ z. SaysThere found (Read from to query) z.call z.reply) (lease_put reply.Made) (y ∷ []) tt told.0,
+              ends_cons codec reading [] found (put_lease own_lease ∷ list_leases ∷ reads_course) (list_leases ∷ reads_course) (lease_put reply.Made) (y ∷ []) was refl (inr refl) told.1,
+            ))
+            (λ was is_was put others more another same opposes.
+            let same_names : others ≡ names = one_names (lease_put reply.Made) put others more [] same in
+            let held : verdict.Held other ≡ verdict.Held another = sym is ∙ ap (λ ns. verdict_in ns own_lease) (sym same_names) ∙ opposes in
+            let one : other ≡ another = cc in
+            told_was other another was one (subst (λ g. IsWas codec reading own_lease refl g was) at is_was)))
     after_list r ys asked =
         let none = releasing_asks codec reading own_lease refl (end_by list_leases r) ys asked in
         subst (λ t. Began (lease_put reply.Made ∷ leases_listed r ∷ t)) (sym none)
         (HeldLease (refl, λ e. cc) refl
         (λ was is_was.
-          let found = found_as no_schema no_frame in
-          let told = follows_ended codec reading (lease_put reply.Made ∷ []) found (list_leases ∷ reads_course) reads_course list_leases r [] was tt tt (inr refl) tt (of_was (end_by list_leases r) was is_was) in
-          comes_to found (lease_put reply.Made ∷ leases_listed r ∷ []) was (
-            All-cons (λ z. SaysThere found (Read from to query) z.call z.reply) (lease_put reply.Made) (leases_listed r ∷ []) tt told.0,
-            ends_cons codec reading [] found (put_lease own_lease ∷ list_leases ∷ reads_course) (list_leases ∷ reads_course) (lease_put reply.Made) (leases_listed r ∷ []) was refl (inr refl) told.1,
-          )))
+        let found = found_as no_schema no_frame in
+        let told = follows_ended codec reading (lease_put reply.Made ∷ []) found (list_leases ∷ reads_course) reads_course list_leases r [] was tt tt (inr refl) tt (of_was (end_by list_leases r) was is_was) in
+        comes_to found (lease_put reply.Made ∷ leases_listed r ∷ []) was (
+          All-cons (λ z. SaysThere found (Read from to query) z.call z.reply) (lease_put reply.Made) (leases_listed r ∷ []) tt told.0,
+          ends_cons codec reading [] found (put_lease own_lease ∷ list_leases ∷ reads_course) (list_leases ∷ reads_course) (lease_put reply.Made) (leases_listed r ∷ []) was refl (inr refl) told.1,
+        ))
+        (λ was is_was. none_listed was (lease_put reply.Made ∷ leases_listed r ∷ [])
+        (λ put names more same.
+        let one : leases_listed r ≡ leases_listed (reply.Names names) = cc in
+        let replies : r ≡ reply.Names names = ap (λ z. z.reply) one in
+        cc)))
 
     -- where the put of the lease led
     after_put : (r : Reply) (xs : List Exchange) → OpenAsks codec reading own_lease refl (after_lease own_lease r) xs → Began (lease_put r ∷ xs)
     after_put reply.Made [] asked =
         HeldLease (refl, λ e. cc) refl
         (λ was is_was.
-          let found = found_as no_schema no_frame in
-          let none : was ≡ outcome.OutOfMemory = elim is_was [ inl is ↦ is | inr is ↦ is ] in
-          comes_to found (lease_put reply.Made ∷ []) was (
-            All-cons (λ z. SaysThere found (Read from to query) z.call z.reply) (lease_put reply.Made) [] tt (All-nil (λ z. SaysThere found (Read from to query) z.call z.reply)),
-            subst (Ends codec reading [] found (put_lease own_lease ∷ list_leases ∷ reads_course) (lease_put reply.Made ∷ [])) (sym none) (inl (list_leases ∷ reads_course, (refl, (list_leases ∷ reads_course, inr refl, refl)))),
-          ))
+        let found = found_as no_schema no_frame in
+        let none : was ≡ outcome.OutOfMemory = elim is_was [ inl is ↦ is | inr is ↦ is ] in
+        comes_to found (lease_put reply.Made ∷ []) was (
+          All-cons (λ z. SaysThere found (Read from to query) z.call z.reply) (lease_put reply.Made) [] tt (All-nil (λ z. SaysThere found (Read from to query) z.call z.reply)),
+          subst (Ends codec reading [] found (put_lease own_lease ∷ list_leases ∷ reads_course) (lease_put reply.Made ∷ [])) (sym none) (inl (list_leases ∷ reads_course, (refl, (list_leases ∷ reads_course, inr refl, refl)))),
+        ))
+        (λ was is_was. none_listed was (lease_put reply.Made ∷ []) (λ put names more same. cc))
     after_put reply.Made (y ∷ ys) (asked, other, rest) =
         subst (λ c. Began (lease_put reply.Made ∷ record { call = c; reply = y.reply } ∷ ys)) (same_Some list_leases y.call asked) (after_list y.reply ys rest)
     after_put reply.Taken [] asked = WasTaken refl
@@ -457,9 +490,10 @@ module _ {F : Type 0} (codec : Codec F) (any : Job) where
         subst (λ t. Began (lease_put r ∷ t)) (sym none)
         (HeldLease (refl, λ e. cc) refl
         (λ was is_was.
-          let found = found_as no_schema no_frame in
-          comes_to found (lease_put r ∷ []) was
-          (follows_ended codec reading [] found (put_lease own_lease ∷ list_leases ∷ reads_course) (list_leases ∷ reads_course) (put_lease own_lease) r [] was tt tt (inr refl) tt (of_was (end_by (put_lease own_lease) r) was is_was))))
+        let found = found_as no_schema no_frame in
+        comes_to found (lease_put r ∷ []) was
+        (follows_ended codec reading [] found (put_lease own_lease ∷ list_leases ∷ reads_course) (list_leases ∷ reads_course) (put_lease own_lease) r [] was tt tt (inr refl) tt (of_was (end_by (put_lease own_lease) r) was is_was)))
+        (λ was is_was. none_listed was (lease_put r ∷ []) (λ put names more same. cc)))
 
     -- the calls before the removal of the lease
     began : (front : List Exchange) → OpenAsks codec reading own_lease refl (PutsLease own_lease) front → Began front
@@ -477,9 +511,9 @@ module _ {F : Type 0} (codec : Codec F) (any : Job) where
     none_over end c (inr gives_up) = true≢false (sym gives_up.1)
 
     -- where its lease is removed at the end of its calls, the job may end so
-    removed_ends : (front : List Exchange) (r : Reply) (was end : Outcome) → HasPut own_lease front → ComesTo front was → end ≡ released own_lease was r
+    removed_ends : (front : List Exchange) (r : Reply) (was end : Outcome) → HasPut own_lease front → HeedsLeases own_lease front was → ComesTo front was → end ≡ released own_lease was r
         → (found : Found) × AreFound reading found (front ++ removal own_lease r ∷ []) × EndsUnder codec reading found (lease_of reading) (front ++ removal own_lease r ∷ []) end
-    removed_ends front r was end put (found, told, ended) is = (found, All-push (λ z. SaysThere found (Read from to query) z.call z.reply) front (removal own_lease r) told tt, Removed front r was refl put ended is)
+    removed_ends front r was end put heeds (found, told, ended) is = (found, All-push (λ z. SaysThere found (Read from to query) z.call z.reply) front (removal own_lease r) told tt, Removed front r was refl put heeds ended is)
 
     -- a read ends as one may that has a lease
     leased_finds : (whole : List Exchange) (end : Outcome) → AskedFrom codec reading (PutsLease own_lease) whole → EndsBy codec reading whole end
@@ -517,17 +551,17 @@ module _ {F : Type 0} (codec : Codec F) (any : Job) where
             → (found : Found) × AreFound reading found front × EndsUnder codec reading found (lease_of reading) front end
         by_open front same e (NoCall none) = (none_found, silent front, NotBegun none (at_first (subst (λ t. EndsBy codec reading t end) none e)))
         by_open front same e (WasTaken is) = (none_found, silent front, NotOwn is (taken_ends (subst (λ t. EndsBy codec reading t end) is e)))
-        by_open front same (inl over) (HeldLease put held comes) = absurd (not_held (g_of front) held (sym same ∙ over))
-        by_open front same (inr short) (HeldLease put held comes) = absurd (true≢false (sym (ap is_leased same ∙ held) ∙ short.1.0))
+        by_open front same (inl over) (HeldLease put held comes heeds) = absurd (not_held (g_of front) held (sym same ∙ over))
+        by_open front same (inr short) (HeldLease put held comes heeds) = absurd (true≢false (sym (ap is_leased same ∙ held) ∙ short.1.0))
 
         by_closed : (front : List Exchange) (r : Reply) → MayAsk codec reading (g_of front) (call.Remove own_lease) → stage_of codec reading (front ++ removal own_lease r ∷ []) ≡ Works (Over (released own_lease (end_at (g_of front)) r))
             → EndsBy codec reading (front ++ removal own_lease r ∷ []) end → Began front
             → (found : Found) × AreFound reading found (front ++ removal own_lease r ∷ []) × EndsUnder codec reading found (lease_of reading) (front ++ removal own_lease r ∷ []) end
         by_closed front r may same e (NoCall none) = absurd (none_before (subst (λ t. MayAsk codec reading (g_of t) (call.Remove own_lease)) none may))
         by_closed front r may same e (WasTaken is) = absurd (none_over (outcome.Refused (refusal.Taken own_lease)) (call.Remove own_lease) (subst (λ t. MayAsk codec reading (g_of t) (call.Remove own_lease)) is may))
-        by_closed front r may same (inl over) (HeldLease put held comes) =
-            removed_ends front r (end_at (g_of front)) end put (comes (end_at (g_of front)) (inl refl)) (one_end (released own_lease (end_at (g_of front)) r) end (sym same ∙ over))
-        by_closed front r may same (inr short) (HeldLease put held comes) = removed_ends front r outcome.OutOfMemory end put (comes outcome.OutOfMemory (inr refl)) short.0
+        by_closed front r may same (inl over) (HeldLease put held comes heeds) =
+            removed_ends front r (end_at (g_of front)) end put (heeds (end_at (g_of front)) (inl refl)) (comes (end_at (g_of front)) (inl refl)) (one_end (released own_lease (end_at (g_of front)) r) end (sym same ∙ over))
+        by_closed front r may same (inr short) (HeldLease put held comes heeds) = removed_ends front r outcome.OutOfMemory end put (heeds outcome.OutOfMemory (inr refl)) (comes outcome.OutOfMemory (inr refl)) short.0
 
         by_split : Split codec reading own_lease refl (PutsLease own_lease) whole → (found : Found) × AreFound reading found whole × EndsUnder codec reading found (lease_of reading) whole end
         by_split (Open opened same) = by_open whole same ends (began whole opened)
@@ -546,14 +580,14 @@ module _ {F : Type 0} (codec : Codec F) (any : Job) where
         at_removal : whole ≡ whole → MayAsk codec reading (g_of whole) (call.Remove own_lease) → cuts any.stop (length whole) (call.Remove own_lease) ≡ true → Began whole → (found : Found) × AreFound reading found whole × IsCutOff codec reading found whole
         at_removal e m k (NoCall none) = absurd (none_before (subst (λ t. MayAsk codec reading (g_of t) (call.Remove own_lease)) none m))
         at_removal e m k (WasTaken is) = absurd (none_over (outcome.Refused (refusal.Taken own_lease)) (call.Remove own_lease) (subst (λ t. MayAsk codec reading (g_of t) (call.Remove own_lease)) is m))
-        at_removal e m k (HeldLease put held comes) =
+        at_removal e m k (HeldLease put held comes heeds) =
             let (found, told, ended) = comes outcome.OutOfMemory (inr refl) in
-            (found, told, inr (record { lease = own_lease; own = refl; was = outcome.OutOfMemory; put = put; ended = ended; cut = k }))
+            (found, told, inr (record { lease = own_lease; own = refl; was = outcome.OutOfMemory; put = put; heeds = heeds outcome.OutOfMemory (inr refl); ended = ended; cut = k }))
 
         along : (x : Exchange) → x ≡ as_if c → Began (whole ++ x ∷ []) → (found : Found) × AreFound reading found whole × IsCutOff codec reading found whole
         along x is (NoCall none) = absurd (no_calls whole x none)
         along x is (WasTaken taken) = let last = last_same whole [] x (lease_put reply.Taken) taken in let none : reply.NoMemory ≡ reply.Taken = ap (λ y. y.reply) (sym is ∙ last.1) in cc
-        along x is (HeldLease put held comes) =
+        along x is (HeldLease put held comes heeds) =
             let (found, told, ended) = comes outcome.OutOfMemory (inr refl) in
             let u = unmade_of (IsLookOf codec reading found) (put_lease own_lease ∷ list_leases ∷ reads_course) whole c (subst (λ y. EndsAlong codec reading found (put_lease own_lease ∷ list_leases ∷ reads_course) (whole ++ y ∷ []) outcome.OutOfMemory) is ended) in
             (found, found_before reading found whole x told, inl (record { begins = refl; left = u.0; along = u.2; unmade = c; rest = u.1; next = u.3; cut = cut }))

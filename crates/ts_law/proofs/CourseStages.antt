@@ -1,23 +1,22 @@
 -- The calls of a job in its stages: without a lease they are those of its work; with one they are those up to the removal, and that.
-use Rattle.std.proofs.Common.{◌≡◌, Bool, true, false, cond, not, ◌&&◌, ◌⊎◌, inl, inr, List, [], ◌∷◌, ◌++◌, Option, Some, None, refl, sym, ◌∙◌, ap, subst}
+use Rattle.std.proofs.Common.{◌≡◌, Bool, true, false, ◌&&◌, ◌⊎◌, inl, inr, List, [], ◌∷◌, ◌++◌, Some, None, refl, sym, ◌∙◌, ap, subst}
 use Rattle.std.specs.Prelude.{⊤}
 use Rattle.std.specs.Option.{is_some, option_map_or}
 use Rattle.std.proofs.lemmas.Bool.{true≢false}
 use Rattle.std.proofs.lemmas.Option.{none-some, same_Some}
 use Rattle.ts_base.specs.Exact.{name_decides}
 use Rattle.ts_base.specs.declared.names.Name.{Name}
-use Rattle.ts_store.specs.declared.call.Call.{Call}
 use Rattle.ts_store.specs.declared.call.Reply.{Reply}
 use Rattle.ts_model.specs.declared.commands.Job.{Job}
 use Rattle.ts_model.specs.declared.answers.Outcome.{Outcome}
 use Rattle.ts_model.specs.declared.states.State.{State}
 use Rattle.ts_model.specs.declared.states.State.TheVariants.{Over}
 use Rattle.ts_model.specs.declared.states.Stage.{Stage}
-use Rattle.ts_model.specs.declared.states.Stage.TheVariants.{ListsLeases, PutsLease, Releases, Works}
+use Rattle.ts_model.specs.declared.states.Stage.TheVariants.{Releases, Works}
 use Rattle.ts_model.specs.Codecs.{Codec}
 use Rattle.ts_model.specs.Driven.{AskedFrom, MayAsk}
-use Rattle.ts_model.specs.States.{Exchange, asks, begun, goes}
-use Rattle.ts_model.specs.Stages.{end_at, goes_on, is_leased, is_release, is_removal, lease_of, released, settled, stage_asks, stage_from, stage_goes}
+use Rattle.ts_model.specs.States.{Exchange, goes}
+use Rattle.ts_model.specs.Stages.{end_at, is_leased, is_release, is_removal, lease_of, released, settled, stage_asks, stage_from, stage_goes}
 use Rattle.ts_model.proofs.Asked.{next_call}
 use Rattle.ts_model.proofs.Lacks.{bare_goes, other_goes, release_ends}
 use Rattle.ts_law.specs.Courses.{removal}

@@ -1,23 +1,12 @@
 -- A job that its stop cuts off would have made one more call.
-use Rattle.std.proofs.Common.{length, ◌≡◌, true, ◌⊎◌, List, [], ◌∷◌, ◌++◌, Option, Some, None, refl, sym, ◌∙◌, ap, inl, inr, subst, append_assoc}
+use Rattle.std.proofs.Common.{◌≡◌, ◌⊎◌, List, [], ◌∷◌, ◌++◌, Some, refl, sym, ◌∙◌, ap, inl, inr, subst, append_assoc}
 use Rattle.std.proofs.lemmas.List.{append-nil}
 use Rattle.std.proofs.lemmas.List.Elements.{All-pop}
 use Rattle.ts_store.specs.declared.call.Call.{Call}
 use Rattle.ts_model.specs.declared.commands.Job.{Job}
-use Rattle.ts_model.specs.declared.answers.Driven.{Driven}
-use Rattle.ts_model.specs.declared.answers.Outcome.{Outcome}
-use Rattle.ts_model.specs.declared.answers.Refusal.{Refusal}
-use Rattle.ts_model.specs.Codecs.{Codec, AsksLooks}
-use Rattle.ts_model.specs.Jobs.{refused_before}
 use Rattle.ts_model.specs.States.{Exchange}
-use Rattle.ts_model.specs.Stops.{cuts}
-use Rattle.ts_model.specs.Driven.{MayAsk, AskedFrom, ComesOut, IsDriven}
-use Rattle.ts_model.specs.Told.{Told, trace_of}
-use Rattle.ts_law.specs.Runs.{AreDriven, AreSegments}
-use Rattle.ts_law.specs.Courses.{Found, course_of, SaysThere, AreFound, IsLookOf, Looks, IsNext, Along, EndsAt, MayEndAs, IsCutOff, MayComeOut, IsSegment}
+use Rattle.ts_law.specs.Courses.{Found, SaysThere, AreFound, Looks, IsNext, Along, EndsAt}
 use Rattle.ts_store.specs.declared.call.Reply.TheVariants as reply
-use Rattle.ts_model.specs.declared.answers.Driven.TheVariants as driven
-use Rattle.ts_model.specs.declared.answers.Outcome.TheVariants as outcome
 
 -- ---- a job that is cut off
 

@@ -128,8 +128,7 @@ pub stage_stays : {F : Type 0} (codec : Codec F) (spelled : Spelled) (tracks : T
     → (job.id ≡ id → ⊥) → (e.job ≡ Some number → ⊥) → StageClaims codec spelled tracks past jobs seen m number job stage
     → StageClaims codec spelled tracks past jobs (seen ++ e ∷ []) (after_told m e) number job stage
 stage_stays codec spelled tracks past jobs seen e m id keeps number job (PutsLease lease) other apart is =
-    let (mode, named) = lease_is job lease is.0.0 in
-    (
+    let (mode, named) = lease_is job lease is.0.0 in (
       (is.0.0, claims_stay codec spelled tracks past jobs seen e m id keeps number job (begun job.command) other apart is.0.1),
       absent_stays m (after_told m e) (history_told jobs past seen) (history_told jobs past (seen ++ e ∷ [])) id keeps lease job.id (ap id_in named) other is.1,
     )

@@ -32,7 +32,7 @@ use Rattle.ts_model.specs.declared.states.Stage.TheVariants.{ListsLeases, PutsLe
 use Rattle.ts_model.specs.declared.states.Stage.TheVariants as stages
 use Rattle.ts_law.proofs.LeaseSteps.{lease_is, release_is, stage_step}
 use Rattle.ts_model.specs.States.{asks, frame_put, get_delete, get_head, get_schema, made_by, put_of, want_of}
-use Rattle.ts_model.specs.Stages.{is_release, lease_of, put_lease, stage_asks, stage_of}
+use Rattle.ts_model.specs.Stages.{put_lease, stage_of}
 use Rattle.ts_law.specs.Steps.{Advances, Comes, StageAdvances}
 use Rattle.ts_model.specs.Told.{IsReplied, Replied, Told, after_told, held_told, trace_of}
 use Rattle.ts_model.specs.declared.answers.Outcome.{Outcome}

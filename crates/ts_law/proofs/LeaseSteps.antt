@@ -1,6 +1,6 @@
 -- The calls of a job with a lease beside its work: the put of the lease, the listing of the leases, and the removal.
-use Rattle.std.proofs.Common.{◌≡◌, ℕ, Bool, true, false, cond, not, ◌&&◌, ◌⊎◌, inl, inr, List, [], ◌∷◌, ◌++◌, Option, Some, None, refl, sym, ◌∙◌, ap, subst, arith, ◌+◌}
-use Rattle.std.specs.Prelude.{Contains, option_map, slice_get}
+use Rattle.std.proofs.Common.{◌≡◌, ℕ, Bool, true, false, cond, not, ◌&&◌, inl, inr, List, [], ◌∷◌, ◌++◌, Option, Some, None, refl, sym, ◌∙◌, ap, subst, arith, ◌+◌}
+use Rattle.std.specs.Prelude.{option_map, slice_get}
 use Rattle.std.specs.Option.{is_some, option_map_or}
 use Rattle.std.proofs.lemmas.Bool.{cond-false, true≢false}
 use Rattle.std.proofs.lemmas.List.{append-nil}
@@ -21,7 +21,6 @@ use Rattle.ts_store.specs.declared.call.Call.{Call}
 use Rattle.ts_store.specs.declared.call.Reply.{Reply}
 use Rattle.ts_store.specs.declared.fate.Fate.{Fate}
 use Rattle.ts_model.specs.declared.answers.Outcome.{Outcome}
-use Rattle.ts_model.specs.declared.answers.Refusal.{Refusal}
 use Rattle.ts_model.specs.declared.commands.Command.{Command}
 use Rattle.ts_model.specs.declared.commands.Command.TheVariants.{Create, Evolve, Write, Read, Delete}
 use Rattle.ts_model.specs.declared.commands.Job.{Job}
@@ -39,10 +38,9 @@ use Rattle.ts_model.specs.Codecs.{Codec, Spelled, Tracking}
 use Rattle.ts_model.specs.Deeds.{History}
 use Rattle.ts_model.specs.Driven.{MayAsk}
 use Rattle.ts_model.specs.Jobs.{key_of}
-use Rattle.ts_model.specs.States.{Exchange, asks, begun, end_by, goes, is_over, made_by}
-use Rattle.ts_model.specs.Stages.{after_lease, after_leases, end_at, goes_on, is_leased, is_release, is_removal, lease_of, list_leases, mode_of, on_verdict, put_lease, released, settled, stage_asks, stage_goes}
+use Rattle.ts_model.specs.States.{Exchange, asks, begun, goes, is_over, made_by}
+use Rattle.ts_model.specs.Stages.{after_lease, after_leases, end_at, is_release, is_removal, lease_of, list_leases, mode_of, on_verdict, put_lease, released, settled, stage_asks, stage_goes}
 use Rattle.ts_model.specs.Told.{IsReplied, Told, after_told, declared_by, deed_in, deed_of, deleted_by, history_told, schemas_found, trace_of, written_by}
-use Rattle.ts_model.proofs.Asked.{no_release}
 use Rattle.ts_model.proofs.KeyLemmas.{no_tie}
 use Rattle.ts_model.proofs.Lacks.{other_goes, release_ends}
 use Rattle.ts_model.proofs.ListLemmas.{Contains-nil}
@@ -50,11 +48,11 @@ use Rattle.ts_model.proofs.Traces.{deed_told_own, later_no_deed}
 use Rattle.ts_law.specs.Ends.{IsTrueEnd, IsUndone}
 use Rattle.ts_law.specs.Fresh.{id_in}
 use Rattle.ts_law.specs.Kept.{Claims, Clean, IsBefore, StageClaims}
-use Rattle.ts_law.specs.Stands.{HoldsIn, IsCommitted, IsNoLease, Stands, WentInto}
+use Rattle.ts_law.specs.Stands.{HoldsIn, IsNoLease, Stands}
 use Rattle.ts_law.specs.Steps.{Advances, Comes, Keeps, Leads, StageAdvances, StageComes}
-use Rattle.ts_law.proofs.Effects.{Added, IsLook, PutWent, Still, cond_same, keeps_still, look_history, look_leads, look_stays, put_went}
+use Rattle.ts_law.proofs.Effects.{Added, IsLook, PutWent, Still, keeps_still, look_history, look_leads, look_stays, put_went}
 use Rattle.ts_law.proofs.Grows.{holds_on_in}
-use Rattle.ts_law.proofs.HeldLemmas.{Holds, get_apart}
+use Rattle.ts_law.proofs.HeldLemmas.{get_apart}
 use Rattle.ts_law.proofs.StandsLaws.{free_from_get, keeps_put}
 use Rattle.ts_law.proofs.Stays.{clean_look, end_stays}
 use Rattle.std.specs.FinMap as map
@@ -63,7 +61,6 @@ use Rattle.ts_base.specs.declared.names.CommitKind.TheVariants as kind
 use Rattle.ts_store.specs.declared.call.Call.TheVariants as call
 use Rattle.ts_store.specs.declared.call.Reply.TheVariants as reply
 use Rattle.ts_model.specs.declared.answers.Outcome.TheVariants as outcome
-use Rattle.ts_model.specs.declared.answers.Refusal.TheVariants as refusal
 
 -- ---- leases of jobs
 
@@ -165,17 +162,19 @@ module _ (spelled : Spelled) (past : History) (jobs : List Job) (seen : List Tol
       let called : e.call ≡ call.Remove (name.Lease (key_of job) mode) = is ∙ ap call.Remove named in
       let same_history = deedless (call.Remove (name.Lease (key_of job) mode)) called refl in
       let same : (n : Name) → IsNoLease n → map.get m' n ≡ map.get m n = λ n none. agree (is_no_memory e.reply) m (after m e.call e.fate) m n refl
-          (ap (λ c. map.get (after m c e.fate) n) called ∙ removal_apart m (name.Lease (key_of job) mode) e.fate n (no_lease_apart (key_of job) mode n none)) in
-      (same_history, record {
-        stands = subst (Stands spelled m') (sym same_history) (stands_beside spelled m m' same h stands);
-        leaves = record {
-          keeps = λ n bytes stays held. same n stays ∙ held;
-          adds = λ n bytes held. inl (was_held (name.Lease (key_of job) mode) called n bytes (is_no_memory e.reply) held);
-          more = [];
-          grows = same_history ∙ sym (append-nil h);
-          come = λ k at. absurd (Contains-nil k at);
-        };
-      })
+      (ap (λ c. map.get (after m c e.fate) n) called ∙ removal_apart m (name.Lease (key_of job) mode) e.fate n (no_lease_apart (key_of job) mode n none)) in (
+        same_history,
+        record {
+          stands = subst (Stands spelled m') (sym same_history) (stands_beside spelled m m' same h stands);
+          leaves = record {
+            keeps = λ n bytes stays held. same n stays ∙ held;
+            adds = λ n bytes held. inl (was_held (name.Lease (key_of job) mode) called n bytes (is_no_memory e.reply) held);
+            more = [];
+            grows = same_history ∙ sym (append-nil h);
+            come = λ k at. absurd (Contains-nil k at);
+          };
+        },
+      )
     where
       was_held : (l : Name) → e.call ≡ call.Remove l → (n : Name) (bytes : List ℕ) (b : Bool) → map.get (cond b m (after m e.call e.fate)) n ≡ Some bytes → map.get m n ≡ Some bytes
       was_held l called n bytes true held = held
@@ -417,8 +416,7 @@ module _ {F : Type 0} (codec : Codec F) (spelled : Spelled) (tracks : Tracking F
               free = λ n carries apart. put_apart lease went n (λ same. apart (some ∙ ap Some (sym same))) ∙ clean.free n carries apart;
               undone = undone;
             } in
-            let before_later = begun_on codec spelled tracks past jobs seen (seen ++ e ∷ []) m (after_told m e) number job lease some clean_later before in
-            (
+            let before_later = begun_on codec spelled tracks past jobs seen (seen ++ e ∷ []) m (after_told m e) number job lease some clean_later before in (
               leads.1,
               subst (λ l. ClaimsLater (after_lease l e.reply)) (sym named)
                   (after_put (key_of job) mode e.reply (some ∙ ap Some named) (not_taken lease free went) undone (some ∙ ap Some named, before_later)),

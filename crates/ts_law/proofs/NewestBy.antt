@@ -2,17 +2,16 @@
 use Rattle.std.proofs.Common.{◌≡◌, ℤ, true, false, List, Option, Some, None, refl, sym, ◌∙◌, ap, subst}
 use Rattle.std.specs.Prelude.{Contains, filter, option_map, option_and_then}
 use Rattle.std.specs.Option.{is_some}
-use Rattle.std.proofs.lemmas.Bool.{true≢false, and_parts}
+use Rattle.std.proofs.lemmas.Bool.{true≢false}
 use Rattle.std.proofs.lemmas.Option.{same_Some, none-some}
-use Rattle.ts_base.specs.declared.keys.Key.{Key}
 use Rattle.ts_base.specs.declared.values.Val.{Val}
 use Rattle.ts_base.specs.declared.heads.Version.{Version}
-use Rattle.ts_base.specs.Keys.{key_eq, key_lt}
+use Rattle.ts_base.specs.Keys.{key_lt}
 use Rattle.ts_base.specs.Coords.{coords_eq}
 use Rattle.ts_model.specs.declared.deeds.Written.{Written}
 use Rattle.ts_model.specs.Deeds.{row_at, has_cell}
 use Rattle.ts_model.specs.Pieces.{version_at, version_of}
-use Rattle.ts_model.proofs.ListLemmas.{Contains-nil, Contains-filter, filter-Contains, find-Some, find-filter}
+use Rattle.ts_model.proofs.ListLemmas.{Contains-nil, Contains-filter, filter-Contains}
 use Rattle.ts_model.proofs.KeyLemmas.{greatest-None, greatest-Some, same_from_both}
 pub use Rattle.ts_model.proofs.Members.{newest_is_at, found_there}
 use Rattle.ts_law.specs.Origins.{last_of, last_version, newest_at}

@@ -1,10 +1,8 @@
 -- The law of reading: what the piece of some origins holds of a coordinate.
 use Rattle.std.proofs.Common.{◌≡◌, ℕ, ℤ, Bool, true, false, cond, ◌&&◌, ◌||◌, not, List, [], ◌∷◌, Option, Some, None, find, refl, sym, ◌∙◌, ap, subst, arith}
 use Rattle.std.specs.Prelude.{Contains, filter, option_and_then, nat_le}
-use Rattle.std.specs.List.{list_any}
 use Rattle.std.proofs.lemmas.Bool.{true≢false, and_parts, and_from, le-leb, leb-true}
-use Rattle.std.proofs.lemmas.List.Folds.{Any-from_list_any, list_any-from_Any}
-use Rattle.std.proofs.lemmas.Option.{same_Some, none-some}
+use Rattle.std.proofs.lemmas.Option.{none-some}
 use Rattle.ts_base.specs.declared.keys.Key.{Key}
 use Rattle.ts_base.specs.declared.heads.Piece.{Piece}
 use Rattle.ts_base.specs.declared.heads.Version.{Version}
@@ -17,7 +15,7 @@ use Rattle.ts_model.specs.Pieces.{version_at, version_of}
 use Rattle.ts_model.proofs.ListLemmas.{Contains-nil, Contains-here, Contains-there, Contains-filter, filter-Contains, find-Some, find_member, find-filter}
 use Rattle.ts_model.proofs.KeyLemmas.{key_same, key_itself, greatest-None, greatest-Some, same_from_both}
 use Rattle.ts_model.proofs.HistoryLaws.{one_write}
-use Rattle.ts_law.specs.Origins.{origins_of, last_of, last_version, made_by, with_key, kept_of, HoldsWrites, newest_at}
+use Rattle.ts_law.specs.Origins.{origins_of, last_of, last_version, made_by, kept_of, HoldsWrites, newest_at}
 pub use Rattle.ts_model.proofs.Members.{key_there, any_member, member_any, key_found, with_key-is, with_own_key}
 use Rattle.ts_law.proofs.NewestBy.{key_of_version, last_is, newest_by}
 

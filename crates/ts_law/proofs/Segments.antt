@@ -1,24 +1,16 @@
 -- A job that makes the calls which its automaton asks goes along its course, and ends by it.
-use Rattle.std.proofs.Common.{length, ◌≡◌, true, ◌⊎◌, List, [], ◌∷◌, ◌++◌, Option, Some, None, refl, sym, ◌∙◌, ap, inl, inr, subst, append_assoc}
-use Rattle.std.proofs.lemmas.List.{append-nil}
-use Rattle.std.proofs.lemmas.List.Elements.{All-pop}
-use Rattle.ts_store.specs.declared.call.Call.{Call}
+use Rattle.std.proofs.Common.{List}
 use Rattle.ts_model.specs.declared.commands.Job.{Job}
 use Rattle.ts_model.specs.declared.answers.Driven.{Driven}
 use Rattle.ts_model.specs.declared.answers.Outcome.{Outcome}
-use Rattle.ts_model.specs.declared.answers.Refusal.{Refusal}
 use Rattle.ts_model.specs.Codecs.{Codec, AsksLooks}
-use Rattle.ts_model.specs.Jobs.{refused_before}
 use Rattle.ts_model.specs.States.{Exchange}
-use Rattle.ts_model.specs.Stops.{cuts}
-use Rattle.ts_model.specs.Driven.{MayAsk, AskedFrom, ComesOut, IsDriven}
+use Rattle.ts_model.specs.Driven.{ComesOut, IsDriven}
 use Rattle.ts_model.specs.Told.{Told, trace_of}
 use Rattle.ts_law.specs.Runs.{AreDriven, AreSegments}
-use Rattle.ts_law.specs.Courses.{Found, course_of, SaysThere, AreFound, IsLookOf, Looks, IsNext, Along, EndsAt, MayEndAs, IsCutOff, MayComeOut, IsSegment}
+use Rattle.ts_law.specs.Courses.{Found, AreFound, MayComeOut, IsSegment}
 use Rattle.ts_law.proofs.CourseJobs.{begun_cut, begun_finds}
-use Rattle.ts_store.specs.declared.call.Reply.TheVariants as reply
 use Rattle.ts_model.specs.declared.answers.Driven.TheVariants as driven
-use Rattle.ts_model.specs.declared.answers.Outcome.TheVariants as outcome
 
 module _ {F : Type 0} (codec : Codec F) (looks : AsksLooks codec) (job : Job) (trace : List Exchange) where
   -- a job that made the calls which it asks has the calls of its course, with its end or its stop

@@ -17,7 +17,7 @@ use Rattle.ts_model.specs.Deeds.{History, schema_with}
 use Rattle.ts_model.specs.Codecs.{Codec, Spelled, Tracking, CodecLaws}
 use Rattle.ts_model.specs.Jobs.{IsFit, AreFit, AreApart, looked_at}
 use Rattle.ts_law.specs.Stands.{IsNoLease, Stands}
-use Rattle.ts_model.specs.Stages.{first_stage, stage_of, lease_of}
+use Rattle.ts_model.specs.Stages.{first_stage, stage_of}
 use Rattle.ts_law.specs.Fresh.{IsCarried, IsNewId, IsFreshSeed, Numbered, AreJobsOf}
 use Rattle.ts_law.specs.Lanes.{lane_by, IsOwned, IsWithin, InTurn}
 use Rattle.ts_model.specs.Told.{Told, IsShortCall, Suits, trace_of, held_told, history_told, Replied, entries_of, schema_used, schemas_found}

@@ -315,6 +315,12 @@ abbrev pub HasPut : Name → List Exchange → Type 0
 HasPut lease [] = ⊥
 HasPut lease (x ∷ xs) = (x.call ≡ put_lease lease) × (x.reply ≢ reply.Taken)
 
+-- a job whose listing of the leases shows one that opposes its own does not go on: it comes to no other end than that refusal, but for want of memory
+abbrev pub HeedsLeases : Name → List Exchange → Outcome → Type 0
+HeedsLeases lease trace was =
+    (put : Exchange) (names : List Name) (more : List Exchange) (other : Name) → trace ≡ put ∷ record { call = list_leases; reply = reply.Names names } ∷ more → verdict_in names lease ≡ Held other
+    → (was ≡ outcome.Refused (refusal.Leased other)) ⊎ (was ≡ outcome.OutOfMemory)
+
 -- the removal of a lease, with its reply
 abbrev pub removal : Name → Reply → Exchange
 removal lease r = record { call = call.Remove lease; reply = r }
@@ -326,7 +332,7 @@ pub data LeaseEnds {F : Type 0} (codec : Codec F) (job : Job) (found : Found) (l
   -- by the put of its lease, whose name was taken: that lease is not its own
   NotOwn : trace ≡ record { call = put_lease lease; reply = reply.Taken } ∷ [] → end ≡ outcome.Refused (refusal.Taken lease) → LeaseEnds codec job found lease trace end
   -- by the removal of its lease, which is its last call whatever end its other calls came to
-  Removed : (front : List Exchange) (r : Reply) (was : Outcome) → trace ≡ front ++ removal lease r ∷ [] → HasPut lease front → EndsAlong codec job found (course_of codec job found) front was → end ≡ released lease was r
+  Removed : (front : List Exchange) (r : Reply) (was : Outcome) → trace ≡ front ++ removal lease r ∷ [] → HasPut lease front → HeedsLeases lease front was → EndsAlong codec job found (course_of codec job found) front was → end ≡ released lease was r
       → LeaseEnds codec job found lease trace end
 
 -- how a job may end that has this lease, if it has one
@@ -355,6 +361,7 @@ pub record IsCutLeased {F : Type 0} (codec : Codec F) (job : Job) (found : Found
   pub own : lease_of job ≡ Some lease
   pub was : Outcome
   pub put : HasPut lease trace
+  pub heeds : HeedsLeases lease trace was
   pub ended : EndsAlong codec job found (course_of codec job found) trace was
   pub cut : cuts job.stop (length trace) (call.Remove lease) ≡ true
 

@@ -1,14 +1,12 @@
 -- What a piece holds of the writes of a history, whether one write made it or a consolidation.
-use Rattle.std.specs.Prelude.{◌≡◌, ℕ, ℤ, ◌≤◌, Bool, true, false, cond, ◌&&◌, List, [], ◌∷◌, Option, Some, None, option_and_then, filter, find, Contains}
+use Rattle.std.specs.Prelude.{◌≡◌, ℕ, ℤ, Bool, true, false, ◌&&◌, List, Option, option_and_then, filter, find, Contains}
 use Rattle.std.specs.List.{list_any}
 use Rattle.std.specs.List.Sorted.{IsStrictlySortedBy}
 use Rattle.ts_base.specs.declared.keys.Key.{Key}
-use Rattle.ts_base.specs.declared.keys.FragKey.{FragKey}
 use Rattle.ts_base.specs.declared.heads.Head.{Head}
 use Rattle.ts_base.specs.declared.heads.Piece.{Piece}
 use Rattle.ts_base.specs.declared.heads.Version.{Version}
-use Rattle.ts_base.specs.Keys.{key_cmp, key_eq, frag_of, greatest, is_within}
-use Rattle.ts_base.specs.Coords.{coords_eq}
+use Rattle.ts_base.specs.Keys.{key_cmp, key_eq, greatest, is_within}
 use Rattle.ts_domain.specs.declared.boxes.SubBox.{SubBox}
 use Rattle.ts_domain.specs.Boxes.{is_in_box, Covers}
 use Rattle.ts_commit.specs.Selections.{has_origin, keeps_last, meets, is_usable}
