@@ -1,15 +1,15 @@
 -- A plan is what is told of it, and depends on the attributes of the heads' schemas alone.
-use Rattle.std.proofs.Common.{◌≡◌, ℕ, ◌+◌, ◌*◌, ◌^◌, ◌<◌, ◌≤◌, Bool, true, false, ◌&&◌, ◌||◌, not, List, [], ◌∷◌, ◌++◌, Option, Some, None, Result, Ok, Err, IfOk, length, get_or, refl, sym, ap, ◌∙◌, inl, inr, subst, arith}
-use Rattle.std.specs.Prelude.{All, Contains, cond, filter, find, nat_le, nat_lt, map as list_map}
+use Rattle.std.proofs.Common.{◌≡◌, ℕ, ◌^◌, ◌<◌, ◌≤◌, Bool, true, false, ◌&&◌, ◌||◌, not, List, [], ◌∷◌, ◌++◌, Option, Some, None, Result, Ok, Err, IfOk, length, get_or, refl, sym, ap, ◌∙◌, inl, inr, subst, arith}
+use Rattle.std.specs.Prelude.{All, Contains, cond, find, nat_le, nat_lt, map as list_map}
 use Rattle.std.specs.BTreeSet.{contains}
 use Rattle.std.specs.List.{AllByRecursion, list_any}
 use Rattle.std.specs.List.Sorted.{IsStrictlySortedBy}
 use Rattle.std.specs.Option.{option_map}
 use Rattle.std.specs.declared.cmp.Ordering.{Ordering}
 use Rattle.std.specs.declared.cmp.Ordering.TheVariants.{Less}
-use Rattle.std.proofs.lemmas.Bool.{and_parts, and_from, leb-true, leb-false, ltb-true, le-leb, lt-ltb}
-use Rattle.std.proofs.lemmas.List.{append-nil, append_assoc, map-append}
-use Rattle.std.proofs.lemmas.List.Elements.{All-nil, All-cons, All-contains, All-contains_itself, All-filter, All-weaker, filter_passes, Contains-append_left, Contains-append_right, filter_agree}
+use Rattle.std.proofs.lemmas.Bool.{and_parts, and_from, leb-true, leb-false, ltb-true, le-leb}
+use Rattle.std.proofs.lemmas.List.{append-nil, append_assoc}
+use Rattle.std.proofs.lemmas.List.Elements.{All-nil, All-cons, All-contains, All-contains_itself, All-filter, filter_passes, Contains-append_left, Contains-append_right, filter_agree}
 use Rattle.std.proofs.lemmas.List.Folds.{list_any_at}
 use Rattle.std.proofs.lemmas.List.Kept.{IsStrictlySortedBy-filter}
 use Rattle.ts_base.specs.Exact.{key_decides}
@@ -23,7 +23,7 @@ use Rattle.ts_commit.specs.declared.vacs.Limits.{Limits}
 use Rattle.ts_commit.specs.declared.vacs.Planned.{Planned}
 use Rattle.ts_commit.specs.declared.vacs.Planned.TheVariants as planned
 use Rattle.ts_commit.specs.Selections.{lies_in, is_merged}
-use Rattle.ts_commit.specs.Plans.{is_inside, is_eligible, eligible, of_schema, is_shared, shared_schema, weight, origins_of_all, is_in_bounds, taken_from, plan_by, plan_in, plan_of, AreAttributes, attributes_in, IsFirstShared, CanBeTaken, Takes, CanTakeFew, TakesNothing, IsPlan}
+use Rattle.ts_commit.specs.Plans.{is_inside, is_eligible, eligible, of_schema, is_shared, weight, origins_of_all, is_in_bounds, taken_from, plan_by, plan_in, plan_of, AreAttributes, attributes_in, CanBeTaken, IsPlan}
 use Rattle.ts_commit.specs.Passes.{passes, passed}
 
 -- ---- the first that passes

@@ -1,5 +1,5 @@
 -- What the passes of a plan over the heads keep.
-use Rattle.std.specs.Prelude.{ℕ, ◌+◌, ◌-◌, ◌^◌, Bool, not, ◌&&◌, List, [], ◌∷◌, Option, Some, None, filter, length, min}
+use Rattle.std.specs.Prelude.{◌-◌, ◌^◌, Bool, not, ◌&&◌, List, [], ◌∷◌, Option, Some, None, filter, length, min}
 use Rattle.std.specs.BTreeSet.{contains}
 use Rattle.std.specs.List.{sum_by}
 use Rattle.ts_base.specs.Keys.{frag_cmp}
@@ -9,7 +9,7 @@ use Rattle.ts_commit.specs.declared.hulls.Hull.{Hull}
 use Rattle.ts_commit.specs.declared.totals.Total.{Total}
 use Rattle.ts_commit.specs.Plans.{is_inside, low_of_all, high_of_all, origins_of_all}
 
--- the fragment is eligible, where these are the fragments that `.vac` objects name
+-- the fragment is in the interval, and it is none of those that `.vac` objects name
 abbrev pub passes : Eligible → Head → Bool
 passes eligible head = is_inside eligible.from eligible.to head.frag && not (contains frag_cmp eligible.merged head.frag)
 

@@ -187,13 +187,12 @@ fn write_of(alloc: Global, t: u64, schema: u128, cells: u64) -> Result<Head, Out
 }
 
 // What a consolidation takes of writes in these schemas, stamped 1, 2 and so on, each of so many cells
-// of one attribute: their stamps, or how many are eligible.
+// of one attribute.
 fn planned(
     alloc: Global,
     schemas: &[u128],
     cells: u64,
     vacs: &VacList,
-    interval: (u64, u64),
     limits: Limits,
 ) -> Result<Planned, OutOfMemory> {
     let mut heads = HeadList::new(alloc);
@@ -202,7 +201,7 @@ fn planned(
         heads.push(write_of(alloc, place as u64 + 1, *schema, cells)?)?;
         attrs.push(1)?;
     }
-    plan(alloc, &heads, vacs, &attrs, interval.0, interval.1, limits)
+    plan(alloc, &heads, vacs, &attrs, 0, 9, limits)
 }
 
 // The plan that takes the writes with these stamps.
@@ -227,29 +226,18 @@ fn a_plan_takes_what_one_schema_shares(rt: HostRuntime) -> Result<(), Fail> {
     let names = FragList::from_vec(vec![in alloc; write_of(alloc, 1, 7, 1)?.frag]?);
     vacs.push(VacOf { frag: BOTH, names })?;
     let (usual, two) = (Limits { min: 2, max: 64 }, Limits { min: 2, max: 2 });
-    let found = planned(alloc, &[7, 7], 1, &none, (0, 9), usual)?;
+    let found = planned(alloc, &[7, 7], 1, &none, usual)?;
     assert_eq!(rt; found, takes(alloc, &[1, 2])?);
-    let found = planned(alloc, &[7], 1, &none, (0, 9), usual)?;
+    let found = planned(alloc, &[7], 1, &none, usual)?;
     assert_eq!(rt; found, Planned::Nothing { eligible: 1 });
-    let found = planned(alloc, &[7, 7, 7], 1, &vacs, (0, 9), usual)?;
+    let found = planned(alloc, &[7, 7, 7], 1, &vacs, usual)?;
     assert_eq!(rt; found, takes(alloc, &[2, 3])?);
-    let found = planned(alloc, &[7, 7], 1, &none, (2, 9), usual)?;
-    assert_eq!(rt; found, Planned::Nothing { eligible: 1 });
-    let found = planned(alloc, &[7, 7], 1, &none, (9, 0), usual)?;
-    assert_eq!(rt; found, Planned::Nothing { eligible: 0 });
-    let found = planned(alloc, &[7, 8, 9, 9, 8, 8], 1, &none, (0, 9), two)?;
+    let found = planned(alloc, &[7, 8, 9, 9, 8, 8], 1, &none, two)?;
     assert_eq!(rt; found, takes(alloc, &[2, 5])?);
 
-    // Cells of one attribute weigh two each: 2^24 for two writes, and more.
-    let found = planned(alloc, &[7, 7, 7], 4194304, &none, (0, 9), usual)?;
-    assert_eq!(rt; found, takes(alloc, &[1, 2])?);
-    let found = planned(alloc, &[7, 7, 7], 4194305, &none, (0, 9), usual)?;
+    // Cells of one attribute weigh two each: here of two writes more than 2^24 together.
+    let found = planned(alloc, &[7, 7, 7], 4194305, &none, usual)?;
     assert_eq!(rt; found, Planned::Nothing { eligible: 3 });
-
-    // Of 250 writes as many as may be.
-    let found = planned(alloc, &[7; 250], 100, &none, (0, 250), usual)?;
-    let stamps: Vec<u64> = (1..65).collect(alloc)?;
-    assert_eq!(rt; found, takes(alloc, stamps.as_slice())?);
     Ok(())
 }
 

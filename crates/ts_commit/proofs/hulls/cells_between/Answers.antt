@@ -1,5 +1,5 @@
 -- One dimension more, and all dimensions that both have.
-use Rattle.std.proofs.Common.{rules, arith, ◌≡◌, ◌<◌, ◌≤◌, ◌-◌, ◌^◌, length, min, get_or, pos, ap, ◌∙◌, FitsSigned, to_z-of_z}
+use Rattle.std.proofs.Common.{rules, arith, ◌≡◌, ◌≤◌, ◌-◌, ◌^◌, length, min, get_or, pos, ap, ◌∙◌, FitsSigned, to_z-of_z}
 use Rattle.std.specs.Int.{w128}
 use Rattle.ts_domain.specs.Bounds.{cells_between}
 use Rattle.ts_domain.proofs.Steps.{cells_more}

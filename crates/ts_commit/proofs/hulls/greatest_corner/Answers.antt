@@ -1,5 +1,5 @@
 -- All dimensions that both have are done.
-use Rattle.std.proofs.Common.{rules, arith, ◌≡◌, ◌≤◌, length, min, take, ap, ◌∙◌}
+use Rattle.std.proofs.Common.{arith, ◌≡◌, ◌≤◌, length, min, take, ap, ◌∙◌}
 use Rattle.ts_commit.proofs.Corners.{greatest_corner_all}
 use Rattle.ts_domain.specs.Bounds.{greatest_corner}
 use Rattle.ts_commit.proofs.hulls.greatest_corner.Goals as goal

@@ -1,5 +1,5 @@
 -- All dimensions that both have are done.
-use Rattle.std.proofs.Common.{rules, arith, ◌≡◌, ◌≤◌, length, min, take, ap, ◌∙◌}
+use Rattle.std.proofs.Common.{arith, ◌≡◌, ◌≤◌, length, min, take, ap, ◌∙◌}
 use Rattle.ts_commit.proofs.Corners.{least_corner_all}
 use Rattle.ts_domain.specs.Bounds.{least_corner}
 use Rattle.ts_commit.proofs.hulls.least_corner.Goals as goal

@@ -1,10 +1,8 @@
 -- The fragments so far, and the next one.
-use Rattle.std.proofs.Common.{◌≡◌, true, List, [], ◌∷◌, ◌++◌, drop, sym, ap, ◌∙◌, arith}
-use Rattle.std.specs.Prelude.{map as list_map}
+use Rattle.std.proofs.Common.{◌≡◌, true, [], ◌∷◌, ◌++◌, sym, ap, ◌∙◌, arith}
 use Rattle.std.proofs.lemmas.List.{map-append}
 use Rattle.ts_base.specs.declared.heads.Head.{Head}
-use Rattle.ts_commit.specs.Plans.{of_schema, is_in_bounds, taken_from}
-use Rattle.ts_commit.specs.Passes.{passed, total_of}
+use Rattle.ts_commit.specs.Plans.{is_in_bounds, taken_from}
 use Rattle.ts_commit.proofs.PlanSteps.{source_yes, source_other, source_no, taken_more}
 use Rattle.ts_commit.proofs.plans.taken.Goals as goal
 use Rattle.ts_commit.proofs.plans.taken.Goals.{then-has+then-is_of_schema+else-not-is_in_bounds+in_ok-push, else-has, else-has-via-then-has+else-is_of_schema, else-has-via-else-has}
