@@ -12,7 +12,9 @@ pub struct RealClock<R: time::Clock + Drop> {
 
 impl<R: time::Clock + Drop> RealClock<R> {
     /// The clock of this runtime.
-    pub fn new(rt: R) -> Self {
+    pub fn new(rt: R) -> Self
+        ensures { result.rt ≡ rt }
+    {
         RealClock { rt }
     }
 }

@@ -14,7 +14,8 @@ pub struct StdSource<R: Read> {
 impl<R: Read> StdSource<R> {
     /// A source of what the reader gives. No read has failed yet.
     pub fn new(reader: R) -> Self
-        ensures { result.faults ≡ 0 }
+        ensures reader { result.reader ≡ reader }
+        ensures faults { result.faults ≡ 0 }
     {
         StdSource { reader, faults: 0 }
     }
@@ -46,7 +47,8 @@ pub struct StdSink<W: Write> {
 impl<W: Write> StdSink<W> {
     /// A sink that hands bytes to the writer. No write has failed yet.
     pub fn new(writer: W) -> Self
-        ensures { result.faults ≡ 0 }
+        ensures writer { result.writer ≡ writer }
+        ensures faults { result.faults ≡ 0 }
     {
         StdSink { writer, faults: 0 }
     }
