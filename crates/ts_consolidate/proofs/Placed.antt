@@ -1,6 +1,6 @@
 -- Versions that took their places in a tree stand there as in the map of all of them.
-use Rattle.std.proofs.Common.{◌≡◌, ℤ, List, [], ◌∷◌, ◌++◌, length, map as list_map, Some, Result, Ok, Err, IfOk, int_cmp, refl, sym, ap, ◌∙◌, subst, arith}
-use Rattle.std.specs.Prelude.{All, filter}
+use Rattle.std.proofs.Common.{◌≡◌, ℤ, List, [], ◌∷◌, ◌++◌, length, Some, Result, Ok, Err, IfOk, int_cmp, refl, sym, ap, ◌∙◌, subst, arith}
+use Rattle.std.specs.Prelude.{All}
 use Rattle.std.specs.List.{AllByRecursion}
 use Rattle.std.specs.Cmp.Lexicographic.{slice_cmp}
 use Rattle.std.specs.BTreeMap as tree
@@ -11,7 +11,7 @@ use Rattle.std.specs.BTreeMap.{insert_entry}
 use Rattle.std.specs.FinMap as map
 use Rattle.std.specs.FinMap.Entries.{by_order}
 use Rattle.std.proofs.lemmas.List.{get_or_append_left, get_or_at, length_push, nil_from_length}
-use Rattle.std.proofs.lemmas.List.Elements.{All-nil, All-cons, All-head, All-tail, All-append, All-contains}
+use Rattle.std.proofs.lemmas.List.Elements.{All-nil, All-cons, All-head, All-tail, All-append, All-push, All-contains}
 use Rattle.ts_base.specs.declared.heads.Version.{Version}
 use Rattle.ts_schema.specs.declared.frames.Frame.{Frame}
 use Rattle.ts_model.specs.declared.merging.VersionPlace.{VersionPlace}
@@ -87,3 +87,7 @@ newest_all P vs all = all_newest P vs all (map.values (newest_of vs)) (are_newes
 pub joined_all : (P : Version → Type 0) (lists : List (List Version)) → All (All P) lists → All P (all_got lists)
 joined_all P [] all = All-nil P
 joined_all P (vs ∷ lists) all = All-append P vs (all_got lists) (All-head (All P) vs lists all) (joined_all P lists (All-tail (All P) vs lists all))
+
+-- what holds of each holds of each and of one more
+pub all_pushed : {A : Type 0} (P : A → Type 0) (xs : List A) (x : A) → All P xs → P x → All P (xs ++ x ∷ [])
+all_pushed P xs x all own = All-push P xs x all own
