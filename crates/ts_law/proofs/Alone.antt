@@ -32,8 +32,8 @@ pub record IsTrueAlone (spelled : Spelled) (job : Job) (h : History) (m : Held) 
 
 module _ {F : Type 0} (codec : Codec F) (spelled : Spelled) (tracks : Tracking F) (laws : CodecLaws codec spelled tracks) (job : Job) (h : History) (m : Held) (told : List Told) (result : Driven Outcome)
     (stands : Stands spelled m h) (new : IsNewId m h [] job.id) (fit : IsFit job) (replied : Replied m told) (suit : All Suits told) (own : AreBy 0 told) (is : IsDriven codec job (trace_of 0 told) result) where
-  begins : Kept codec spelled tracks h (job ∷ []) [] [] m
-  begins = spawn_kept codec spelled tracks h [] [] [] m job (starts_kept codec spelled tracks h m stands) fit new
+  begins : Kept codec spelled tracks m h (job ∷ []) [] [] m
+  begins = spawn_kept codec spelled tracks m h [] [] [] m job (starts_kept codec spelled tracks h m stands) fit new
 
   driven : AreDriven codec (job ∷ []) (result ∷ []) told
   driven = record { one_each = refl; driven = by_place }

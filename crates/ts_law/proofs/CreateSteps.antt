@@ -64,7 +64,7 @@ got_whole whole short = take_all (2 ^ 64 - 1) whole (omega arith)
 
 -- ---- one call
 
-module _ {F : Type 0} (codec : Codec F) (spelled : Spelled) (tracks : Tracking F) (past : History) (jobs : List Job) (seen : List Told) (e : Told) (m : Held) (number : ℕ) (job : Job) where
+module _ {F : Type 0} (codec : Codec F) (spelled : Spelled) (tracks : Tracking F) (opening : Held) (past : History) (jobs : List Job) (seen : List Told) (e : Told) (m : Held) (number : ℕ) (job : Job) where
   -- the history before the call
   abbrev h : History
   h = history_told jobs past seen
@@ -79,15 +79,15 @@ module _ {F : Type 0} (codec : Codec F) (spelled : Spelled) (tracks : Tracking F
 
   -- what a state of the job claims after the call
   abbrev ClaimsLater : State F → Type 0
-  ClaimsLater s = Claims codec spelled tracks past jobs (seen ++ e ∷ []) m' number job s
+  ClaimsLater s = Claims codec spelled tracks opening past jobs (seen ++ e ∷ []) m' number job s
 
   -- the call comes to the job in a state
   abbrev ComesHere : State F → Type 0
-  ComesHere s = Comes codec spelled tracks past jobs seen e m number job s
+  ComesHere s = Comes codec spelled tracks opening past jobs seen e m number job s
 
   -- the call advances the job from a state
   abbrev AdvancesHere : State F → Type 0
-  AdvancesHere s = Advances codec spelled tracks past jobs seen e m number job s
+  AdvancesHere s = Advances codec spelled tracks opening past jobs seen e m number job s
 
   -- ---- a create: the frame
 

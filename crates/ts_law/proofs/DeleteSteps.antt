@@ -27,11 +27,11 @@ use Rattle.ts_model.specs.Codecs.{Codec, CodecLaws, Spelled, Tracking}
 use Rattle.ts_law.specs.Kept.{Claims, GettingDeletes, LooksInto}
 use Rattle.ts_model.specs.States.{after_delete, getting_deletes, deletion_named, get_delete, on_bytes, with_deletion, with_item}
 use Rattle.ts_law.specs.Steps.{Advances, Comes}
-use Rattle.ts_model.specs.Told.{Told, after_told, history_told}
+use Rattle.ts_model.specs.Told.{Told, after_told, held_told, history_told}
 use Rattle.ts_law.proofs.Declaring.{short_body}
 use Rattle.ts_model.proofs.HistoryLaws.{deletion_facts, deletion_of_name, deletions-append}
 use Rattle.ts_model.proofs.ListLemmas.{Contains-slice_get}
-use Rattle.ts_law.proofs.ListSteps.{looked}
+use Rattle.ts_law.proofs.ListSteps.{erase_from_looked, looked}
 use Rattle.ts_law.proofs.ReadSteps.{asked_of, getting_deletes_claims, no_listing, push_next, read_lead, whole_lead}
 use Rattle.ts_law.proofs.Stays.{getting_deletes_stays}
 use Rattle.ts_model.proofs.Traces.{history_told_grows}
@@ -45,7 +45,7 @@ cond_again c is short = object_only cond_exact kind.Delete c (short_body kind.De
 deletion_again : (x : Deletion) (f : FragKey) → frag_of x.key ≡ f → deletion_named f x.cond ≡ x
 deletion_again x f named = ap (λ g. deletion_named g x.cond) (sym named)
 
-module _ {F : Type 0} (codec : Codec F) (spelled : Spelled) (tracks : Tracking F) (past : History) (jobs : List Job) (seen : List Told) (e : Told) (m : Held) (number : ℕ) (job : Job) where
+module _ {F : Type 0} (codec : Codec F) (spelled : Spelled) (tracks : Tracking F) (opening : Held) (past : History) (jobs : List Job) (seen : List Told) (e : Told) (m : Held) (number : ℕ) (job : Job) where
   -- the history before the call
   abbrev h : History
   h = history_told jobs past seen
@@ -60,24 +60,26 @@ module _ {F : Type 0} (codec : Codec F) (spelled : Spelled) (tracks : Tracking F
 
   -- what a state claims after the call
   abbrev ClaimedAfter : State F → Type 0
-  ClaimedAfter s = Claims codec spelled tracks past jobs (seen ++ e ∷ []) m' number job s
+  ClaimedAfter s = Claims codec spelled tracks opening past jobs (seen ++ e ∷ []) m' number job s
 
   -- a delete that a read listed is a deed
-  listed_deed : (from to : ℕ) (fragments delete_names : List FragKey) → LooksInto spelled past jobs seen m number from to fragments delete_names → (f : FragKey) → Contains delete_names f
+  listed_deed : (from to : ℕ) (fragments delete_names : List FragKey) → LooksInto spelled opening past jobs seen m number from to fragments delete_names → (f : FragKey) → Contains delete_names f
       → (x : Deletion) × Contains (deletions h) x × (frag_of x.key ≡ f)
   listed_deed from to fragments delete_names listed f at =
-      let of = listed.erased f at in
-      let grown = history_told_grows jobs past (listed.commits).before ((listed.commits).listing ∷ (listed.commits).later) in
-      let now : h ≡ history_told jobs past (listed.commits).before ++ grown.0 = ap (history_told jobs past) (listed.commits).place ∙ grown.1 in (
+      let commits = listed.since.commits in
+      let then = held_told opening commits.before in
+      let of = erase_from_looked spelled then (history_told jobs past commits.before) listed.since.stands from to f (subst (λ fs. Contains fs f) listed.deletes_are at) in
+      let grown = history_told_grows jobs past commits.before (commits.listing ∷ commits.later) in
+      let now : h ≡ history_told jobs past commits.before ++ grown.0 = ap (history_told jobs past) commits.place ∙ grown.1 in (
         of.0,
         subst (λ g. Contains (deletions g) of.0) (sym now)
-            (rw (deletions-append (history_told jobs past (listed.commits).before) grown.0) (Contains-append_left (deletions (history_told jobs past (listed.commits).before)) (deletions grown.0) of.0 of.1)),
+            (rw (deletions-append (history_told jobs past commits.before) grown.0) (Contains-append_left (deletions (history_told jobs past commits.before)) (deletions grown.0) of.0 of.1)),
         of.2,
       )
 
   -- with a delete more
   erased_more : (r : Reading) (opened : List Opened) (schemas : List Schema) (x : Deletion) → slice_get r.delete_names (length r.deletions) ≡ Some (frag_of x.key) → Contains (deletions h') x
-      → GettingDeletes codec spelled past jobs (seen ++ e ∷ []) m' number job r opened schemas → GettingDeletes codec spelled past jobs (seen ++ e ∷ []) m' number job (with_deletion r x) opened schemas
+      → GettingDeletes codec spelled opening past jobs (seen ++ e ∷ []) m' number job r opened schemas → GettingDeletes codec spelled opening past jobs (seen ++ e ∷ []) m' number job (with_deletion r x) opened schemas
   erased_more r opened schemas x next deed is =
       let gathers = is.gathers in
       let opens = gathers.opens in
@@ -103,13 +105,13 @@ module _ {F : Type 0} (codec : Codec F) (spelled : Spelled) (tracks : Tracking F
 
   -- the get of a delete leads a read to the next one, or to the first fetch
   pub deletes_steps : CodecLaws codec spelled tracks → (r : Reading) (opened : List Opened) (schemas : List Schema)
-      → Comes codec spelled tracks past jobs seen e m number job (Collects (GetsDeletes r opened schemas)) → Advances codec spelled tracks past jobs seen e m number job (Collects (GetsDeletes r opened schemas))
+      → Comes codec spelled tracks opening past jobs seen e m number job (Collects (GetsDeletes r opened schemas)) → Advances codec spelled tracks opening past jobs seen e m number job (Collects (GetsDeletes r opened schemas))
   deletes_steps laws r opened schemas comes =
       let next = asked_of get_delete (slice_get r.delete_names (length r.deletions)) e.call comes.asked in
       let f = next.0 in
       let n = name.Commit f Del in
       let look = looked spelled past jobs seen e m job (get_delete f) next.2 tt comes.stands comes.replied comes.claims.0 in
-      let unlisted = no_listing codec spelled tracks past jobs seen e m number job n next.2 in
+      let unlisted = no_listing codec spelled tracks opening past jobs seen e m number job n next.2 in
       let claims = comes.claims.1 in
       let deed = listed_deed r.from r.to r.fragments r.delete_names (((((claims.gathers).opens).reads).at).listed) f (Contains-slice_get r.delete_names (length r.deletions) f next.1) in
       let x = deed.0 in
@@ -118,14 +120,14 @@ module _ {F : Type 0} (codec : Codec F) (spelled : Spelled) (tracks : Tracking F
       let held : map.get m n ≡ Some (cond_object x.cond) = (comes.stands).deletes f ∙ ap (option_map (λ y. cond_object y.cond)) of in
       let short = (comes.stands).short_deletes f (cond_object x.cond) held in
       let again = cond_again x.cond (deletion_facts h x (comes.stands).history deed.1).0 short in
-      let after = getting_deletes_stays spelled past jobs seen e m m' job.id (look.leads).leaves number codec job r opened schemas unlisted claims in
+      let after = getting_deletes_stays spelled opening past jobs seen e m m' job.id (look.leads).leaves number codec job r opened schemas unlisted claims in
       let on : Condition → State F = λ condition. getting_deletes codec (with_deletion r (deletion_named f condition)) opened schemas in
       record {
         leads = look.leads;
         own = subst (λ o. ClaimedAfter (with_item (λ g. on_bytes (get_delete g) (after_delete codec r opened schemas g) e.reply) o)) (sym next.1)
-            (whole_lead codec spelled tracks past jobs seen e m number job n (cond_object x.cond) (after_delete codec r opened schemas f) next.2 comes.replied held short (inr (look.clean).undone)
-            (read_lead codec spelled tracks past jobs seen e m number job n on x.cond (cond_of (cond_object x.cond)) again
+            (whole_lead codec spelled tracks opening past jobs seen e m number job n (cond_object x.cond) (after_delete codec r opened schemas f) next.2 comes.replied held short (inr (look.clean).undone)
+            (read_lead codec spelled tracks opening past jobs seen e m number job n on x.cond (cond_of (cond_object x.cond)) again
             (subst (λ y. ClaimedAfter (getting_deletes codec (with_deletion r y) opened schemas)) (sym (deletion_again x f named))
-            (getting_deletes_claims codec spelled tracks past jobs (seen ++ e ∷ []) m' number job laws look.clean look.history (with_deletion r x) opened schemas
+            (getting_deletes_claims codec spelled tracks opening past jobs (seen ++ e ∷ []) m' number job laws look.clean look.history (with_deletion r x) opened schemas
             (erased_more r opened schemas x (next.1 ∙ ap Some (sym named)) (subst (λ g. Contains (deletions g) x) (sym look.same_history) deed.1) after)))));
       }

@@ -43,7 +43,7 @@ use Rattle.ts_commit.specs.Selections.{has_origin, is_usable}
 use Rattle.ts_law.specs.Stands.{HoldsIn}
 use Rattle.ts_model.specs.States.{known_schema, known_attrs, want_of, ended, fetch_leads, fetch_begins, fetches_one, fetching, after_fetched}
 use Rattle.ts_law.specs.Kept.{AreGot, Clean, GettingDeletes, Gathering, Fetching, Claims, heads_of}
-use Rattle.ts_model.specs.Told.{Told, IsReplied, after_told, history_told}
+use Rattle.ts_model.specs.Told.{Told, IsReplied, after_told, held_told, history_told}
 use Rattle.ts_law.specs.Ends.{IsTrueRefusal}
 use Rattle.ts_law.specs.Steps.{Comes, Advances}
 use Rattle.ts_model.proofs.ListLemmas.{Contains-slice_get, take_next}
@@ -51,7 +51,8 @@ use Rattle.ts_model.proofs.HistoryLaws.{IsHistory-front, deletions-append, schem
 use Rattle.ts_law.proofs.DeletesGot.{all_deletions, deleted_in}
 use Rattle.ts_model.proofs.Traces.{history_told_grows}
 use Rattle.ts_law.proofs.Effects.{IsLook, look_stays, look_history, look_leads}
-use Rattle.ts_law.proofs.Stays.{clean_look, fetching_stays, on_way_stays}
+use Rattle.ts_law.proofs.Stays.{clean_look, fetching_stays}
+use Rattle.ts_law.proofs.ListSteps.{looked_from_committed, meets_of_origin}
 use Rattle.ts_law.proofs.Fetches.{Contains-map, got_more, knows, knows_attrs, map-Contains, one_head, origin_open}
 use Rattle.ts_law.proofs.OriginLaws.{any_member}
 use Rattle.ts_law.proofs.TakenLaws.{newest_taken, none_taken}
@@ -80,19 +81,23 @@ begins_now jobs past seen before listing later place = let grown = history_told_
 -- ---- what a read claims while it fetches
 
 module _ {F : Type 0} (codec : Codec F) (spelled : Spelled) (tracks : Tracking F) (laws : CodecLaws codec spelled tracks)
-    (past : History) (jobs : List Job) (seen : List Told) (m : Held) (number : ℕ) (job : Job) (clean : Clean m (history_told jobs past seen) job)
-    (r : Reading) (opened : List Opened) (schemas : List Schema) (deletes_found : GettingDeletes codec spelled past jobs seen m number job r opened schemas) (all_deletes : length r.deletions ≡ length r.delete_names) where
+    (opening : Held) (past : History) (jobs : List Job) (seen : List Told) (m : Held) (number : ℕ) (job : Job) (clean : Clean m (history_told jobs past seen) job)
+    (r : Reading) (opened : List Opened) (schemas : List Schema) (deletes_found : GettingDeletes codec spelled opening past jobs seen m number job r opened schemas) (all_deletes : length r.deletions ≡ length r.delete_names) where
   -- what the read gathered
-  abbrev gathers : Gathering codec spelled past jobs seen m number job r opened schemas
+  abbrev gathers : Gathering codec spelled opening past jobs seen m number job r opened schemas
   gathers = deletes_found.gathers
 
   -- the state's claims hold
   abbrev Holds : State F → Type 0
-  Holds s = Claims codec spelled tracks past jobs seen m number job s
+  Holds s = Claims codec spelled tracks opening past jobs seen m number job s
 
   -- the history at the listing of the commits
   abbrev g : History
-  g = history_told jobs past (((((gathers.opens).reads).at).listed).commits).before
+  g = history_told jobs past (((((gathers.opens).reads).at).listed).since.commits).before
+
+  -- what was held then
+  abbrev then : Held
+  then = held_told opening (((((gathers.opens).reads).at).listed).since.commits).before
 
   -- the history now
   abbrev h : History
@@ -105,7 +110,7 @@ module _ {F : Type 0} (codec : Codec F) (spelled : Spelled) (tracks : Tracking F
   -- the fragment's parts spell a piece, which the read can use
   pub record IsUsed (frag : FragKey) : Type 0 where
     piece : Piece
-    holds : HoldsIn spelled g m frag piece
+    holds : HoldsIn spelled g then frag piece
     same_frame : holds.frame ≡ r.frame
     usable : is_usable r.from r.to piece.head ≡ true
 
@@ -155,7 +160,7 @@ module _ {F : Type 0} (codec : Codec F) (spelled : Spelled) (tracks : Tracking F
   module _ (is_g : IsHistory g) (is_h : IsHistory h) where
     -- the history now begins with that at the listing of the commits
     from_g : (more : History) × (h ≡ g ++ more)
-    from_g = begins_now jobs past seen _ _ _ (((((gathers.opens).reads).at).listed).commits).place
+    from_g = begins_now jobs past seen _ _ _ (((((gathers.opens).reads).at).listed).since.commits).place
 
     -- a schema of that history is one of this
     grows : (k : Key) (s : Schema) → schema_with g k ≡ Some s → schema_with h k ≡ Some s
@@ -168,9 +173,11 @@ module _ {F : Type 0} (codec : Codec F) (spelled : Spelled) (tracks : Tracking F
     -- a write in the interval went into one of the open fragments
     opened_with : (w : Written) → Contains (writes g) w → is_within r.from r.to w.key ≡ true → (o : Opened) × Contains opened o × (has_origin w.key o.head ≡ true)
     opened_with w at within =
-        let fragments = ((((gathers.opens).reads).at).listed).covered w at within in
-        let o = map-Contains (λ o. o.frag) opened fragments.0 (subst (λ fs. Contains fs fragments.0) (sym all_frags) fragments.1) in
-        (o.0, o.1, origin_open codec spelled tracks laws g m r opened (gathers.opens).are_open fragments.0 w.key fragments.2 o.0 o.1 o.2)
+        let listed = (((gathers.opens).reads).at).listed in
+        let into = listed.since.stands.covered w at in
+        let looked = looked_from_committed then r.from r.to into.0 into.1 (meets_of_origin spelled then g r.from r.to into.0 w.key into.2 within) in
+        let o = map-Contains (λ o. o.frag) opened into.0 (subst (λ fs. Contains fs into.0) (sym listed.fragments_are ∙ sym all_frags) looked) in
+        (o.0, o.1, origin_open codec spelled tracks laws g then r opened (gathers.opens).are_open into.0 w.key into.2 o.0 o.1 o.2)
 
     -- so it is an origin in one of the heads
     headed : (w : Written) → Contains (writes g) w → is_within r.from r.to w.key ≡ true → list_any (has_origin w.key) (heads_of opened) ≡ true
@@ -180,7 +187,7 @@ module _ {F : Type 0} (codec : Codec F) (spelled : Spelled) (tracks : Tracking F
     known_to : (w : Written) → Contains (writes g) w → is_within r.from r.to w.key ≡ true → known_attrs r schemas w.schema ≡ attrs_with g w.schema
     known_to w at within =
         let o = opened_with w at within in
-        knows_attrs codec spelled g h m r opened schemas grows ((((gathers.opens).reads).at).works).declared (gathers.opens).are_open gathers.gathered deletes_found.all_schemas w is_g at o.0 o.1 o.2
+        knows_attrs codec spelled g h then r opened schemas grows ((((gathers.opens).reads).at).works).declared (gathers.opens).are_open gathers.gathered deletes_found.all_schemas w is_g at o.0 o.1 o.2
 
     -- after the last fragment the answer is that of the history
     end_claims : (next : ℕ) (got : List Version) → drop next opened ≡ [] → IsFound next got → Holds (fetching codec r opened schemas next [] got)
@@ -194,13 +201,13 @@ module _ {F : Type 0} (codec : Codec F) (spelled : Spelled) (tracks : Tracking F
           reads.query,
           reads.reads,
           record {
-            commits = ((reads.at).listed).commits;
+            commits = ((reads.at).listed).since.commits;
             schemas = ((reads.at).works).schemas;
             between = (reads.at).between;
             order = (reads.at).order;
             answers = answer_is g r.from r.to (r.ready).sub got (λ c inside. are.inside c inside ∙ last_is_all g r.from r.to (heads_of opened) headed c) are.outside r schemas refl known_to
-                (deleted_in spelled past jobs seen m number r.from r.to r.fragments r.delete_names (reads.at).listed is_h deletions_grow r.deletions deletes_found.deletions all_deletes)
-                (all_deletions spelled past jobs seen m number r.from r.to r.fragments r.delete_names (reads.at).listed is_h deletions_grow r.deletions deletes_found.deletions all_deletes)
+                (deleted_in spelled opening past jobs seen m number r.from r.to r.fragments r.delete_names (reads.at).listed is_h deletions_grow r.deletions deletes_found.deletions all_deletes)
+                (all_deletions spelled opening past jobs seen m number r.from r.to r.fragments r.delete_names (reads.at).listed is_h deletions_grow r.deletions deletes_found.deletions all_deletes)
                 (history_told jobs past (((reads.at).works).schemas).before) reads.query reads.framed
                 (subst (λ command. schema_there (history_told jobs past (((reads.at).works).schemas).before) (looks_at job command) ≡ Some r.there) reads.reads ((reads.at).works).holds)
                 reads.is_ready;
@@ -219,7 +226,7 @@ module _ {F : Type 0} (codec : Codec F) (spelled : Spelled) (tracks : Tracking F
         let well : OpensWell codec (tracks r.frame schema opens.piece spells.look want) r.frame schema opens.piece o.object want =
         laws.opens r.frame schema opens.piece spells.look want o.object (subst (λ frame. spelled frame schema opens.piece spells.look) opens.same_frame spells.spells) opens.object in
         let begins : codec.opens r.frame schema o.frag o.object want ≡ Ok well.fetch = ap (λ f. codec.opens r.frame schema f o.object want) (sym spells.named) ∙ well.opens in
-        let known = knows codec spelled g h m r opened schemas grows ((((gathers.opens).reads).at).works).declared (gathers.opens).are_open gathers.gathered deletes_found.all_schemas o there in
+        let known = knows codec spelled g h then r opened schemas grows ((((gathers.opens).reads).at).works).declared (gathers.opens).are_open gathers.gathered deletes_found.all_schemas o there in
         subst (λ s. Holds (fetches_one codec r opened schemas next o got on s)) (sym known)
         (subst (λ x. Holds (fetch_begins codec r opened schemas next o.frag got on x)) (sym begins)
         (step_claims next o.frag got on (frag_at next o at) (used_open o there) found rest (codec.steps well.fetch reply.Start) well.starts))
@@ -229,7 +236,7 @@ module _ {F : Type 0} (codec : Codec F) (spelled : Spelled) (tracks : Tracking F
     found_more next o got at one found vs all =
         let one_more : next + 1 ≡ suc next = omega arith in
         let opens = ((gathers.opens).are_open).each o (Contains-slice_get opened next o at) in
-        let same : (one.piece).head ≡ o.head = one_head codec spelled tracks laws g m o.frag one.piece opens.piece one.holds opens.holds ∙ sym opens.head in
+        let same : (one.piece).head ≡ o.head = one_head codec spelled tracks laws g then o.frag one.piece opens.piece one.holds opens.holds ∙ sym opens.head in
         let heads : heads_of (take (suc next) opened) ≡ heads_of (take next opened) ++ (one.piece).head ∷ [] =
         ap (λ n. heads_of (take n opened)) (sym one_more) ∙ ap heads_of (take_next opened next o at) ∙ map-append (λ x. x.head) (take next opened) (o ∷ [])
         ∙ ap (λ x. heads_of (take next opened) ++ x ∷ []) (sym same) in
@@ -309,13 +316,13 @@ module _ {F : Type 0} (codec : Codec F) (spelled : Spelled) (tracks : Tracking F
         reply_claims c part bytes said way held speaks (inr (inr told)) = told_claims c part bytes said way held speaks told
 
 -- a read that fetches the fragments from a place on claims what is true
-pub fetching_claims : {F : Type 0} (codec : Codec F) (spelled : Spelled) (tracks : Tracking F) (past : History) (jobs : List Job) (seen : List Told) (m : Held) (number : ℕ) (job : Job)
+pub fetching_claims : {F : Type 0} (codec : Codec F) (spelled : Spelled) (tracks : Tracking F) (opening : Held) (past : History) (jobs : List Job) (seen : List Told) (m : Held) (number : ℕ) (job : Job)
     (r : Reading) (opened : List Opened) (schemas : List Schema) (next : ℕ) (got : List Version) → CodecLaws codec spelled tracks → Clean m (history_told jobs past seen) job
-    → (fetches : Fetching codec spelled past jobs seen m number job r opened schemas next got)
-    → IsHistory (history_told jobs past (((((((fetches.deletes_found).gathers).opens).reads).at).listed).commits).before) → IsHistory (history_told jobs past seen)
-    → Claims codec spelled tracks past jobs seen m number job (fetching codec r opened schemas next (drop next opened) got)
-fetching_claims codec spelled tracks past jobs seen m number job r opened schemas next got laws clean fetches is_g is_h =
-    rest_claims codec spelled tracks laws past jobs seen m number job clean r opened schemas fetches.deletes_found fetches.all_deletes is_g is_h (drop next opened) next got refl fetches.found
+    → (fetches : Fetching codec spelled opening past jobs seen m number job r opened schemas next got)
+    → IsHistory (history_told jobs past (((((((fetches.deletes_found).gathers).opens).reads).at).listed).since.commits).before) → IsHistory (history_told jobs past seen)
+    → Claims codec spelled tracks opening past jobs seen m number job (fetching codec r opened schemas next (drop next opened) got)
+fetching_claims codec spelled tracks opening past jobs seen m number job r opened schemas next got laws clean fetches is_g is_h =
+    rest_claims codec spelled tracks laws opening past jobs seen m number job clean r opened schemas fetches.deletes_found fetches.all_deletes is_g is_h (drop next opened) next got refl fetches.found
 
 -- ---- what a call on a part tells
 
@@ -355,11 +362,11 @@ speaks_look (call.List p) n speaks = absurd speaks
 
 -- ---- the call of a fetch
 
-module _ {F : Type 0} (codec : Codec F) (spelled : Spelled) (tracks : Tracking F) (past : History) (jobs : List Job) (seen : List Told) (e : Told) (m : Held) (number : ℕ) (job : Job)
+module _ {F : Type 0} (codec : Codec F) (spelled : Spelled) (tracks : Tracking F) (opening : Held) (past : History) (jobs : List Job) (seen : List Told) (e : Told) (m : Held) (number : ℕ) (job : Job)
     (r : Reading) (opened : List Opened) (schemas : List Schema) (next : ℕ) (frag : FragKey) (got : List Version) (fetch : F) (c : Call) where
   -- the call of a fetch leads its read on
-  pub fetch_steps : CodecLaws codec spelled tracks → Comes codec spelled tracks past jobs seen e m number job (Collects (Fetches r opened schemas next frag got fetch c))
-      → Advances codec spelled tracks past jobs seen e m number job (Collects (Fetches r opened schemas next frag got fetch c))
+  pub fetch_steps : CodecLaws codec spelled tracks → Comes codec spelled tracks opening past jobs seen e m number job (Collects (Fetches r opened schemas next frag got fetch c))
+      → Advances codec spelled tracks opening past jobs seen e m number job (Collects (Fetches r opened schemas next frag got fetch c))
   fetch_steps laws comes =
       let fetches = comes.claims.2.0 in
       let way = comes.claims.2.1 in
@@ -370,21 +377,19 @@ module _ {F : Type 0} (codec : Codec F) (spelled : Spelled) (tracks : Tracking F
       let same_held = (look_stays m e look comes.replied).0 in
       let same_history = look_history jobs past seen e m look comes.replied in
       let clean = clean_look m (after_told m e) (history_told jobs past seen) (history_told jobs past (seen ++ e ∷ [])) job same_held same_history comes.claims.0 in
-      let later = fetching_stays spelled past jobs seen e m (after_told m e) job.id leads.leaves number codec job r opened schemas next got
+      let later = fetching_stays spelled opening past jobs seen e m (after_told m e) job.id leads.leaves number codec job r opened schemas next got
       (λ own lists. subst (λ x. SpeaksOf x (name.Part ((way.piece).head).frag asks.part)) (sym is ∙ lists) asks.named) fetches in
-      let on_way = on_way_stays spelled past jobs seen e m (after_told m e) job.id leads.leaves number tracks
-      (history_told jobs past (((((((fetches.deletes_found).gathers).opens).reads).at).listed).commits).before) r frag fetch c way in
-      let spells = (on_way.holds).spells in
-      let again = laws.asks r.frame (on_way.holds).schema on_way.piece spells.look (want_of r ((on_way.holds).schema).attrs) fetch c on_way.way in
-      let held : map.get m (name.Part frag again.part) ≡ Some again.bytes = subst (λ x. map.get x (name.Part frag again.part) ≡ Some again.bytes) same_held (spells.held again.part again.bytes again.held) in
-      let speaks : SpeaksOf c (name.Part frag again.part) = subst (λ f. SpeaksOf c (name.Part f again.part)) spells.named again.named in
+      let spells = (way.holds).spells in
+      let since = ((((((fetches.deletes_found).gathers).opens).reads).at).listed).since in
+      let held : map.get m (name.Part frag asks.part) ≡ Some asks.bytes = since.held (name.Part frag asks.part) asks.bytes tt (spells.held asks.part asks.bytes asks.held) in
+      let speaks : SpeaksOf c (name.Part frag asks.part) = subst (λ f. SpeaksOf c (name.Part f asks.part)) spells.named asks.named in
       let is_h : IsHistory (history_told jobs past seen) = (comes.stands).history in
-      let commits = ((((((fetches.deletes_found).gathers).opens).reads).at).listed).commits in
+      let commits = since.commits in
       let from_g = begins_now jobs past seen commits.before commits.listing commits.later commits.place in
       let is_g = IsHistory-front (history_told jobs past commits.before) from_g.0 (subst IsHistory from_g.1 is_h) in
       record {
         leads = leads;
-        own = reply_claims codec spelled tracks laws past jobs (seen ++ e ∷ []) (after_told m e) number job clean r opened schemas later.deletes_found later.all_deletes is_g (subst IsHistory (sym same_history) is_h)
-            next frag got comes.claims.1 later.found fetch (record { piece = on_way.piece; holds = on_way.holds; same_frame = on_way.same_frame; usable = on_way.usable }) c again.part again.bytes e.reply on_way.way again.held again.named
-            (tells_of m (name.Part frag again.part) again.bytes held e c is speaks comes.replied);
+        own = reply_claims codec spelled tracks laws opening past jobs (seen ++ e ∷ []) (after_told m e) number job clean r opened schemas later.deletes_found later.all_deletes is_g (subst IsHistory (sym same_history) is_h)
+            next frag got comes.claims.1 later.found fetch (record { piece = way.piece; holds = way.holds; same_frame = way.same_frame; usable = way.usable }) c asks.part asks.bytes e.reply way.way asks.held asks.named
+            (tells_of m (name.Part frag asks.part) asks.bytes held e c is speaks comes.replied);
       }

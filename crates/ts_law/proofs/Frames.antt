@@ -2,7 +2,7 @@
 use Rattle.std.proofs.Common.{List, Some, ap, [], subst, sym, ℕ, ◌++◌, ◌∷◌, ◌≡◌}
 use Rattle.ts_base.specs.Held.{Held}
 use Rattle.ts_law.proofs.Objects.{CarryAll, delete_carries, schema_carries, write_carries}
-use Rattle.ts_law.proofs.Stays.{absent_stays, clean_stays, end_stays, getting_deletes_stays, fetching_stays, frame_stays, gathering_stays, has_listed_stays, has_near_stays, new_stays, on_way_stays, opening_stays, works_stays}
+use Rattle.ts_law.proofs.Stays.{absent_stays, clean_stays, end_stays, getting_deletes_stays, fetching_stays, frame_stays, gathering_stays, has_listed_stays, has_near_stays, new_stays, opening_stays, works_stays}
 use Rattle.ts_model.specs.Commands.{frame_made, piece_of}
 use Rattle.ts_model.specs.Deeds.{History, frame_in}
 use Rattle.ts_model.specs.Codecs.{Codec, Spelled, Tracking}
@@ -47,7 +47,7 @@ aims-carry codec past jobs seen number job objects outcome.OutOfMemory none = ab
 
 -- ---- claims that stay
 
-module _ {F : Type 0} (codec : Codec F) (spelled : Spelled) (tracks : Tracking F) (past : History) (jobs : List Job) (seen : List Told) (e : Told) (m : Held) (id : ℕ)
+module _ {F : Type 0} (codec : Codec F) (spelled : Spelled) (tracks : Tracking F) (opening : Held) (past : History) (jobs : List Job) (seen : List Told) (e : Told) (m : Held) (id : ℕ)
     (keeps : Keeps m (after_told m e) (history_told jobs past seen) (history_told jobs past (seen ++ e ∷ [])) id)
     (number : ℕ) (job : Job) where
   -- what the frame is, it stays
@@ -59,11 +59,11 @@ module _ {F : Type 0} (codec : Codec F) (spelled : Spelled) (tracks : Tracking F
       → Aims codec past jobs seen number job objects end → Aims codec past jobs (seen ++ e ∷ []) number job objects end
   aims_stays objects outcome.Created unlisted (f, creates, is, none, framed) = (f, creates, is, none, framed_stays (frame_made f) framed)
   aims_stays objects (outcome.Evolved k) unlisted (change, frame, there, evolves, same, is, framed, sound, works) =
-      (change, frame, there, evolves, same, is, framed_stays frame framed, sound, works_stays spelled past jobs seen e m (after_told m e) id keeps number job there unlisted works)
+      (change, frame, there, evolves, same, is, framed_stays frame framed, sound, works_stays spelled opening past jobs seen e m (after_told m e) id keeps number job there unlisted works)
   aims_stays objects (outcome.Written f) unlisted (w, frame, there, cells, writes_them, same, is, framed, lays, works) =
-      (w, frame, there, cells, writes_them, same, is, framed_stays frame framed, lays, works_stays spelled past jobs seen e m (after_told m e) id keeps number job there unlisted works)
+      (w, frame, there, cells, writes_them, same, is, framed_stays frame framed, lays, works_stays spelled opening past jobs seen e m (after_told m e) id keeps number job there unlisted works)
   aims_stays objects (outcome.Deleted f) unlisted (text, frame, there, condition, deletes, same, is, framed, says, works) =
-      (text, frame, there, condition, deletes, same, is, framed_stays frame framed, says, works_stays spelled past jobs seen e m (after_told m e) id keeps number job there unlisted works)
+      (text, frame, there, condition, deletes, same, is, framed_stays frame framed, says, works_stays spelled opening past jobs seen e m (after_told m e) id keeps number job there unlisted works)
   aims_stays objects (outcome.Read answer) unlisted is = is
   aims_stays objects (outcome.Refused r) unlisted is = is
   aims_stays objects outcome.OutOfMemory unlisted is = is
@@ -91,50 +91,50 @@ module _ {F : Type 0} (codec : Codec F) (spelled : Spelled) (tracks : Tracking F
     }
 
     -- the claims of a state stay
-    pub claims_stay_at : (s : State F) → Claims codec spelled tracks past jobs seen m number job s → Claims codec spelled tracks past jobs (seen ++ e ∷ []) (after_told m e) number job s
+    pub claims_stay_at : (s : State F) → Claims codec spelled tracks opening past jobs seen m number job s → Claims codec spelled tracks opening past jobs (seen ++ e ∷ []) (after_told m e) number job s
     claims_stay_at (Creates PutsFrame) is = (cleans is.0, is.1)
     claims_stay_at (Creates ComparesFrame) is = (cleans is.0, is.1, (is.2.0, framed_stays is.2.0 is.2.1))
     claims_stay_at (Creates ListsDeclared) is = (cleans is.0, (is.1.0, is.1.1, is.1.2, framed_stays (frame_made is.1.0) is.1.3))
     claims_stay_at (Puts objects next end) is = putting_stays objects next end is
     claims_stay_at (Seeks ListsCommits) is = (cleans is.0, is.1)
-    claims_stay_at (Seeks (ListsSchemas listing)) is = (cleans is.0, has_near_stays spelled past jobs seen e m (after_told m e) id keeps number job.command listing is.1)
+    claims_stay_at (Seeks (ListsSchemas listing)) is = (cleans is.0, has_near_stays spelled opening past jobs seen e m (after_told m e) id keeps number job.command listing is.1)
     claims_stay_at (Seeks (GetsSchema listing there)) is =
-        (cleans is.0, (is.1.0, is.1.1, has_listed_stays spelled past jobs seen e m (after_told m e) id keeps number job job.command listing is.1.0 unlisted is.1.2))
-    claims_stay_at (Seeks (GetsFrame listing there)) is = (cleans is.0, has_listed_stays spelled past jobs seen e m (after_told m e) id keeps number job job.command listing there unlisted is.1)
-    claims_stay_at (Collects (GetsHeads r opened)) is = (cleans is.0, opening_stays spelled past jobs seen e m (after_told m e) id keeps number codec job r opened unlisted is.1, is.2)
+        (cleans is.0, (is.1.0, is.1.1, has_listed_stays spelled opening past jobs seen e m (after_told m e) id keeps number job job.command listing is.1.0 unlisted is.1.2))
+    claims_stay_at (Seeks (GetsFrame listing there)) is = (cleans is.0, has_listed_stays spelled opening past jobs seen e m (after_told m e) id keeps number job job.command listing there unlisted is.1)
+    claims_stay_at (Collects (GetsHeads r opened)) is = (cleans is.0, opening_stays spelled opening past jobs seen e m (after_told m e) id keeps number codec job r opened unlisted is.1, is.2)
     claims_stay_at (Collects (GetsSchemas r opened named schemas)) is =
-        (cleans is.0, is.1, gathering_stays spelled past jobs seen e m (after_told m e) id keeps number codec job r opened schemas unlisted is.2, is.3)
-    claims_stay_at (Collects (GetsDeletes r opened schemas)) is = (cleans is.0, getting_deletes_stays spelled past jobs seen e m (after_told m e) id keeps number codec job r opened schemas unlisted is.1)
+        (cleans is.0, is.1, gathering_stays spelled opening past jobs seen e m (after_told m e) id keeps number codec job r opened schemas unlisted is.2, is.3)
+    claims_stay_at (Collects (GetsDeletes r opened schemas)) is = (cleans is.0, getting_deletes_stays spelled opening past jobs seen e m (after_told m e) id keeps number codec job r opened schemas unlisted is.1)
     claims_stay_at (Collects (Fetches r opened schemas next frag got fetch c)) is = (
       cleans is.0,
       is.1,
       (
-        fetching_stays spelled past jobs seen e m (after_told m e) id keeps number codec job r opened schemas next got unlisted is.2.0,
-        on_way_stays spelled past jobs seen e m (after_told m e) id keeps number tracks (history_told jobs past (((((((is.2.0.deletes_found).gathers).opens).reads).at).listed).commits).before) r frag fetch c is.2.1,
+        fetching_stays spelled opening past jobs seen e m (after_told m e) id keeps number codec job r opened schemas next got unlisted is.2.0,
+        is.2.1,
       ),
     )
     claims_stay_at (Over end) is = end_stays past jobs seen e m (after_told m e) id keeps number job end other is
 
 -- the claims of a job stay by a call of another
-pub claims_stay : {F : Type 0} (codec : Codec F) (spelled : Spelled) (tracks : Tracking F) (past : History) (jobs : List Job) (seen : List Told) (e : Told) (m : Held) (id : ℕ)
+pub claims_stay : {F : Type 0} (codec : Codec F) (spelled : Spelled) (tracks : Tracking F) (opening : Held) (past : History) (jobs : List Job) (seen : List Told) (e : Told) (m : Held) (id : ℕ)
     → Keeps m (after_told m e) (history_told jobs past seen) (history_told jobs past (seen ++ e ∷ [])) id → (number : ℕ) (job : Job) (s : State F)
-    → (job.id ≡ id → ⊥) → (e.job ≡ Some number → ⊥) → Claims codec spelled tracks past jobs seen m number job s
-    → Claims codec spelled tracks past jobs (seen ++ e ∷ []) (after_told m e) number job s
-claims_stay codec spelled tracks past jobs seen e m id keeps number job s other apart is = claims_stay_at codec spelled tracks past jobs seen e m id keeps number job other apart s is
+    → (job.id ≡ id → ⊥) → (e.job ≡ Some number → ⊥) → Claims codec spelled tracks opening past jobs seen m number job s
+    → Claims codec spelled tracks opening past jobs (seen ++ e ∷ []) (after_told m e) number job s
+claims_stay codec spelled tracks opening past jobs seen e m id keeps number job s other apart is = claims_stay_at codec spelled tracks opening past jobs seen e m id keeps number job other apart s is
 
 -- so do the claims of its stage
-pub stage_stays : {F : Type 0} (codec : Codec F) (spelled : Spelled) (tracks : Tracking F) (past : History) (jobs : List Job) (seen : List Told) (e : Told) (m : Held) (id : ℕ)
+pub stage_stays : {F : Type 0} (codec : Codec F) (spelled : Spelled) (tracks : Tracking F) (opening : Held) (past : History) (jobs : List Job) (seen : List Told) (e : Told) (m : Held) (id : ℕ)
     → Keeps m (after_told m e) (history_told jobs past seen) (history_told jobs past (seen ++ e ∷ [])) id → (number : ℕ) (job : Job) (stage : Stage F)
-    → (job.id ≡ id → ⊥) → (e.job ≡ Some number → ⊥) → StageClaims codec spelled tracks past jobs seen m number job stage
-    → StageClaims codec spelled tracks past jobs (seen ++ e ∷ []) (after_told m e) number job stage
-stage_stays codec spelled tracks past jobs seen e m id keeps number job (PutsLease lease) other apart is =
+    → (job.id ≡ id → ⊥) → (e.job ≡ Some number → ⊥) → StageClaims codec spelled tracks opening past jobs seen m number job stage
+    → StageClaims codec spelled tracks opening past jobs (seen ++ e ∷ []) (after_told m e) number job stage
+stage_stays codec spelled tracks opening past jobs seen e m id keeps number job (PutsLease lease) other apart is =
     let (mode, named) = lease_is job lease is.0.0 in (
-      (is.0.0, claims_stay codec spelled tracks past jobs seen e m id keeps number job (begun job.command) other apart is.0.1),
+      (is.0.0, claims_stay codec spelled tracks opening past jobs seen e m id keeps number job (begun job.command) other apart is.0.1),
       absent_stays m (after_told m e) (history_told jobs past seen) (history_told jobs past (seen ++ e ∷ [])) id keeps lease job.id (ap id_in named) other is.1,
     )
-stage_stays codec spelled tracks past jobs seen e m id keeps number job (ListsLeases lease) other apart is = (is.0, claims_stay codec spelled tracks past jobs seen e m id keeps number job (begun job.command) other apart is.1)
-stage_stays codec spelled tracks past jobs seen e m id keeps number job (stages.Works s) other apart is = claims_stay codec spelled tracks past jobs seen e m id keeps number job s other apart is
-stage_stays codec spelled tracks past jobs seen e m id keeps number job (Releases lease end) other apart is = (
+stage_stays codec spelled tracks opening past jobs seen e m id keeps number job (ListsLeases lease) other apart is = (is.0, claims_stay codec spelled tracks opening past jobs seen e m id keeps number job (begun job.command) other apart is.1)
+stage_stays codec spelled tracks opening past jobs seen e m id keeps number job (stages.Works s) other apart is = claims_stay codec spelled tracks opening past jobs seen e m id keeps number job s other apart is
+stage_stays codec spelled tracks opening past jobs seen e m id keeps number job (Releases lease end) other apart is = (
   is.0,
   end_stays past jobs seen e m (after_told m e) id keeps number job end other is.1,
   new_stays m (after_told m e) (history_told jobs past seen) (history_told jobs past (seen ++ e ∷ [])) id keeps (key_of job) other is.2,

@@ -260,7 +260,7 @@ none_then (Some a) = refl
 abbrev pub IsALease : Name → Type 0
 IsALease n = (k : Key) × (mode : LeaseMode) × (n ≡ name.Lease k mode)
 
-module _ {F : Type 0} (codec : Codec F) (spelled : Spelled) (tracks : Tracking F) (laws : CodecLaws codec spelled tracks) (past : History) (jobs : List Job) (seen : List Told) (m : Held) where
+module _ {F : Type 0} (codec : Codec F) (spelled : Spelled) (tracks : Tracking F) (laws : CodecLaws codec spelled tracks) (opening : Held) (past : History) (jobs : List Job) (seen : List Told) (m : Held) where
   -- what stands behind a put by its end
   aims_find : (number : ℕ) (job : Job) (objects : List NewObject) (end : Outcome) → Aims codec past jobs seen number job objects end
       → ((f : FrameIn) × (job.command ≡ Create f)) ⊎ ((there : Schema) × Works past jobs seen number job there)
@@ -273,7 +273,7 @@ module _ {F : Type 0} (codec : Codec F) (spelled : Spelled) (tracks : Tracking F
   aims_find number job objects outcome.OutOfMemory none = absurd none
 
   -- a put of a job
-  pub put_from : (number : ℕ) (job : Job) (s : State F) (n : Name) (bytes : List ℕ) → Claims codec spelled tracks past jobs seen m number job s → asks codec job s ≡ Some (call.Put n bytes)
+  pub put_from : (number : ℕ) (job : Job) (s : State F) (n : Name) (bytes : List ℕ) → Claims codec spelled tracks opening past jobs seen m number job s → asks codec job s ≡ Some (call.Put n bytes)
       → PutsAFrame job n bytes ⊎ PutsItsOwn past jobs seen number job n
   put_from number job (Creates PutsFrame) n bytes claims asked =
       let (f, creates, sound) = claims.1 in
@@ -311,7 +311,7 @@ module _ {F : Type 0} (codec : Codec F) (spelled : Spelled) (tracks : Tracking F
   put_from number job (Over end) n bytes claims asked = absurd (none-some _ asked)
 
   -- a put of a job in whatever stage: of a frame, of its own object, or of its lease
-  pub put_staged : (number : ℕ) (job : Job) (stage : Stage F) (n : Name) (bytes : List ℕ) → StageClaims codec spelled tracks past jobs seen m number job stage → MayAsk codec job stage (call.Put n bytes)
+  pub put_staged : (number : ℕ) (job : Job) (stage : Stage F) (n : Name) (bytes : List ℕ) → StageClaims codec spelled tracks opening past jobs seen m number job stage → MayAsk codec job stage (call.Put n bytes)
       → (PutsAFrame job n bytes ⊎ PutsItsOwn past jobs seen number job n) ⊎ IsALease n
   put_staged number job (PutsLease lease) n bytes claims (inl asked) =
       let (mode, named) = lease_is job lease claims.0.0 in
@@ -353,11 +353,11 @@ replied_at m [] back e replied = replied.0
 replied_at m (d ∷ front) back e replied = replied_at (after_told m d) front back e replied.1
 
 module _ {F : Type 0} (codec : Codec F) (spelled : Spelled) (tracks : Tracking F) (laws : CodecLaws codec spelled tracks) (jobs : List Job) (past : History) (m : Held) (told : List Told) (lane : Option ℕ → ℕ)
-    (begins : Kept codec spelled tracks past jobs [] [] m) (may : AreAllowed codec jobs [] [] told) (replied : Replied m told) (turns : AreInTurn lane told) where
+    (begins : Kept codec spelled tracks m past jobs [] [] m) (may : AreAllowed codec jobs [] [] told) (replied : Replied m told) (turns : AreInTurn lane told) where
   module _ (seen back : List Told) (e : Told) (parts : told ≡ seen ++ e ∷ back) (g : History) where
     -- what is kept before the call
-    kept : Kept codec spelled tracks past jobs [] seen (held_told m seen)
-    kept = every_prefix codec spelled tracks laws past jobs [] [] m told seen (e ∷ back) begins may replied parts
+    kept : Kept codec spelled tracks m past jobs [] seen (held_told m seen)
+    kept = every_prefix codec spelled tracks laws m past jobs [] [] m told seen (e ∷ back) begins may replied parts
 
     -- the call is that of a job
     allowed : IsAllowed codec jobs [] seen e
@@ -392,7 +392,7 @@ module _ {F : Type 0} (codec : Codec F) (spelled : Spelled) (tracks : Tracking F
 
         by_call : (c : Call) → e.call ≡ c → deed_in g allowed.job (schemas_found (trace_of allowed.number seen)) c ≡ deed_entered jobs g (found_by m (lane (Some allowed.number)) None (entries_of lane seen)) c
         by_call (call.Put n bytes) is =
-            by_put n bytes is (put_staged codec spelled tracks laws past jobs seen (held_told m seen) allowed.number allowed.job (stage_of codec allowed.job (trace_of allowed.number seen)) n bytes
+            by_put n bytes is (put_staged codec spelled tracks laws m past jobs seen (held_told m seen) allowed.number allowed.job (stage_of codec allowed.job (trace_of allowed.number seen)) n bytes
             (kept.claims allowed.number allowed.job allowed.is_job allowed.alive) (subst (MayAsk codec allowed.job (stage_of codec allowed.job (trace_of allowed.number seen))) is allowed.asked))
         by_call (call.Remove n) is = refl
         by_call (call.List p) is = refl

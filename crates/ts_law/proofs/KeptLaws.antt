@@ -18,7 +18,7 @@ use Rattle.ts_model.proofs.ListLemmas.{Contains-slice_get}
 use Rattle.ts_law.proofs.ListSteps.{commits_steps, schemas_steps}
 use Rattle.ts_law.proofs.PutSteps.{compare_steps, declared_steps, frame_steps, puts_steps}
 use Rattle.ts_law.proofs.ReadSteps.{framed_steps, further_steps, heads_steps, schema_steps}
-use Rattle.ts_model.proofs.Traces.{stage_of-other, stage_of-own}
+use Rattle.ts_model.proofs.Traces.{held_told-append, stage_of-other, stage_of-own}
 use Rattle.ts_model.specs.Commands.{frame_made}
 use Rattle.ts_model.specs.Deeds.{History}
 use Rattle.ts_law.specs.Ends.{IsTrueEnd}
@@ -74,9 +74,9 @@ asked_by of (Some x) c e = (x, refl, same_Some (of x) c e)
 pub speaks_no_put : (c : Call) (n q : Name) (more : List ℕ) → SpeaksOf c n → c ≡ call.Put q more → ⊥
 speaks_no_put c n q more speaks same = subst (λ d. SpeaksOf d n) same speaks
 
-module _ {F : Type 0} (codec : Codec F) (spelled : Spelled) (tracks : Tracking F) (laws : CodecLaws codec spelled tracks) (past : History) (jobs : List Job) (seen : List Told) (m : Held) where
+module _ {F : Type 0} (codec : Codec F) (spelled : Spelled) (tracks : Tracking F) (laws : CodecLaws codec spelled tracks) (opening : Held) (past : History) (jobs : List Job) (seen : List Told) (m : Held) where
   -- a put of a job carries its identifier
-  own_put : (number : ℕ) (job : Job) (s : State F) (n : Name) (bytes : List ℕ) (id : ℕ) → Claims codec spelled tracks past jobs seen m number job s
+  own_put : (number : ℕ) (job : Job) (s : State F) (n : Name) (bytes : List ℕ) (id : ℕ) → Claims codec spelled tracks opening past jobs seen m number job s
       → asks codec job s ≡ Some (call.Put n bytes) → id_in n ≡ Some id → job.id ≡ id
   own_put number job (Creates PutsFrame) n bytes id claims asked carried =
       let f = asked_by frame_put (made_by job.command) (call.Put n bytes) asked in
@@ -106,7 +106,7 @@ module _ {F : Type 0} (codec : Codec F) (spelled : Spelled) (tracks : Tracking F
   own_put number job (Over end) n bytes id claims asked carried = absurd (none-some _ asked)
 
   -- so does a put of a job in whatever stage
-  stage_put : (number : ℕ) (job : Job) (stage : Stage F) (n : Name) (bytes : List ℕ) (id : ℕ) → StageClaims codec spelled tracks past jobs seen m number job stage
+  stage_put : (number : ℕ) (job : Job) (stage : Stage F) (n : Name) (bytes : List ℕ) (id : ℕ) → StageClaims codec spelled tracks opening past jobs seen m number job stage
       → MayAsk codec job stage (call.Put n bytes) → id_in n ≡ Some id → job.id ≡ id
   stage_put number job (PutsLease lease) n bytes id claims (inl asked) carried =
       let (mode, named) = lease_is job lease claims.0.0 in
@@ -118,45 +118,46 @@ module _ {F : Type 0} (codec : Codec F) (spelled : Spelled) (tracks : Tracking F
 
 -- ---- one call
 
-module _ {F : Type 0} (codec : Codec F) (spelled : Spelled) (tracks : Tracking F) (laws : CodecLaws codec spelled tracks) (past : History) (jobs : List Job) (dead : List ℕ) (seen : List Told) (m : Held)
-    (e : Told) (kept : Kept codec spelled tracks past jobs dead seen m) (may : IsAllowed codec jobs dead seen e)
-    (steps : StageAdvances codec spelled tracks past jobs seen e m may.number may.job (stage_of codec may.job (trace_of may.number seen))) where
+module _ {F : Type 0} (codec : Codec F) (spelled : Spelled) (tracks : Tracking F) (laws : CodecLaws codec spelled tracks) (opening : Held) (past : History) (jobs : List Job) (dead : List ℕ) (seen : List Told) (m : Held)
+    (e : Told) (kept : Kept codec spelled tracks opening past jobs dead seen m) (may : IsAllowed codec jobs dead seen e)
+    (steps : StageAdvances codec spelled tracks opening past jobs seen e m may.number may.job (stage_of codec may.job (trace_of may.number seen))) where
   -- the call is one of a job
   is_of_jobs : IsOfJobs jobs e
   is_of_jobs = record {
     numbered = λ other is. subst (λ n. n < length jobs) (same_Some may.number other (sym may.own ∙ is)) (slice_get_within jobs may.number may.job may.is_job);
     puts = λ n bytes id is carried.
-        let same = stage_put codec spelled tracks laws past jobs seen m may.number may.job (stage_of codec may.job (trace_of may.number seen)) n bytes id
+        let same = stage_put codec spelled tracks laws opening past jobs seen m may.number may.job (stage_of codec may.job (trace_of may.number seen)) n bytes id
         (kept.claims may.number may.job may.is_job may.alive) (subst (MayAsk codec may.job (stage_of codec may.job (trace_of may.number seen))) is may.asked) carried in
         subst (λ i. IsSome (job_with jobs i)) same (rw (job_of_id jobs may.number may.job kept.apart may.is_job) refl);
   }
 
   -- what is kept stays where the job of the call advances
-  advance_kept : Kept codec spelled tracks past jobs dead (seen ++ e ∷ []) (after_told m e)
+  advance_kept : Kept codec spelled tracks opening past jobs dead (seen ++ e ∷ []) (after_told m e)
   advance_kept = record {
     stands = (steps.leads).stands;
+    is_held = ap (λ n. after_told n e) kept.is_held ∙ sym (held_told-append opening seen (e ∷ []));
     apart = kept.apart;
     fit = kept.fit;
     known = All-push (IsOfJobs jobs) seen e kept.known is_of_jobs;
     claims = λ number job at alive. elim (cases_eq may.number number) [
       | inl own ↦
           let same : may.job ≡ job = same_Some may.job job (sym may.is_job ∙ ap (slice_get jobs) own ∙ at) in
-          subst (λ n. StageClaims codec spelled tracks past jobs (seen ++ e ∷ []) (after_told m e) n job (stage_of codec job (trace_of n (seen ++ e ∷ [])))) own
-          (subst (λ j. StageClaims codec spelled tracks past jobs (seen ++ e ∷ []) (after_told m e) may.number j (stage_of codec j (trace_of may.number (seen ++ e ∷ [])))) same
-          (subst (StageClaims codec spelled tracks past jobs (seen ++ e ∷ []) (after_told m e) may.number may.job) (sym (stage_of-own codec may.job may.number seen e may.own)) steps.own))
+          subst (λ n. StageClaims codec spelled tracks opening past jobs (seen ++ e ∷ []) (after_told m e) n job (stage_of codec job (trace_of n (seen ++ e ∷ [])))) own
+          (subst (λ j. StageClaims codec spelled tracks opening past jobs (seen ++ e ∷ []) (after_told m e) may.number j (stage_of codec j (trace_of may.number (seen ++ e ∷ [])))) same
+          (subst (StageClaims codec spelled tracks opening past jobs (seen ++ e ∷ []) (after_told m e) may.number may.job) (sym (stage_of-own codec may.job may.number seen e may.own)) steps.own))
       | inr apart ↦
           let other : (e.job ≡ Some number → ⊥) = λ own. apart (same_Some may.number number (sym may.own ∙ own)) in
-          subst (StageClaims codec spelled tracks past jobs (seen ++ e ∷ []) (after_told m e) number job) (sym (stage_of-other codec job number seen e other))
-          (stage_stays codec spelled tracks past jobs seen e m (may.job).id (steps.leads).leaves number job (stage_of codec job (trace_of number seen))
+          subst (StageClaims codec spelled tracks opening past jobs (seen ++ e ∷ []) (after_told m e) number job) (sym (stage_of-other codec job number seen e other))
+          (stage_stays codec spelled tracks opening past jobs seen e m (may.job).id (steps.leads).leaves number job (stage_of codec job (trace_of number seen))
           (λ one_id. apart (kept.apart may.number number may.job job may.is_job at (sym one_id))) other (kept.claims number job at alive))
     ];
   }
 
 -- what the end of a job that was not dropped tells of the history is true
-pub end_is_true : {F : Type 0} (codec : Codec F) (spelled : Spelled) (tracks : Tracking F) (past : History) (jobs : List Job) (dead : List ℕ) (seen : List Told) (m : Held)
-    → Kept codec spelled tracks past jobs dead seen m → (number : ℕ) (job : Job) (end : Outcome) → slice_get jobs number ≡ Some job → (Contains dead number → ⊥)
+pub end_is_true : {F : Type 0} (codec : Codec F) (spelled : Spelled) (tracks : Tracking F) (opening : Held) (past : History) (jobs : List Job) (dead : List ℕ) (seen : List Told) (m : Held)
+    → Kept codec spelled tracks opening past jobs dead seen m → (number : ℕ) (job : Job) (end : Outcome) → slice_get jobs number ≡ Some job → (Contains dead number → ⊥)
     → stage_of codec job (trace_of number seen) ≡ stages.Works (Over end) → IsTrueEnd jobs past seen number job end
-end_is_true codec spelled tracks past jobs dead seen m kept number job end at alive over = subst (StageClaims codec spelled tracks past jobs seen m number job) over (kept.claims number job at alive)
+end_is_true codec spelled tracks opening past jobs dead seen m kept number job end at alive over = subst (StageClaims codec spelled tracks opening past jobs seen m number job) over (kept.claims number job at alive)
 
 -- ---- fronts of calls
 
@@ -174,30 +175,31 @@ Replied-front m (e ∷ a) b replied = (replied.0, Replied-front (after_told m e)
 
 module _ {F : Type 0} (codec : Codec F) (spelled : Spelled) (tracks : Tracking F) (laws : CodecLaws codec spelled tracks) where
   -- a call leads its job on by the state that it is in
-  own_step : (past : History) (jobs : List Job) (seen : List Told) (e : Told) (m : Held) (number : ℕ) (job : Job) (s : State F)
-      → Comes codec spelled tracks past jobs seen e m number job s → Advances codec spelled tracks past jobs seen e m number job s
-  own_step past jobs seen e m number job (Creates PutsFrame) comes = frame_steps codec spelled tracks past jobs seen e m number job laws comes
-  own_step past jobs seen e m number job (Creates ComparesFrame) comes = compare_steps codec spelled tracks past jobs seen e m number job laws comes
-  own_step past jobs seen e m number job (Creates ListsDeclared) comes = declared_steps codec spelled tracks past jobs seen e m number job laws comes
-  own_step past jobs seen e m number job (Puts objects next end) comes = puts_steps codec spelled tracks past jobs seen e m number job objects next end laws comes
-  own_step past jobs seen e m number job (Seeks ListsCommits) comes = commits_steps codec spelled tracks past jobs seen e m number job laws comes
-  own_step past jobs seen e m number job (Seeks (ListsSchemas listing)) comes = schemas_steps codec spelled tracks past jobs seen e m number job laws listing comes
-  own_step past jobs seen e m number job (Seeks (GetsSchema listing there)) comes = schema_steps codec spelled tracks past jobs seen e m number job laws listing there comes
-  own_step past jobs seen e m number job (Seeks (GetsFrame listing there)) comes = framed_steps codec spelled tracks past jobs seen e m number job laws listing there comes
-  own_step past jobs seen e m number job (Collects (GetsHeads r opened)) comes = heads_steps codec spelled tracks past jobs seen e m number job laws r opened comes
-  own_step past jobs seen e m number job (Collects (GetsSchemas r opened named schemas)) comes = further_steps codec spelled tracks past jobs seen e m number job laws r opened named schemas comes
-  own_step past jobs seen e m number job (Collects (GetsDeletes r opened schemas)) comes = deletes_steps codec spelled tracks past jobs seen e m number job laws r opened schemas comes
-  own_step past jobs seen e m number job (Collects (Fetches r opened schemas next frag got fetch c)) comes =
-      fetch_steps codec spelled tracks past jobs seen e m number job r opened schemas next frag got fetch c laws comes
-  own_step past jobs seen e m number job (Over end) comes = absurd (none-some e.call comes.asked)
+  own_step : (opening : Held) (past : History) (jobs : List Job) (seen : List Told) (e : Told) (m : Held) (number : ℕ) (job : Job) (s : State F)
+      → Comes codec spelled tracks opening past jobs seen e m number job s → Advances codec spelled tracks opening past jobs seen e m number job s
+  own_step opening past jobs seen e m number job (Creates PutsFrame) comes = frame_steps codec spelled tracks opening past jobs seen e m number job laws comes
+  own_step opening past jobs seen e m number job (Creates ComparesFrame) comes = compare_steps codec spelled tracks opening past jobs seen e m number job laws comes
+  own_step opening past jobs seen e m number job (Creates ListsDeclared) comes = declared_steps codec spelled tracks opening past jobs seen e m number job laws comes
+  own_step opening past jobs seen e m number job (Puts objects next end) comes = puts_steps codec spelled tracks opening past jobs seen e m number job objects next end laws comes
+  own_step opening past jobs seen e m number job (Seeks ListsCommits) comes = commits_steps codec spelled tracks opening past jobs seen e m number job laws comes
+  own_step opening past jobs seen e m number job (Seeks (ListsSchemas listing)) comes = schemas_steps codec spelled tracks opening past jobs seen e m number job laws listing comes
+  own_step opening past jobs seen e m number job (Seeks (GetsSchema listing there)) comes = schema_steps codec spelled tracks opening past jobs seen e m number job laws listing there comes
+  own_step opening past jobs seen e m number job (Seeks (GetsFrame listing there)) comes = framed_steps codec spelled tracks opening past jobs seen e m number job laws listing there comes
+  own_step opening past jobs seen e m number job (Collects (GetsHeads r opened)) comes = heads_steps codec spelled tracks opening past jobs seen e m number job laws r opened comes
+  own_step opening past jobs seen e m number job (Collects (GetsSchemas r opened named schemas)) comes = further_steps codec spelled tracks opening past jobs seen e m number job laws r opened named schemas comes
+  own_step opening past jobs seen e m number job (Collects (GetsDeletes r opened schemas)) comes = deletes_steps codec spelled tracks opening past jobs seen e m number job laws r opened schemas comes
+  own_step opening past jobs seen e m number job (Collects (Fetches r opened schemas next frag got fetch c)) comes =
+      fetch_steps codec spelled tracks opening past jobs seen e m number job r opened schemas next frag got fetch c laws comes
+  own_step opening past jobs seen e m number job (Over end) comes = absurd (none-some e.call comes.asked)
 
   -- what is kept stays by a call that may come
-  pub step_kept : (past : History) (jobs : List Job) (dead : List ℕ) (seen : List Told) (m : Held) (e : Told) → Kept codec spelled tracks past jobs dead seen m
-      → IsAllowed codec jobs dead seen e → IsReplied m e → Kept codec spelled tracks past jobs dead (seen ++ e ∷ []) (after_told m e)
-  step_kept past jobs dead seen m e kept may replied =
-      advance_kept codec spelled tracks laws past jobs dead seen m e kept may
-      (stage_step codec spelled tracks past jobs seen e m may.number may.job (own_step past jobs seen e m may.number may.job) (stage_of codec may.job (trace_of may.number seen)) (record {
+  pub step_kept : (opening : Held) (past : History) (jobs : List Job) (dead : List ℕ) (seen : List Told) (m : Held) (e : Told) → Kept codec spelled tracks opening past jobs dead seen m
+      → IsAllowed codec jobs dead seen e → IsReplied m e → Kept codec spelled tracks opening past jobs dead (seen ++ e ∷ []) (after_told m e)
+  step_kept opening past jobs dead seen m e kept may replied =
+      advance_kept codec spelled tracks laws opening past jobs dead seen m e kept may
+      (stage_step codec spelled tracks opening past jobs seen e m may.number may.job (own_step opening past jobs seen e m may.number may.job) (stage_of codec may.job (trace_of may.number seen)) (record {
         stands = kept.stands;
+        is_held = kept.is_held;
         apart = kept.apart;
         fit = All-contains IsFit jobs may.job kept.fit (Contains-slice_get jobs may.number may.job may.is_job);
         own = may.own;
@@ -209,18 +211,18 @@ module _ {F : Type 0} (codec : Codec F) (spelled : Spelled) (tracks : Tracking F
       }))
 
   -- what is kept stays by calls that may come
-  pub all_kept : (past : History) (jobs : List Job) (dead : List ℕ) (seen : List Told) (m : Held) (told : List Told)
-      → Kept codec spelled tracks past jobs dead seen m → AreAllowed codec jobs dead seen told → Replied m told → Kept codec spelled tracks past jobs dead (seen ++ told) (held_told m told)
-  all_kept past jobs dead seen m [] kept may replied = subst (λ t. Kept codec spelled tracks past jobs dead t m) (sym (append-nil seen)) kept
-  all_kept past jobs dead seen m (e ∷ told) kept may replied =
-      subst (λ t. Kept codec spelled tracks past jobs dead t (held_told (after_told m e) told)) (append_assoc seen (e ∷ []) told)
-      (all_kept past jobs dead (seen ++ e ∷ []) (after_told m e) told (step_kept past jobs dead seen m e kept may.0 replied.0) may.1 replied.1)
+  pub all_kept : (opening : Held) (past : History) (jobs : List Job) (dead : List ℕ) (seen : List Told) (m : Held) (told : List Told)
+      → Kept codec spelled tracks opening past jobs dead seen m → AreAllowed codec jobs dead seen told → Replied m told → Kept codec spelled tracks opening past jobs dead (seen ++ told) (held_told m told)
+  all_kept opening past jobs dead seen m [] kept may replied = subst (λ t. Kept codec spelled tracks opening past jobs dead t m) (sym (append-nil seen)) kept
+  all_kept opening past jobs dead seen m (e ∷ told) kept may replied =
+      subst (λ t. Kept codec spelled tracks opening past jobs dead t (held_told (after_told m e) told)) (append_assoc seen (e ∷ []) told)
+      (all_kept opening past jobs dead (seen ++ e ∷ []) (after_told m e) told (step_kept opening past jobs dead seen m e kept may.0 replied.0) may.1 replied.1)
 
   -- what is kept is kept after each first part of the calls
-  pub every_prefix : (past : History) (jobs : List Job) (dead : List ℕ) (seen : List Told) (m : Held) (told front back : List Told)
-      → Kept codec spelled tracks past jobs dead seen m → AreAllowed codec jobs dead seen told → Replied m told → told ≡ front ++ back
-      → Kept codec spelled tracks past jobs dead (seen ++ front) (held_told m front)
-  every_prefix past jobs dead seen m told front back kept may replied parts =
-      all_kept past jobs dead seen m front kept
+  pub every_prefix : (opening : Held) (past : History) (jobs : List Job) (dead : List ℕ) (seen : List Told) (m : Held) (told front back : List Told)
+      → Kept codec spelled tracks opening past jobs dead seen m → AreAllowed codec jobs dead seen told → Replied m told → told ≡ front ++ back
+      → Kept codec spelled tracks opening past jobs dead (seen ++ front) (held_told m front)
+  every_prefix opening past jobs dead seen m told front back kept may replied parts =
+      all_kept opening past jobs dead seen m front kept
       (AreAllowed-front codec jobs dead seen front back (subst (AreAllowed codec jobs dead seen) parts may))
       (Replied-front m front back (subst (Replied m) parts replied))

@@ -207,10 +207,10 @@ module _ (spelled : Spelled) (past : History) (jobs : List Job) (seen : List Tol
 
 -- ---- what a job says that is not over
 
-module _ {F : Type 0} (codec : Codec F) (spelled : Spelled) (tracks : Tracking F) (past : History) (jobs : List Job) (seen : List Told) (m : Held) (number : ℕ) (job : Job) where
+module _ {F : Type 0} (codec : Codec F) (spelled : Spelled) (tracks : Tracking F) (opening : Held) (past : History) (jobs : List Job) (seen : List Told) (m : Held) (number : ℕ) (job : Job) where
   -- what a state says here
   abbrev Says : State F → Type 0
-  Says s = Claims codec spelled tracks past jobs seen m number job s
+  Says s = Claims codec spelled tracks opening past jobs seen m number job s
 
   -- a job that is not over did nothing yet
   pub going_undone : (s : State F) → is_over s ≡ false → Says s → IsUndone (history_told jobs past seen) job
@@ -244,13 +244,13 @@ module _ {F : Type 0} (codec : Codec F) (spelled : Spelled) (tracks : Tracking F
       by_command (Write w) e says = absurd (none-some lease e)
       by_command (Delete text) e says = absurd (none-some lease e)
 
-module _ {F : Type 0} (codec : Codec F) (spelled : Spelled) (tracks : Tracking F) (past : History) (jobs : List Job) (seen : List Told) (m : Held) (number : ℕ) (job : Job) where
+module _ {F : Type 0} (codec : Codec F) (spelled : Spelled) (tracks : Tracking F) (opening : Held) (past : History) (jobs : List Job) (seen : List Told) (m : Held) (number : ℕ) (job : Job) where
   -- a job that may make a call did nothing yet
-  pub stage_undone : (stage : Stage F) (c : Call) → MayAsk codec job stage c → StageClaims codec spelled tracks past jobs seen m number job stage → IsUndone (history_told jobs past seen) job
-  stage_undone (PutsLease lease) c asked claims = (before_clean codec spelled tracks past jobs seen m number job lease claims.0.0 claims.0.1).undone
-  stage_undone (ListsLeases lease) c asked claims = (before_clean codec spelled tracks past jobs seen m number job lease claims.0 claims.1).undone
-  stage_undone (stages.Works s) c (inl asked) claims = going_undone codec spelled tracks past jobs seen m number job s (asks_going codec spelled tracks past jobs seen m number job s c asked) claims
-  stage_undone (stages.Works s) c (inr gives_up) claims = going_undone codec spelled tracks past jobs seen m number job s (not_over (is_some (lease_of job)) (is_over s) gives_up.1) claims
+  pub stage_undone : (stage : Stage F) (c : Call) → MayAsk codec job stage c → StageClaims codec spelled tracks opening past jobs seen m number job stage → IsUndone (history_told jobs past seen) job
+  stage_undone (PutsLease lease) c asked claims = (before_clean codec spelled tracks opening past jobs seen m number job lease claims.0.0 claims.0.1).undone
+  stage_undone (ListsLeases lease) c asked claims = (before_clean codec spelled tracks opening past jobs seen m number job lease claims.0 claims.1).undone
+  stage_undone (stages.Works s) c (inl asked) claims = going_undone codec spelled tracks opening past jobs seen m number job s (asks_going codec spelled tracks opening past jobs seen m number job s c asked) claims
+  stage_undone (stages.Works s) c (inr gives_up) claims = going_undone codec spelled tracks opening past jobs seen m number job s (not_over (is_some (lease_of job)) (is_over s) gives_up.1) claims
     where
       not_over : (a b : Bool) → (a && not b) ≡ true → b ≡ false
       not_over true false is = refl
@@ -259,12 +259,12 @@ module _ {F : Type 0} (codec : Codec F) (spelled : Spelled) (tracks : Tracking F
   stage_undone (Releases lease end) c asked claims = claims.2
 
 -- what a job with a lease claims where it begins it claims where it is clean
-begun_on : {F : Type 0} (codec : Codec F) (spelled : Spelled) (tracks : Tracking F) (past : History) (jobs : List Job) (seen later : List Told) (m m' : Held) (number : ℕ) (job : Job) (lease : Name) → lease_of job ≡ Some lease
-    → Clean m' (history_told jobs past later) job → Claims codec spelled tracks past jobs seen m number job (begun job.command) → Claims codec spelled tracks past jobs later m' number job (begun job.command)
-begun_on codec spelled tracks past jobs seen later m m' number job lease some clean is = by_command job.command some is
+begun_on : {F : Type 0} (codec : Codec F) (spelled : Spelled) (tracks : Tracking F) (opening : Held) (past : History) (jobs : List Job) (seen later : List Told) (m m' : Held) (number : ℕ) (job : Job) (lease : Name) → lease_of job ≡ Some lease
+    → Clean m' (history_told jobs past later) job → Claims codec spelled tracks opening past jobs seen m number job (begun job.command) → Claims codec spelled tracks opening past jobs later m' number job (begun job.command)
+begun_on codec spelled tracks opening past jobs seen later m m' number job lease some clean is = by_command job.command some is
   where
     by_command : (c : Command) → option_map (name.Lease (key_of job)) (mode_of c) ≡ Some lease
-        → Claims codec spelled tracks past jobs seen m number job (begun c) → Claims codec spelled tracks past jobs later m' number job (begun c)
+        → Claims codec spelled tracks opening past jobs seen m number job (begun c) → Claims codec spelled tracks opening past jobs later m' number job (begun c)
     by_command (Read from to query) e says = (clean, says.1)
     by_command (Create f) e says = absurd (none-some lease e)
     by_command (Evolve change) e says = absurd (none-some lease e)
@@ -332,20 +332,20 @@ released_true jobs past told number job k mode end _ is undone = tt
 
 -- ---- one call of a stage
 
-module _ {F : Type 0} (codec : Codec F) (spelled : Spelled) (tracks : Tracking F) (past : History) (jobs : List Job) (seen : List Told) (e : Told) (m : Held) (number : ℕ) (job : Job) where
+module _ {F : Type 0} (codec : Codec F) (spelled : Spelled) (tracks : Tracking F) (opening : Held) (past : History) (jobs : List Job) (seen : List Told) (e : Told) (m : Held) (number : ℕ) (job : Job) where
   -- what a stage of the job claims after the call
   abbrev ClaimsLater : Stage F → Type 0
-  ClaimsLater stage = StageClaims codec spelled tracks past jobs (seen ++ e ∷ []) (after_told m e) number job stage
+  ClaimsLater stage = StageClaims codec spelled tracks opening past jobs (seen ++ e ∷ []) (after_told m e) number job stage
 
   -- what its work claims where it is over it claims where it removes its lease
   settled_claims : (lease : Name) (s : State F) → lease_of job ≡ Some lease → IsUndone (history_told jobs past (seen ++ e ∷ [])) job
-      → Claims codec spelled tracks past jobs (seen ++ e ∷ []) (after_told m e) number job s → ClaimsLater (settled (Some lease) s)
+      → Claims codec spelled tracks opening past jobs (seen ++ e ∷ []) (after_told m e) number job s → ClaimsLater (settled (Some lease) s)
   settled_claims lease (Over end) some undone is = (some, is, undone)
   settled_claims lease _ some undone is = is
 
   -- where the reply to the put of its lease leads
   after_put : (k : Key) (mode : LeaseMode) (r : Reply) → lease_of job ≡ Some (name.Lease k mode) → (r ≡ reply.Taken → ⊥) → IsUndone (history_told jobs past (seen ++ e ∷ [])) job
-      → IsBefore codec spelled tracks past jobs (seen ++ e ∷ []) (after_told m e) number job (name.Lease k mode) → ClaimsLater (after_lease (name.Lease k mode) r)
+      → IsBefore codec spelled tracks opening past jobs (seen ++ e ∷ []) (after_told m e) number job (name.Lease k mode) → ClaimsLater (after_lease (name.Lease k mode) r)
   after_put k mode reply.Made some taken undone before = before
   after_put k mode reply.Taken some taken undone before = absurd (taken refl)
   after_put k mode reply.Failed some taken undone before = (some, undone, undone)
@@ -353,13 +353,13 @@ module _ {F : Type 0} (codec : Codec F) (spelled : Spelled) (tracks : Tracking F
 
   -- where the verdict on the leases leads
   after_verdict : (lease : Name) (v : Verdict) → lease_of job ≡ Some lease → IsUndone (history_told jobs past (seen ++ e ∷ [])) job
-      → IsBefore codec spelled tracks past jobs (seen ++ e ∷ []) (after_told m e) number job lease → ClaimsLater (on_verdict lease (begun job.command) v)
+      → IsBefore codec spelled tracks opening past jobs (seen ++ e ∷ []) (after_told m e) number job lease → ClaimsLater (on_verdict lease (begun job.command) v)
   after_verdict lease verdict.Granted some undone before = settled_claims lease (begun job.command) some undone before.1
   after_verdict lease (verdict.Held other) some undone before = (some, undone, undone)
 
   -- where the reply to the listing of the leases leads
   after_listing : (lease : Name) (r : Reply) → lease_of job ≡ Some lease → IsUndone (history_told jobs past (seen ++ e ∷ [])) job
-      → IsBefore codec spelled tracks past jobs (seen ++ e ∷ []) (after_told m e) number job lease → ClaimsLater (after_leases lease (begun job.command) r)
+      → IsBefore codec spelled tracks opening past jobs (seen ++ e ∷ []) (after_told m e) number job lease → ClaimsLater (after_leases lease (begun job.command) r)
   after_listing lease (reply.Names names) some undone before = after_verdict lease (verdict_in names lease) some undone before
   after_listing lease reply.Failed some undone before = (some, undone, undone)
   after_listing lease _ some undone before = (some, tt, undone)
@@ -367,7 +367,7 @@ module _ {F : Type 0} (codec : Codec F) (spelled : Spelled) (tracks : Tracking F
   -- what a stage claims that removes its lease here, by whatever reply
   closing : (k : Key) (mode : LeaseMode) (stage : Stage F) → ((end : Outcome) → IsTrueEnd jobs past seen number job end → IsTrueEnd jobs past (seen ++ e ∷ []) number job end)
       → (IsUndone (history_told jobs past seen) job → IsUndone (history_told jobs past (seen ++ e ∷ [])) job)
-      → StageClaims codec spelled tracks past jobs seen m number job stage → IsTrueEnd jobs past (seen ++ e ∷ []) number job (released (name.Lease k mode) (end_at stage) e.reply)
+      → StageClaims codec spelled tracks opening past jobs seen m number job stage → IsTrueEnd jobs past (seen ++ e ∷ []) number job (released (name.Lease k mode) (end_at stage) e.reply)
   closing k mode (Releases lease end) ends undone claims = released_true jobs past (seen ++ e ∷ []) number job k mode end e.reply (ends end claims.1) (undone claims.2)
   closing k mode _ ends undone claims = tt
 
@@ -382,15 +382,15 @@ module _ {F : Type 0} (codec : Codec F) (spelled : Spelled) (tracks : Tracking F
   put_apart lease (Added free later changed said) n apart = ap (λ x. map.get x n) later ∙ get_apart m lease [] n apart
   put_apart lease (Still later changed made holds) n apart = ap (λ x. map.get x n) later
 
-  module _ (work : (s : State F) → Comes codec spelled tracks past jobs seen e m number job s → Advances codec spelled tracks past jobs seen e m number job s) where
+  module _ (work : (s : State F) → Comes codec spelled tracks opening past jobs seen e m number job s → Advances codec spelled tracks opening past jobs seen e m number job s) where
     -- a call leads its job on by the stage that it is in
-    pub stage_step : (stage : Stage F) → StageComes codec spelled tracks past jobs seen e m number job stage → StageAdvances codec spelled tracks past jobs seen e m number job stage
+    pub stage_step : (stage : Stage F) → StageComes codec spelled tracks opening past jobs seen e m number job stage → StageAdvances codec spelled tracks opening past jobs seen e m number job stage
     stage_step stage c = by_kind (is_release job e.call) refl
       where
         x : Exchange
         x = record { call = e.call; reply = e.reply }
 
-        by_removal : (lease : Name) → lease_of job ≡ Some lease → e.call ≡ call.Remove lease → is_release job e.call ≡ true → StageAdvances codec spelled tracks past jobs seen e m number job stage
+        by_removal : (lease : Name) → lease_of job ≡ Some lease → e.call ≡ call.Remove lease → is_release job e.call ≡ true → StageAdvances codec spelled tracks opening past jobs seen e m number job stage
         by_removal lease some removes is =
             let (mode, named) = lease_is job lease some in
             let leads = removal_leads spelled past jobs seen e m number job c.own c.is_job c.stands job.id lease some removes in
@@ -404,48 +404,48 @@ module _ {F : Type 0} (codec : Codec F) (spelled : Spelled) (tracks : Tracking F
                   (closing (key_of job) mode stage ends (λ undone. subst (λ g. IsUndone g job) (sym leads.0) undone) c.claims));
             }
 
-        by_put : (lease : Name) → e.call ≡ put_lease lease → StageClaims codec spelled tracks past jobs seen m number job (PutsLease lease)
+        by_put : (lease : Name) → e.call ≡ put_lease lease → StageClaims codec spelled tracks opening past jobs seen m number job (PutsLease lease)
             → Leads spelled past jobs seen e m job.id × ClaimsLater (after_lease lease e.reply)
         by_put lease called ((some, before), free) =
             let (mode, named) = lease_is job lease some in
             let leads = put_leads spelled past jobs seen e m number job c.own c.is_job c.stands lease some called c.replied free in
             let went = put_went m lease [] e called c.replied in
-            let clean = before_clean codec spelled tracks past jobs seen m number job lease some before in
+            let clean = before_clean codec spelled tracks opening past jobs seen m number job lease some before in
             let undone = subst (λ g. IsUndone g job) (sym leads.0) clean.undone in
             let clean_later : Clean (after_told m e) (history_told jobs past (seen ++ e ∷ [])) job = record {
               free = λ n carries apart. put_apart lease went n (λ same. apart (some ∙ ap Some (sym same))) ∙ clean.free n carries apart;
               undone = undone;
             } in
-            let before_later = begun_on codec spelled tracks past jobs seen (seen ++ e ∷ []) m (after_told m e) number job lease some clean_later before in (
+            let before_later = begun_on codec spelled tracks opening past jobs seen (seen ++ e ∷ []) m (after_told m e) number job lease some clean_later before in (
               leads.1,
               subst (λ l. ClaimsLater (after_lease l e.reply)) (sym named)
                   (after_put (key_of job) mode e.reply (some ∙ ap Some named) (not_taken lease free went) undone (some ∙ ap Some named, before_later)),
             )
 
-        by_list : (lease : Name) → e.call ≡ list_leases → StageClaims codec spelled tracks past jobs seen m number job (ListsLeases lease)
+        by_list : (lease : Name) → e.call ≡ list_leases → StageClaims codec spelled tracks opening past jobs seen m number job (ListsLeases lease)
             → Leads spelled past jobs seen e m job.id × ClaimsLater (after_leases lease (begun job.command) e.reply)
         by_list lease called (some, before) =
             let look : IsLook e.call = subst IsLook (sym called) tt in
             let same = look_stays m e look c.replied in
             let same_history = look_history jobs past seen e m look c.replied in
-            let clean = clean_look m (after_told m e) (history_told jobs past seen) (history_told jobs past (seen ++ e ∷ [])) job same.0 same_history (before_clean codec spelled tracks past jobs seen m number job lease some before) in
-            let before_later = begun_on codec spelled tracks past jobs seen (seen ++ e ∷ []) m (after_told m e) number job lease some clean before in
+            let clean = clean_look m (after_told m e) (history_told jobs past seen) (history_told jobs past (seen ++ e ∷ [])) job same.0 same_history (before_clean codec spelled tracks opening past jobs seen m number job lease some before) in
+            let before_later = begun_on codec spelled tracks opening past jobs seen (seen ++ e ∷ []) m (after_told m e) number job lease some clean before in
             (look_leads spelled past jobs seen e m job.id c.stands look c.replied, after_listing lease e.reply some clean.undone (some, before_later))
 
-        by_work : (s : State F) → asks codec job s ≡ Some e.call → Claims codec spelled tracks past jobs seen m number job s → Leads spelled past jobs seen e m job.id × ClaimsLater (settled (lease_of job) (goes codec job s e.reply))
+        by_work : (s : State F) → asks codec job s ≡ Some e.call → Claims codec spelled tracks opening past jobs seen m number job s → Leads spelled past jobs seen e m job.id × ClaimsLater (settled (lease_of job) (goes codec job s e.reply))
         by_work s asked claims = (step.leads, by_lease (lease_of job) refl)
           where
-            step : Advances codec spelled tracks past jobs seen e m number job s
-            step = work s (record { stands = c.stands; apart = c.apart; fit = c.fit; own = c.own; is_job = c.is_job; replied = c.replied; short = c.short; asked = asked; claims = claims })
+            step : Advances codec spelled tracks opening past jobs seen e m number job s
+            step = work s (record { stands = c.stands; is_held = c.is_held; apart = c.apart; fit = c.fit; own = c.own; is_job = c.is_job; replied = c.replied; short = c.short; asked = asked; claims = claims })
 
             by_lease : (o : Option Name) → lease_of job ≡ o → ClaimsLater (settled o (goes codec job s e.reply))
             by_lease None none = step.own
             by_lease (Some lease) some =
                 let same_history = leased_history past jobs seen e number job lease c.own c.is_job some in
                 settled_claims lease (goes codec job s e.reply) some
-                (subst (λ g. IsUndone g job) (sym same_history) (going_undone codec spelled tracks past jobs seen m number job s (asks_going codec spelled tracks past jobs seen m number job s e.call asked) claims)) step.own
+                (subst (λ g. IsUndone g job) (sym same_history) (going_undone codec spelled tracks opening past jobs seen m number job s (asks_going codec spelled tracks opening past jobs seen m number job s e.call asked) claims)) step.own
 
-        by_stage : (g : Stage F) → stage_asks codec job g ≡ Some e.call → is_release job e.call ≡ false → StageClaims codec spelled tracks past jobs seen m number job g → Leads spelled past jobs seen e m job.id × ClaimsLater (stage_goes codec job g e.reply)
+        by_stage : (g : Stage F) → stage_asks codec job g ≡ Some e.call → is_release job e.call ≡ false → StageClaims codec spelled tracks opening past jobs seen m number job g → Leads spelled past jobs seen e m job.id × ClaimsLater (stage_goes codec job g e.reply)
         by_stage (PutsLease lease) asked other claims = by_put lease (sym (same_Some (put_lease lease) e.call asked)) claims
         by_stage (ListsLeases lease) asked other claims = by_list lease (sym (same_Some list_leases e.call asked)) claims
         by_stage (stages.Works s) asked other claims = by_work s asked claims
@@ -454,7 +454,7 @@ module _ {F : Type 0} (codec : Codec F) (spelled : Spelled) (tracks : Tracking F
             let is : is_release job e.call ≡ true = ap (is_release job) removes ∙ ap (λ o. option_map_or (is_removal (call.Remove lease)) o false) claims.0 ∙ (name_decides lease lease).1 refl in
             absurd (true≢false (sym is ∙ other))
 
-        by_kind : (b : Bool) → is_release job e.call ≡ b → StageAdvances codec spelled tracks past jobs seen e m number job stage
+        by_kind : (b : Bool) → is_release job e.call ≡ b → StageAdvances codec spelled tracks opening past jobs seen e m number job stage
         by_kind true is = let (lease, some, removes) = release_is job e.call is in by_removal lease some removes is
         by_kind false other = elim c.asked [
           | inl asked ↦

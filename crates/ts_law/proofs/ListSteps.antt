@@ -35,10 +35,10 @@ use Rattle.ts_model.specs.declared.states.Seeking.TheVariants.{ListsCommits, Lis
 use Rattle.ts_model.specs.Deeds.{History, IsHistory, deletions, deletion_of, schemas, schema_with, schema_there}
 use Rattle.ts_model.specs.Codecs.{Codec, CodecLaws, Spelled, Tracking}
 use Rattle.ts_model.specs.Jobs.{looked_at}
-use Rattle.ts_law.specs.Stands.{IsCommitted, HoldsIn, WentInto, Stands}
+use Rattle.ts_law.specs.Stands.{IsCommitted, WentInto, Stands}
 use Rattle.ts_law.proofs.OriginLaws.{key_there}
 use Rattle.ts_model.specs.States.{wrt_in, committed_in, del_in, deletes_in, schema_key_in, schemas_in, meets, looked_into, list_commits, list_schemas, on_names, seeks}
-use Rattle.ts_model.specs.Told.{Told, trace_of, after_told, IsReplied, schemas_found, history_told}
+use Rattle.ts_model.specs.Told.{Told, trace_of, after_told, IsReplied, schemas_found, held_told, history_told}
 use Rattle.ts_law.specs.Ends.{IsUndone}
 use Rattle.ts_law.specs.Kept.{Clean, Works, HasLooked, HasListed, Claims}
 use Rattle.ts_law.specs.Steps.{Keeps, Leads, Advances, Comes}
@@ -80,7 +80,7 @@ meets_of_within : (from to : ℕ) (k : Key) → is_within from to k ≡ true →
 meets_of_within from to k within = grind arith
 
 -- a fragment that a write in the interval went into meets it
-meets_of_origin : (spelled : Spelled) (m : Held) (h : History) (from to : ℕ) (f : FragKey) (k : Key) → WentInto spelled h m f k → is_within from to k ≡ true → meets from to f ≡ true
+pub meets_of_origin : (spelled : Spelled) (m : Held) (h : History) (from to : ℕ) (f : FragKey) (k : Key) → WentInto spelled h m f k → is_within from to k ≡ true → meets from to f ≡ true
 meets_of_origin spelled m h from to f k went within =
     let span = ((went.holds).holds).span in
     let at = key_there k (went.piece).head.origins went.origin in
@@ -127,7 +127,7 @@ module _ (spelled : Spelled) (m : Held) (h : History) (stands : Stands spelled m
       by_found (Some x) some = (x, refl)
 
   -- a delete that a read looks into is one of the history, and stamped in the interval
-  erase_from_looked : (f : FragKey) → Contains dels f → (x : Deletion) × Contains (deletions h) x × (frag_of x.key ≡ f) × (is_within from to x.key ≡ true)
+  pub erase_from_looked : (f : FragKey) → Contains dels f → (x : Deletion) × Contains (deletions h) x × (frag_of x.key ≡ f) × (is_within from to x.key ≡ true)
   erase_from_looked f at =
       let parts = filter-Contains (meets from to) (deletes_in (names_under Commits m)) f at in
       let found = filter_map-Contains del_in (names_under Commits m) f parts.0 in
@@ -137,7 +137,7 @@ module _ (spelled : Spelled) (m : Held) (h : History) (stands : Stands spelled m
       (of.0, is.0, is.1, within_of_meets from to (of.0).key (ap (meets from to) is.1 ∙ parts.1))
 
   -- a delete of the history that is stamped in the interval is one that a read looks into
-  looked_from_erase : (x : Deletion) → Contains (deletions h) x → is_within from to x.key ≡ true → Contains dels (frag_of x.key)
+  pub looked_from_erase : (x : Deletion) → Contains (deletions h) x → is_within from to x.key ≡ true → Contains dels (frag_of x.key)
   looked_from_erase x at within =
       let held : map.get m (name.Commit (frag_of x.key) kind.Del) ≡ Some (cond_object x.cond) = stands.deletes (frag_of x.key) ∙ ap (option_map (λ y. cond_object y.cond)) (deletion_of_name h x stands.history at) in
       Contains-filter (meets from to) (deletes_in (names_under Commits m)) (frag_of x.key)
@@ -216,7 +216,7 @@ looked spelled past jobs seen e m job c is look stands replied clean =
 
 -- ---- the calls
 
-module _ {F : Type 0} (codec : Codec F) (spelled : Spelled) (tracks : Tracking F) (past : History) (jobs : List Job) (seen : List Told) (e : Told) (m : Held) (number : ℕ) (job : Job) where
+module _ {F : Type 0} (codec : Codec F) (spelled : Spelled) (tracks : Tracking F) (opening : Held) (past : History) (jobs : List Job) (seen : List Told) (e : Told) (m : Held) (number : ℕ) (job : Job) where
   -- the history before the call
   abbrev h : History
   h = history_told jobs past seen
@@ -231,15 +231,15 @@ module _ {F : Type 0} (codec : Codec F) (spelled : Spelled) (tracks : Tracking F
 
   -- what a state claims after the call
   abbrev ClaimedAfter : State F → Type 0
-  ClaimedAfter s = Claims codec spelled tracks past jobs (seen ++ e ∷ []) m' number job s
+  ClaimedAfter s = Claims codec spelled tracks opening past jobs (seen ++ e ∷ []) m' number job s
 
   -- a call of the job comes in a state
   abbrev ComesHere : State F → Type 0
-  ComesHere s = Comes codec spelled tracks past jobs seen e m number job s
+  ComesHere s = Comes codec spelled tracks opening past jobs seen e m number job s
 
   -- a call leads the job on from a state
   abbrev AdvancesHere : State F → Type 0
-  AdvancesHere s = Advances codec spelled tracks past jobs seen e m number job s
+  AdvancesHere s = Advances codec spelled tracks opening past jobs seen e m number job s
 
   -- how a reply to a listing leads on
   names_lead : (p : Prefix) (on : List Name → State F) (r : Reply) → ((names : List Name) → r ≡ reply.Names names → ClaimedAfter (on names)) → IsUndone h' job → ClaimedAfter (on_names (call.List p) on r)
@@ -250,28 +250,25 @@ module _ {F : Type 0} (codec : Codec F) (spelled : Spelled) (tracks : Tracking F
   -- ---- the listing of the commits
 
   -- a read knows the fragments and the deletes that it listed
-  near_listed : Stands spelled m h → e.job ≡ Some number → e.call ≡ list_commits → m' ≡ m → (from to : ℕ) (query : Query)
-      → HasLooked spelled past jobs (seen ++ e ∷ []) m' number (Read from to query) (looked_into (Read from to query) (names_under Commits m))
-  near_listed stands own is same_held from to query = record {
-    commits = listed_now seen e number Commits own is;
-    whole = λ f at.
-        let committed = committed_from_looked m from to f at in
-        let is = stands.whole f committed.0 in
-        (is.0, subst (λ n. HoldsIn spelled h n f is.0) (sym same_held) is.1, is.2 from to (subst (λ g. meets from to g ≡ true) (sym ((is.1).spells).named) committed.1));
-    covered = λ w at within.
-        let is = stands.covered w at in
-        (is.0, looked_from_committed m from to is.0 is.1 (meets_of_origin spelled m h from to is.0 w.key is.2 within), subst (λ n. WentInto spelled h n is.0 w.key) (sym same_held) is.2);
-    erased = erase_from_looked spelled m h stands from to;
-    deletes_found = looked_from_erase spelled m h stands from to;
+  near_listed : Stands spelled m h → m ≡ held_told opening seen → e.job ≡ Some number → e.call ≡ list_commits → m' ≡ m → (from to : ℕ) (query : Query)
+      → HasLooked spelled opening past jobs (seen ++ e ∷ []) m' number (Read from to query) (looked_into (Read from to query) (names_under Commits m))
+  near_listed stands now own is same_held from to query = record {
+    since = record {
+      commits = listed_now seen e number Commits own is;
+      stands = subst (λ n. Stands spelled n h) now stands;
+      held = λ n bytes no_lease was. ap (λ x. map.get x n) (same_held ∙ now) ∙ was;
+    };
+    fragments_are = ap (λ x. filter (meets from to) (committed_in (names_under Commits x))) now;
+    deletes_are = ap (λ x. filter (meets from to) (deletes_in (names_under Commits x))) now;
   }
 
   -- they are those of the command
-  near_in_command : Stands spelled m h → e.job ≡ Some number → e.call ≡ list_commits → m' ≡ m → (from to : ℕ) (query : Query) → job.command ≡ Read from to query
-      → (names : List Name) → names ≡ names_under Commits m → HasLooked spelled past jobs (seen ++ e ∷ []) m' number job.command (looked_into job.command names)
-  near_in_command stands own is same_held from to query reads names all =
-      subst (λ c. HasLooked spelled past jobs (seen ++ e ∷ []) m' number c (looked_into c names)) (sym reads)
-      (subst (λ ns. HasLooked spelled past jobs (seen ++ e ∷ []) m' number (Read from to query) (looked_into (Read from to query) ns)) (sym all)
-      (near_listed stands own is same_held from to query))
+  near_in_command : Stands spelled m h → m ≡ held_told opening seen → e.job ≡ Some number → e.call ≡ list_commits → m' ≡ m → (from to : ℕ) (query : Query) → job.command ≡ Read from to query
+      → (names : List Name) → names ≡ names_under Commits m → HasLooked spelled opening past jobs (seen ++ e ∷ []) m' number job.command (looked_into job.command names)
+  near_in_command stands now own is same_held from to query reads names all =
+      subst (λ c. HasLooked spelled opening past jobs (seen ++ e ∷ []) m' number c (looked_into c names)) (sym reads)
+      (subst (λ ns. HasLooked spelled opening past jobs (seen ++ e ∷ []) m' number (Read from to query) (looked_into (Read from to query) ns)) (sym all)
+      (near_listed stands now own is same_held from to query))
 
   -- the listing of the commits leads a read to the listing of the schemas
   pub commits_steps : CodecLaws codec spelled tracks → ComesHere (Seeks ListsCommits) → AdvancesHere (Seeks ListsCommits)
@@ -282,7 +279,7 @@ module _ {F : Type 0} (codec : Codec F) (spelled : Spelled) (tracks : Tracking F
       record {
         leads = look.leads;
         own = names_lead Commits (λ names. Seeks (ListsSchemas (looked_into job.command names))) e.reply
-            (λ names said. (look.clean, near_in_command comes.stands comes.own is look.same_held reads.0 reads.1 reads.2 reads.3 names (listed m e Commits names is comes.replied said)))
+            (λ names said. (look.clean, near_in_command comes.stands comes.is_held comes.own is look.same_held reads.0 reads.1 reads.2 reads.3 names (listed m e Commits names is comes.replied said)))
             look.clean.undone;
       }
 
@@ -306,22 +303,22 @@ module _ {F : Type 0} (codec : Codec F) (spelled : Spelled) (tracks : Tracking F
   }
 
   -- what a job listed before goes on with the schema there
-  has_listed : Keeps m m' h h' job.id → (c : Command) (listed : Listed) → HasLooked spelled past jobs seen m number c listed → (s : Schema) (works : Works past jobs (seen ++ e ∷ []) number job s)
-      → (works.schemas).before ≡ seen → HasListed spelled past jobs (seen ++ e ∷ []) m' number job c listed s
+  has_listed : Keeps m m' h h' job.id → (c : Command) (listed : Listed) → HasLooked spelled opening past jobs seen m number c listed → (s : Schema) (works : Works past jobs (seen ++ e ∷ []) number job s)
+      → (works.schemas).before ≡ seen → HasListed spelled opening past jobs (seen ++ e ∷ []) m' number job c listed s
   has_listed keeps (Create f) listed before s works at = before
   has_listed keeps (Evolve change) listed before s works at = works
   has_listed keeps (Write w) listed before s works at = works
   has_listed keeps (Read from to query) listed before s works at = record {
-    listed = near_stays spelled past jobs seen e m m' job.id keeps number from to listed.fragments listed.delete_names before;
+    listed = near_stays spelled opening past jobs seen e m m' job.id keeps number from to listed.fragments listed.delete_names before;
     works = works;
-    between = (before.commits).later;
-    order = at ∙ (before.commits).place;
+    between = before.since.commits.later;
+    order = at ∙ before.since.commits.place;
   }
   has_listed keeps (Delete text) listed before s works at = works
 
   -- where the keys of the listing lead
   sought : (listing : Listed) → Stands spelled m h → Clean m' h' job → (names : List Name) → names ≡ names_under Schemas m
-      → ((s : Schema) → schema_there h (looked_at job) ≡ Some s → HasListed spelled past jobs (seen ++ e ∷ []) m' number job job.command listing s)
+      → ((s : Schema) → schema_there h (looked_at job) ≡ Some s → HasListed spelled opening past jobs (seen ++ e ∷ []) m' number job job.command listing s)
       → ClaimedAfter (seeks listing (looked_at job) (schema_at (schemas_in names) (looked_at job)))
   sought listing stands clean names all with =
       subst (λ o. ClaimedAfter (seeks listing (looked_at job) o))

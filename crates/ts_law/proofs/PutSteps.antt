@@ -87,7 +87,7 @@ fault_is_true h job (name.Lease k mode) undone = undone
 
 -- ---- one call
 
-module _ {F : Type 0} (codec : Codec F) (spelled : Spelled) (tracks : Tracking F) (past : History) (jobs : List Job) (seen : List Told) (e : Told) (m : Held) (number : ℕ) (job : Job) where
+module _ {F : Type 0} (codec : Codec F) (spelled : Spelled) (tracks : Tracking F) (opening : Held) (past : History) (jobs : List Job) (seen : List Told) (e : Told) (m : Held) (number : ℕ) (job : Job) where
   -- the history before the call
   abbrev h : History
   h = history_told jobs past seen
@@ -102,15 +102,15 @@ module _ {F : Type 0} (codec : Codec F) (spelled : Spelled) (tracks : Tracking F
 
   -- what a state of the job claims after the call
   abbrev ClaimsLater : State F → Type 0
-  ClaimsLater s = Claims codec spelled tracks past jobs (seen ++ e ∷ []) m' number job s
+  ClaimsLater s = Claims codec spelled tracks opening past jobs (seen ++ e ∷ []) m' number job s
 
   -- the call comes to the job in a state
   abbrev ComesHere : State F → Type 0
-  ComesHere s = Comes codec spelled tracks past jobs seen e m number job s
+  ComesHere s = Comes codec spelled tracks opening past jobs seen e m number job s
 
   -- the call advances the job from a state
   abbrev AdvancesHere : State F → Type 0
-  AdvancesHere s = Advances codec spelled tracks past jobs seen e m number job s
+  AdvancesHere s = Advances codec spelled tracks opening past jobs seen e m number job s
 
   -- where the call leads
   abbrev LeadsHere : Type 0
@@ -403,7 +403,7 @@ module _ {F : Type 0} (codec : Codec F) (spelled : Spelled) (tracks : Tracking F
             refl,
             ap frame_in same_history ∙ framed,
             lays,
-            works_stays spelled past jobs seen e m m' job.id leads.leaves number job there (no_listing o (put_asked own_objects next own_end o at c)) works,
+            works_stays spelled opening past jobs seen e m m' job.id leads.leaves number job there (no_listing o (put_asked own_objects next own_end o at c)) works,
           );
         }
 
@@ -563,17 +563,17 @@ module _ {F : Type 0} (codec : Codec F) (spelled : Spelled) (tracks : Tracking F
 
 -- ---- what an evolve, a write and a delete come to, once they have the frame
 
-module _ {F : Type 0} (codec : Codec F) (spelled : Spelled) (tracks : Tracking F) (past : History) (jobs : List Job) (seen : List Told) (m : Held) (number : ℕ) (job : Job) where
+module _ {F : Type 0} (codec : Codec F) (spelled : Spelled) (tracks : Tracking F) (opening : Held) (past : History) (jobs : List Job) (seen : List Told) (m : Held) (number : ℕ) (job : Job) where
   -- an evolve puts its schema, or it is refused for it
   pub works_evolve : (change : Evolution) (listed : Listed) (frame : Frame) (there : Schema) → CodecLaws codec spelled tracks → IsFit job → AreApart jobs
       → Clean m (history_told jobs past seen) job
       → Works past jobs seen number job there → frame_in (history_told jobs past seen) ≡ Some frame → IsHistory (history_told jobs past seen) → job.command ≡ Evolve change
-      → Claims codec spelled tracks past jobs seen m number job (comes_to codec job job.command listed frame there)
+      → Claims codec spelled tracks opening past jobs seen m number job (comes_to codec job job.command listed frame there)
   works_evolve change listed frame there laws fit apart clean at framed is evolves =
-      subst (λ c. Claims codec spelled tracks past jobs seen m number job (comes_to codec job c listed frame there)) (sym evolves) (from (evolution_fault frame.domain there.attrs change) refl)
+      subst (λ c. Claims codec spelled tracks opening past jobs seen m number job (comes_to codec job c listed frame there)) (sym evolves) (from (evolution_fault frame.domain there.attrs change) refl)
     where
       from : (o : Option SchemaFault) → evolution_fault frame.domain there.attrs change ≡ o
-          → Claims codec spelled tracks past jobs seen m number job
+          → Claims codec spelled tracks opening past jobs seen m number job
           (unless_refused (puts_schema job (evolved_attrs there.attrs change) (outcome.Evolved (key_of job))) (option_map refusal.SchemaBad o))
       from None sound =
           begins_putting codec past jobs seen m number job (schema_object_of job (evolved_attrs there.attrs change) ∷ []) (outcome.Evolved (key_of job)) clean
@@ -584,17 +584,17 @@ module _ {F : Type 0} (codec : Codec F) (spelled : Spelled) (tracks : Tracking F
   -- a write puts its parts, or it is refused for its columns
   pub works_write : (w : WriteIn) (listed : Listed) (frame : Frame) (there : Schema) → CodecLaws codec spelled tracks → IsFit job → AreApart jobs → Clean m (history_told jobs past seen) job
       → Works past jobs seen number job there → frame_in (history_told jobs past seen) ≡ Some frame → IsHistory (history_told jobs past seen) → job.command ≡ Write w
-      → Claims codec spelled tracks past jobs seen m number job (comes_to codec job job.command listed frame there)
+      → Claims codec spelled tracks opening past jobs seen m number job (comes_to codec job job.command listed frame there)
   works_write w listed frame there laws fit apart clean at framed is writes_them =
-      subst (λ c. Claims codec spelled tracks past jobs seen m number job (comes_to codec job c listed frame there)) (sym writes_them)
+      subst (λ c. Claims codec spelled tracks opening past jobs seen m number job (comes_to codec job c listed frame there)) (sym writes_them)
       (from (laid frame there.attrs w) refl (laid_fails frame there.attrs w))
     where
       from : (laying : Result (List Cell) Refusal) → laid frame there.attrs w ≡ laying → FailsByColumns laying
-          → Claims codec spelled tracks past jobs seen m number job (puts_cells codec job frame there laying)
+          → Claims codec spelled tracks opening past jobs seen m number job (puts_cells codec job frame there laying)
       from (Ok cells) lays fails =
           let parts = codec.parts frame there (piece_of frame (written_as job there.key cells)) in
           let some : 0 < length (objects_of (frag_of_job job) parts) = omega (arith, object_count (frag_of_job job) parts) in
-          subst (λ b. Claims codec spelled tracks past jobs seen m number job
+          subst (λ b. Claims codec spelled tracks opening past jobs seen m number job
           (cond b (Puts (write_objects codec frame there job cells) 0 (outcome.Written (frag_of_job job))) (Over (outcome.Written (frag_of_job job)))))
           (sym (lt-ltb 0 (length (objects_of (frag_of_job job) parts)) some))
           (begins_putting codec past jobs seen m number job (write_objects codec frame there job cells) (outcome.Written (frag_of_job job)) clean (write_carries (frag_of_job job) parts) some
@@ -604,12 +604,12 @@ module _ {F : Type 0} (codec : Codec F) (spelled : Spelled) (tracks : Tracking F
   -- a delete puts its condition, or it is refused
   pub works_delete : (text : List ℕ) (listed : Listed) (frame : Frame) (there : Schema) → CodecLaws codec spelled tracks → IsFit job → AreApart jobs → Clean m (history_told jobs past seen) job
       → Works past jobs seen number job there → frame_in (history_told jobs past seen) ≡ Some frame → IsHistory (history_told jobs past seen) → job.command ≡ Delete text
-      → Claims codec spelled tracks past jobs seen m number job (comes_to codec job job.command listed frame there)
+      → Claims codec spelled tracks opening past jobs seen m number job (comes_to codec job job.command listed frame there)
   works_delete text listed frame there laws fit apart clean at framed is deletes =
-      subst (λ c. Claims codec spelled tracks past jobs seen m number job (comes_to codec job c listed frame there)) (sym deletes)
+      subst (λ c. Claims codec spelled tracks opening past jobs seen m number job (comes_to codec job c listed frame there)) (sym deletes)
       (from (delete_condition frame there.attrs text) refl (delete_condition_fails frame there.attrs text))
     where
-      from : (found : Result Condition Refusal) → delete_condition frame there.attrs text ≡ found → FailsByQuery found → Claims codec spelled tracks past jobs seen m number job (puts_delete job found)
+      from : (found : Result Condition Refusal) → delete_condition frame there.attrs text ≡ found → FailsByQuery found → Claims codec spelled tracks opening past jobs seen m number job (puts_delete job found)
       from (Ok condition) says fails =
           begins_putting codec past jobs seen m number job (delete_object_of job condition ∷ []) (outcome.Deleted (frag_of_job job)) clean (delete_carries job condition) (omega arith)
           (text, frame, there, condition, deletes, refl, refl, framed, says, at)

@@ -47,9 +47,10 @@ use Rattle.ts_model.specs.Deeds.{History, IsHistory, frame_in, schema_with}
 use Rattle.ts_model.specs.Codecs.{Codec, CodecLaws, Spelled, Tracking}
 use Rattle.ts_model.specs.Jobs.{looked_at, IsFit, AreApart}
 use Rattle.ts_commit.specs.Selections.{is_usable}
-use Rattle.ts_law.specs.Stands.{HoldsIn, Stands}
-use Rattle.ts_model.specs.States.{list_schemas, get_all, get_frame, get_head, get_schema, on_bytes, on_read, keys_named, fetching, getting_deletes, gathering, opening, reading_of, asks_for, works, after_head, after_schema, with_item}
-use Rattle.ts_model.specs.Told.{Told, after_told, IsReplied, history_told}
+use Rattle.ts_law.specs.Stands.{HoldsIn, IsCommitted, Stands}
+use Rattle.ts_law.specs.Origins.{IsReadable}
+use Rattle.ts_model.specs.States.{list_schemas, get_all, get_frame, get_head, get_schema, on_bytes, on_read, keys_named, fetching, getting_deletes, gathering, opening as opening_on, reading_of, asks_for, works, meets, after_head, after_schema, with_item}
+use Rattle.ts_model.specs.Told.{Told, after_told, IsReplied, held_told, history_told}
 use Rattle.ts_law.specs.Ends.{IsTrueRefusal, IsUndone, ListedAt}
 use Rattle.ts_law.specs.Kept.{AreDeletions, Clean, Works, HasListed, ReadsAt, IsOpen, Opening, Gathering, GettingDeletes, Claims}
 use Rattle.ts_model.specs.Queries.{ready_in}
@@ -64,7 +65,7 @@ use Rattle.ts_law.proofs.PutSteps.{works_delete, works_evolve, works_write}
 use Rattle.ts_law.proofs.QueryRefusals.{FailsByQuery, query_true, ready_fails}
 use Rattle.ts_law.proofs.Fetches.{got_none}
 use Rattle.ts_law.proofs.FetchSteps.{fetching_claims}
-use Rattle.ts_law.proofs.ListSteps.{looked}
+use Rattle.ts_law.proofs.ListSteps.{committed_from_looked, looked}
 use Rattle.ts_law.proofs.Stays.{has_listed_stays, opening_stays, gathering_stays}
 
 -- ---- the keys that heads name
@@ -110,14 +111,14 @@ pub asked_of : {A : Type 0} (ask : A → Call) (o : Option A) (c : Call) → opt
 asked_of ask None c is = absurd (none-some c is)
 asked_of ask (Some x) c is = (x, refl, sym (same_Some (ask x) c is))
 
-module _ {F : Type 0} (codec : Codec F) (spelled : Spelled) (tracks : Tracking F) (past : History) (jobs : List Job) (seen : List Told) (m : Held) (number : ℕ) (job : Job) where
+module _ {F : Type 0} (codec : Codec F) (spelled : Spelled) (tracks : Tracking F) (opening : Held) (past : History) (jobs : List Job) (seen : List Told) (m : Held) (number : ℕ) (job : Job) where
   -- the history now
   abbrev now : History
   now = history_told jobs past seen
 
   -- what a state claims
   abbrev Claimed : State F → Type 0
-  Claimed s = Claims codec spelled tracks past jobs seen m number job s
+  Claimed s = Claims codec spelled tracks opening past jobs seen m number job s
 
   -- the history at a listing is the front of the history now
   front_at : {p : Prefix} (at : ListedAt seen number p) → (more : History) × (now ≡ history_told jobs past at.before ++ more)
@@ -143,23 +144,23 @@ module _ {F : Type 0} (codec : Codec F) (spelled : Spelled) (tracks : Tracking F
 
   -- a read gets the next delete, or begins to fetch
   pub getting_deletes_claims : CodecLaws codec spelled tracks → Clean m now job → IsHistory now → (r : Reading) (opened : List Opened) (schemas : List Schema)
-      → GettingDeletes codec spelled past jobs seen m number job r opened schemas → Claimed (getting_deletes codec r opened schemas)
+      → GettingDeletes codec spelled opening past jobs seen m number job r opened schemas → Claimed (getting_deletes codec r opened schemas)
   getting_deletes_claims laws clean is r opened schemas deletions =
       elim (nat_lt (length r.deletions) (length r.delete_names)) as (λ b. nat_lt (length r.deletions) (length r.delete_names) ≡ b
       → Claimed (cond b (Collects (GetsDeletes r opened schemas)) (fetching codec r opened schemas 0 opened []))) [
         | true ↦ λ _. (clean, deletions)
-        | false ↦ λ end. fetching_claims codec spelled tracks past jobs seen m number job r opened schemas 0 [] laws clean
+        | false ↦ λ end. fetching_claims codec spelled tracks opening past jobs seen m number job r opened schemas 0 [] laws clean
             (record {
               deletes_found = deletions;
               all_deletes = as_many (λ x. frag_of x.key) r.deletions r.delete_names deletions.deletions.names_are (ltb-false (length r.deletions) (length r.delete_names) end);
-              found = got_none (history_told jobs past ((((((deletions.gathers).opens).reads).at).listed).commits).before) r.from r.to (r.ready).sub;
+              found = got_none (history_told jobs past ((((((deletions.gathers).opens).reads).at).listed).since.commits).before) r.from r.to (r.ready).sub;
             })
-            (history_at ((((deletions.gathers).opens.reads).at).listed).commits is) is
+            (history_at ((((deletions.gathers).opens.reads).at).listed).since.commits is) is
       ] refl
 
   -- a read gets the next further schema, or goes on to the deletes, of which it has none
   gathering_claims : CodecLaws codec spelled tracks → Clean m now job → IsHistory now → (r : Reading) (opened : List Opened) (schemas : List Schema) → r.deletions ≡ []
-      → Gathering codec spelled past jobs seen m number job r opened schemas → Claimed (gathering codec r opened (keys_named r opened) schemas)
+      → Gathering codec spelled opening past jobs seen m number job r opened schemas → Claimed (gathering codec r opened (keys_named r opened) schemas)
   gathering_claims laws clean is r opened schemas none gathers =
       elim (nat_lt (length schemas) (length (keys_named r opened))) as (λ b. nat_lt (length schemas) (length (keys_named r opened)) ≡ b
       → Claimed (cond b (Collects (GetsSchemas r opened (keys_named r opened) schemas)) (getting_deletes codec r opened schemas))) [
@@ -173,7 +174,7 @@ module _ {F : Type 0} (codec : Codec F) (spelled : Spelled) (tracks : Tracking F
 
   -- a read opens the next fragment, or goes on once all are open
   opening_claims : CodecLaws codec spelled tracks → Clean m now job → IsHistory now → (r : Reading) (opened : List Opened) → r.deletions ≡ []
-      → Opening codec spelled past jobs seen m number job r opened → Claimed (opening codec r opened)
+      → Opening codec spelled opening past jobs seen m number job r opened → Claimed (opening_on codec r opened)
   opening_claims laws clean is r opened none opens =
       elim (nat_lt (length opened) (length r.fragments)) as (λ b. nat_lt (length opened) (length r.fragments) ≡ b → Claimed (cond b (Collects (GetsHeads r opened)) (gathering codec r opened (keys_named r opened) []))) [
         | true ↦ λ _. (clean, opens, none)
@@ -186,7 +187,7 @@ module _ {F : Type 0} (codec : Codec F) (spelled : Spelled) (tracks : Tracking F
 
 -- ---- the gets
 
-module _ {F : Type 0} (codec : Codec F) (spelled : Spelled) (tracks : Tracking F) (past : History) (jobs : List Job) (seen : List Told) (e : Told) (m : Held) (number : ℕ) (job : Job) where
+module _ {F : Type 0} (codec : Codec F) (spelled : Spelled) (tracks : Tracking F) (opening : Held) (past : History) (jobs : List Job) (seen : List Told) (e : Told) (m : Held) (number : ℕ) (job : Job) where
   -- the history before the call
   abbrev h : History
   h = history_told jobs past seen
@@ -201,15 +202,15 @@ module _ {F : Type 0} (codec : Codec F) (spelled : Spelled) (tracks : Tracking F
 
   -- what a state claims after the call
   abbrev ClaimedAfter : State F → Type 0
-  ClaimedAfter s = Claims codec spelled tracks past jobs (seen ++ e ∷ []) m' number job s
+  ClaimedAfter s = Claims codec spelled tracks opening past jobs (seen ++ e ∷ []) m' number job s
 
   -- a call of the job comes in a state
   abbrev ComesHere : State F → Type 0
-  ComesHere s = Comes codec spelled tracks past jobs seen e m number job s
+  ComesHere s = Comes codec spelled tracks opening past jobs seen e m number job s
 
   -- a call leads the job on from a state
   abbrev AdvancesHere : State F → Type 0
-  AdvancesHere s = Advances codec spelled tracks past jobs seen e m number job s
+  AdvancesHere s = Advances codec spelled tracks opening past jobs seen e m number job s
 
   -- how a reply to a get leads on
   bytes_lead : (n : Name) (on : List ℕ → State F) (r : Reply) → ((bytes : List ℕ) → r ≡ reply.Bytes bytes → ClaimedAfter (on bytes)) → (r ≡ reply.Absent → ⊥)
@@ -237,7 +238,7 @@ module _ {F : Type 0} (codec : Codec F) (spelled : Spelled) (tracks : Tracking F
   read_lead n on x o is goes_on = subst (λ o. ClaimedAfter (on_read n on o)) (sym is) goes_on
 
   -- what a job listed before tells that its schema is a deed
-  works_of : (c : Command) (listing : Listed) (s : Schema) → HasListed spelled past jobs seen m number job c listing s → Works past jobs seen number job s
+  works_of : (c : Command) (listing : Listed) (s : Schema) → HasListed spelled opening past jobs seen m number job c listing s → Works past jobs seen number job s
   works_of (Create f) listing s is = absurd is
   works_of (Evolve change) listing s is = is
   works_of (Write w) listing s is = is
@@ -274,18 +275,18 @@ module _ {F : Type 0} (codec : Codec F) (spelled : Spelled) (tracks : Tracking F
         leads = look.leads;
         own = schema_lead comes.stands there s (λ attrs. Seeks (GetsFrame listing (record { key = there; attrs = attrs }))) declared is comes.replied look.clean.undone
             (subst (λ k. ClaimedAfter (Seeks (GetsFrame listing (record { key = k; attrs = s.attrs })))) same
-            (look.clean, has_listed_stays spelled past jobs seen e m m' job.id look.leads.leaves number job job.command listing s (no_listing (name.Schema there) is) comes.claims.1.2));
+            (look.clean, has_listed_stays spelled opening past jobs seen e m m' job.id look.leads.leaves number job job.command listing s (no_listing (name.Schema there) is) comes.claims.1.2));
       }
 
   -- ---- the frame
 
   -- a read opens its fragments, or it is refused for its query
   asks_lead : CodecLaws codec spelled tracks → Clean m' h' job → IsHistory h' → (from to : ℕ) (query : Query) (listing : Listed) (frame : Frame) (there : Schema)
-      → (at : ReadsAt spelled past jobs (seen ++ e ∷ []) m' number job from to listing.fragments listing.delete_names there) → frame_in (history_told jobs past ((at.works).schemas).before) ≡ Some frame
+      → (at : ReadsAt spelled opening past jobs (seen ++ e ∷ []) m' number job from to listing.fragments listing.delete_names there) → frame_in (history_told jobs past ((at.works).schemas).before) ≡ Some frame
       → job.command ≡ Read from to query → (o : Result Ready Refusal) → ready_in frame there.attrs query ≡ o → FailsByQuery o → ClaimedAfter (asks_for codec from to listing frame there o)
   asks_lead laws clean is from to query listing frame there at framed command (Err r) asked fails = query_true h' job r fails clean.undone
   asks_lead laws clean is from to query listing frame there at framed command (Ok ready) asked fails =
-      opening_claims codec spelled tracks past jobs (seen ++ e ∷ []) m' number job laws clean is (reading_of from to listing frame there ready) [] refl (record {
+      opening_claims codec spelled tracks opening past jobs (seen ++ e ∷ []) m' number job laws clean is (reading_of from to listing frame there ready) [] refl (record {
         reads = record { query = query; reads = command; at = at; framed = framed; is_ready = asked };
         are_open = record { frags = refl; each = λ o at. absurd (Contains-nil o at) };
       })
@@ -293,20 +294,20 @@ module _ {F : Type 0} (codec : Codec F) (spelled : Spelled) (tracks : Tracking F
   -- a job works in the schema there once it has the frame
   works_lead : CodecLaws codec spelled tracks → IsFit job → AreApart jobs → Clean m' h' job → IsHistory h' → (c : Command) → job.command ≡ c
       → (listing : Listed) (frame : Frame) (there : Schema)
-      → frame_in h' ≡ Some frame → HasListed spelled past jobs (seen ++ e ∷ []) m' number job c listing there → ClaimedAfter (works codec job job.command listing frame there)
+      → frame_in h' ≡ Some frame → HasListed spelled opening past jobs (seen ++ e ∷ []) m' number job c listing there → ClaimedAfter (works codec job job.command listing frame there)
   works_lead laws fit apart clean is (Create f) command listing frame there framed listed = absurd listed
   works_lead laws fit apart clean is (Evolve change) command listing frame there framed listed =
-      works_evolve codec spelled tracks past jobs (seen ++ e ∷ []) m' number job change listing frame there laws fit apart clean listed framed is command
+      works_evolve codec spelled tracks opening past jobs (seen ++ e ∷ []) m' number job change listing frame there laws fit apart clean listed framed is command
   works_lead laws fit apart clean is (Write w) command listing frame there framed listed =
-      works_write codec spelled tracks past jobs (seen ++ e ∷ []) m' number job w listing frame there laws fit apart clean listed framed is command
+      works_write codec spelled tracks opening past jobs (seen ++ e ∷ []) m' number job w listing frame there laws fit apart clean listed framed is command
   works_lead laws fit apart clean is (Read from to query) command listing frame there framed listed =
-      let then = framed_there codec spelled tracks past jobs (seen ++ e ∷ []) m' number job there listed.works is in
+      let then = framed_there codec spelled tracks opening past jobs (seen ++ e ∷ []) m' number job there listed.works is in
       let same : then.0 ≡ frame = same_Some then.0 frame
-      (sym (frame_at codec spelled tracks past jobs (seen ++ e ∷ []) m' number job ((listed.works).schemas) then.0 then.1) ∙ framed) in
+      (sym (frame_at codec spelled tracks opening past jobs (seen ++ e ∷ []) m' number job ((listed.works).schemas) then.0 then.1) ∙ framed) in
       subst (λ c. ClaimedAfter (works codec job c listing frame there)) (sym command)
       (asks_lead laws clean is from to query listing frame there listed (then.1 ∙ ap Some same) command (ready_in frame there.attrs query) refl (ready_fails frame there.attrs query))
   works_lead laws fit apart clean is (Delete text) command listing frame there framed listed =
-      works_delete codec spelled tracks past jobs (seen ++ e ∷ []) m' number job text listing frame there laws fit apart clean listed framed is command
+      works_delete codec spelled tracks opening past jobs (seen ++ e ∷ []) m' number job text listing frame there laws fit apart clean listed framed is command
 
   -- the get of the frame leads a job to its work in the schema there
   pub framed_steps : CodecLaws codec spelled tracks → (listing : Listed) (there : Schema) → ComesHere (Seeks (GetsFrame listing there)) → AdvancesHere (Seeks (GetsFrame listing there))
@@ -322,26 +323,34 @@ module _ {F : Type 0} (codec : Codec F) (spelled : Spelled) (tracks : Tracking F
         own = whole_lead name.Domain (frame_object framed.0) (λ bytes. on_read name.Domain on (frame_of bytes)) is comes.replied held short look.clean.undone
             (read_lead name.Domain on framed.0 (frame_of (frame_object framed.0)) (frame_again framed.0 (frame_facts h framed.0 comes.stands.history framed.1) short)
             (works_lead laws comes.fit comes.apart look.clean look.history job.command refl listing framed.0 there (ap frame_in look.same_history ∙ framed.1)
-            (has_listed_stays spelled past jobs seen e m m' job.id look.leads.leaves number job job.command listing there (no_listing name.Domain is) comes.claims.1)));
+            (has_listed_stays spelled opening past jobs seen e m m' job.id look.leads.leaves number job job.command listing there (no_listing name.Domain is) comes.claims.1)));
       }
 
   -- ---- the heads
 
   module _ (laws : CodecLaws codec spelled tracks) (r : Reading) (opened : List Opened) (f : FragKey) (next : slice_get r.fragments (length opened) ≡ Some f)
-      (opens : Opening codec spelled past jobs (seen ++ e ∷ []) m' number job r opened) (none : r.deletions ≡ []) where
+      (opens : Opening codec spelled opening past jobs (seen ++ e ∷ []) m' number job r opened) (none : r.deletions ≡ []) where
     -- the history at the listing of the commits
     abbrev g : History
-    g = history_told jobs past (((opens.reads.at).listed).commits).before
+    g = history_told jobs past (((opens.reads.at).listed).since.commits).before
+
+    -- what was held then
+    abbrev then : Held
+    then = held_told opening (((opens.reads.at).listed).since.commits).before
+
+    -- the fragment is committed, and its span meets the interval
+    committed : IsCommitted then f × (meets r.from r.to f ≡ true)
+    committed = committed_from_looked then r.from r.to f (subst (λ fs. Contains fs f) ((opens.reads.at).listed).fragments_are (Contains-slice_get r.fragments (length opened) f next))
 
     -- the fragment's piece, which the read can use
-    abbrev own : (p : Piece) × HoldsIn spelled g m' f p × (is_usable r.from r.to p.head ≡ true)
-    own = ((opens.reads.at).listed).whole f (Contains-slice_get r.fragments (length opened) f next)
+    abbrev own : (p : Piece) × HoldsIn spelled g then f p × IsReadable p.head
+    own = ((opens.reads.at).listed).since.stands.whole f committed.0
 
     abbrev piece : Piece
     piece = own.0
 
     -- it holds writes of that history
-    abbrev holds : HoldsIn spelled g m' f piece
+    abbrev holds : HoldsIn spelled g then f piece
     holds = own.1
 
     -- the part that has the head is there, and is read as the head
@@ -352,11 +361,15 @@ module _ {F : Type 0} (codec : Codec F) (spelled : Spelled) (tracks : Tracking F
     abbrev more : Opened
     more = record { frag = f; head = piece.head; object = found.0 }
 
+    -- the read can use it
+    usable : is_usable r.from r.to piece.head ≡ true
+    usable = own.2 r.from r.to (subst (λ x. meets r.from r.to x ≡ true) (sym (holds.spells).named) committed.1)
+
     -- an array has one frame
     same_frame : holds.frame ≡ r.frame
     same_frame = same_Some holds.frame r.frame
-        (sym (frame_at codec spelled tracks past jobs (seen ++ e ∷ []) m' number job (((opens.reads.at).listed).commits) holds.frame holds.framed)
-        ∙ frame_at codec spelled tracks past jobs (seen ++ e ∷ []) m' number job (((opens.reads.at).works).schemas) r.frame opens.reads.framed)
+        (sym (frame_at codec spelled tracks opening past jobs (seen ++ e ∷ []) m' number job (((opens.reads.at).listed).since.commits) holds.frame holds.framed)
+        ∙ frame_at codec spelled tracks opening past jobs (seen ++ e ∷ []) m' number job (((opens.reads.at).works).schemas) r.frame opens.reads.framed)
 
     -- the part that has the head is there in the frame that the read knows
     at_part : (holds.spells).look (codec.head_part r.frame) ≡ Some found.0
@@ -368,7 +381,7 @@ module _ {F : Type 0} (codec : Codec F) (spelled : Spelled) (tracks : Tracking F
         (subst (λ frag. codec.head holds.frame frag found.0 ≡ Ok piece.head) (holds.spells).named found.2)
 
     -- one fragment more is open
-    opened_more : Opening codec spelled past jobs (seen ++ e ∷ []) m' number job r (opened ++ more ∷ [])
+    opened_more : Opening codec spelled opening past jobs (seen ++ e ∷ []) m' number job r (opened ++ more ∷ [])
     opened_more = record {
       reads = opens.reads;
       are_open = record {
@@ -376,7 +389,7 @@ module _ {F : Type 0} (codec : Codec F) (spelled : Spelled) (tracks : Tracking F
         each = λ o at. elim (Contains-push_cases opened more o at) [
           | inl before ↦ opens.are_open.each o before
           | inr last ↦
-              subst (IsOpen codec spelled g m' r.frame r.from r.to) last (record { piece = piece; holds = holds; same_frame = same_frame; usable = own.2; head = refl; object = at_part })
+              subst (IsOpen codec spelled g then r.frame r.from r.to) last (record { piece = piece; holds = holds; same_frame = same_frame; usable = usable; head = refl; object = at_part })
         ];
       };
     }
@@ -384,12 +397,13 @@ module _ {F : Type 0} (codec : Codec F) (spelled : Spelled) (tracks : Tracking F
     -- the part that has the head of the next fragment leads on with one fragment more
     head_lead : e.call ≡ get_head codec r f → IsReplied m e → m' ≡ m → Clean m' h' job → IsHistory h' → ClaimedAfter (on_bytes (get_head codec r f) (after_head codec r opened f) e.reply)
     head_lead is replied same_held clean history =
-        let on : Head → State F = λ head. opening codec r (opened ++ record { frag = f; head = head; object = found.0 } ∷ []) in
+        let on : Head → State F = λ head. opening_on codec r (opened ++ record { frag = f; head = head; object = found.0 } ∷ []) in
         whole_lead (name.Part f (codec.head_part r.frame)) found.0 (after_head codec r opened f) is replied
-        (ap (λ n. map.get n (name.Part f (codec.head_part r.frame))) (sym same_held) ∙ (holds.spells).held (codec.head_part r.frame) found.0 at_part)
+        (ap (λ n. map.get n (name.Part f (codec.head_part r.frame))) (sym same_held)
+        ∙ ((opens.reads.at).listed).since.held (name.Part f (codec.head_part r.frame)) found.0 tt ((holds.spells).held (codec.head_part r.frame) found.0 at_part))
         ((holds.spells).short (codec.head_part r.frame) found.0 at_part) clean.undone
         (read_lead (name.Part f (codec.head_part r.frame)) on piece.head (codec.head r.frame f found.0) read
-        (opening_claims codec spelled tracks past jobs (seen ++ e ∷ []) m' number job laws clean history r (opened ++ more ∷ []) none opened_more))
+        (opening_claims codec spelled tracks opening past jobs (seen ++ e ∷ []) m' number job laws clean history r (opened ++ more ∷ []) none opened_more))
 
   -- the get of a head leads a read to the next one, or on
   pub heads_steps : CodecLaws codec spelled tracks → (r : Reading) (opened : List Opened) → ComesHere (Collects (GetsHeads r opened)) → AdvancesHere (Collects (GetsHeads r opened))
@@ -397,7 +411,7 @@ module _ {F : Type 0} (codec : Codec F) (spelled : Spelled) (tracks : Tracking F
       let next = asked_of (get_head codec r) (slice_get r.fragments (length opened)) e.call comes.asked in
       let look = looked spelled past jobs seen e m job (get_head codec r next.0) next.2 tt comes.stands comes.replied comes.claims.0 in
       let unlisted = no_listing (name.Part next.0 (codec.head_part r.frame)) next.2 in
-      let opens = opening_stays spelled past jobs seen e m m' job.id look.leads.leaves number codec job r opened unlisted comes.claims.1 in
+      let opens = opening_stays spelled opening past jobs seen e m m' job.id look.leads.leaves number codec job r opened unlisted comes.claims.1 in
       record {
         leads = look.leads;
         own = subst (λ o. ClaimedAfter (with_item (λ f. on_bytes (get_head codec r f) (after_head codec r opened f) e.reply) o)) (sym next.1)
@@ -407,15 +421,15 @@ module _ {F : Type 0} (codec : Codec F) (spelled : Spelled) (tracks : Tracking F
   -- ---- the further schemas
 
   -- the next further schema is a deed
-  further_declared : (r : Reading) (opened : List Opened) (schemas : List Schema) → Gathering codec spelled past jobs seen m number job r opened schemas → (k : Key) → Contains (keys_named r opened) k
+  further_declared : (r : Reading) (opened : List Opened) (schemas : List Schema) → Gathering codec spelled opening past jobs seen m number job r opened schemas → (k : Key) → Contains (keys_named r opened) k
       → (s : Schema) × (schema_with h k ≡ Some s)
   further_declared r opened schemas gathers k at =
       let by = named_by r opened k at in
       let is = gathers.opens.are_open.each by.0 by.1 in
       let keyed : (is.piece).head.schema ≡ k = ap (λ head. head.schema) (sym is.head) ∙ by.2 in (
         (is.holds).schema,
-        schema_at_listing codec spelled tracks past jobs seen m number job ((((gathers.opens.reads).at).listed).commits) k (is.holds).schema
-            (subst (λ l. schema_with (history_told jobs past ((((gathers.opens.reads).at).listed).commits).before) l ≡ Some (is.holds).schema) keyed (is.holds).declared),
+        schema_at_listing codec spelled tracks opening past jobs seen m number job ((((gathers.opens.reads).at).listed).since.commits) k (is.holds).schema
+            (subst (λ l. schema_with (history_told jobs past ((((gathers.opens.reads).at).listed).since.commits).before) l ≡ Some (is.holds).schema) keyed (is.holds).declared),
       )
 
   -- the get of a further schema leads a read to the next one, or to the first fetch
@@ -431,14 +445,14 @@ module _ {F : Type 0} (codec : Codec F) (spelled : Spelled) (tracks : Tracking F
       let keyed : s.key ≡ k = (schema_with-is h k s declared.1).1 in
       let its_own : schema_with h' s.key ≡ Some s = ap (λ g. schema_with g s.key) look.same_history ∙ subst (λ l. schema_with h l ≡ Some s) (sym keyed) declared.1 in
       let unlisted = no_listing (name.Schema k) next.2 in
-      let gathers = gathering_stays spelled past jobs seen e m m' job.id look.leads.leaves number codec job r opened schemas unlisted comes.claims.2 in
+      let gathers = gathering_stays spelled opening past jobs seen e m m' job.id look.leads.leaves number codec job r opened schemas unlisted comes.claims.2 in
       record {
         leads = look.leads;
         own = subst (λ o. ClaimedAfter (with_item (λ l. on_bytes (get_schema l) (after_schema codec r opened named schemas l) e.reply) o)) (sym next.1)
             (schema_lead comes.stands k s (λ attrs. gathering codec r opened named (schemas ++ record { key = k; attrs = attrs } ∷ [])) declared.1 next.2 comes.replied look.clean.undone
             (subst (λ l. ClaimedAfter (gathering codec r opened named (schemas ++ record { key = l; attrs = s.attrs } ∷ []))) keyed
             (subst (λ ks. ClaimedAfter (gathering codec r opened ks (schemas ++ s ∷ []))) (sym comes.claims.1)
-            (gathering_claims codec spelled tracks past jobs (seen ++ e ∷ []) m' number job laws look.clean look.history r opened (schemas ++ s ∷ []) comes.claims.3 (record {
+            (gathering_claims codec spelled tracks opening past jobs (seen ++ e ∷ []) m' number job laws look.clean look.history r opened (schemas ++ s ∷ []) comes.claims.3 (record {
               opens = gathers.opens;
               all = gathers.all;
               gathered = record {

@@ -160,10 +160,10 @@ last_call number (e ∷ told) = by_rest (last_call number told)
 
 -- ---- what the states of a job say of its deeds
 
-module _ {F : Type 0} (codec : Codec F) (spelled : Spelled) (tracks : Tracking F) (laws : CodecLaws codec spelled tracks) (past : History) (jobs : List Job) (seen : List Told) (m : Held) (number : ℕ) (job : Job) where
+module _ {F : Type 0} (codec : Codec F) (spelled : Spelled) (tracks : Tracking F) (laws : CodecLaws codec spelled tracks) (opening : Held) (past : History) (jobs : List Job) (seen : List Told) (m : Held) (number : ℕ) (job : Job) where
   -- what a state says here
   abbrev Says : State F → Type 0
-  Says s = Claims codec spelled tracks past jobs seen m number job s
+  Says s = Claims codec spelled tracks opening past jobs seen m number job s
 
   -- where a reply takes memory the job puts nothing but the frame
   asks_frame : (s : State F) (n : Name) (bytes : List ℕ) → takes_memory s ≡ true → Says s → asks codec job s ≡ Some (call.Put n bytes) → n ≡ name.Domain
@@ -245,10 +245,10 @@ replied_at m [] e b replied = replied.0
 replied_at m (d ∷ a) e b replied = replied_at (after_told m d) a e b replied.1
 
 module _ {F : Type 0} (codec : Codec F) (spelled : Spelled) (tracks : Tracking F) (laws : CodecLaws codec spelled tracks) (past : History) (jobs : List Job) (m : Held) (told : List Told)
-    (begins : Kept codec spelled tracks past jobs [] [] m) (may : AreAllowed codec jobs [] [] told) (replied : Replied m told) (number : ℕ) (job : Job) (is_job : slice_get jobs number ≡ Some job) where
+    (begins : Kept codec spelled tracks m past jobs [] [] m) (may : AreAllowed codec jobs [] [] told) (replied : Replied m told) (number : ℕ) (job : Job) (is_job : slice_get jobs number ≡ Some job) where
   -- what the job's stage says after a first part of the calls
-  says_at : (a b : List Told) → told ≡ a ++ b → StageClaims codec spelled tracks past jobs a (held_told m a) number job (stage_of codec job (trace_of number a))
-  says_at a b parts = (every_prefix codec spelled tracks laws past jobs [] [] m told a b begins may replied parts).claims number job is_job (Contains-nil number)
+  says_at : (a b : List Told) → told ≡ a ++ b → StageClaims codec spelled tracks m past jobs a (held_told m a) number job (stage_of codec job (trace_of number a))
+  says_at a b parts = (every_prefix codec spelled tracks laws m past jobs [] [] m told a b begins may replied parts).claims number job is_job (Contains-nil number)
 
   -- after its last call the job did nothing
   last_undone : (is : LastCall number told) → EndsBy codec job (trace_of number told) outcome.OutOfMemory → IsUndone (history_told jobs past (is.before ++ is.last ∷ [])) job
@@ -266,7 +266,7 @@ module _ {F : Type 0} (codec : Codec F) (spelled : Spelled) (tracks : Tracking F
       g : Stage F
       g = stage_of codec job (trace_of number a)
 
-      says : StageClaims codec spelled tracks past jobs a (held_told m a) number job g
+      says : StageClaims codec spelled tracks m past jobs a (held_told m a) number job g
       says = says_at a (e ∷ is.later) is.parts
 
       may_ask : MayAsk codec job g e.call
@@ -290,7 +290,7 @@ module _ {F : Type 0} (codec : Codec F) (spelled : Spelled) (tracks : Tracking F
       leads = ap (stage_of codec job) trace ∙ stage_from-append codec job (first_stage job) (trace_of number a) (x ∷ [])
 
       undone : IsUndone (history_told jobs past a) job
-      undone = stage_undone codec spelled tracks past jobs a (held_told m a) number job g e.call may_ask says
+      undone = stage_undone codec spelled tracks m past jobs a (held_told m a) number job g e.call may_ask says
 
       adds : AddsNone number e → IsUndone (history_told jobs past (a ++ e ∷ [])) job
       adds none = undone_after jobs past number job is_job begins.apart a e none undone
@@ -299,8 +299,8 @@ module _ {F : Type 0} (codec : Codec F) (spelled : Spelled) (tracks : Tracking F
       at_work : lease_of job ≡ None → (s : State F) → g ≡ stages.Works s → IsUndone (history_told jobs past (a ++ e ∷ [])) job
       at_work none s works = by_memory (takes_memory s) refl
         where
-          says_work : Claims codec spelled tracks past jobs a (held_told m a) number job s
-          says_work = subst (StageClaims codec spelled tracks past jobs a (held_told m a) number job) works says
+          says_work : Claims codec spelled tracks m past jobs a (held_told m a) number job s
+          says_work = subst (StageClaims codec spelled tracks m past jobs a (held_told m a) number job) works says
 
           asked : asks codec job s ≡ Some e.call
           asked = next_call codec job (stages.Works s) e.call none (subst (λ t. MayAsk codec job t e.call) works may_ask)
@@ -312,15 +312,15 @@ module _ {F : Type 0} (codec : Codec F) (spelled : Spelled) (tracks : Tracking F
           by_going : is_over (goes codec job s e.reply) ≡ false → IsUndone (history_told jobs past (a ++ e ∷ [])) job
           by_going going =
               let here = says_at (a ++ e ∷ []) is.later (is.parts ∙ sym (append_assoc a (e ∷ []) is.later)) in
-              going_undone codec spelled tracks past jobs (a ++ e ∷ []) (held_told m (a ++ e ∷ [])) number job (goes codec job s e.reply) going
-              (subst (StageClaims codec spelled tracks past jobs (a ++ e ∷ []) (held_told m (a ++ e ∷ [])) number job) (stage_of-own codec job number a e is.own ∙ goes_bare) here)
+              going_undone codec spelled tracks m past jobs (a ++ e ∷ []) (held_told m (a ++ e ∷ [])) number job (goes codec job s e.reply) going
+              (subst (StageClaims codec spelled tracks m past jobs (a ++ e ∷ []) (held_told m (a ++ e ∷ [])) number job) (stage_of-own codec job number a e is.own ∙ goes_bare) here)
 
           same_work : {s t : State F} → ◌≡◌ {A = Stage F} (stages.Works s) (stages.Works t) → s ≡ t
           same_work same = cc
 
           by_end : takes_memory s ≡ false → EndsBy codec job (trace_of number told) outcome.OutOfMemory → IsUndone (history_told jobs past (a ++ e ∷ [])) job
           by_end takes (inl over) =
-              adds (Unchanged (put_still codec spelled tracks laws past jobs a (held_told m a) number job s e takes says_work asked (replied_at m a e is.later (subst (Replied m) is.parts replied)) (same_work (sym goes_bare ∙ sym leads ∙ over))))
+              adds (Unchanged (put_still codec spelled tracks laws m past jobs a (held_told m a) number job s e takes says_work asked (replied_at m a e is.later (subst (Replied m) is.parts replied)) (same_work (sym goes_bare ∙ sym leads ∙ over))))
           by_end takes (inr short) =
               let before = lacks_from codec job true (first_stage job) (trace_of number a) in
               let lacks : lacks_after codec job before g x ≡ true = sym (lacks-push codec job true (first_stage job) (trace_of number a) x) ∙ ap (lacks_from codec job true (first_stage job)) (sym trace) ∙ short.1.1 in
@@ -332,10 +332,10 @@ module _ {F : Type 0} (codec : Codec F) (spelled : Spelled) (tracks : Tracking F
               going_from false is = refl
 
           by_memory : (b : Bool) → takes_memory s ≡ b → IsUndone (history_told jobs past (a ++ e ∷ [])) job
-          by_memory true takes = adds (Keyless (λ n bytes put. asks_frame codec spelled tracks laws past jobs a (held_told m a) number job s n bytes takes says_work (asked ∙ ap Some put)))
+          by_memory true takes = adds (Keyless (λ n bytes put. asks_frame codec spelled tracks laws m past jobs a (held_told m a) number job s n bytes takes says_work (asked ∙ ap Some put)))
           by_memory false takes = by_end takes ends
 
-      by_stage : lease_of job ≡ None → (t : Stage F) → g ≡ t → StageClaims codec spelled tracks past jobs a (held_told m a) number job t → IsUndone (history_told jobs past (a ++ e ∷ [])) job
+      by_stage : lease_of job ≡ None → (t : Stage F) → g ≡ t → StageClaims codec spelled tracks m past jobs a (held_told m a) number job t → IsUndone (history_told jobs past (a ++ e ∷ [])) job
       by_stage none (stages.Works s) same claims = at_work none s same
       by_stage none (PutsLease lease) same claims = absurd (none-some lease (sym none ∙ claims.0.0))
       by_stage none (ListsLeases lease) same claims = absurd (none-some lease (sym none ∙ claims.0))
@@ -349,14 +349,14 @@ module _ {F : Type 0} (codec : Codec F) (spelled : Spelled) (tracks : Tracking F
   pub short_undone : EndsBy codec job (trace_of number told) outcome.OutOfMemory → IsUndone (history_told jobs past told) job
   short_undone ends = by_last (last_call number told)
     where
-      by_first : (o : Option Name) → lease_of job ≡ o → StageClaims codec spelled tracks past jobs told (held_told m told) number job (begins_at o (begun job.command)) → IsUndone (history_told jobs past told) job
-      by_first None none says = begun_undone codec spelled tracks laws past jobs told (held_told m told) number job says
-      by_first (Some lease) some says = (before_clean codec spelled tracks past jobs told (held_told m told) number job lease some says.0.1).undone
+      by_first : (o : Option Name) → lease_of job ≡ o → StageClaims codec spelled tracks m past jobs told (held_told m told) number job (begins_at o (begun job.command)) → IsUndone (history_told jobs past told) job
+      by_first None none says = begun_undone codec spelled tracks laws m past jobs told (held_told m told) number job says
+      by_first (Some lease) some says = (before_clean codec spelled tracks m past jobs told (held_told m told) number job lease some says.0.1).undone
 
       by_last : (trace_of number told ≡ []) ⊎ LastCall number told → IsUndone (history_told jobs past told) job
       by_last (inl none) =
           by_first (lease_of job) refl
-          (subst (λ t. StageClaims codec spelled tracks past jobs told (held_told m told) number job (stage_of codec job t)) none (says_at told [] (sym (append-nil told))))
+          (subst (λ t. StageClaims codec spelled tracks m past jobs told (held_told m told) number job (stage_of codec job t)) none (says_at told [] (sym (append-nil told))))
       by_last (inr is) =
           subst (λ t. IsUndone (history_told jobs past t) job) (append_assoc is.before (is.last ∷ []) is.later ∙ sym is.parts)
           (undone_on jobs past number job is_job begins.apart (is.before ++ is.last ∷ []) is.later is.others (last_undone is ends))

@@ -29,14 +29,14 @@ use Rattle.ts_model.specs.Codecs.{Codec, Spelled, Tracking}
 use Rattle.ts_law.specs.Fresh.{IsCarried, IsNewId, id_in}
 use Rattle.ts_model.specs.Jobs.{AreApart, IsFit, deletion_as, job_with, key_of, looked_at, schema_of_job, written_as}
 use Rattle.ts_law.specs.Kept.{Aims, AreDeletions, AreGot, AreOpen, AreSchemas, Claims, Clean, GettingDeletes, Fetching, Gathering, HasListed, HasLooked, IsOfJobs, Kept, LooksInto, OnWay, Opening, Putting, ReadsAt, ReadsIn, StageClaims, Works, heads_of}
-use Rattle.ts_law.specs.Stands.{HoldsIn, WentInto, Stands}
+use Rattle.ts_law.specs.Stands.{Stands}
 use Rattle.ts_model.specs.States.{begun, keys_named, made_by, unless_refused}
 use Rattle.ts_model.specs.Stages.{begins_at, first_stage, lease_of, stage_of}
 use Rattle.ts_model.specs.declared.states.Stage.{Stage}
 use Rattle.ts_model.specs.declared.states.Stage.TheVariants.{ListsLeases, PutsLease, Releases}
 use Rattle.ts_model.specs.declared.states.Stage.TheVariants as stages
 use Rattle.ts_law.proofs.LeaseSteps.{lease_is}
-use Rattle.ts_model.specs.Told.{Told, cells_of, condition_of, declared_by, deed_in, deed_of, deed_told, deleted_by, deleted_in, grown, history_from, history_told, is_by, schema_used, schemas_found, trace_of, written_by, written_in}
+use Rattle.ts_model.specs.Told.{Told, cells_of, condition_of, declared_by, deed_in, deed_of, deed_told, deleted_by, deleted_in, grown, held_told, history_from, history_told, is_by, schema_used, schemas_found, trace_of, written_by, written_in}
 use Rattle.ts_model.specs.declared.answers.Outcome.{Outcome}
 use Rattle.ts_model.specs.declared.answers.Refusal.{Refusal}
 use Rattle.ts_model.specs.declared.commands.Command.{Command}
@@ -206,12 +206,12 @@ new_is_free m past id free n carries = from_got (map.get m n) refl
     from_got None is = refl
     from_got (Some bytes) is = absurd (free (inr (n, Holds-from_get m n bytes is, carries)))
 
-module _ {F : Type 0} (codec : Codec F) (spelled : Spelled) (tracks : Tracking F) (m : Held) (past : History) (jobs : List Job) (seen : List Told) (number : ℕ) (job : Job)
+module _ {F : Type 0} (codec : Codec F) (spelled : Spelled) (tracks : Tracking F) (opening m : Held) (past : History) (jobs : List Job) (seen : List Told) (number : ℕ) (job : Job)
     (clean : Clean m (history_told jobs past seen) job) where
   -- a create that is not refused puts its frame, and else no deed has its key
   create_claims : (f : FrameIn) → job.command ≡ Create f → (o q : Option Refusal) → create_refusal f ≡ option_or o q
       → ((r : Refusal) → o ≡ Some r → IsTrueRefusal (history_told jobs past seen) job r) → ((r : Refusal) → q ≡ Some r → IsTrueRefusal (history_told jobs past seen) job r)
-      → Claims codec spelled tracks past jobs seen m number job (unless_refused (Creates PutsFrame) (option_or o q))
+      → Claims codec spelled tracks opening past jobs seen m number job (unless_refused (Creates PutsFrame) (option_or o q))
   create_claims f is None None sound first second = (clean, (f, is, sound))
   create_claims f is None (Some r) sound first second = second r refl
   create_claims f is (Some r) q sound first second = first r refl
@@ -227,7 +227,7 @@ module _ {F : Type 0} (codec : Codec F) (spelled : Spelled) (tracks : Tracking F
   schema_refusal f (Some fault) r is = subst (IsTrueRefusal (history_told jobs past seen) job) (same_Some (refusal.SchemaBad fault) r is) clean.undone
 
   -- the claims of where a clean job begins
-  begun_claims : (c : Command) → job.command ≡ c → Claims codec spelled tracks past jobs seen m number job (begun c)
+  begun_claims : (c : Command) → job.command ≡ c → Claims codec spelled tracks opening past jobs seen m number job (begun c)
   begun_claims (Create f) is =
       create_claims f is (option_map refusal.DomainBad (domain_fault f.dims)) (option_map refusal.SchemaBad (schema_fault f.dims f.attrs)) refl
       (λ r e. domain_refusal f (domain_fault f.dims) r e) (λ r e. schema_refusal f (schema_fault f.dims f.attrs) r e)
@@ -239,9 +239,10 @@ module _ {F : Type 0} (codec : Codec F) (spelled : Spelled) (tracks : Tracking F
 -- ---- the start
 
 -- what is kept before the first job comes: the map stands for the past
-pub starts_kept : {F : Type 0} (codec : Codec F) (spelled : Spelled) (tracks : Tracking F) (past : History) (m : Held) → Stands spelled m past → Kept codec spelled tracks past [] [] [] m
+pub starts_kept : {F : Type 0} (codec : Codec F) (spelled : Spelled) (tracks : Tracking F) (past : History) (m : Held) → Stands spelled m past → Kept codec spelled tracks m past [] [] [] m
 starts_kept codec spelled tracks past m stands = record {
   stands = stands;
+  is_held = refl;
   apart = λ i j a b at_i at_j same. absurd (none-some a at_i);
   fit = All-nil IsFit;
   known = All-nil (IsOfJobs []);
@@ -309,7 +310,7 @@ module _ (jobs : List Job) (job : Job) where
 
   -- ---- what was claimed of the jobs before is true among all
 
-  module _ {F : Type 0} (codec : Codec F) (spelled : Spelled) (tracks : Tracking F) (past : History) (seen : List Told) (known : All (IsOfJobs jobs) seen) (m : Held) (number : ℕ) (j : Job) where
+  module _ {F : Type 0} (codec : Codec F) (spelled : Spelled) (tracks : Tracking F) (opening : Held) (past : History) (seen : List Told) (known : All (IsOfJobs jobs) seen) (m : Held) (number : ℕ) (j : Job) where
     -- the history now is one
     now : history_told jobs past seen ≡ history_told all past seen
     now = sym (history_more past seen known)
@@ -343,19 +344,19 @@ module _ (jobs : List Job) (job : Job) where
     }
 
     -- what a read listed is the same among all
-    abbrev near_more : (from to : ℕ) (fragments delete_names : List FragKey) → LooksInto spelled past jobs seen m number from to fragments delete_names → LooksInto spelled past all seen m number from to fragments delete_names
+    abbrev near_more : (from to : ℕ) (fragments delete_names : List FragKey) → LooksInto spelled opening past jobs seen m number from to fragments delete_names → LooksInto spelled opening past all seen m number from to fragments delete_names
     near_more from to fragments delete_names is = record {
-      commits = is.commits;
-      whole = λ f at. let own = is.whole f at in (own.0, subst (λ g. HoldsIn spelled g m f own.0) (listed_more Commits is.commits) own.1, own.2);
-      covered = λ w at within.
-          let own = is.covered w (subst (λ g. Contains (writes g) w) (sym (listed_more Commits is.commits)) at) within in
-          (own.0, own.1, subst (λ g. WentInto spelled g m own.0 w.key) (listed_more Commits is.commits) own.2);
-      erased = λ f at. let found = is.erased f at in (found.0, subst (λ g. Contains (deletions g) found.0) (listed_more Commits is.commits) found.1, found.2, found.3);
-      deletes_found = λ x at within. is.deletes_found x (subst (λ g. Contains (deletions g) x) (sym (listed_more Commits is.commits)) at) within;
+      since = record {
+        commits = (is.since).commits;
+        stands = subst (Stands spelled (held_told opening ((is.since).commits).before)) (listed_more Commits (is.since).commits) (is.since).stands;
+        held = (is.since).held;
+      };
+      fragments_are = is.fragments_are;
+      deletes_are = is.deletes_are;
     }
 
     -- what a job listed before the schemas is the same among all
-    has_near_more : (command : Command) (listed : Listed) → HasLooked spelled past jobs seen m number command listed → HasLooked spelled past all seen m number command listed
+    has_near_more : (command : Command) (listed : Listed) → HasLooked spelled opening past jobs seen m number command listed → HasLooked spelled opening past all seen m number command listed
     has_near_more (Create f) listed is = is
     has_near_more (Evolve change) listed is = is
     has_near_more (Write w) listed is = is
@@ -364,7 +365,7 @@ module _ (jobs : List Job) (job : Job) where
 
     -- what a read listed, and then the schemas, is the same among all
     abbrev reads_at_more : (from to : ℕ) (fragments delete_names : List FragKey) (there : Schema)
-        → ReadsAt spelled past jobs seen m number j from to fragments delete_names there → ReadsAt spelled past all seen m number j from to fragments delete_names there
+        → ReadsAt spelled opening past jobs seen m number j from to fragments delete_names there → ReadsAt spelled opening past all seen m number j from to fragments delete_names there
     reads_at_more from to fragments delete_names there is = record {
       listed = near_more from to fragments delete_names is.listed;
       works = works_more there is.works;
@@ -374,7 +375,7 @@ module _ (jobs : List Job) (job : Job) where
 
     -- what a job listed before it gets the schema there is the same among all
     has_listed_more : (command : Command) (listed : Listed) (there : Schema)
-        → HasListed spelled past jobs seen m number j command listed there → HasListed spelled past all seen m number j command listed there
+        → HasListed spelled opening past jobs seen m number j command listed there → HasListed spelled opening past all seen m number j command listed there
     has_listed_more (Create f) listed there is = is
     has_listed_more (Evolve change) listed there is = works_more there is
     has_listed_more (Write w) listed there is = works_more there is
@@ -382,7 +383,7 @@ module _ (jobs : List Job) (job : Job) where
     has_listed_more (Delete text) listed there is = works_more there is
 
     -- what a read knows is the same among all
-    abbrev reads_in_more : (r : Reading) → ReadsIn spelled past jobs seen m number j r → ReadsIn spelled past all seen m number j r
+    abbrev reads_in_more : (r : Reading) → ReadsIn spelled opening past jobs seen m number j r → ReadsIn spelled opening past all seen m number j r
     reads_in_more r is = record {
       query = is.query;
       reads = is.reads;
@@ -392,15 +393,15 @@ module _ (jobs : List Job) (job : Job) where
     }
 
     -- a read that opens is such among all
-    abbrev opening_more : (r : Reading) (opened : List Opened) → Opening codec spelled past jobs seen m number j r opened → Opening codec spelled past all seen m number j r opened
+    abbrev opening_more : (r : Reading) (opened : List Opened) → Opening codec spelled opening past jobs seen m number j r opened → Opening codec spelled opening past all seen m number j r opened
     opening_more r opened is = record {
       reads = reads_in_more r is.reads;
-      are_open = subst (λ g. AreOpen codec spelled g m r opened) (listed_more Commits (((is.reads).at).listed).commits) is.are_open;
+      are_open = subst (λ g. AreOpen codec spelled g (held_told opening (((is.reads).at).listed).since.commits.before) r opened) (listed_more Commits (((is.reads).at).listed).since.commits) is.are_open;
     }
 
     -- a read that gathers schemas is such among all
     abbrev gathering_more : (r : Reading) (opened : List Opened) (schemas : List Schema)
-        → Gathering codec spelled past jobs seen m number j r opened schemas → Gathering codec spelled past all seen m number j r opened schemas
+        → Gathering codec spelled opening past jobs seen m number j r opened schemas → Gathering codec spelled opening past all seen m number j r opened schemas
     gathering_more r opened schemas is = record {
       opens = opening_more r opened is.opens;
       all = is.all;
@@ -409,7 +410,7 @@ module _ (jobs : List Job) (job : Job) where
 
     -- a read that gets deletes is such among all
     abbrev getting_deletes_more : (r : Reading) (opened : List Opened) (schemas : List Schema)
-        → GettingDeletes codec spelled past jobs seen m number j r opened schemas → GettingDeletes codec spelled past all seen m number j r opened schemas
+        → GettingDeletes codec spelled opening past jobs seen m number j r opened schemas → GettingDeletes codec spelled opening past all seen m number j r opened schemas
     getting_deletes_more r opened schemas is = record {
       gathers = gathering_more r opened schemas is.gathers;
       all_schemas = is.all_schemas;
@@ -418,11 +419,11 @@ module _ (jobs : List Job) (job : Job) where
 
     -- a read that fetches is such among all
     abbrev fetching_more : (r : Reading) (opened : List Opened) (schemas : List Schema) (next : ℕ) (got : List Version)
-        → Fetching codec spelled past jobs seen m number j r opened schemas next got → Fetching codec spelled past all seen m number j r opened schemas next got
+        → Fetching codec spelled opening past jobs seen m number j r opened schemas next got → Fetching codec spelled opening past all seen m number j r opened schemas next got
     fetching_more r opened schemas next got is = record {
       deletes_found = getting_deletes_more r opened schemas is.deletes_found;
       all_deletes = is.all_deletes;
-      found = subst (λ g. AreGot g r.from r.to (r.ready).sub (heads_of (take next opened)) got) (listed_more Commits ((((((is.deletes_found).gathers).opens).reads).at).listed).commits) is.found;
+      found = subst (λ g. AreGot g r.from r.to (r.ready).sub (heads_of (take next opened)) got) (listed_more Commits ((((((is.deletes_found).gathers).opens).reads).at).listed).since.commits) is.found;
     }
 
     -- what the last put of a job makes of it is the same among all
@@ -514,7 +515,7 @@ module _ (jobs : List Job) (job : Job) where
     end_more outcome.OutOfMemory is = is
 
     -- the claims of a job hold among all
-    claims_more : (s : State F) → Claims codec spelled tracks past jobs seen m number j s → Claims codec spelled tracks past all seen m number j s
+    claims_more : (s : State F) → Claims codec spelled tracks opening past jobs seen m number j s → Claims codec spelled tracks opening past all seen m number j s
     claims_more (Creates PutsFrame) is = (clean_more is.0, is.1)
     claims_more (Creates ComparesFrame) is = (clean_more is.0, is.1, (is.2.0, framed_more is.2.0 is.2.1))
     claims_more (Creates ListsDeclared) is = (clean_more is.0, (is.1.0, is.1.1, is.1.2, framed_more (frame_made is.1.0) is.1.3))
@@ -531,20 +532,20 @@ module _ (jobs : List Job) (job : Job) where
       is.1,
       (
         fetching_more r opened schemas next got is.2.0,
-        subst (λ g. OnWay spelled tracks g m r frag fetch c) (listed_more Commits (((((((is.2.0).deletes_found).gathers).opens).reads).at).listed).commits) is.2.1,
+        subst (λ g. OnWay spelled tracks g (held_told opening (((((((is.2.0).deletes_found).gathers).opens).reads).at).listed).since.commits.before) r frag fetch c) (listed_more Commits (((((((is.2.0).deletes_found).gathers).opens).reads).at).listed).since.commits) is.2.1,
       ),
     )
     claims_more (Over end) is = end_more end is
 
     -- the claims of its stage hold among all
-    stage_more : (stage : Stage F) → StageClaims codec spelled tracks past jobs seen m number j stage → StageClaims codec spelled tracks past all seen m number j stage
+    stage_more : (stage : Stage F) → StageClaims codec spelled tracks opening past jobs seen m number j stage → StageClaims codec spelled tracks opening past all seen m number j stage
     stage_more (PutsLease lease) is = ((is.0.0, claims_more (begun j.command) is.0.1), is.1)
     stage_more (ListsLeases lease) is = (is.0, claims_more (begun j.command) is.1)
     stage_more (stages.Works s) is = claims_more s is
     stage_more (Releases lease end) is = (is.0, end_more end is.1, subst (λ g. IsUndone g j) now is.2)
 
-  module _ {F : Type 0} (codec : Codec F) (spelled : Spelled) (tracks : Tracking F) (past : History) (dead : List ℕ) (seen : List Told) (m : Held)
-      (kept : Kept codec spelled tracks past jobs dead seen m) (is : IsNewId m past jobs job.id) where
+  module _ {F : Type 0} (codec : Codec F) (spelled : Spelled) (tracks : Tracking F) (opening : Held) (past : History) (dead : List ℕ) (seen : List Told) (m : Held)
+      (kept : Kept codec spelled tracks opening past jobs dead seen m) (is : IsNewId m past jobs job.id) where
     -- no two of all jobs have one identifier
     apart_more : AreApart all
     apart_more i k a b at_i at_k same = elim (slice_get_push jobs job i a at_i) [
@@ -559,37 +560,38 @@ module _ (jobs : List Job) (job : Job) where
     ]
 
     -- the claims of the job that comes
-    new_claims : StageClaims codec spelled tracks past all seen m (length jobs) job (first_stage job)
+    new_claims : StageClaims codec spelled tracks opening past all seen m (length jobs) job (first_stage job)
     new_claims = by_lease (lease_of job) refl
       where
-        begins : Claims codec spelled tracks past all seen m (length jobs) job (begun job.command)
-        begins = begun_claims codec spelled tracks m past all seen (length jobs) job (record {
+        begins : Claims codec spelled tracks opening past all seen m (length jobs) job (begun job.command)
+        begins = begun_claims codec spelled tracks opening m past all seen (length jobs) job (record {
           free = λ n carries _. new_is_free m past job.id is.free n carries;
           undone = subst (λ g. IsNewKey g (key_of job)) (sym (history_more past seen kept.known)) (new_key m past jobs seen job is);
         }) job.command refl
 
-        by_lease : (o : Option Name) → lease_of job ≡ o → StageClaims codec spelled tracks past all seen m (length jobs) job (begins_at o (begun job.command))
+        by_lease : (o : Option Name) → lease_of job ≡ o → StageClaims codec spelled tracks opening past all seen m (length jobs) job (begins_at o (begun job.command))
         by_lease None none = begins
         by_lease (Some lease) some = let (mode, named) = lease_is job lease some in ((some, begins), new_is_free m past job.id is.free lease (ap id_in named))
 
     -- what is kept is kept among all
-    more_kept : IsFit job → Kept codec spelled tracks past all dead seen m
+    more_kept : IsFit job → Kept codec spelled tracks opening past all dead seen m
     more_kept fit = record {
       stands = subst (Stands spelled m) (sym (history_more past seen kept.known)) kept.stands;
+      is_held = kept.is_held;
       apart = apart_more;
       fit = All-push IsFit jobs job kept.fit fit;
       known = All-weaker (IsOfJobs jobs) (IsOfJobs all) of_all seen kept.known;
       claims = λ number j at alive. elim (slice_get_push jobs job number j at) [
         | inl before ↦
-            stage_more codec spelled tracks past seen kept.known m number j (stage_of codec j (trace_of number seen)) (kept.claims number j before alive)
+            stage_more codec spelled tracks opening past seen kept.known m number j (stage_of codec j (trace_of number seen)) (kept.claims number j before alive)
         | inr last ↦
-            subst (λ n. StageClaims codec spelled tracks past all seen m n j (stage_of codec j (trace_of n seen))) (sym last.0)
-            (subst (λ i. StageClaims codec spelled tracks past all seen m (length jobs) i (stage_of codec i (trace_of (length jobs) seen))) last.1
-            (subst (λ t. StageClaims codec spelled tracks past all seen m (length jobs) job (stage_of codec job t)) (sym (no_calls seen kept.known)) new_claims))
+            subst (λ n. StageClaims codec spelled tracks opening past all seen m n j (stage_of codec j (trace_of n seen))) (sym last.0)
+            (subst (λ i. StageClaims codec spelled tracks opening past all seen m (length jobs) i (stage_of codec i (trace_of (length jobs) seen))) last.1
+            (subst (λ t. StageClaims codec spelled tracks opening past all seen m (length jobs) job (stage_of codec job t)) (sym (no_calls seen kept.known)) new_claims))
       ];
     }
 
 -- what is kept stays where a job with a new identifier comes
-pub spawn_kept : {F : Type 0} (codec : Codec F) (spelled : Spelled) (tracks : Tracking F) (past : History) (jobs : List Job) (dead : List ℕ) (seen : List Told) (m : Held) (job : Job)
-    → Kept codec spelled tracks past jobs dead seen m → IsFit job → IsNewId m past jobs job.id → Kept codec spelled tracks past (jobs ++ job ∷ []) dead seen m
-spawn_kept codec spelled tracks past jobs dead seen m job kept fit is = more_kept jobs job codec spelled tracks past dead seen m kept is fit
+pub spawn_kept : {F : Type 0} (codec : Codec F) (spelled : Spelled) (tracks : Tracking F) (opening : Held) (past : History) (jobs : List Job) (dead : List ℕ) (seen : List Told) (m : Held) (job : Job)
+    → Kept codec spelled tracks opening past jobs dead seen m → IsFit job → IsNewId m past jobs job.id → Kept codec spelled tracks opening past (jobs ++ job ∷ []) dead seen m
+spawn_kept codec spelled tracks opening past jobs dead seen m job kept fit is = more_kept jobs job codec spelled tracks opening past dead seen m kept is fit

@@ -5,7 +5,6 @@ use Rattle.std.proofs.lemmas.Option.{none-some, same_Some}
 use Rattle.std.specs.Prelude.{Contains}
 use Rattle.ts_base.specs.Held.{Held}
 use Rattle.ts_base.specs.declared.heads.Version.{Version}
-use Rattle.ts_base.specs.declared.heads.Piece.{Piece}
 use Rattle.ts_base.specs.declared.keys.FragKey.{FragKey}
 use Rattle.ts_base.specs.declared.keys.Key.{Key}
 use Rattle.ts_base.specs.declared.names.Name.{Name}
@@ -16,12 +15,10 @@ use Rattle.ts_model.proofs.Traces.{schemas_found-stays}
 use Rattle.ts_model.specs.Commands.{frame_made}
 use Rattle.ts_model.specs.Deeds.{History, IsNewKey, deletions, frame_in, keys, schema_with, writes}
 use Rattle.ts_law.specs.Ends.{HasDeclared, IsTrueEnd, IsTrueRefusal, ListedAt}
-use Rattle.ts_model.specs.Codecs.{Codec, Spelled, Tracking}
+use Rattle.ts_model.specs.Codecs.{Codec, Spelled}
 use Rattle.ts_law.specs.Fresh.{id_in}
 use Rattle.ts_model.specs.Jobs.{deletion_as, key_of, schema_of_job, written_as}
-use Rattle.ts_law.specs.Kept.{AreDeletions, AreOpen, AreSchemas, Clean, GettingDeletes, Fetching, Gathering, HasListed, HasLooked, IsOpen, LooksInto, OnWay, Opening, ReadsAt, ReadsIn, Works}
-use Rattle.ts_law.specs.Stands.{HoldsIn, WentInto}
-use Rattle.ts_law.proofs.Grows.{holds_on_in}
+use Rattle.ts_law.specs.Kept.{AreDeletions, AreSchemas, Clean, GettingDeletes, Fetching, Gathering, HasListed, HasLooked, LooksInto, Opening, ReadsAt, ReadsIn, Since, Works}
 use Rattle.ts_model.specs.States.{keys_named, list_schemas}
 use Rattle.ts_law.specs.Steps.{Keeps}
 use Rattle.ts_model.specs.Told.{Told, history_told}
@@ -39,7 +36,6 @@ use Rattle.ts_schema.specs.Evolutions.{evolved_attrs}
 use Rattle.ts_schema.specs.declared.attrs.Attr.{Attr}
 use Rattle.ts_schema.specs.declared.frames.Frame.{Frame}
 use Rattle.ts_schema.specs.declared.schemas.Schema.{Schema}
-use Rattle.ts_store.specs.declared.call.Call.{Call}
 use Rattle.ts_store.specs.declared.call.Call.TheVariants as call
 use Rattle.std.specs.FinMap as map
 use Rattle.ts_base.specs.declared.names.Name.TheVariants as name
@@ -94,14 +90,6 @@ module _ (m m' : Held) (h h' : History) (id : ℕ) (keeps : Keeps m m' h h' id) 
     undone = new_stays (key_of job) other clean.undone;
   }
 
-  -- what a fragment holds it holds still
-  abbrev pub in_stays : (spelled : Spelled) (g : History) (f : FragKey) (p : Piece) → HoldsIn spelled g m f p → HoldsIn spelled g m' f p
-  in_stays spelled g f p is = holds_on_in spelled g m m' f p (λ part bytes held. keeps.keeps (name.Part f part) bytes tt held) is
-
-  -- what went into a fragment is in it still
-  pub went_stays : (spelled : Spelled) (g : History) (f : FragKey) (k : Key) → WentInto spelled g m f k → WentInto spelled g m' f k
-  went_stays spelled g f k is = record { piece = is.piece; holds = in_stays spelled g f is.piece is.holds; origin = is.origin }
-
   -- what a refusal tells stays
   pub refusal_stays : (job : Job) (r : Refusal) → (job.id ≡ id → ⊥) → IsTrueRefusal h job r → IsTrueRefusal h' job r
   refusal_stays job (refusal.Missing n) other is = is
@@ -132,24 +120,30 @@ listed_now seen e number prefix own lists = record { before = seen; listing = e;
 
 -- ---- what a job found so far
 
-module _ (spelled : Spelled) (past : History) (jobs : List Job) (seen : List Told) (e : Told) (m m' : Held) (id : ℕ)
+module _ (spelled : Spelled) (opening : Held) (past : History) (jobs : List Job) (seen : List Told) (e : Told) (m m' : Held) (id : ℕ)
     (keeps : Keeps m m' (history_told jobs past seen) (history_told jobs past (seen ++ e ∷ [])) id) (number : ℕ) where
   -- the call is none by which the job lists the schemas
   abbrev Unlisted : Type 0
   Unlisted = e.job ≡ Some number → e.call ≡ list_schemas → ⊥
 
-  -- what a read listed stays
-  abbrev pub near_stays : (from to : ℕ) (fragments delete_names : List FragKey) → LooksInto spelled past jobs seen m number from to fragments delete_names → LooksInto spelled past jobs (seen ++ e ∷ []) m' number from to fragments delete_names
-  near_stays from to fragments delete_names is = record {
+  -- what a read knows since its listing stays
+  abbrev pub since_stays : Since spelled opening past jobs seen m number → Since spelled opening past jobs (seen ++ e ∷ []) m' number
+  since_stays is = record {
     commits = listed_stays seen e number Commits is.commits;
-    whole = λ f at. let own = is.whole f at in (own.0, in_stays m m' (history_told jobs past seen) (history_told jobs past (seen ++ e ∷ [])) id keeps spelled (history_told jobs past (is.commits).before) f own.0 own.1, own.2);
-    covered = λ w at within. let own = is.covered w at within in (own.0, own.1, went_stays m m' (history_told jobs past seen) (history_told jobs past (seen ++ e ∷ [])) id keeps spelled (history_told jobs past (is.commits).before) own.0 w.key own.2);
-    erased = is.erased;
-    deletes_found = is.deletes_found;
+    stands = is.stands;
+    held = λ n bytes no_lease was. keeps.keeps n bytes no_lease (is.held n bytes no_lease was);
+  }
+
+  -- what a read listed stays
+  abbrev pub near_stays : (from to : ℕ) (fragments delete_names : List FragKey) → LooksInto spelled opening past jobs seen m number from to fragments delete_names → LooksInto spelled opening past jobs (seen ++ e ∷ []) m' number from to fragments delete_names
+  near_stays from to fragments delete_names is = record {
+    since = since_stays is.since;
+    fragments_are = is.fragments_are;
+    deletes_are = is.deletes_are;
   }
 
   -- what a job listed before the schemas stays
-  pub has_near_stays : (command : Command) (listed : Listed) → HasLooked spelled past jobs seen m number command listed → HasLooked spelled past jobs (seen ++ e ∷ []) m' number command listed
+  pub has_near_stays : (command : Command) (listed : Listed) → HasLooked spelled opening past jobs seen m number command listed → HasLooked spelled opening past jobs (seen ++ e ∷ []) m' number command listed
   has_near_stays (Create f) listed is = is
   has_near_stays (Evolve change) listed is = is
   has_near_stays (Write w) listed is = is
@@ -170,7 +164,7 @@ module _ (spelled : Spelled) (past : History) (jobs : List Job) (seen : List Tol
 
   -- what a read listed, and then the schemas, stays
   abbrev pub reads_at_stays : (job : Job) (from to : ℕ) (fragments delete_names : List FragKey) (there : Schema) → Unlisted
-      → ReadsAt spelled past jobs seen m number job from to fragments delete_names there → ReadsAt spelled past jobs (seen ++ e ∷ []) m' number job from to fragments delete_names there
+      → ReadsAt spelled opening past jobs seen m number job from to fragments delete_names there → ReadsAt spelled opening past jobs (seen ++ e ∷ []) m' number job from to fragments delete_names there
   reads_at_stays job from to fragments delete_names there unlisted is = record {
     listed = near_stays from to fragments delete_names is.listed;
     works = works_stays job there unlisted is.works;
@@ -180,7 +174,7 @@ module _ (spelled : Spelled) (past : History) (jobs : List Job) (seen : List Tol
 
   -- what a job listed before it gets the schema there stays
   pub has_listed_stays : (job : Job) (command : Command) (listed : Listed) (there : Schema) → Unlisted
-      → HasListed spelled past jobs seen m number job command listed there → HasListed spelled past jobs (seen ++ e ∷ []) m' number job command listed there
+      → HasListed spelled opening past jobs seen m number job command listed there → HasListed spelled opening past jobs (seen ++ e ∷ []) m' number job command listed there
   has_listed_stays job (Create f) listed there unlisted is = is
   has_listed_stays job (Evolve change) listed there unlisted is = works_stays job there unlisted is
   has_listed_stays job (Write w) listed there unlisted is = works_stays job there unlisted is
@@ -188,7 +182,7 @@ module _ (spelled : Spelled) (past : History) (jobs : List Job) (seen : List Tol
   has_listed_stays job (Delete text) listed there unlisted is = works_stays job there unlisted is
 
   -- what a read knows stays
-  abbrev pub reads_in_stays : (job : Job) (r : Reading) → Unlisted → ReadsIn spelled past jobs seen m number job r → ReadsIn spelled past jobs (seen ++ e ∷ []) m' number job r
+  abbrev pub reads_in_stays : (job : Job) (r : Reading) → Unlisted → ReadsIn spelled opening past jobs seen m number job r → ReadsIn spelled opening past jobs (seen ++ e ∷ []) m' number job r
   reads_in_stays job r unlisted is = record {
     query = is.query;
     reads = is.reads;
@@ -198,24 +192,6 @@ module _ (spelled : Spelled) (past : History) (jobs : List Job) (seen : List Tol
   }
 
   module _ {F : Type 0} (codec : Codec F) where
-    -- an open fragment stays open
-    pub open_stays : (g : History) (frame : Frame) (from to : ℕ) (o : Opened) → IsOpen codec spelled g m frame from to o → IsOpen codec spelled g m' frame from to o
-    open_stays g frame from to o is = record {
-      piece = is.piece;
-      holds = in_stays m m' (history_told jobs past seen) (history_told jobs past (seen ++ e ∷ [])) id keeps spelled g o.frag is.piece is.holds;
-      same_frame = is.same_frame;
-      usable = is.usable;
-      head = is.head;
-      object = is.object;
-    }
-
-    -- open fragments stay open
-    pub are_open_stays : (g : History) (r : Reading) (opened : List Opened) → AreOpen codec spelled g m r opened → AreOpen codec spelled g m' r opened
-    are_open_stays g r opened is = record {
-      frags = is.frags;
-      each = λ o at. open_stays g r.frame r.from r.to o (is.each o at);
-    }
-
     -- the further schemas of a read stay
     pub are_schemas_stays : (named : List Key) (schemas : List Schema) → AreSchemas (history_told jobs past seen) named schemas → AreSchemas (history_told jobs past (seen ++ e ∷ [])) named schemas
     are_schemas_stays named schemas is = record {
@@ -232,15 +208,15 @@ module _ (spelled : Spelled) (past : History) (jobs : List Job) (seen : List Tol
 
     -- a read that opens goes on as it was
     abbrev pub opening_stays : (job : Job) (r : Reading) (opened : List Opened) → Unlisted
-        → Opening codec spelled past jobs seen m number job r opened → Opening codec spelled past jobs (seen ++ e ∷ []) m' number job r opened
+        → Opening codec spelled opening past jobs seen m number job r opened → Opening codec spelled opening past jobs (seen ++ e ∷ []) m' number job r opened
     opening_stays job r opened unlisted is = record {
       reads = reads_in_stays job r unlisted is.reads;
-      are_open = are_open_stays (history_told jobs past ((((is.reads).at).listed).commits).before) r opened is.are_open;
+      are_open = is.are_open;
     }
 
     -- a read that gathers schemas goes on as it was
     abbrev pub gathering_stays : (job : Job) (r : Reading) (opened : List Opened) (schemas : List Schema) → Unlisted
-        → Gathering codec spelled past jobs seen m number job r opened schemas → Gathering codec spelled past jobs (seen ++ e ∷ []) m' number job r opened schemas
+        → Gathering codec spelled opening past jobs seen m number job r opened schemas → Gathering codec spelled opening past jobs (seen ++ e ∷ []) m' number job r opened schemas
     gathering_stays job r opened schemas unlisted is = record {
       opens = opening_stays job r opened unlisted is.opens;
       all = is.all;
@@ -249,7 +225,7 @@ module _ (spelled : Spelled) (past : History) (jobs : List Job) (seen : List Tol
 
     -- a read that gets deletes goes on as it was
     abbrev pub getting_deletes_stays : (job : Job) (r : Reading) (opened : List Opened) (schemas : List Schema) → Unlisted
-        → GettingDeletes codec spelled past jobs seen m number job r opened schemas → GettingDeletes codec spelled past jobs (seen ++ e ∷ []) m' number job r opened schemas
+        → GettingDeletes codec spelled opening past jobs seen m number job r opened schemas → GettingDeletes codec spelled opening past jobs (seen ++ e ∷ []) m' number job r opened schemas
     getting_deletes_stays job r opened schemas unlisted is = record {
       gathers = gathering_stays job r opened schemas unlisted is.gathers;
       all_schemas = is.all_schemas;
@@ -258,22 +234,12 @@ module _ (spelled : Spelled) (past : History) (jobs : List Job) (seen : List Tol
 
     -- a read that fetches goes on as it was
     abbrev pub fetching_stays : (job : Job) (r : Reading) (opened : List Opened) (schemas : List Schema) (next : ℕ) (got : List Version) → Unlisted
-        → Fetching codec spelled past jobs seen m number job r opened schemas next got → Fetching codec spelled past jobs (seen ++ e ∷ []) m' number job r opened schemas next got
+        → Fetching codec spelled opening past jobs seen m number job r opened schemas next got → Fetching codec spelled opening past jobs (seen ++ e ∷ []) m' number job r opened schemas next got
     fetching_stays job r opened schemas next got unlisted is = record {
       deletes_found = getting_deletes_stays job r opened schemas unlisted is.deletes_found;
       all_deletes = is.all_deletes;
       found = is.found;
     }
-
-  -- a fetch stays on its way
-  pub on_way_stays : {F : Type 0} (tracks : Tracking F) (g : History) (r : Reading) (frag : FragKey) (fetch : F) (c : Call) → OnWay spelled tracks g m r frag fetch c → OnWay spelled tracks g m' r frag fetch c
-  on_way_stays tracks g r frag fetch c is = record {
-    piece = is.piece;
-    holds = in_stays m m' (history_told jobs past seen) (history_told jobs past (seen ++ e ∷ [])) id keeps spelled g frag is.piece is.holds;
-    same_frame = is.same_frame;
-    usable = is.usable;
-    way = is.way;
-  }
 
 -- ---- ends
 

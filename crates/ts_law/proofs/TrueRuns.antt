@@ -90,7 +90,7 @@ not_leased n none (inr lease) = absurd (subst IsNoLease lease.2 none)
 -- ---- the run
 
 module _ {F : Type 0} (codec : Codec F) (spelled : Spelled) (tracks : Tracking F) (laws : CodecLaws codec spelled tracks) (lanes : ℕ → ℕ) (jobs : List Job) (h : History) (m : Held) (told : List Told) (results : List (Driven Outcome))
-    (begins : Kept codec spelled tracks h jobs [] [] m) (replied : Replied m told) (suit : All Suits told) (owned : All IsOwned told) (within : All (IsWithin jobs) told) (in_turn : InTurn lanes told) (driven : AreDriven codec jobs results told) where
+    (begins : Kept codec spelled tracks m h jobs [] [] m) (replied : Replied m told) (suit : All Suits told) (owned : All IsOwned told) (within : All (IsWithin jobs) told) (in_turn : InTurn lanes told) (driven : AreDriven codec jobs results told) where
   -- each of the calls may come
   may : AreAllowed codec jobs [] [] told
   may = driven_allowed codec jobs [] told owned within (short_from_suits told suit) asked
@@ -104,7 +104,7 @@ module _ {F : Type 0} (codec : Codec F) (spelled : Spelled) (tracks : Tracking F
   prefix_stands : (front back : List Told) → told ≡ front ++ back → Stands spelled (held_after m (entries_of (lane_by lanes) front)) (history_told jobs h front)
   prefix_stands front back parts =
       subst (λ n. Stands spelled n (history_told jobs h front)) (journal_held (lane_by lanes) m front)
-      (every_prefix codec spelled tracks laws h jobs [] [] m told front back begins may replied parts).stands
+      (every_prefix codec spelled tracks laws m h jobs [] [] m told front back begins may replied parts).stands
 
   -- each first part of the journal leaves objects that stand for its history
   journal_stands : (front back : List Entry) → entries_of (lane_by lanes) told ≡ front ++ back → Stands spelled (held_after m front) (history_of h m jobs front)
@@ -117,9 +117,9 @@ module _ {F : Type 0} (codec : Codec F) (spelled : Spelled) (tracks : Tracking F
   -- what each end tells of the history is true
   true_end : (number : ℕ) (job : Job) (end : Outcome) → slice_get jobs number ≡ Some job → slice_get results number ≡ Some (Done end) → IsTrueEnd jobs h told number job end
   true_end number job end at end_at =
-      let kept = all_kept codec spelled tracks laws h jobs [] [] m told begins may replied in
+      let kept = all_kept codec spelled tracks laws m h jobs [] [] m told begins may replied in
       elim (driven.driven number job (Done end) at end_at).ends [
-        | inl over ↦ end_is_true codec spelled tracks h jobs [] told (held_told m told) kept number job end at (Contains-nil number) over
+        | inl over ↦ end_is_true codec spelled tracks m h jobs [] told (held_told m told) kept number job end at (Contains-nil number) over
         | inr none ↦ subst (IsTrueEnd jobs h told number job) (sym none.0) tt
       ]
 
@@ -128,13 +128,13 @@ module _ {F : Type 0} (codec : Codec F) (spelled : Spelled) (tracks : Tracking F
       → ((f : FrameIn) → job.command ≡ Create f → ⊥) → looked_at job ≡ job.at → (n : Name) (bytes : List ℕ) → e.call ≡ call.Put n bytes → IsNoLease n
       → (there : Schema) → schema_used (history_told jobs h seen) job (schemas_found (trace_of number seen)) ≡ Some there → Works h jobs seen number job there
   works_where_used seen back e parts number job mine is_job no_create looks n bytes puts no_lease there uses =
-      let kept = every_prefix codec spelled tracks laws h jobs [] [] m told seen (e ∷ back) begins may replied parts in
+      let kept = every_prefix codec spelled tracks laws m h jobs [] [] m told seen (e ∷ back) begins may replied parts in
       let allowed = allowed_at codec jobs [] seen back e (subst (AreAllowed codec jobs [] []) parts may) in
       let same_number : allowed.number ≡ number = same_Some allowed.number number (sym allowed.own ∙ mine) in
       let same_job : allowed.job ≡ job = same_Some allowed.job job (sym allowed.is_job ∙ ap (slice_get jobs) same_number ∙ is_job) in
       let state : Job → ℕ → Stage F = λ j k. stage_of codec j (trace_of k seen) in
       let asked : MayAsk codec job (state job number) e.call = subst (λ k. MayAsk codec job (state job k) e.call) same_number (subst (λ j. MayAsk codec j (state j allowed.number) e.call) same_job allowed.asked) in
-      elim (not_leased n no_lease (put_staged codec spelled tracks laws h jobs seen (held_told m seen) number job (state job number) n bytes (kept.claims number job is_job (Contains-nil number)) (subst (MayAsk codec job (state job number)) puts asked))) [
+      elim (not_leased n no_lease (put_staged codec spelled tracks laws m h jobs seen (held_told m seen) number job (state job number) n bytes (kept.claims number job is_job (Contains-nil number)) (subst (MayAsk codec job (state job number)) puts asked))) [
         | inl frame ↦ absurd (no_create frame.made frame.creates)
         | inr own ↦ elim own.finds [
           | inl creates ↦ absurd (no_create creates.0 creates.1)
@@ -154,7 +154,7 @@ module _ {F : Type 0} (codec : Codec F) (spelled : Spelled) (tracks : Tracking F
     stands = prefix_stands;
     journal = journal_stands;
     answers = λ number job end at end_at.
-        true_over spelled m jobs h told number job end (λ front back parts. (every_prefix codec spelled tracks laws h jobs [] [] m told front back begins may replied parts).stands)
+        true_over spelled m jobs h told number job end (λ front back parts. (every_prefix codec spelled tracks laws m h jobs [] [] m told front back begins may replied parts).stands)
         (λ short. short_undone codec spelled tracks laws h jobs m told begins may replied number job at (subst (EndsBy codec job (trace_of number told)) short (driven.driven number job (Done end) at end_at).ends))
         (true_end number job end at end_at);
   }
@@ -168,12 +168,12 @@ item_behind (y ∷ xs) x ys = item_behind xs x ys
 
 -- what is kept stays where jobs come one after the other, which have new identifiers
 pub spawn_all : {F : Type 0} (codec : Codec F) (spelled : Spelled) (tracks : Tracking F) (past : History) (m : Held) (jobs more : List Job)
-    → Kept codec spelled tracks past jobs [] [] m → AreFit more → AreApart (jobs ++ more) → ((job : Job) → Contains more job → IsCarried m past job.id → ⊥)
-    → Kept codec spelled tracks past (jobs ++ more) [] [] m
-spawn_all codec spelled tracks past m jobs [] kept fit apart fresh = subst (λ js. Kept codec spelled tracks past js [] [] m) (sym (append-nil jobs)) kept
+    → Kept codec spelled tracks m past jobs [] [] m → AreFit more → AreApart (jobs ++ more) → ((job : Job) → Contains more job → IsCarried m past job.id → ⊥)
+    → Kept codec spelled tracks m past (jobs ++ more) [] [] m
+spawn_all codec spelled tracks past m jobs [] kept fit apart fresh = subst (λ js. Kept codec spelled tracks m past js [] [] m) (sym (append-nil jobs)) kept
 spawn_all codec spelled tracks past m jobs (job ∷ more) kept fit apart fresh =
-    subst (λ js. Kept codec spelled tracks past js [] [] m) (append_assoc jobs (job ∷ []) more)
-    (spawn_all codec spelled tracks past m (jobs ++ job ∷ []) more (spawn_kept codec spelled tracks past jobs [] [] m job kept (All-head IsFit job more fit) new) (All-tail IsFit job more fit)
+    subst (λ js. Kept codec spelled tracks m past js [] [] m) (append_assoc jobs (job ∷ []) more)
+    (spawn_all codec spelled tracks past m (jobs ++ job ∷ []) more (spawn_kept codec spelled tracks m past jobs [] [] m job kept (All-head IsFit job more fit) new) (All-tail IsFit job more fit)
     (subst AreApart (sym (append_assoc jobs (job ∷ []) more)) apart) (λ j at. fresh j (Contains-there job more j at)))
   where
     new : IsNewId m past jobs job.id
@@ -187,7 +187,7 @@ spawn_all codec spelled tracks past m jobs (job ∷ more) kept fit apart fresh =
 
 -- what is kept before the first call of the jobs of lines in order, over objects that stand for a history which the seed is fresh over
 pub kept_first : {F : Type 0} (codec : Codec F) (spelled : Spelled) (tracks : Tracking F) (gives : ℕ → Bool) (seed : ℕ) (items : List Numbered) (jobs : List Job) (h : History) (m : Held)
-    → AreJobsOf gives seed items jobs → AreInOrder items → Stands spelled m h → IsFreshSeed m h seed → seed < 2 ^ 64 → Kept codec spelled tracks h jobs [] [] m
+    → AreJobsOf gives seed items jobs → AreInOrder items → Stands spelled m h → IsFreshSeed m h seed → seed < 2 ^ 64 → Kept codec spelled tracks m h jobs [] [] m
 kept_first codec spelled tracks gives seed items jobs h m are order stands fresh seed_fits =
     spawn_all codec spelled tracks h m [] jobs (starts_kept codec spelled tracks h m stands) (jobs_fit gives seed items jobs are order seed_fits) (ids_apart gives seed items jobs are order) fresh_job
   where

@@ -1,5 +1,5 @@
 -- What every call of a job keeps: the objects stand for the history, and what each job found so far is true of both.
-use Rattle.std.specs.Prelude.{◌≡◌, ℕ, ℤ, ◌<◌, ◌≤◌, true, false, List, [], ◌∷◌, ◌++◌, Some, None, length, slice_get, Ok, IsSome, All, Contains, ⊤, take, map as list_map}
+use Rattle.std.specs.Prelude.{◌≡◌, ℕ, ℤ, ◌<◌, ◌≤◌, true, false, List, [], ◌∷◌, ◌++◌, Some, None, length, slice_get, Ok, IsSome, All, Contains, ⊤, take, filter, map as list_map}
 use Rattle.ts_base.specs.declared.keys.Key.{Key}
 use Rattle.ts_base.specs.declared.keys.FragKey.{FragKey}
 use Rattle.ts_base.specs.declared.names.Name.{Name}
@@ -13,7 +13,6 @@ use Rattle.ts_model.specs.declared.commands.Job.{Job}
 use Rattle.ts_model.specs.declared.commands.FrameIn.{FrameIn}
 use Rattle.ts_model.specs.declared.commands.WriteIn.{WriteIn}
 use Rattle.ts_model.specs.declared.answers.Outcome.{Outcome}
-use Rattle.ts_model.specs.declared.deeds.Written.{Written}
 use Rattle.ts_model.specs.declared.states.State.{State}
 use Rattle.ts_model.specs.declared.states.Stage.{Stage}
 use Rattle.ts_model.specs.declared.states.Stage.TheVariants.{PutsLease, ListsLeases, Releases}
@@ -29,7 +28,7 @@ use Rattle.ts_model.specs.declared.deeds.Deletion.{Deletion}
 use Rattle.ts_schema.specs.declared.frames.Frame.{Frame}
 use Rattle.ts_schema.specs.declared.schemas.Schema.{Schema}
 use Rattle.ts_schema.specs.declared.evolution.Evolution.{Evolution}
-use Rattle.ts_base.specs.Keys.{is_within, frag_of}
+use Rattle.ts_base.specs.Keys.{frag_of}
 use Rattle.ts_base.specs.Held.{Held}
 use Rattle.ts_schema.specs.Evolutions.{evolved_attrs, evolution_fault, schema_at}
 use Rattle.ts_schema.specs.Parts.{IsShort}
@@ -39,7 +38,8 @@ use Rattle.ts_model.specs.declared.states.Creating.TheVariants.{PutsFrame, Compa
 use Rattle.ts_model.specs.declared.states.Seeking.TheVariants.{ListsCommits, ListsSchemas, GetsSchema, GetsFrame}
 use Rattle.ts_model.specs.declared.states.Collecting.TheVariants.{GetsHeads, GetsSchemas, GetsDeletes, Fetches}
 use Rattle.ts_base.specs.declared.names.Prefix.TheVariants.{Commits, Schemas}
-use Rattle.ts_model.specs.Told.{Told, trace_of, IsShortCall, schemas_found, history_told}
+use Rattle.ts_model.specs.Told.{Told, trace_of, IsShortCall, schemas_found, held_told, history_told}
+use Rattle.ts_store.specs.Calls.{names_under}
 use Rattle.ts_law.specs.Fresh.{id_in}
 use Rattle.ts_cond.specs.declared.query.Query.{Query}
 use Rattle.ts_cond.specs.Tests.{Condition}
@@ -47,15 +47,15 @@ use Rattle.ts_domain.specs.declared.boxes.SubBox.{SubBox}
 use Rattle.ts_domain.specs.Boxes.{is_in_box}
 use Rattle.ts_model.specs.Queries.{ready_in, delete_condition}
 use Rattle.ts_model.specs.Driven.{MayAsk}
-use Rattle.ts_model.specs.States.{delete_object_of, schema_object_of, write_objects, keys_named, want_of, begun}
+use Rattle.ts_model.specs.States.{delete_object_of, schema_object_of, write_objects, keys_named, want_of, begun, committed_in, deletes_in, meets}
 use Rattle.ts_model.specs.Stages.{lease_of, stage_of}
 use Rattle.ts_model.specs.Codecs.{Codec, Spelled, Tracking}
 use Rattle.ts_model.specs.Jobs.{key_of, frag_of_job, AreFit, AreApart, looked_at, job_with}
-use Rattle.ts_law.specs.Stands.{HoldsIn, WentInto, Stands}
+use Rattle.ts_law.specs.Stands.{HoldsIn, IsNoLease, Stands}
 use Rattle.ts_law.specs.Origins.{last_version, newest_at, wrote_in}
 use Rattle.ts_commit.specs.Selections.{is_usable}
 use Rattle.ts_law.specs.Ends.{ListedAt, IsUndone, IsTrueEnd}
-use Rattle.ts_model.specs.Deeds.{History, frame_in, writes, deletions, schema_with, schema_there}
+use Rattle.ts_model.specs.Deeds.{History, frame_in, deletions, schema_with, schema_there}
 use Rattle.ts_model.specs.Commands.{frame_made, create_refusal, laid}
 use Rattle.ts_store.specs.declared.call.Call.TheVariants as call
 use Rattle.ts_model.specs.declared.answers.Outcome.TheVariants as outcome
@@ -78,43 +78,48 @@ pub record Works (past : History) (jobs : List Job) (seen : List Told) (number :
   pub at : schema_at found (looked_at job) ≡ Some there.key
   pub declared : schema_with (history_told jobs past seen) there.key ≡ Some there
 
--- what a read listed: the fragments and the deletes that it looks into
-pub record LooksInto (spelled : Spelled) (past : History) (jobs : List Job) (seen : List Told) (m : Held) (number from to : ℕ) (fragments delete_names : List FragKey) : Type 0 where
+-- all that was held is held still, but for leases
+abbrev pub HeldSince : Held → Held → Type 0
+HeldSince before m = (n : Name) (bytes : List ℕ) → IsNoLease n → map.get before n ≡ Some bytes → map.get m n ≡ Some bytes
+
+-- what a read knows since its listing of the commits, where `opening` was held at the beginning: the objects stood for the history then, and are held still
+pub record Since (spelled : Spelled) (opening : Held) (past : History) (jobs : List Job) (seen : List Told) (m : Held) (number : ℕ) : Type 0 where
   pub commits : ListedAt seen number Commits
-  -- each fragment holds writes of the history at the listing, and the read can use it
-  pub whole : (f : FragKey) → Contains fragments f → (p : Piece) × HoldsIn spelled (history_told jobs past commits.before) m f p × (is_usable from to p.head ≡ true)
-  -- each write in the interval went into one of them
-  pub covered : (w : Written) → Contains (writes (history_told jobs past commits.before)) w → is_within from to w.key ≡ true
-      → (f : FragKey) × Contains fragments f × WentInto spelled (history_told jobs past commits.before) m f w.key
-  -- each delete is one of that history, and stamped in the interval
-  pub erased : (f : FragKey) → Contains delete_names f → (e : Deletion) × Contains (deletions (history_told jobs past commits.before)) e × (frag_of e.key ≡ f) × (is_within from to e.key ≡ true)
-  -- each delete of that history in the interval is among them
-  pub deletes_found : (e : Deletion) → Contains (deletions (history_told jobs past commits.before)) e → is_within from to e.key ≡ true → Contains delete_names (frag_of e.key)
+  pub stands : Stands spelled (held_told opening commits.before) (history_told jobs past commits.before)
+  pub held : HeldSince (held_told opening commits.before) m
+
+-- what a read looks into of the commits that it listed
+pub record LooksInto (spelled : Spelled) (opening : Held) (past : History) (jobs : List Job) (seen : List Told) (m : Held) (number from to : ℕ) (fragments delete_names : List FragKey) : Type 0 where
+  pub since : Since spelled opening past jobs seen m number
+  -- the fragments whose span meets the interval
+  pub fragments_are : fragments ≡ filter (meets from to) (committed_in (names_under Commits (held_told opening (since.commits).before)))
+  -- the deletes that are stamped in it
+  pub deletes_are : delete_names ≡ filter (meets from to) (deletes_in (names_under Commits (held_told opening (since.commits).before)))
 
 -- what a job listed before the schemas: a read the commits, another job nothing
-abbrev pub HasLooked : Spelled → History → List Job → List Told → Held → ℕ → Command → Listed → Type 0
-HasLooked spelled past jobs seen m number (Create f) listed = ⊥
-HasLooked spelled past jobs seen m number (Read from to query) listed = LooksInto spelled past jobs seen m number from to listed.fragments listed.delete_names
-HasLooked spelled past jobs seen m number _ listed = ⊤
+abbrev pub HasLooked : Spelled → Held → History → List Job → List Told → Held → ℕ → Command → Listed → Type 0
+HasLooked spelled opening past jobs seen m number (Create f) listed = ⊥
+HasLooked spelled opening past jobs seen m number (Read from to query) listed = LooksInto spelled opening past jobs seen m number from to listed.fragments listed.delete_names
+HasLooked spelled opening past jobs seen m number _ listed = ⊤
 
 -- a read that listed the commits, and later the schemas
-pub record ReadsAt (spelled : Spelled) (past : History) (jobs : List Job) (seen : List Told) (m : Held) (number : ℕ) (job : Job) (from to : ℕ) (fragments delete_names : List FragKey) (there : Schema) : Type 0 where
-  pub listed : LooksInto spelled past jobs seen m number from to fragments delete_names
+pub record ReadsAt (spelled : Spelled) (opening : Held) (past : History) (jobs : List Job) (seen : List Told) (m : Held) (number : ℕ) (job : Job) (from to : ℕ) (fragments delete_names : List FragKey) (there : Schema) : Type 0 where
+  pub listed : LooksInto spelled opening past jobs seen m number from to fragments delete_names
   pub works : Works past jobs seen number job there
   pub between : List Told
-  pub order : (works.schemas).before ≡ (listed.commits).before ++ (listed.commits).listing ∷ between
+  pub order : (works.schemas).before ≡ (listed.since.commits).before ++ (listed.since.commits).listing ∷ between
 
 -- what a job listed before it gets the schema there
-abbrev pub HasListed : Spelled → History → List Job → List Told → Held → ℕ → Job → Command → Listed → Schema → Type 0
-HasListed spelled past jobs seen m number job (Create f) listed there = ⊥
-HasListed spelled past jobs seen m number job (Read from to query) listed there = ReadsAt spelled past jobs seen m number job from to listed.fragments listed.delete_names there
-HasListed spelled past jobs seen m number job _ listed there = Works past jobs seen number job there
+abbrev pub HasListed : Spelled → Held → History → List Job → List Told → Held → ℕ → Job → Command → Listed → Schema → Type 0
+HasListed spelled opening past jobs seen m number job (Create f) listed there = ⊥
+HasListed spelled opening past jobs seen m number job (Read from to query) listed there = ReadsAt spelled opening past jobs seen m number job from to listed.fragments listed.delete_names there
+HasListed spelled opening past jobs seen m number job _ listed there = Works past jobs seen number job there
 
 -- a read that has the schema there and the frame
-pub record ReadsIn (spelled : Spelled) (past : History) (jobs : List Job) (seen : List Told) (m : Held) (number : ℕ) (job : Job) (r : Reading) : Type 0 where
+pub record ReadsIn (spelled : Spelled) (opening : Held) (past : History) (jobs : List Job) (seen : List Told) (m : Held) (number : ℕ) (job : Job) (r : Reading) : Type 0 where
   pub query : Query
   pub reads : job.command ≡ Read r.from r.to query
-  pub at : ReadsAt spelled past jobs seen m number job r.from r.to r.fragments r.delete_names r.there
+  pub at : ReadsAt spelled opening past jobs seen m number job r.from r.to r.fragments r.delete_names r.there
   pub framed : frame_in (history_told jobs past ((at.works).schemas).before) ≡ Some r.frame
   pub is_ready : ready_in r.frame (r.there).attrs query ≡ Ok r.ready
 
@@ -154,27 +159,27 @@ pub record AreDeletions (h : History) (delete_names : List FragKey) (erased : Li
   pub each : (e : Deletion) → Contains erased e → Contains (deletions h) e
 
 -- a read of which the first fragments are open
-pub record Opening {F : Type 0} (codec : Codec F) (spelled : Spelled) (past : History) (jobs : List Job) (seen : List Told) (m : Held) (number : ℕ) (job : Job) (r : Reading) (opened : List Opened) : Type 0 where
-  pub reads : ReadsIn spelled past jobs seen m number job r
-  pub are_open : AreOpen codec spelled (history_told jobs past (((reads.at).listed).commits).before) m r opened
+pub record Opening {F : Type 0} (codec : Codec F) (spelled : Spelled) (opening : Held) (past : History) (jobs : List Job) (seen : List Told) (m : Held) (number : ℕ) (job : Job) (r : Reading) (opened : List Opened) : Type 0 where
+  pub reads : ReadsIn spelled opening past jobs seen m number job r
+  pub are_open : AreOpen codec spelled (history_told jobs past (((reads.at).listed).since.commits).before) (held_told opening (((reads.at).listed).since.commits).before) r opened
 
 -- a read of which all fragments are open, and which has some of their schemas
-pub record Gathering {F : Type 0} (codec : Codec F) (spelled : Spelled) (past : History) (jobs : List Job) (seen : List Told) (m : Held) (number : ℕ) (job : Job) (r : Reading) (opened : List Opened) (schemas : List Schema) : Type 0 where
-  pub opens : Opening codec spelled past jobs seen m number job r opened
+pub record Gathering {F : Type 0} (codec : Codec F) (spelled : Spelled) (opening : Held) (past : History) (jobs : List Job) (seen : List Told) (m : Held) (number : ℕ) (job : Job) (r : Reading) (opened : List Opened) (schemas : List Schema) : Type 0 where
+  pub opens : Opening codec spelled opening past jobs seen m number job r opened
   pub all : length opened ≡ length r.fragments
   pub gathered : AreSchemas (history_told jobs past seen) (keys_named r opened) schemas
 
 -- a read that has all schemas of its fragments, and some of the deletes
-pub record GettingDeletes {F : Type 0} (codec : Codec F) (spelled : Spelled) (past : History) (jobs : List Job) (seen : List Told) (m : Held) (number : ℕ) (job : Job) (r : Reading) (opened : List Opened) (schemas : List Schema) : Type 0 where
-  pub gathers : Gathering codec spelled past jobs seen m number job r opened schemas
+pub record GettingDeletes {F : Type 0} (codec : Codec F) (spelled : Spelled) (opening : Held) (past : History) (jobs : List Job) (seen : List Told) (m : Held) (number : ℕ) (job : Job) (r : Reading) (opened : List Opened) (schemas : List Schema) : Type 0 where
+  pub gathers : Gathering codec spelled opening past jobs seen m number job r opened schemas
   pub all_schemas : length schemas ≡ length (keys_named r opened)
   pub deletions : AreDeletions (history_told jobs past seen) r.delete_names r.deletions
 
 -- a read that fetches: it has all schemas of its fragments and all deletes, and it got the versions in the fragments before the next one
-pub record Fetching {F : Type 0} (codec : Codec F) (spelled : Spelled) (past : History) (jobs : List Job) (seen : List Told) (m : Held) (number : ℕ) (job : Job) (r : Reading) (opened : List Opened) (schemas : List Schema) (next : ℕ) (got : List Version) : Type 0 where
-  pub deletes_found : GettingDeletes codec spelled past jobs seen m number job r opened schemas
+pub record Fetching {F : Type 0} (codec : Codec F) (spelled : Spelled) (opening : Held) (past : History) (jobs : List Job) (seen : List Told) (m : Held) (number : ℕ) (job : Job) (r : Reading) (opened : List Opened) (schemas : List Schema) (next : ℕ) (got : List Version) : Type 0 where
+  pub deletes_found : GettingDeletes codec spelled opening past jobs seen m number job r opened schemas
   pub all_deletes : length r.deletions ≡ length r.delete_names
-  pub found : AreGot (history_told jobs past ((((((deletes_found.gathers).opens).reads).at).listed).commits).before) r.from r.to (r.ready).sub (heads_of (take next opened)) got
+  pub found : AreGot (history_told jobs past ((((((deletes_found.gathers).opens).reads).at).listed).since.commits).before) r.from r.to (r.ready).sub (heads_of (take next opened)) got
 
 -- the fetch of a fragment, which the read can use, has come so far on its parts
 pub record OnWay {F : Type 0} (spelled : Spelled) (tracks : Tracking F) (g : History) (m : Held) (r : Reading) (frag : FragKey) (fetch : F) (c : Call) : Type 0 where
@@ -222,45 +227,46 @@ CreateClaims past jobs seen m job ListsDeclared =
     Clean m (history_told jobs past seen) job × ((f : FrameIn) × (job.command ≡ Create f) × (create_refusal f ≡ None) × (frame_in (history_told jobs past seen) ≡ Some (frame_made f)))
 
 -- what the state of a job that seeks its schema and the frame says is true
-abbrev pub SeekClaims : Spelled → History → List Job → List Told → Held → ℕ → Job → Seeking → Type 0
-SeekClaims spelled past jobs seen m number job ListsCommits = Clean m (history_told jobs past seen) job × ((from : ℕ) × (to : ℕ) × (query : Query) × (job.command ≡ Read from to query))
-SeekClaims spelled past jobs seen m number job (ListsSchemas listed) = Clean m (history_told jobs past seen) job × HasLooked spelled past jobs seen m number job.command listed
-SeekClaims spelled past jobs seen m number job (GetsSchema listed there) =
-    Clean m (history_told jobs past seen) job × ((s : Schema) × (s.key ≡ there) × HasListed spelled past jobs seen m number job job.command listed s)
-SeekClaims spelled past jobs seen m number job (GetsFrame listed there) =
-    Clean m (history_told jobs past seen) job × HasListed spelled past jobs seen m number job job.command listed there
+abbrev pub SeekClaims : Spelled → Held → History → List Job → List Told → Held → ℕ → Job → Seeking → Type 0
+SeekClaims spelled opening past jobs seen m number job ListsCommits = Clean m (history_told jobs past seen) job × ((from : ℕ) × (to : ℕ) × (query : Query) × (job.command ≡ Read from to query))
+SeekClaims spelled opening past jobs seen m number job (ListsSchemas listed) = Clean m (history_told jobs past seen) job × HasLooked spelled opening past jobs seen m number job.command listed
+SeekClaims spelled opening past jobs seen m number job (GetsSchema listed there) =
+    Clean m (history_told jobs past seen) job × ((s : Schema) × (s.key ≡ there) × HasListed spelled opening past jobs seen m number job job.command listed s)
+SeekClaims spelled opening past jobs seen m number job (GetsFrame listed there) =
+    Clean m (history_told jobs past seen) job × HasListed spelled opening past jobs seen m number job job.command listed there
 
 -- what the state of a read that collects says is true
-abbrev pub CollectClaims : {F : Type 0} → Codec F → Spelled → Tracking F → History → List Job → List Told → Held → ℕ → Job → Collecting F → Type 0
-CollectClaims codec spelled tracks past jobs seen m number job (GetsHeads r opened) =
-    Clean m (history_told jobs past seen) job × Opening codec spelled past jobs seen m number job r opened × (r.deletions ≡ [])
-CollectClaims codec spelled tracks past jobs seen m number job (GetsSchemas r opened keys schemas) =
-    Clean m (history_told jobs past seen) job × (keys ≡ keys_named r opened) × Gathering codec spelled past jobs seen m number job r opened schemas × (r.deletions ≡ [])
-CollectClaims codec spelled tracks past jobs seen m number job (GetsDeletes r opened schemas) =
-    Clean m (history_told jobs past seen) job × GettingDeletes codec spelled past jobs seen m number job r opened schemas
-CollectClaims codec spelled tracks past jobs seen m number job (Fetches r opened schemas next frag got fetch c) =
+abbrev pub CollectClaims : {F : Type 0} → Codec F → Spelled → Tracking F → Held → History → List Job → List Told → Held → ℕ → Job → Collecting F → Type 0
+CollectClaims codec spelled tracks opening past jobs seen m number job (GetsHeads r opened) =
+    Clean m (history_told jobs past seen) job × Opening codec spelled opening past jobs seen m number job r opened × (r.deletions ≡ [])
+CollectClaims codec spelled tracks opening past jobs seen m number job (GetsSchemas r opened keys schemas) =
+    Clean m (history_told jobs past seen) job × (keys ≡ keys_named r opened) × Gathering codec spelled opening past jobs seen m number job r opened schemas × (r.deletions ≡ [])
+CollectClaims codec spelled tracks opening past jobs seen m number job (GetsDeletes r opened schemas) =
+    Clean m (history_told jobs past seen) job × GettingDeletes codec spelled opening past jobs seen m number job r opened schemas
+CollectClaims codec spelled tracks opening past jobs seen m number job (Fetches r opened schemas next frag got fetch c) =
     Clean m (history_told jobs past seen) job × (slice_get r.fragments next ≡ Some frag)
-    × ((fetches : Fetching codec spelled past jobs seen m number job r opened schemas next got)
-    × OnWay spelled tracks (history_told jobs past (((((((fetches.deletes_found).gathers).opens).reads).at).listed).commits).before) m r frag fetch c)
+    × ((fetches : Fetching codec spelled opening past jobs seen m number job r opened schemas next got)
+    × OnWay spelled tracks (history_told jobs past (((((((fetches.deletes_found).gathers).opens).reads).at).listed).since.commits).before)
+    (held_told opening (((((((fetches.deletes_found).gathers).opens).reads).at).listed).since.commits).before) r frag fetch c)
 
 -- what a job's state says is true
-abbrev pub Claims : {F : Type 0} → Codec F → Spelled → Tracking F → History → List Job → List Told → Held → ℕ → Job → State F → Type 0
-Claims codec spelled tracks past jobs seen m number job (Creates s) = CreateClaims past jobs seen m job s
-Claims codec spelled tracks past jobs seen m number job (Seeks s) = SeekClaims spelled past jobs seen m number job s
-Claims codec spelled tracks past jobs seen m number job (Puts objects next end) = Putting codec past jobs seen m number job objects next end
-Claims codec spelled tracks past jobs seen m number job (Collects s) = CollectClaims codec spelled tracks past jobs seen m number job s
-Claims codec spelled tracks past jobs seen m number job (Over end) = IsTrueEnd jobs past seen number job end
+abbrev pub Claims : {F : Type 0} → Codec F → Spelled → Tracking F → Held → History → List Job → List Told → Held → ℕ → Job → State F → Type 0
+Claims codec spelled tracks opening past jobs seen m number job (Creates s) = CreateClaims past jobs seen m job s
+Claims codec spelled tracks opening past jobs seen m number job (Seeks s) = SeekClaims spelled opening past jobs seen m number job s
+Claims codec spelled tracks opening past jobs seen m number job (Puts objects next end) = Putting codec past jobs seen m number job objects next end
+Claims codec spelled tracks opening past jobs seen m number job (Collects s) = CollectClaims codec spelled tracks opening past jobs seen m number job s
+Claims codec spelled tracks opening past jobs seen m number job (Over end) = IsTrueEnd jobs past seen number job end
 
 -- a job holds its lease, or is to put it, and its work has not begun
-abbrev pub IsBefore : {F : Type 0} → Codec F → Spelled → Tracking F → History → List Job → List Told → Held → ℕ → Job → Name → Type 0
-IsBefore codec spelled tracks past jobs seen m number job lease = (lease_of job ≡ Some lease) × Claims codec spelled tracks past jobs seen m number job (begun job.command)
+abbrev pub IsBefore : {F : Type 0} → Codec F → Spelled → Tracking F → Held → History → List Job → List Told → Held → ℕ → Job → Name → Type 0
+IsBefore codec spelled tracks opening past jobs seen m number job lease = (lease_of job ≡ Some lease) × Claims codec spelled tracks opening past jobs seen m number job (begun job.command)
 
 -- what a job's stage says is true: before its work it is clean, but for its lease, and that it removes its lease leaves the end that it came to true
-abbrev pub StageClaims : {F : Type 0} → Codec F → Spelled → Tracking F → History → List Job → List Told → Held → ℕ → Job → Stage F → Type 0
-StageClaims codec spelled tracks past jobs seen m number job (PutsLease lease) = IsBefore codec spelled tracks past jobs seen m number job lease × (map.get m lease ≡ None)
-StageClaims codec spelled tracks past jobs seen m number job (ListsLeases lease) = IsBefore codec spelled tracks past jobs seen m number job lease
-StageClaims codec spelled tracks past jobs seen m number job (stages.Works s) = Claims codec spelled tracks past jobs seen m number job s
-StageClaims codec spelled tracks past jobs seen m number job (Releases lease end) = (lease_of job ≡ Some lease) × IsTrueEnd jobs past seen number job end × IsUndone (history_told jobs past seen) job
+abbrev pub StageClaims : {F : Type 0} → Codec F → Spelled → Tracking F → Held → History → List Job → List Told → Held → ℕ → Job → Stage F → Type 0
+StageClaims codec spelled tracks opening past jobs seen m number job (PutsLease lease) = IsBefore codec spelled tracks opening past jobs seen m number job lease × (map.get m lease ≡ None)
+StageClaims codec spelled tracks opening past jobs seen m number job (ListsLeases lease) = IsBefore codec spelled tracks opening past jobs seen m number job lease
+StageClaims codec spelled tracks opening past jobs seen m number job (stages.Works s) = Claims codec spelled tracks opening past jobs seen m number job s
+StageClaims codec spelled tracks opening past jobs seen m number job (Releases lease end) = (lease_of job ≡ Some lease) × IsTrueEnd jobs past seen number job end × IsUndone (history_told jobs past seen) job
 
 -- ---- what is kept
 
@@ -269,13 +275,14 @@ pub record IsOfJobs (jobs : List Job) (e : Told) : Type 0 where
   pub numbered : (number : ℕ) → e.job ≡ Some number → number < length jobs
   pub puts : (n : Name) (bytes : List ℕ) (id : ℕ) → e.call ≡ call.Put n bytes → id_in n ≡ Some id → IsSome (job_with jobs id)
 
--- what is kept after these calls, of which `dead` are the jobs that were dropped: from a past history to the objects that are held now
-pub record Kept {F : Type 0} (codec : Codec F) (spelled : Spelled) (tracks : Tracking F) (past : History) (jobs : List Job) (dead : List ℕ) (seen : List Told) (m : Held) : Type 0 where
+-- what is kept after these calls, of which `dead` are the jobs that were dropped: from a past history and the objects that were held at the beginning to those that are held now
+pub record Kept {F : Type 0} (codec : Codec F) (spelled : Spelled) (tracks : Tracking F) (opening : Held) (past : History) (jobs : List Job) (dead : List ℕ) (seen : List Told) (m : Held) : Type 0 where
   pub stands : Stands spelled m (history_told jobs past seen)
+  pub is_held : m ≡ held_told opening seen
   pub apart : AreApart jobs
   pub fit : AreFit jobs
   pub known : All (IsOfJobs jobs) seen
-  pub claims : (number : ℕ) (job : Job) → slice_get jobs number ≡ Some job → (Contains dead number → ⊥) → StageClaims codec spelled tracks past jobs seen m number job (stage_of codec job (trace_of number seen))
+  pub claims : (number : ℕ) (job : Job) → slice_get jobs number ≡ Some job → (Contains dead number → ⊥) → StageClaims codec spelled tracks opening past jobs seen m number job (stage_of codec job (trace_of number seen))
 
 -- ---- which calls may come
 

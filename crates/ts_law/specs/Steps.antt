@@ -6,7 +6,7 @@ use Rattle.ts_model.specs.declared.commands.Job.{Job}
 use Rattle.ts_model.specs.declared.states.State.{State}
 use Rattle.ts_base.specs.Held.{Held}
 use Rattle.ts_law.specs.Kept.{Claims, StageClaims}
-use Rattle.ts_model.specs.Told.{Told, after_told, IsShortCall, IsReplied, history_told}
+use Rattle.ts_model.specs.Told.{Told, after_told, IsShortCall, IsReplied, held_told, history_told}
 use Rattle.ts_law.specs.Fresh.{id_in}
 use Rattle.ts_law.specs.Stands.{Stands, IsNoLease}
 use Rattle.ts_model.specs.States.{asks, goes}
@@ -37,13 +37,14 @@ pub record Leads (spelled : Spelled) (past : History) (jobs : List Job) (seen : 
   pub leaves : Keeps m (after_told m e) (history_told jobs past seen) (history_told jobs past (seen ++ e ∷ [])) id
 
 -- and the claims of the job itself are those of where its work comes
-pub record Advances {F : Type 0} (codec : Codec F) (spelled : Spelled) (tracks : Tracking F) (past : History) (jobs : List Job) (seen : List Told) (e : Told) (m : Held) (number : ℕ) (job : Job) (s : State F) : Type 0 where
+pub record Advances {F : Type 0} (codec : Codec F) (spelled : Spelled) (tracks : Tracking F) (opening : Held) (past : History) (jobs : List Job) (seen : List Told) (e : Told) (m : Held) (number : ℕ) (job : Job) (s : State F) : Type 0 where
   pub leads : Leads spelled past jobs seen e m job.id
-  pub own : Claims codec spelled tracks past jobs (seen ++ e ∷ []) (after_told m e) number job (goes codec job s e.reply)
+  pub own : Claims codec spelled tracks opening past jobs (seen ++ e ∷ []) (after_told m e) number job (goes codec job s e.reply)
 
 -- a call of a job at its work that comes after these, in a state whose claims hold
-pub record Comes {F : Type 0} (codec : Codec F) (spelled : Spelled) (tracks : Tracking F) (past : History) (jobs : List Job) (seen : List Told) (e : Told) (m : Held) (number : ℕ) (job : Job) (s : State F) : Type 0 where
+pub record Comes {F : Type 0} (codec : Codec F) (spelled : Spelled) (tracks : Tracking F) (opening : Held) (past : History) (jobs : List Job) (seen : List Told) (e : Told) (m : Held) (number : ℕ) (job : Job) (s : State F) : Type 0 where
   pub stands : Stands spelled m (history_told jobs past seen)
+  pub is_held : m ≡ held_told opening seen
   pub apart : AreApart jobs
   pub fit : IsFit job
   pub own : e.job ≡ Some number
@@ -51,16 +52,17 @@ pub record Comes {F : Type 0} (codec : Codec F) (spelled : Spelled) (tracks : Tr
   pub replied : IsReplied m e
   pub short : IsShortCall e.call
   pub asked : asks codec job s ≡ Some e.call
-  pub claims : Claims codec spelled tracks past jobs seen m number job s
+  pub claims : Claims codec spelled tracks opening past jobs seen m number job s
 
 -- and the claims of the job itself are those of the stage where it comes
-pub record StageAdvances {F : Type 0} (codec : Codec F) (spelled : Spelled) (tracks : Tracking F) (past : History) (jobs : List Job) (seen : List Told) (e : Told) (m : Held) (number : ℕ) (job : Job) (stage : Stage F) : Type 0 where
+pub record StageAdvances {F : Type 0} (codec : Codec F) (spelled : Spelled) (tracks : Tracking F) (opening : Held) (past : History) (jobs : List Job) (seen : List Told) (e : Told) (m : Held) (number : ℕ) (job : Job) (stage : Stage F) : Type 0 where
   pub leads : Leads spelled past jobs seen e m job.id
-  pub own : StageClaims codec spelled tracks past jobs (seen ++ e ∷ []) (after_told m e) number job (goes_on codec job stage (record { call = e.call; reply = e.reply }))
+  pub own : StageClaims codec spelled tracks opening past jobs (seen ++ e ∷ []) (after_told m e) number job (goes_on codec job stage (record { call = e.call; reply = e.reply }))
 
 -- a call of a job that comes after these, in a stage whose claims hold
-pub record StageComes {F : Type 0} (codec : Codec F) (spelled : Spelled) (tracks : Tracking F) (past : History) (jobs : List Job) (seen : List Told) (e : Told) (m : Held) (number : ℕ) (job : Job) (stage : Stage F) : Type 0 where
+pub record StageComes {F : Type 0} (codec : Codec F) (spelled : Spelled) (tracks : Tracking F) (opening : Held) (past : History) (jobs : List Job) (seen : List Told) (e : Told) (m : Held) (number : ℕ) (job : Job) (stage : Stage F) : Type 0 where
   pub stands : Stands spelled m (history_told jobs past seen)
+  pub is_held : m ≡ held_told opening seen
   pub apart : AreApart jobs
   pub fit : IsFit job
   pub own : e.job ≡ Some number
@@ -68,4 +70,4 @@ pub record StageComes {F : Type 0} (codec : Codec F) (spelled : Spelled) (tracks
   pub replied : IsReplied m e
   pub short : IsShortCall e.call
   pub asked : MayAsk codec job stage e.call
-  pub claims : StageClaims codec spelled tracks past jobs seen m number job stage
+  pub claims : StageClaims codec spelled tracks opening past jobs seen m number job stage

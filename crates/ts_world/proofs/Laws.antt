@@ -76,8 +76,8 @@ module _ {P F : Type 0} (codec : Codec F) (spelled : Spelled) (tracks : Tracking
     asked_now : MayAsk codec job (stage_of codec job (trace_of number told)) e.call
     asked_now = subst (MayAsk codec job (stage_of codec job (trace_of number told))) (sym calls) (running_asks number r job at of)
 
-    kept_now : CodecLaws codec spelled tracks → Kept codec spelled tracks past jobs [] (told ++ e ∷ []) (after_told held e)
-    kept_now laws = step_kept codec spelled tracks laws past jobs [] told held e is.kept (record { number = number; job = job; own = own; is_job = of; alive = Contains-nil number; asked = asked_now; short = short }) replied
+    kept_now : CodecLaws codec spelled tracks → Kept codec spelled tracks is.opening past jobs [] (told ++ e ∷ []) (after_told held e)
+    kept_now laws = step_kept codec spelled tracks laws is.opening past jobs [] told held e is.kept (record { number = number; job = job; own = own; is_job = of; alive = Contains-nil number; asked = asked_now; short = short }) replied
 
     entered : entries_of lane_of (told ++ e ∷ []) ≡ entries_of lane_of told ++ entry number e.call e.fate ∷ []
     entered =
@@ -100,6 +100,7 @@ module _ {P F : Type 0} (codec : Codec F) (spelled : Spelled) (tracks : Tracking
     -- a running actor that makes its call leaves a world that keeps the same
     pub called_kept : CodecLaws codec spelled tracks → (s : Slot P F) → IsSlot codec job (trace_of number told ++ last ∷ []) s → IsKept codec spelled tracks past jobs (told ++ e ∷ []) (after_told held e) (journal ++ entry number e.call e.fate ∷ []) (set slots number s)
     called_kept laws s slot_is = record {
+      opening = is.opening;
       kept = kept_now laws;
       entries = ap (λ es. es ++ entry number e.call e.fate ∷ []) is.entries ∙ sym entered;
       in_lanes = one_more_call codec jobs told e number job is.in_lanes own of asked_now;
@@ -126,7 +127,8 @@ module _ {P F : Type 0} (codec : Codec F) (spelled : Spelled) (tracks : Tracking
 
   pub spawned_kept : (job : Job) (s : Slot P F) → IsNewId held past jobs job.id → IsFit job → job.stop ≡ Never → IsSlot codec job [] s → IsKept codec spelled tracks past (jobs ++ job ∷ []) told held journal (slots ++ s ∷ [])
   spawned_kept job s new fit free slot_is = record {
-    kept = spawn_kept codec spelled tracks past jobs [] told held job is.kept fit new;
+    opening = is.opening;
+    kept = spawn_kept codec spelled tracks is.opening past jobs [] told held job is.kept fit new;
     entries = is.entries;
     in_lanes = one_more_job codec jobs told job is.in_lanes;
     one_each = let a = length_push slots s in let b = length_push jobs job in omega (arith, a, b, is.one_each);
@@ -157,6 +159,7 @@ module _ {P F : Type 0} (codec : Codec F) (spelled : Spelled) (tracks : Tracking
 
   pub restarted_kept : IsKept codec spelled tracks past jobs told held journal (map dropped_slot slots)
   restarted_kept = record {
+    opening = is.opening;
     kept = is.kept;
     entries = is.entries;
     in_lanes = is.in_lanes;
@@ -167,6 +170,7 @@ module _ {P F : Type 0} (codec : Codec F) (spelled : Spelled) (tracks : Tracking
 -- a world to which nothing has happened keeps what a world keeps
 pub first_kept : {P F : Type 0} (codec : Codec F) (spelled : Spelled) (tracks : Tracking F) (past : History) (m : Held) → Stands spelled m past → IsKept {P = P} codec spelled tracks past [] [] m [] []
 first_kept codec spelled tracks past m stands = record {
+  opening = m;
   kept = starts_kept codec spelled tracks past m stands;
   entries = refl;
   in_lanes = no_lanes codec;

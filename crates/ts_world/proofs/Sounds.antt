@@ -40,7 +40,7 @@ module _ {P F : Type 0} (codec : Codec F) (spelled : Spelled) (tracks : Tracking
   seen = record { past = past; jobs = jobs; told = told; held = held; journal = journal; actors = standings slots }
 
   true_end : (number : ℕ) (job : Job) (end : Outcome) → slice_get jobs number ≡ Some job → EndsBy codec job (trace_of number told) end → IsTrueEnd jobs past told number job end
-  true_end number job end at (inl over) = end_is_true codec spelled tracks past jobs [] told held is.kept number job end at (Contains-nil number) over
+  true_end number job end at (inl over) = end_is_true codec spelled tracks is.opening past jobs [] told held is.kept number job end at (Contains-nil number) over
   true_end number job end at (inr none) = subst (IsTrueEnd jobs past told number job) (sym none.0) tt
 
   ends_truly : (number : ℕ) (job : Job) (end : Outcome) → slice_get jobs number ≡ Some job → slice_get (standings slots) number ≡ Some (Ended end) → EndsTruly codec seen number job end

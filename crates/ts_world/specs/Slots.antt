@@ -59,9 +59,10 @@ pub record IsActor {P F : Type 0} (codec : Codec F) (told : List Told) (number :
   pub free : job.stop ≡ Never
   pub slot_is : IsSlot codec job (trace_of number told) s
 
--- what a world keeps: what every call keeps, the journal of the calls, whose they are, and its actors
+-- what a world keeps: what every call keeps since the objects that the world began with, the journal of the calls, whose they are, and its actors
 pub record IsKept {P F : Type 0} (codec : Codec F) (spelled : Spelled) (tracks : Tracking F) (past : History) (jobs : List Job) (told : List Told) (held : Held) (journal : List Entry) (slots : List (Slot P F)) : Type 0 where
-  pub kept : Kept codec spelled tracks past jobs [] told held
+  pub opening : Held
+  pub kept : Kept codec spelled tracks opening past jobs [] told held
   pub entries : journal ≡ entries_of lane_of told
   pub in_lanes : AreInLanes codec own_lane jobs told
   pub one_each : length slots ≡ length jobs
