@@ -17,7 +17,8 @@ use Rattle.ts_model.specs.Deeds.{History, frame_in, keys}
 use Rattle.ts_law.specs.Ends.{IsUndone}
 use Rattle.ts_model.specs.Codecs.{Codec, CodecLaws, Spelled, Tracking}
 use Rattle.ts_law.specs.Fresh.{id_in}
-use Rattle.ts_model.specs.Jobs.{key_of}
+use Rattle.ts_model.specs.Jobs.{frag_of_job, key_of}
+use Rattle.ts_law.specs.Stands.{vac_of}
 use Rattle.ts_law.specs.Kept.{Claims, Clean}
 use Rattle.ts_model.specs.States.{ended, frame_put, get_frame, goes, is_own_frame, list_schemas, made_by, puts_first, refuse, schema_object_of, with_item}
 use Rattle.ts_law.specs.Steps.{Advances, Comes}
@@ -35,7 +36,8 @@ use Rattle.ts_law.proofs.HeldLemmas.{Holds, get_apart}
 use Rattle.ts_model.proofs.HistoryLaws.{frame_facts, keys-append}
 use Rattle.ts_model.proofs.ListLemmas.{Contains-nil}
 use Rattle.ts_law.proofs.Objects.{begins_putting, schema_carries}
-use Rattle.ts_law.proofs.StandsLaws.{first_deed, frame_held, keeps_put, leads_at, stands_frame}
+use Rattle.ts_law.proofs.StandsLaws.{first_deed, frame_held, keeps_put, leads_at, marks_domain, stands_frame}
+use Rattle.ts_law.proofs.VacLaws.{bare_stays}
 use Rattle.ts_law.proofs.Stays.{clean_look}
 use Rattle.ts_model.proofs.Traces.{deed_told_own, later_deed, later_unchanged}
 use Rattle.std.specs.FinMap as map
@@ -52,10 +54,13 @@ undone_more h g job none undone =
     subst (λ ks. IsTrue (not (list_any (key_eq (key_of job)) ks))) (sym (keys-append h g ∙ ap (λ ks. keys h ++ ks) none ∙ append-nil (keys h))) undone
 
 -- the frame carries no identifier
-clean_after_frame : (m : Held) (h : History) (frame : Frame) (bytes : List ℕ) (job : Job) → Clean m h job → Clean (map.insert m name.Domain bytes) (h ++ Framed frame ∷ []) job
-clean_after_frame m h frame bytes job clean = record {
+clean_after_frame : (m : Held) (h : History) (frame : Frame) (bytes : List ℕ) (job : Job) → (Holds m name.Domain → ⊥) → Clean m h job → Clean (map.insert m name.Domain bytes) (h ++ Framed frame ∷ []) job
+clean_after_frame m h frame bytes job free clean = record {
   free = λ n carries apart. get_apart m name.Domain bytes n (λ same. none-some job.id (ap id_in (sym same) ∙ carries)) ∙ clean.free n carries apart;
   undone = undone_more h (Framed frame ∷ []) job refl clean.undone;
+  bare = bare_stays m (map.insert m name.Domain bytes) h (h ++ Framed frame ∷ []) job.id
+      (keeps_put m h name.Domain bytes job.id (Framed frame ∷ []) free (marks_domain m) (inr refl) (λ k none. absurd (Contains-nil k none))) (frag_of_job job)
+      (λ none. get_apart m name.Domain bytes (vac_of (frag_of_job job)) (λ e. cc) ∙ none) clean.bare;
 }
 
 -- all of a short object is got
@@ -125,11 +130,11 @@ module _ {F : Type 0} (codec : Codec F) (spelled : Spelled) (tracks : Tracking F
   frame_step f creates sound clean c = elim (put_went m name.Domain (frame_object (frame_made f)) e is c.replied) [
     | Added free same_held changed said ↦
         let same_history = later_deed jobs past seen e (Framed (frame_made f)) (frame_deed f creates c.own c.is_job is) changed in
-        let clean_later = clean_look _ m' _ h' job same_held same_history (clean_after_frame m h (frame_made f) (frame_object (frame_made f)) job clean) in
+        let clean_later = clean_look _ m' _ h' job same_held same_history (clean_after_frame m h (frame_made f) (frame_object (frame_made f)) job free clean) in
         record {
           leads = leads_at spelled past jobs seen e m job.id _ _ same_held same_history
               (stands_frame spelled m h (frame_made f) free (created_frame f fit sound) (subst IsShortCall is c.short) c.stands)
-              (keeps_put m h name.Domain (frame_object (frame_made f)) job.id (Framed (frame_made f) ∷ []) free (inr refl) (λ k none. absurd (Contains-nil k none)));
+              (keeps_put m h name.Domain (frame_object (frame_made f)) job.id (Framed (frame_made f) ∷ []) free (marks_domain m) (inr refl) (λ k none. absurd (Contains-nil k none)));
           own = frame_leads f creates e.reply
               (λ _. puts_first_claims f creates sound clean_later (ap frame_in (same_history ∙ ap (λ g. g ++ Framed (frame_made f) ∷ []) (first_deed spelled m h free c.stands))))
               (λ taken. absurd (elim said [ inl made ↦ cc | inr failed ↦ cc ]))

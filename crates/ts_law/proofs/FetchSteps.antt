@@ -15,7 +15,7 @@ use Rattle.ts_base.specs.declared.names.Part.{Part}
 use Rattle.ts_base.specs.declared.names.Place.TheVariants as place
 use Rattle.ts_base.specs.declared.heads.Version.{Version}
 use Rattle.ts_base.specs.declared.heads.Piece.{Piece}
-use Rattle.ts_base.specs.Keys.{is_within}
+use Rattle.ts_base.specs.Keys.{frag_of, is_within}
 use Rattle.ts_base.specs.Held.{Held}
 use Rattle.ts_schema.specs.declared.schemas.Schema.{Schema}
 use Rattle.ts_schema.specs.Wants.{taken}
@@ -175,9 +175,10 @@ module _ {F : Type 0} (codec : Codec F) (spelled : Spelled) (tracks : Tracking F
     opened_with w at within =
         let listed = (((gathers.opens).reads).at).listed in
         let into = listed.since.stands.covered w at in
-        let looked = looked_from_committed then r.from r.to into.0 into.1 (meets_of_origin spelled then g r.from r.to into.0 w.key into.2 within) in
-        let o = map-Contains (λ o. o.frag) opened into.0 (subst (λ fs. Contains fs into.0) (sym listed.fragments_are ∙ sym all_frags) looked) in
-        (o.0, o.1, origin_open codec spelled tracks laws g then r opened (gathers.opens).are_open into.0 w.key into.2 o.0 o.1 o.2)
+        let f = frag_of w.key in
+        let looked = looked_from_committed then r.from r.to f into.0 (meets_of_origin spelled then g r.from r.to f w.key into.1 within) in
+        let o = map-Contains (λ o. o.frag) opened f (subst (λ fs. Contains fs f) (sym listed.fragments_are ∙ sym all_frags) looked) in
+        (o.0, o.1, origin_open codec spelled tracks laws g then r opened (gathers.opens).are_open f w.key into.1 o.0 o.1 o.2)
 
     -- so it is an origin in one of the heads
     headed : (w : Written) → Contains (writes g) w → is_within r.from r.to w.key ≡ true → list_any (has_origin w.key) (heads_of opened) ≡ true

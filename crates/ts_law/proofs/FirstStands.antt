@@ -47,6 +47,15 @@ nothing_stands spelled = record {
   short_schemas = λ k bytes is. absurd (none-some bytes (sym (none_there (name.Schema k)) ∙ is));
   short_deletes = λ f bytes is. absurd (none-some bytes (sym (none_there (name.Commit f Del)) ∙ is));
   whole = λ f committed. absurd (none_held (wrt_of f) committed);
+  merged = record {
+    reads = λ g bytes committed e. absurd (none_held (wrt_of g) committed);
+    within = λ g f by committed named. absurd (none_held (wrt_of g) by);
+    known = λ g f by named. absurd (none_held (wrt_of g) by);
+    rank = λ f. 0;
+    top = 0;
+    below = λ f committed. absurd (none_held (wrt_of f) committed);
+    falls = λ g f by committed named. absurd (none_held (wrt_of g) by);
+  };
   covered = λ w at. absurd (Contains-nil w at);
 }
 

@@ -1,5 +1,5 @@
 -- The claims of a job stay by the calls of others.
-use Rattle.std.proofs.Common.{List, Some, ap, [], subst, sym, ℕ, ◌++◌, ◌∷◌, ◌≡◌}
+use Rattle.std.proofs.Common.{List, Some, ap, [], refl, subst, sym, ℕ, ◌++◌, ◌∷◌, ◌≡◌}
 use Rattle.ts_base.specs.Held.{Held}
 use Rattle.ts_law.proofs.Objects.{CarryAll, delete_carries, schema_carries, write_carries}
 use Rattle.ts_law.proofs.Stays.{absent_stays, clean_stays, end_stays, getting_deletes_stays, fetching_stays, frame_stays, gathering_stays, has_listed_stays, has_near_stays, new_stays, opening_stays, works_stays}
@@ -14,7 +14,9 @@ use Rattle.ts_model.specs.declared.states.Stage.{Stage}
 use Rattle.ts_model.specs.declared.states.Stage.TheVariants.{ListsLeases, PutsLease, Releases}
 use Rattle.ts_model.specs.declared.states.Stage.TheVariants as stages
 use Rattle.ts_model.specs.States.{begun, list_schemas}
+use Rattle.ts_law.specs.Stands.{vac_of}
 use Rattle.ts_law.specs.Steps.{Keeps}
+use Rattle.ts_law.proofs.VacLaws.{bare_stays}
 use Rattle.ts_model.specs.Told.{Told, after_told, history_told}
 use Rattle.ts_model.specs.declared.answers.Outcome.{Outcome}
 use Rattle.ts_model.specs.declared.commands.Job.{Job}
@@ -87,6 +89,8 @@ module _ {F : Type 0} (codec : Codec F) (spelled : Spelled) (tracks : Tracking F
           (aims-carry codec past jobs seen number job objects end is.aims i o at).0 other (is.free i o from at);
       some = is.some;
       undone = new_stays m (after_told m e) (history_told jobs past seen) (history_told jobs past (seen ++ e ∷ [])) id keeps (key_of job) other is.undone;
+      bare = bare_stays m (after_told m e) (history_told jobs past seen) (history_told jobs past (seen ++ e ∷ [])) id keeps (frag_of_job job)
+          (absent_stays m (after_told m e) (history_told jobs past seen) (history_told jobs past (seen ++ e ∷ [])) id keeps (vac_of (frag_of_job job)) job.id refl other) is.bare;
       aims = aims_stays objects end unlisted is.aims;
     }
 

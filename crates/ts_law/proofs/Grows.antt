@@ -31,7 +31,7 @@ use Rattle.ts_model.proofs.ListLemmas.{Contains-nil, Contains-here, Contains-the
 use Rattle.ts_model.proofs.KeyLemmas.{key_same, key_itself, key_other, greatest-None}
 use Rattle.ts_model.proofs.HistoryLaws.{writes-append, frame_in-append, schema_with-append, absent_from_new, one_write}
 use Rattle.ts_law.specs.Origins.{origins_of, last_of, last_version, made_by, with_key, kept_of, IsHullOfCells, box_in, HoldsWrites, IsReadable}
-use Rattle.ts_law.specs.Stands.{HoldsIn}
+use Rattle.ts_law.specs.Stands.{HoldsIn, Within}
 use Rattle.ts_law.proofs.NewestBy.{key_of_version, last_is, has_cell-version}
 use Rattle.ts_law.proofs.OriginLaws.{key_there, filter_all, made_by_filter, made_by_own}
 
@@ -99,6 +99,16 @@ module _ (h more : History) (new : (w : Written) → Contains (writes more) w �
     holds = holds_grows p is.holds;
   }
 
+  -- what went into both goes on being in both
+  abbrev pub within_grows : (spelled : Spelled) (m : Held) (f g : FragKey) → Within spelled h m f g → Within spelled (h ++ more) m f g
+  within_grows spelled m f g is = record {
+    piece = is.piece;
+    holds = holds_in_grows spelled m f is.piece is.holds;
+    other = is.other;
+    other_holds = holds_in_grows spelled m g is.other is.other_holds;
+    within = is.within;
+  }
+
 -- ---- what is held
 
 -- the parts of a fragment that one map holds another holds too
@@ -121,6 +131,16 @@ holds_on_in spelled h m n f p stay is = record {
     named = (is.spells).named;
   };
   holds = is.holds;
+}
+
+-- so it is of what went into both
+abbrev pub within_on : (spelled : Spelled) (h : History) (m n : Held) (f g : FragKey) → PartsStay m n f → PartsStay m n g → Within spelled h m f g → Within spelled h n f g
+within_on spelled h m n f g first second is = record {
+  piece = is.piece;
+  holds = holds_on_in spelled h m n f is.piece first is.holds;
+  other = is.other;
+  other_holds = holds_on_in spelled h m n g is.other second is.other_holds;
+  within = is.within;
 }
 
 -- ---- an ordinary piece

@@ -37,7 +37,10 @@ use Rattle.ts_model.specs.declared.states.Stage.TheVariants as stages
 use Rattle.ts_model.specs.Codecs.{Codec, Spelled, Tracking}
 use Rattle.ts_model.specs.Deeds.{History}
 use Rattle.ts_model.specs.Driven.{MayAsk}
-use Rattle.ts_model.specs.Jobs.{key_of}
+use Rattle.ts_model.specs.Jobs.{frag_of_job, key_of}
+use Rattle.ts_base.specs.Keys.{frag_of}
+use Rattle.ts_law.proofs.Objects.{apart_from_lease}
+use Rattle.ts_law.proofs.VacLaws.{MarksNone, bare_stays, merged_beside, named_beside}
 use Rattle.ts_model.specs.States.{Exchange, asks, begun, goes, is_over, made_by}
 use Rattle.ts_model.specs.Stages.{after_lease, after_leases, end_at, is_release, is_removal, lease_of, list_leases, mode_of, on_verdict, put_lease, released, settled, stage_asks, stage_goes}
 use Rattle.ts_model.specs.Told.{IsReplied, Told, after_told, declared_by, deed_in, deed_of, deleted_by, history_told, schemas_found, trace_of, written_by}
@@ -48,7 +51,7 @@ use Rattle.ts_model.proofs.Traces.{deed_told_own, later_no_deed}
 use Rattle.ts_law.specs.Ends.{IsTrueEnd, IsUndone}
 use Rattle.ts_law.specs.Fresh.{id_in}
 use Rattle.ts_law.specs.Kept.{Claims, Clean, IsBefore, StageClaims}
-use Rattle.ts_law.specs.Stands.{HoldsIn, IsNoLease, Stands}
+use Rattle.ts_law.specs.Stands.{HoldsIn, IsNoLease, Stands, vac_of}
 use Rattle.ts_law.specs.Steps.{Advances, Comes, Keeps, Leads, StageAdvances, StageComes}
 use Rattle.ts_law.proofs.Effects.{Added, IsLook, PutWent, Still, keeps_still, look_history, look_leads, look_stays, put_went}
 use Rattle.ts_law.proofs.Grows.{holds_on_in}
@@ -93,6 +96,13 @@ no_lease_apart k mode n none same = subst IsNoLease same none
 
 -- ---- objects that stand beside leases
 
+-- the put of a lease commits nothing
+marks_lease : (m : Held) (k : Key) (mode : LeaseMode) → MarksNone m (name.Lease k mode)
+marks_lease m k mode = record { no_vac = λ g e. cc; bare = λ f e. absurd (no_wrt f e) }
+  where
+    no_wrt : (f : _) → wrt_of f ≡ name.Lease k mode → ⊥
+    no_wrt f e = cc
+
 module _ (spelled : Spelled) (m m' : Held) (same : (n : Name) → IsNoLease n → map.get m' n ≡ map.get m n) where
   -- what a fragment holds it holds where only leases differ
   beside : (h : History) (f : FragKey) {p : _} → HoldsIn spelled h m f p → HoldsIn spelled h m' f p
@@ -109,9 +119,10 @@ module _ (spelled : Spelled) (m m' : Held) (same : (n : Name) → IsNoLease n �
     short_schemas = λ k bytes is. stands.short_schemas k bytes (sym (same (name.Schema k) tt) ∙ is);
     short_deletes = λ f bytes is. stands.short_deletes f bytes (sym (same (name.Commit f Del) tt) ∙ is);
     whole = λ f committed. let own = stands.whole f (ap is_some (sym (same (wrt_of f) tt)) ∙ committed) in (own.0, beside h f own.1, own.2);
+    merged = merged_beside m m' same spelled h stands.merged;
     covered = λ w at.
         let own = stands.covered w at in
-        (own.0, ap is_some (same (wrt_of own.0) tt) ∙ own.1, record { piece = own.2.piece; holds = beside h own.0 own.2.holds; origin = own.2.origin });
+        (ap is_some (same (wrt_of (frag_of w.key)) tt) ∙ own.0, record { piece = own.1.piece; holds = beside h (frag_of w.key) own.1.holds; origin = own.1.origin });
   }
 
 -- ---- a removal
@@ -169,6 +180,7 @@ module _ (spelled : Spelled) (past : History) (jobs : List Job) (seen : List Tol
           leaves = record {
             keeps = λ n bytes stays held. same n stays ∙ held;
             adds = λ n bytes held. inl (was_held (name.Lease (key_of job) mode) called n bytes (is_no_memory e.reply) held);
+            names = named_beside m m' same;
             more = [];
             grows = same_history ∙ sym (append-nil h);
             come = λ k at. absurd (Contains-nil k at);
@@ -188,19 +200,19 @@ module _ (spelled : Spelled) (past : History) (jobs : List Job) (seen : List Tol
       let called : e.call ≡ put_lease l = is ∙ ap put_lease named in
       let same_history = deedless (put_lease l) called refl in
       let none : map.get m l ≡ None = ap (map.get m) (sym named) ∙ free in
-      (same_history, by_way l refl (λ n no_lease. no_lease_apart (key_of job) mode n no_lease) same_history (put_went m l [] e called replied))
+      (same_history, by_way l refl (marks_lease m (key_of job) mode) (λ n no_lease. no_lease_apart (key_of job) mode n no_lease) same_history (put_went m l [] e called replied))
     where
       Carries : Name → Type 0
       Carries l = id_in l ≡ Some job.id
 
-      by_way : (l : Name) → Carries l → ((n : Name) → IsNoLease n → n ≡ l → ⊥) → h' ≡ h → PutWent m l [] m' e.changed e.reply → Leads spelled past jobs seen e m job.id
-      by_way l carries apart same_history (Added free' later changed said) =
+      by_way : (l : Name) → Carries l → MarksNone m l → ((n : Name) → IsNoLease n → n ≡ l → ⊥) → h' ≡ h → PutWent m l [] m' e.changed e.reply → Leads spelled past jobs seen e m job.id
+      by_way l carries marks apart same_history (Added free' later changed said) =
           let same : (n : Name) → IsNoLease n → map.get m' n ≡ map.get m n = λ n no_lease. ap (λ x. map.get x n) later ∙ get_apart m l [] n (apart n no_lease) in
           record {
             stands = subst (Stands spelled m') (sym same_history) (stands_beside spelled m m' same h stands);
-            leaves = subst (λ x. Keeps m x h h' job.id) (sym later) (subst (λ g. Keeps m (map.insert m l []) h g job.id) (append-nil h ∙ sym same_history) (keeps_put m h l [] job.id [] free' (inl carries) (λ k at. absurd (Contains-nil k at))));
+            leaves = subst (λ x. Keeps m x h h' job.id) (sym later) (subst (λ g. Keeps m (map.insert m l []) h g job.id) (append-nil h ∙ sym same_history) (keeps_put m h l [] job.id [] free' marks (inl carries) (λ k at. absurd (Contains-nil k at))));
           }
-      by_way l carries apart same_history (Still later changed made taken) = record {
+      by_way l carries marks apart same_history (Still later changed made taken) = record {
         stands = subst (Stands spelled m') (sym same_history) (subst (λ x. Stands spelled x h) (sym later) stands);
         leaves = keeps_still m m' h h' job.id later same_history;
       }
@@ -415,6 +427,8 @@ module _ {F : Type 0} (codec : Codec F) (spelled : Spelled) (tracks : Tracking F
             let clean_later : Clean (after_told m e) (history_told jobs past (seen ++ e ∷ [])) job = record {
               free = λ n carries apart. put_apart lease went n (λ same. apart (some ∙ ap Some (sym same))) ∙ clean.free n carries apart;
               undone = undone;
+              bare = bare_stays m (after_told m e) (history_told jobs past seen) (history_told jobs past (seen ++ e ∷ [])) job.id (leads.1).leaves (frag_of_job job)
+                  (λ none. put_apart lease went (vac_of (frag_of_job job)) (λ same. apart_from_lease job (vac_of (frag_of_job job)) tt (some ∙ ap Some (sym same))) ∙ none) clean.bare;
             } in
             let before_later = begun_on codec spelled tracks opening past jobs seen (seen ++ e ∷ []) m (after_told m e) number job lease some clean_later before in (
               leads.1,

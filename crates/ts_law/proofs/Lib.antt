@@ -6,6 +6,7 @@ pub mod OriginLaws
 pub mod MergingLaw
 pub mod TakenWhole
 pub mod Grows
+pub mod VacLaws
 pub mod Stays
 pub mod Frames
 pub mod Spawns

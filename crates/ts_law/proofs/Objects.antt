@@ -169,5 +169,6 @@ begins_putting codec past jobs told n number job objects end clean carry some ai
   free = λ i o behind at. let carries = carry i o at in clean.free o.name carries.0 (apart_from_lease job o.name carries.1);
   some = some;
   undone = clean.undone;
+  bare = clean.bare;
   aims = aims;
 }

@@ -34,7 +34,7 @@ use Rattle.ts_model.specs.Jobs.{AreApart, IsFit, deletion_as, frag_of_job, key_o
 use Rattle.ts_law.specs.Kept.{Claims, Clean, Putting, Works}
 use Rattle.ts_model.specs.Pieces.{HoldsWrite, IsOrdinary}
 use Rattle.ts_model.specs.Queries.{delete_condition}
-use Rattle.ts_law.specs.Stands.{Spells, Stands}
+use Rattle.ts_law.specs.Stands.{Spells, Stands, vac_of}
 use Rattle.ts_law.specs.Origins.{box_in}
 use Rattle.ts_domain.specs.Boxes.{is_in_box}
 use Rattle.ts_law.proofs.Grows.{piece_box}
@@ -65,7 +65,8 @@ use Rattle.ts_model.proofs.Laying.{laid_follows}
 use Rattle.ts_model.proofs.ListLemmas.{Contains-here, Contains-nil, Contains-only}
 use Rattle.ts_law.proofs.Objects.{ACommit, APart, begins_putting, delete_carries, last_at, look_finds, object_count, objects_apart, objects_of, part_count, part_here, part_object, put_at, schema_carries, write_carries}
 use Rattle.ts_law.proofs.QueryRefusals.{FailsByQuery, delete_condition_fails, query_true}
-use Rattle.ts_law.proofs.StandsLaws.{declared_last, free_from_get, keeps_put, leads_at, stands_commit, stands_delete, stands_put, stands_schema}
+use Rattle.ts_law.proofs.StandsLaws.{declared_last, free_from_get, keeps_put, leads_at, marks_delete, marks_part, marks_schema, marks_wrt, stands_commit, stands_delete, stands_put, stands_schema}
+use Rattle.ts_law.proofs.VacLaws.{MarksNone, bare_stays}
 use Rattle.ts_law.proofs.Stays.{frame_stays, listed_stays, works_stays}
 use Rattle.ts_model.proofs.Traces.{deed_told_own, later_deed, later_no_deed, later_unchanged}
 use Rattle.ts_store.specs.declared.call.Call.TheVariants as call
@@ -169,7 +170,7 @@ module _ {F : Type 0} (codec : Codec F) (spelled : Spelled) (tracks : Tracking F
       let leads = leads_at spelled past jobs seen e m job.id _ _ same_held same_history
       (stands_schema spelled m h (schema_of_job job attrs) free follows
       (subst IsShortCall (put_asked (schema_object_of job attrs ∷ []) 0 end (schema_object_of job attrs) refl c) c.short) c.stands)
-      (keeps_put m h (schema_name job) (schema_object attrs) job.id (Declared (schema_of_job job attrs) ∷ []) free (inl refl) (λ k own. ap (λ l. l.id) (sym (Contains-only (key_of job) k own)))) in
+      (keeps_put m h (schema_name job) (schema_object attrs) job.id (Declared (schema_of_job job attrs) ∷ []) free (marks_schema m (key_of job)) (inl refl) (λ k own. ap (λ l. l.id) (sym (Contains-only (key_of job) k own)))) in
       (leads, ends leads.leaves (ap (λ g. schema_with g (key_of job)) same_history ∙ declared_last spelled m h (schema_of_job job attrs) free c.stands), inl refl))
 
   -- of one object only the first is put
@@ -296,7 +297,7 @@ module _ {F : Type 0} (codec : Codec F) (spelled : Spelled) (tracks : Tracking F
         leads = leads_at spelled past jobs seen e m job.id (map.insert m (del_of (key_of job)) (cond_object condition)) (h ++ Erased own_deletion ∷ []) same_held same_history
             (stands_delete spelled m h own_deletion free (deletion_follows c.fit (c.stands).history (c.claims).undone)
             (subst IsShortCall (put_asked (own_object ∷ []) 0 deleted own_object refl c) c.short) c.stands)
-            (keeps_put m h (del_of (key_of job)) (cond_object condition) job.id (Erased own_deletion ∷ []) free (inl refl) (λ k own. ap (λ l. l.id) (sym (Contains-only (key_of job) k own))))
+            (keeps_put m h (del_of (key_of job)) (cond_object condition) job.id (Erased own_deletion ∷ []) free (marks_delete m (key_of job)) (inl refl) (λ k own. ap (λ l. l.id) (sym (Contains-only (key_of job) k own))))
 
         erased : IsDeleted jobs past (seen ++ e ∷ []) number job
         erased = record {
@@ -363,7 +364,7 @@ module _ {F : Type 0} (codec : Codec F) (spelled : Spelled) (tracks : Tracking F
         leads : LeadsHere
         leads = leads_at spelled past jobs seen e m job.id (map.insert m o.name o.bytes) h same_held same_history stands
             (subst (λ g. Keeps m (map.insert m o.name o.bytes) h g job.id) (append-nil h)
-            (keeps_put m h o.name o.bytes job.id [] free (inl (write_carries frag own_parts next o at).0) (λ k none. absurd (Contains-nil k none))))
+            (keeps_put m h o.name o.bytes job.id [] free (subst (λ (y : NewObject). MarksNone m y.name) (sym same) (marks_part m frag x.part)) (inl (write_carries frag own_parts next o at).0) (λ k none. absurd (Contains-nil k none))))
 
         undone : IsUndone h' job
         undone = subst (λ g. IsUndone g job) (sym same_history) (c.claims).undone
@@ -380,6 +381,9 @@ module _ {F : Type 0} (codec : Codec F) (spelled : Spelled) (tracks : Tracking F
         same_object : (i : ℕ) (y : NewObject) → i ≡ next → slice_get own_objects i ≡ Some y → o ≡ y
         same_object i y here found = same_Some o y (sym at ∙ ap (slice_get own_objects) (sym here) ∙ found)
 
+        no_part : vac_of frag ≡ name.Part frag x.part → ⊥
+        no_part one = cc
+
         putting_on : Putting codec past jobs (seen ++ e ∷ []) m' number job own_objects (suc next) own_end
         putting_on = record {
           held = λ i y before found. let within : i ≤ next = omega arith in elim (eq-or-lt_of_le within) [
@@ -393,6 +397,7 @@ module _ {F : Type 0} (codec : Codec F) (spelled : Spelled) (tracks : Tracking F
           free = λ i y behind found. got_later y.name (λ one. let here = own_apart i next y o found at one in omega arith) ((c.claims).free i y (omega arith) found);
           some = more;
           undone = undone;
+          bare = bare_stays m m' h h' job.id leads.leaves frag (got_later (vac_of frag) (λ one. no_part (one ∙ ap (λ (y : NewObject). y.name) same))) (c.claims).bare;
           aims = (
             w,
             frame,
@@ -487,9 +492,9 @@ module _ {F : Type 0} (codec : Codec F) (spelled : Spelled) (tracks : Tracking F
       where
         leads : LeadsHere
         leads = leads_at spelled past jobs seen e m job.id (map.insert m (wrt_of frag) []) (h ++ Wrote own_write ∷ []) same_held same_history
-            (stands_commit spelled m h own_write frame there own_piece free (own_follows c.fit (c.stands).history (c.claims).undone) framed works.declared
+            (stands_commit spelled m h own_write frame there own_piece free (c.claims).bare (own_follows c.fit (c.stands).history (c.claims).undone) framed works.declared
             (own_ordinary c.fit (c.stands).history).dense (own_spells c) (own_holds c.fit (c.stands).history) (own_box c.fit (c.stands).history) c.stands)
-            (keeps_put m h (wrt_of frag) [] job.id (Wrote own_write ∷ []) free (inl refl) (λ k own. ap (λ l. l.id) (sym (Contains-only (key_of job) k own))))
+            (keeps_put m h (wrt_of frag) [] job.id (Wrote own_write ∷ []) free (marks_wrt m frag (c.claims).bare) (inl refl) (λ k own. ap (λ l. l.id) (sym (Contains-only (key_of job) k own))))
 
         no_more : nat_lt (suc (length own_parts)) (length own_objects) ≡ false
         no_more = ap (nat_lt (suc (length own_parts))) (object_count frag own_parts) ∙ le-ltb (suc (length own_parts)) (suc (length own_parts)) (omega arith)

@@ -19,7 +19,8 @@ use Rattle.ts_cond.specs.Tests.{Condition}
 use Rattle.ts_domain.specs.Dims.{domain_fault}
 use Rattle.ts_domain.specs.declared.dims.DomainFault.{DomainFault}
 use Rattle.ts_law.proofs.HeldLemmas.{Holds-from_get}
-use Rattle.ts_model.proofs.HistoryLaws.{keys-append, new_from_absent}
+use Rattle.ts_model.proofs.HistoryLaws.{absent_from_new, keys-append, new_from_absent}
+use Rattle.ts_model.proofs.KeyLemmas.{key_of_frag}
 use Rattle.ts_model.proofs.ListLemmas.{Contains-nil, Contains-only, filter_map-Contains, find-append, or_else, slice_get_push}
 use Rattle.ts_model.specs.Answers.{IsAnswer}
 use Rattle.ts_model.specs.Commands.{create_refusal, frame_made, laid}
@@ -27,9 +28,9 @@ use Rattle.ts_model.specs.Deeds.{History, IsNewKey, deletions, frame_in, key_in,
 use Rattle.ts_law.specs.Ends.{HasDeclared, IsCreated, IsTrueEnd, IsTrueRefusal, IsUndone, ListedAt}
 use Rattle.ts_model.specs.Codecs.{Codec, Spelled, Tracking}
 use Rattle.ts_law.specs.Fresh.{IsCarried, IsNewId, id_in}
-use Rattle.ts_model.specs.Jobs.{AreApart, IsFit, deletion_as, job_with, key_of, looked_at, schema_of_job, written_as}
+use Rattle.ts_model.specs.Jobs.{AreApart, IsFit, deletion_as, frag_of_job, job_with, key_of, looked_at, schema_of_job, written_as}
 use Rattle.ts_law.specs.Kept.{Aims, AreDeletions, AreGot, AreOpen, AreSchemas, Claims, Clean, GettingDeletes, Fetching, Gathering, HasListed, HasLooked, IsOfJobs, Kept, LooksInto, OnWay, Opening, Putting, ReadsAt, ReadsIn, StageClaims, Works, heads_of}
-use Rattle.ts_law.specs.Stands.{Stands}
+use Rattle.ts_law.specs.Stands.{IsBare, vac_of, Stands}
 use Rattle.ts_model.specs.States.{begun, keys_named, made_by, unless_refused}
 use Rattle.ts_model.specs.Stages.{begins_at, first_stage, lease_of, stage_of}
 use Rattle.ts_model.specs.declared.states.Stage.{Stage}
@@ -447,6 +448,7 @@ module _ (jobs : List Job) (job : Job) where
       free = is.free;
       some = is.some;
       undone = subst (λ g. IsUndone g j) now is.undone;
+      bare = is.bare;
       aims = aims_more objects end is.aims;
     }
 
@@ -559,6 +561,17 @@ module _ (jobs : List Job) (job : Job) where
       ]
     ]
 
+    -- its fragment is in no `.vac`
+    bare_new : IsBare m (frag_of_job job)
+    bare_new = record {
+      none = new_is_free m past job.id is.free (vac_of (frag_of_job job)) refl;
+      unnamed = λ g committed named. elim (((kept.stands).merged).known g (frag_of_job job) committed named) [
+        | inl deed ↦ absent_from_new (history_told jobs past seen) (key_of job) (new_key m past jobs seen job is)
+            (subst (Contains (keys (history_told jobs past seen))) (sym (key_of_frag (key_of job) deed.0 deed.2)) deed.1)
+        | inr object ↦ is.free (inr (object.0, object.2, object.3))
+      ];
+    }
+
     -- the claims of the job that comes
     new_claims : StageClaims codec spelled tracks opening past all seen m (length jobs) job (first_stage job)
     new_claims = by_lease (lease_of job) refl
@@ -567,6 +580,7 @@ module _ (jobs : List Job) (job : Job) where
         begins = begun_claims codec spelled tracks opening m past all seen (length jobs) job (record {
           free = λ n carries _. new_is_free m past job.id is.free n carries;
           undone = subst (λ g. IsNewKey g (key_of job)) (sym (history_more past seen kept.known)) (new_key m past jobs seen job is);
+          bare = bare_new;
         }) job.command refl
 
         by_lease : (o : Option Name) → lease_of job ≡ o → StageClaims codec spelled tracks opening past all seen m (length jobs) job (begins_at o (begun job.command))

@@ -33,7 +33,7 @@ use Rattle.ts_model.specs.Deeds.{History, schema_in, deletion_in, frame_in, sche
 use Rattle.ts_model.specs.Pieces.{HoldsWrite}
 use Rattle.ts_model.specs.Codecs.{Spelled}
 use Rattle.ts_law.specs.Origins.{IsReadable, box_in}
-use Rattle.ts_law.specs.Stands.{IsCommitted, Spells, HoldsIn, WentInto, Stands}
+use Rattle.ts_law.specs.Stands.{IsBare, IsCommitted, Spells, HoldsIn, WentInto, Stands}
 use Rattle.ts_law.specs.Fresh.{id_in}
 use Rattle.ts_law.specs.Steps.{Keeps, Leads}
 use Rattle.ts_model.specs.declared.commands.Job.{Job}
@@ -42,6 +42,7 @@ use Rattle.ts_model.proofs.ListLemmas.{Contains-nil, Contains-here, Contains-onl
 use Rattle.ts_model.proofs.KeyLemmas.{frag_itself, frag_same, key_itself, key_same, same_from_tie}
 use Rattle.ts_model.proofs.HistoryLaws.{writes-append, frame_in-append, schema_with-append, IsHistory-push, no_deeds}
 use Rattle.ts_law.proofs.HeldLemmas.{Holds, Holds-from_get, get_put, get_apart, held_before, stays_held, holds_stays}
+use Rattle.ts_law.proofs.VacLaws.{MarksNone, merged_grows, named_before}
 use Rattle.ts_law.proofs.Grows.{PartsStay, holds_on_in, holds_in_grows, ordinary_holds, ordinary_readable, origin_is}
 
 -- ---- histories that grow
@@ -98,18 +99,51 @@ get_before m n bytes q kept held = elim (eq_by_cmp name_cmp q n) as (λ b. eq_by
     ] refl (sym (map.get-insert name_total m n bytes q) ∙ held)
 
 -- a put of a new object leaves the rest alone, and deeds of its identifier may come with it
-pub keeps_put : (m : Held) (h : History) (n : Name) (bytes : List ℕ) (id : ℕ) (more : History) → (Holds m n → ⊥) → (id_in n ≡ Some id) ⊎ (n ≡ name.Domain)
+pub keeps_put : (m : Held) (h : History) (n : Name) (bytes : List ℕ) (id : ℕ) (more : History) → (Holds m n → ⊥) → MarksNone m n → (id_in n ≡ Some id) ⊎ (n ≡ name.Domain)
     → ((k : Key) → Contains (keys more) k → k.id ≡ id) → Keeps m (map.insert m n bytes) h (h ++ more) id
-keeps_put m h n bytes id more free carries come = record {
+keeps_put m h n bytes id more free marks carries come = record {
   keeps = λ q kept _ e. stays_held m n bytes q kept free e;
   adds = λ q kept held. elim (get_before m n bytes q kept held) [
     | inl before ↦ inl before
     | inr same ↦ inr (subst (λ p. (id_in p ≡ Some id) ⊎ (p ≡ name.Domain)) (sym same.0) carries)
   ];
+  names = named_before m n bytes free marks;
   more = more;
   grows = refl;
   come = come;
 }
+
+-- a name that is none of a commit marks none
+pub marks_domain : (m : Held) → MarksNone m name.Domain
+marks_domain m = record { no_vac = λ g e. cc; bare = λ f e. absurd (no_wrt f e) }
+  where
+    no_wrt : (f : FragKey) → wrt_of f ≡ name.Domain → ⊥
+    no_wrt f e = cc
+
+pub marks_schema : (m : Held) (k : Key) → MarksNone m (name.Schema k)
+marks_schema m k = record { no_vac = λ g e. cc; bare = λ f e. absurd (no_wrt f e) }
+  where
+    no_wrt : (f : FragKey) → wrt_of f ≡ name.Schema k → ⊥
+    no_wrt f e = cc
+
+pub marks_part : (m : Held) (g : FragKey) (part : Part) → MarksNone m (name.Part g part)
+marks_part m g part = record { no_vac = λ g e. cc; bare = λ f e. absurd (no_wrt f e) }
+  where
+    no_wrt : (f : FragKey) → wrt_of f ≡ name.Part g part → ⊥
+    no_wrt f e = cc
+
+pub marks_delete : (m : Held) (k : Key) → MarksNone m (del_of k)
+marks_delete m k = record { no_vac = λ g e. cc; bare = λ f e. absurd (no_wrt f e) }
+  where
+    no_wrt : (f : FragKey) → wrt_of f ≡ del_of k → ⊥
+    no_wrt f e = cc
+
+-- nor does a `.wrt` of a fragment that is in no `.vac`
+pub marks_wrt : (m : Held) (f : FragKey) → IsBare m f → MarksNone m (wrt_of f)
+marks_wrt m f bare = record { no_vac = λ g e. cc; bare = λ g same. subst (IsBare m) (sym (one_frag g same)) bare }
+  where
+    one_frag : (g : FragKey) → wrt_of g ≡ wrt_of f → g ≡ f
+    one_frag g same = cc
 
 -- ---- what stands after a put
 
@@ -118,7 +152,7 @@ abbrev IsWhole : Spelled → History → Held → FragKey → Type 0
 IsWhole spelled h m f = (p : Piece) × HoldsIn spelled h m f p × IsReadable p.head
 
 abbrev IsCovered : Spelled → History → Held → Written → Type 0
-IsCovered spelled h m w = (f : FragKey) × IsCommitted m f × WentInto spelled h m f w.key
+IsCovered spelled h m w = IsCommitted m (frag_of w.key) × WentInto spelled h m (frag_of w.key) w.key
 
 module _ (spelled : Spelled) (m : Held) (h : History) (n : Name) (bytes : List ℕ) (more : History) (free : Holds m n → ⊥) (stands : Stands spelled m h) where
   -- what is held after the put
@@ -149,8 +183,8 @@ module _ (spelled : Spelled) (m : Held) (h : History) (n : Name) (bytes : List �
   covered_grows new w at come = elim (Contains-append_cases (writes h) (writes more) w (subst (λ ws. Contains ws w) (writes-append h more) at)) [
     | inl before ↦
         let is = stands.covered w before in
-        let went = is.2 in
-        (is.0, holds_stays m n bytes (wrt_of is.0) free is.1, record { piece = went.piece; holds = in_grows new is.0 went.piece went.holds; origin = went.origin })
+        let went = is.1 in
+        (holds_stays m n bytes (wrt_of (frag_of w.key)) free is.0, record { piece = went.piece; holds = in_grows new (frag_of w.key) went.piece went.holds; origin = went.origin })
     | inr own ↦ come own
   ]
 
@@ -201,6 +235,7 @@ stands_put spelled m h f part bytes free short stands = subst (Stands spelled (m
   short_schemas = short_schemas_grow spelled m h (name.Part f part) bytes [] free stands short;
   short_deletes = short_deletes_grow spelled m h (name.Part f part) bytes [] free stands short;
   whole = λ g committed. whole_grows spelled m h (name.Part f part) bytes [] free stands (λ v none. absurd (Contains-nil v none)) g committed (λ e. cc);
+  merged = merged_grows m (name.Part f part) bytes free (marks_part m f part) spelled h [] (λ v none. absurd (Contains-nil v none)) stands.merged;
   covered = λ w at. covered_grows spelled m h (name.Part f part) bytes [] free stands (λ v none. absurd (Contains-nil v none)) w at (λ none. absurd (Contains-nil w none));
 })
 
@@ -234,6 +269,7 @@ stands_frame spelled m h frame free is short stands = record {
   short_schemas = short_schemas_grow spelled m h name.Domain (frame_object frame) (Framed frame ∷ []) free stands short;
   short_deletes = short_deletes_grow spelled m h name.Domain (frame_object frame) (Framed frame ∷ []) free stands short;
   whole = λ f committed. whole_grows spelled m h name.Domain (frame_object frame) (Framed frame ∷ []) free stands (λ v none. absurd (Contains-nil v none)) f committed (λ e. cc);
+  merged = merged_grows m name.Domain (frame_object frame) free (marks_domain m) spelled h (Framed frame ∷ []) (λ v none. absurd (Contains-nil v none)) stands.merged;
   covered = λ w at. covered_grows spelled m h name.Domain (frame_object frame) (Framed frame ∷ []) free stands (λ v none. absurd (Contains-nil v none)) w at (λ none. absurd (Contains-nil w none));
 }
 
@@ -268,6 +304,7 @@ stands_schema spelled m h s free follows short stands = record {
   short_schemas = short_schemas_grow spelled m h (name.Schema s.key) (schema_object s.attrs) (Declared s ∷ []) free stands short;
   short_deletes = short_deletes_grow spelled m h (name.Schema s.key) (schema_object s.attrs) (Declared s ∷ []) free stands short;
   whole = λ f committed. whole_grows spelled m h (name.Schema s.key) (schema_object s.attrs) (Declared s ∷ []) free stands (λ v none. absurd (Contains-nil v none)) f committed (λ e. cc);
+  merged = merged_grows m (name.Schema s.key) (schema_object s.attrs) free (marks_schema m s.key) spelled h (Declared s ∷ []) (λ v none. absurd (Contains-nil v none)) stands.merged;
   covered = λ w at. covered_grows spelled m h (name.Schema s.key) (schema_object s.attrs) (Declared s ∷ []) free stands (λ v none. absurd (Contains-nil v none)) w at (λ none. absurd (Contains-nil w none));
 }
   where
@@ -290,7 +327,7 @@ short_nothing : IsShort []
 short_nothing = omega arith
 
 -- the write whose `.wrt` is put is a deed, where its parts spell it
-module _ (spelled : Spelled) (m : Held) (h : History) (w : Written) (frame : Frame) (schema : Schema) (p : Piece) (free : Holds m (wrt_of (frag_of w.key)) → ⊥) (follows : WriteFollows h w)
+module _ (spelled : Spelled) (m : Held) (h : History) (w : Written) (frame : Frame) (schema : Schema) (p : Piece) (free : Holds m (wrt_of (frag_of w.key)) → ⊥) (bare : IsBare m (frag_of w.key)) (follows : WriteFollows h w)
     (framed : frame_in h ≡ Some frame) (declared : schema_with h w.schema ≡ Some schema) (dense : p.head.dense ≡ frame.dense) (spells : Spells spelled m frame schema (frag_of w.key) p)
     (holds : HoldsWrite w p) (box : p.head.dense ≡ true → (c : List ℤ) → has_cell c w ≡ is_in_box (box_in p.head) c) (stands : Stands spelled m h) where
   -- the fragment of the write
@@ -338,7 +375,6 @@ module _ (spelled : Spelled) (m : Held) (h : History) (w : Written) (frame : Fra
   -- it is in its fragment
   own_went : IsCovered spelled (h ++ come) then_held w
   own_went = (
-    own,
     Holds-from_get then_held (wrt_of own) [] (get_put m (wrt_of own) []),
     record { piece = p; holds = own_holds; origin = origin_is (h ++ come) is_history w written p holds box w.key ∙ key_itself w.key },
   )
@@ -354,6 +390,7 @@ module _ (spelled : Spelled) (m : Held) (h : History) (w : Written) (frame : Fra
     short_deletes = short_deletes_grow spelled m h (wrt_of own) [] come free stands short_nothing;
     whole = λ f committed. whole_grows spelled m h (wrt_of own) [] come free stands fresh f committed
         (λ same. subst (IsWhole spelled (h ++ come) then_held) (sym (frag_of_wrt f own same)) (p, own_holds, ordinary_readable w p holds));
+    merged = merged_grows m (wrt_of own) [] free (marks_wrt m own bare) spelled h come fresh stands.merged;
     covered = λ v at. covered_grows spelled m h (wrt_of own) [] come free stands fresh v at (λ one. subst (IsCovered spelled (h ++ come) then_held) (Contains-only w v one) own_went);
   }
 
@@ -388,6 +425,7 @@ stands_delete spelled m h x free follows short stands = record {
   short_schemas = short_schemas_grow spelled m h (del_of x.key) (cond_object x.cond) (Erased x ∷ []) free stands short;
   short_deletes = short_deletes_grow spelled m h (del_of x.key) (cond_object x.cond) (Erased x ∷ []) free stands short;
   whole = λ f committed. whole_grows spelled m h (del_of x.key) (cond_object x.cond) (Erased x ∷ []) free stands (λ v none. absurd (Contains-nil v none)) f committed (λ e. cc);
+  merged = merged_grows m (del_of x.key) (cond_object x.cond) free (marks_delete m x.key) spelled h (Erased x ∷ []) (λ v none. absurd (Contains-nil v none)) stands.merged;
   covered = λ w at. covered_grows spelled m h (del_of x.key) (cond_object x.cond) (Erased x ∷ []) free stands (λ v none. absurd (Contains-nil v none)) w at (λ none. absurd (Contains-nil w none));
 }
   where

@@ -17,10 +17,12 @@ use Rattle.ts_model.specs.Deeds.{History, IsNewKey, deletions, frame_in, keys, s
 use Rattle.ts_law.specs.Ends.{HasDeclared, IsTrueEnd, IsTrueRefusal, ListedAt}
 use Rattle.ts_model.specs.Codecs.{Codec, Spelled}
 use Rattle.ts_law.specs.Fresh.{id_in}
-use Rattle.ts_model.specs.Jobs.{deletion_as, key_of, schema_of_job, written_as}
+use Rattle.ts_model.specs.Jobs.{deletion_as, frag_of_job, key_of, schema_of_job, written_as}
 use Rattle.ts_law.specs.Kept.{AreDeletions, AreSchemas, Clean, GettingDeletes, Fetching, Gathering, HasListed, HasLooked, LooksInto, Opening, ReadsAt, ReadsIn, Since, Works}
 use Rattle.ts_model.specs.States.{keys_named, list_schemas}
+use Rattle.ts_law.specs.Stands.{vac_of}
 use Rattle.ts_law.specs.Steps.{Keeps}
+use Rattle.ts_law.proofs.VacLaws.{bare_stays}
 use Rattle.ts_model.specs.Told.{Told, history_told}
 use Rattle.ts_model.specs.declared.answers.Outcome.{Outcome}
 use Rattle.ts_model.specs.declared.answers.Refusal.{Refusal}
@@ -88,6 +90,7 @@ module _ (m m' : Held) (h h' : History) (id : ℕ) (keeps : Keeps m m' h h' id) 
   clean_stays job other clean = record {
     free = λ n carries apart. absent_stays n job.id carries other (clean.free n carries apart);
     undone = new_stays (key_of job) other clean.undone;
+    bare = bare_stays m m' h h' id keeps (frag_of_job job) (absent_stays (vac_of (frag_of_job job)) job.id refl other) clean.bare;
   }
 
   -- what a refusal tells stays

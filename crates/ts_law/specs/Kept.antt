@@ -51,7 +51,7 @@ use Rattle.ts_model.specs.States.{delete_object_of, schema_object_of, write_obje
 use Rattle.ts_model.specs.Stages.{lease_of, stage_of}
 use Rattle.ts_model.specs.Codecs.{Codec, Spelled, Tracking}
 use Rattle.ts_model.specs.Jobs.{key_of, frag_of_job, AreFit, AreApart, looked_at, job_with}
-use Rattle.ts_law.specs.Stands.{HoldsIn, IsNoLease, Stands}
+use Rattle.ts_law.specs.Stands.{HoldsIn, IsBare, IsNoLease, Stands}
 use Rattle.ts_law.specs.Origins.{last_version, newest_at, wrote_in}
 use Rattle.ts_commit.specs.Selections.{is_usable}
 use Rattle.ts_law.specs.Ends.{ListedAt, IsUndone, IsTrueEnd}
@@ -63,10 +63,11 @@ use Rattle.std.specs.FinMap as map
 
 -- ---- what a job found so far
 
--- no object that is held carries the identifier of a job, its own lease aside, and no deed has its key
+-- no object that is held carries the identifier of a job, its own lease aside, no deed has its key, and its fragment is in no `.vac`
 pub record Clean (m : Held) (h : History) (job : Job) : Type 0 where
   pub free : (n : Name) → id_in n ≡ Some job.id → (lease_of job ≡ Some n → ⊥) → map.get m n ≡ None
   pub undone : IsUndone h job
+  pub bare : IsBare m (frag_of_job job)
 
 -- the schema that a job works in: at its listing of the schemas it was the one that held where the job looks, and it is a deed; no deed of the job was there
 pub record Works (past : History) (jobs : List Job) (seen : List Told) (number : ℕ) (job : Job) (there : Schema) : Type 0 where
@@ -206,13 +207,14 @@ Aims codec past jobs seen number job objects (outcome.Deleted f) =
     × (frame_in (history_told jobs past seen) ≡ Some frame) × (delete_condition frame there.attrs text ≡ Ok condition) × Works past jobs seen number job there
 Aims codec past jobs seen number job objects _ = ⊥
 
--- a job that puts objects: it put those before a place, and none from there on is held; no deed has its key
+-- a job that puts objects: it put those before a place, and none from there on is held; no deed has its key, and its fragment is in no `.vac`
 pub record Putting {F : Type 0} (codec : Codec F) (past : History) (jobs : List Job) (seen : List Told) (m : Held) (number : ℕ) (job : Job) (objects : List NewObject) (next : ℕ) (end : Outcome) : Type 0 where
   pub held : (i : ℕ) (o : NewObject) → i < next → slice_get objects i ≡ Some o → map.get m o.name ≡ Some o.bytes
   pub short : (i : ℕ) (o : NewObject) → i < next → slice_get objects i ≡ Some o → IsShort o.bytes
   pub free : (i : ℕ) (o : NewObject) → next ≤ i → slice_get objects i ≡ Some o → map.get m o.name ≡ None
   pub some : next < length objects
   pub undone : IsUndone (history_told jobs past seen) job
+  pub bare : IsBare m (frag_of_job job)
   pub aims : Aims codec past jobs seen number job objects end
 
 -- ---- claims

@@ -1,24 +1,28 @@
 -- A map of objects stands for a history.
-use Rattle.std.specs.Prelude.{◌≡◌, ℕ, true, List, Some, option_map, IsTrue, Contains, ⊤}
+use Rattle.std.specs.Prelude.{◌≡◌, ◌<◌, ℕ, true, List, Some, None, option_map, Ok, IsTrue, Contains, ⊤, ◌⊎◌}
 use Rattle.ts_base.specs.declared.keys.Key.{Key}
 use Rattle.ts_base.specs.declared.keys.FragKey.{FragKey}
 use Rattle.ts_base.specs.declared.names.Name.{Name}
 use Rattle.ts_base.specs.declared.names.Part.{Part}
+use Rattle.ts_base.specs.declared.heads.Head.{Head}
 use Rattle.ts_base.specs.declared.heads.Piece.{Piece}
 use Rattle.ts_model.specs.declared.deeds.Written.{Written}
 use Rattle.ts_schema.specs.declared.frames.Frame.{Frame}
 use Rattle.ts_schema.specs.declared.schemas.Schema.{Schema}
 use Rattle.ts_commit.specs.Selections.{has_origin}
+use Rattle.ts_commit.specs.Vacs.{names_of}
 use Rattle.ts_base.specs.Held.{Held}
-use Rattle.ts_base.specs.declared.names.CommitKind.TheVariants.{Del}
+use Rattle.ts_base.specs.declared.names.CommitKind.TheVariants.{Del, Vac}
+use Rattle.ts_base.specs.Keys.{frag_of}
 use Rattle.ts_base.specs.Names.{wrt_of}
 use Rattle.ts_schema.specs.FrameTexts.{frame_object}
 use Rattle.ts_schema.specs.SchemaTexts.{schema_object}
 use Rattle.ts_schema.specs.Parts.{Look, IsShort}
 use Rattle.ts_law.specs.Origins.{HoldsWrites, IsReadable}
+use Rattle.ts_law.specs.Fresh.{id_in}
 use Rattle.ts_model.specs.Codecs.{Spelled}
 use Rattle.ts_cond.specs.CondTexts.{cond_object}
-use Rattle.ts_model.specs.Deeds.{History, frame_in, writes, schema_with, deletion_of, IsHistory}
+use Rattle.ts_model.specs.Deeds.{History, frame_in, writes, keys, schema_with, deletion_of, IsHistory}
 use Rattle.ts_base.specs.declared.names.Name.TheVariants as name
 use Rattle.std.specs.FinMap as map
 
@@ -55,6 +59,57 @@ pub record WentInto (spelled : Spelled) (h : History) (m : Held) (f : FragKey) (
   pub holds : HoldsIn spelled h m f piece
   pub origin : has_origin k piece.head ≡ true
 
+-- ---- what the `.vac` objects tell
+
+-- the object by which a consolidated fragment names those that it replaces
+abbrev pub vac_of : FragKey → Name
+vac_of f = name.Commit f Vac
+
+-- what the held `.vac` of a fragment names
+pub record Names (m : Held) (g : FragKey) (names : List FragKey) : Type 0 where
+  pub bytes : List ℕ
+  pub held : map.get m (vac_of g) ≡ Some bytes
+  pub reads : names_of bytes ≡ Ok names
+
+-- the held `.vac` of a fragment names another
+abbrev pub DoesName : Held → FragKey → FragKey → Type 0
+DoesName m g f = (names : List FragKey) × Names m g names × Contains names f
+
+-- each origin of a head is one of another
+abbrev pub AreWithin : Head → Head → Type 0
+AreWithin a b = (k : Key) → has_origin k a ≡ true → has_origin k b ≡ true
+
+-- all that went into a fragment went into another
+pub record Within (spelled : Spelled) (h : History) (m : Held) (f g : FragKey) : Type 0 where
+  pub piece : Piece
+  pub holds : HoldsIn spelled h m f piece
+  pub other : Piece
+  pub other_holds : HoldsIn spelled h m g other
+  pub within : AreWithin piece.head other.head
+
+-- a fragment is one of a deed, or an object that is held carries its identifier
+abbrev pub IsKnown : History → Held → FragKey → Type 0
+IsKnown h m f = ((k : Key) × Contains (keys h) k × (f ≡ frag_of k)) ⊎ ((n : Name) × IsNoLease n × IsTrue (map.contains_key m n) × (id_in n ≡ Some f.id))
+
+-- what the `.vac` objects of committed fragments tell
+pub record AreMerged (spelled : Spelled) (h : History) (m : Held) : Type 0 where
+  -- each spells names, and is so short that one get can ask for all of it
+  pub reads : (g : FragKey) (bytes : List ℕ) → IsCommitted m g → map.get m (vac_of g) ≡ Some bytes → IsShort bytes × ((names : List FragKey) × (names_of bytes ≡ Ok names))
+  -- all that went into a committed fragment that it names went into the one whose `.vac` it is
+  pub within : (g f : FragKey) → IsCommitted m g → IsCommitted m f → DoesName m g f → Within spelled h m f g
+  -- it names no fragment that is still to come
+  pub known : (g f : FragKey) → IsCommitted m g → DoesName m g f → IsKnown h m f
+  -- the committed fragments have ranks below a bound, and it names committed fragments of a lower rank alone
+  pub rank : FragKey → ℕ
+  pub top : ℕ
+  pub below : (f : FragKey) → IsCommitted m f → rank f < top
+  pub falls : (g f : FragKey) → IsCommitted m g → IsCommitted m f → DoesName m g f → rank f < rank g
+
+-- a fragment has no `.vac`, and that of no committed fragment names it
+pub record IsBare (m : Held) (f : FragKey) : Type 0 where
+  pub none : map.get m (vac_of f) ≡ None
+  pub unnamed : (g : FragKey) → IsCommitted m g → DoesName m g f → ⊥
+
 -- the map stands for the history
 pub record Stands (spelled : Spelled) (m : Held) (h : History) : Type 0 where
   pub history : IsHistory h
@@ -70,5 +125,7 @@ pub record Stands (spelled : Spelled) (m : Held) (h : History) : Type 0 where
   pub short_deletes : (f : FragKey) (bytes : List ℕ) → map.get m (name.Commit f Del) ≡ Some bytes → IsShort bytes
   -- the parts of a committed fragment spell a piece, which holds what its origins wrote; a read can use it wherever it meets its span
   pub whole : (f : FragKey) → IsCommitted m f → (p : Piece) × HoldsIn spelled h m f p × IsReadable p.head
-  -- each write went into a committed fragment
-  pub covered : (w : Written) → Contains (writes h) w → (f : FragKey) × IsCommitted m f × WentInto spelled h m f w.key
+  -- the `.vac` objects of committed fragments tell what is so
+  pub merged : AreMerged spelled h m
+  -- the fragment of each write is committed, and the write went into it
+  pub covered : (w : Written) → Contains (writes h) w → IsCommitted m (frag_of w.key) × WentInto spelled h m (frag_of w.key) w.key
