@@ -18,6 +18,9 @@ use Rattle.ts_law.specs.Ends.{IsTrueOver}
 use Rattle.ts_law.specs.Fresh.{IsNewId}
 use Rattle.ts_law.specs.Kept.{Kept}
 use Rattle.ts_law.specs.Lanes.{lane_by, own_lane, IsOwned, IsWithin}
+use Rattle.ts_law.specs.Refusals.{IsRefusedFor}
+use Rattle.ts_model.specs.declared.answers.Outcome.TheVariants as outcome
+use Rattle.ts_model.specs.declared.answers.Refusal.{Refusal}
 use Rattle.ts_law.specs.Runs.{AreDriven, IsTrueRun}
 use Rattle.ts_law.specs.Stands.{Stands}
 use Rattle.ts_law.proofs.Journals.{journal_held}
@@ -29,6 +32,7 @@ use Rattle.ts_law.proofs.TrueRuns.{jobs_true_run}
 pub record IsTrueAlone (spelled : Spelled) (job : Job) (h : History) (m : Held) (told : List Told) (result : Driven Outcome) : Type 0 where
   pub stands : Stands spelled (held_told m told) (history_told (job ∷ []) h told)
   pub is_true : (end : Outcome) → result ≡ Done end → IsTrueOver spelled m (job ∷ []) h told 0 job end
+  pub causes : (r : Refusal) → result ≡ Done (outcome.Refused r) → IsRefusedFor m (job ∷ []) h told 0 job r
 
 module _ {F : Type 0} (codec : Codec F) (spelled : Spelled) (tracks : Tracking F) (laws : CodecLaws codec spelled tracks) (job : Job) (h : History) (m : Held) (told : List Told) (result : Driven Outcome)
     (stands : Stands spelled m h) (new : IsNewId m h [] job.id) (fit : IsFit job) (replied : Replied m told) (suit : All Suits told) (own : AreBy 0 told) (is : IsDriven codec job (trace_of 0 told) result) where
@@ -53,4 +57,5 @@ module _ {F : Type 0} (codec : Codec F) (spelled : Spelled) (tracks : Tracking F
   true_alone = record {
     stands = subst (λ n. Stands spelled n (history_told (job ∷ []) h told)) (sym (journal_held (lane_by own_lane) m told)) (run.stands told [] (sym (append-nil told)));
     is_true = λ end ended. run.answers 0 job end refl (ap Some ended);
+    causes = λ r ended. run.causes 0 job r refl (ap Some ended);
   }

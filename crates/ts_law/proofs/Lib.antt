@@ -33,7 +33,6 @@ pub mod Doing
 pub mod OneMoreJob
 pub mod Journals
 pub mod JournalHistories
-pub mod Causes
 pub mod CourseGrows
 pub mod CourseCalls
 pub mod CourseReads
@@ -45,6 +44,7 @@ pub mod LeaseSteps
 pub mod Segments
 pub mod Short
 pub mod Clipped
+pub mod Refused
 pub mod LineJobs
 pub mod TrueRuns
 pub mod RunLaw

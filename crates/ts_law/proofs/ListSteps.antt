@@ -170,7 +170,7 @@ module _ (spelled : Spelled) (m : Held) (h : History) (stands : Stands spelled m
       ] refl
 
   -- a key of a listing of the schemas is that of a schema of the history
-  key_from_listed : (k : Key) → Contains (schemas_in (names_under Schemas m)) k → (s : Schema) × Contains (schemas h) s × (s.key ≡ k)
+  pub key_from_listed : (k : Key) → Contains (schemas_in (names_under Schemas m)) k → (s : Schema) × Contains (schemas h) s × (s.key ≡ k)
   key_from_listed k at =
       let found = filter_map-Contains schema_key_in (names_under Schemas m) k at in
       let held = subst (Holds m) (schema_key-some found.0 k found.2) (Holds-from_listed Schemas m found.0 found.1).0 in
@@ -186,7 +186,7 @@ module _ (spelled : Spelled) (m : Held) (h : History) (stands : Stands spelled m
       (Holds-from_get m (name.Schema s.key) (schema_object s.attrs) (stands.schemas s.key ∙ ap (option_map (λ x. schema_object x.attrs)) (schema_of_key h s stands.history at))) refl) refl
 
   -- the listing tells the key of the schema there
-  there_from_listed : (b : ℕ) → schema_at (schemas_in (names_under Schemas m)) b ≡ option_map (λ s. s.key) (schema_there h b)
+  pub there_from_listed : (b : ℕ) → schema_at (schemas_in (names_under Schemas m)) b ≡ option_map (λ s. s.key) (schema_there h b)
   there_from_listed b = there_by_keys h (schemas_in (names_under Schemas m)) b key_from_listed listed_from_key
 
 -- ---- a look of a job

@@ -240,7 +240,7 @@ allowed_at codec jobs dead seen [] e b may = subst (λ t. IsAllowed codec jobs d
 allowed_at codec jobs dead seen (d ∷ a) e b may = subst (λ t. IsAllowed codec jobs dead t e) (append_assoc seen (d ∷ []) a) (allowed_at codec jobs dead (seen ++ d ∷ []) a e b may.1)
 
 -- each of the calls is replied to over what those before it left
-replied_at : (m : Held) (a : List Told) (e : Told) (b : List Told) → Replied m (a ++ e ∷ b) → IsReplied (held_told m a) e
+pub replied_at : (m : Held) (a : List Told) (e : Told) (b : List Told) → Replied m (a ++ e ∷ b) → IsReplied (held_told m a) e
 replied_at m [] e b replied = replied.0
 replied_at m (d ∷ a) e b replied = replied_at (after_told m d) a e b replied.1
 

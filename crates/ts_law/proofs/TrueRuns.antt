@@ -39,7 +39,10 @@ use Rattle.ts_law.proofs.Clipped.{true_over}
 use Rattle.ts_law.proofs.KeptLaws.{end_is_true, all_kept, every_prefix}
 use Rattle.ts_law.proofs.LineJobs.{AreInOrder, ids_apart, id_has_seed, jobs_fit}
 use Rattle.ts_law.proofs.Lists.{item_at}
+use Rattle.ts_law.proofs.Segments.{segment_of}
 use Rattle.ts_law.proofs.Short.{short_undone}
+use Rattle.ts_law.proofs.Refused.{refused_for}
+use Rattle.ts_model.specs.declared.answers.Outcome.TheVariants as outcome
 use Rattle.ts_law.proofs.Spawns.{starts_kept, spawn_kept}
 use Rattle.ts_law.proofs.Journals.{journal_held}
 use Rattle.ts_law.proofs.JournalHistories.{IsALease, allowed_at, front_history, front_told, lanes_turn, put_staged}
@@ -157,6 +160,10 @@ module _ {F : Type 0} (codec : Codec F) (spelled : Spelled) (tracks : Tracking F
         true_over spelled m jobs h told number job end (λ front back parts. (every_prefix codec spelled tracks laws m h jobs [] [] m told front back begins may replied parts).stands)
         (λ short. short_undone codec spelled tracks laws h jobs m told begins may replied number job at (subst (EndsBy codec job (trace_of number told)) short (driven.driven number job (Done end) at end_at).ends))
         (true_end number job end at end_at);
+    causes = λ number job r at end_at.
+        refused_for spelled m jobs h told replied (λ front back parts. (every_prefix codec spelled tracks laws m h jobs [] [] m told front back begins may replied parts).stands) number codec job r
+        (true_end number job (outcome.Refused r) at end_at)
+        (segment_of codec laws.looks job (trace_of number told) (Done (outcome.Refused r)) (driven.driven number job (Done (outcome.Refused r)) at end_at));
   }
 
 -- ---- the start

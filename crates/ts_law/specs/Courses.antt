@@ -1,5 +1,5 @@
 -- The course of each job: the puts and listings that it makes, in order, what it may look at between them, and how it may end.
-use Rattle.std.specs.Prelude.{◌≡◌, ◌≢◌, ℕ, Bool, true, false, cond, List, [], ◌∷◌, ◌++◌, Option, Some, None, option_map, length, nat_lt, Result, Ok, Err, IsTrue, All, Contains, ⊤, ◌⊎◌, map as list_map}
+use Rattle.std.specs.Prelude.{◌≡◌, ◌≢◌, ℕ, Bool, true, false, cond, List, [], ◌∷◌, ◌++◌, Option, Some, None, length, nat_lt, Result, Ok, Err, IsTrue, All, Contains, ⊤, ◌⊎◌, map as list_map}
 use Rattle.ts_base.specs.declared.keys.Key.{Key}
 use Rattle.ts_base.specs.declared.keys.FragKey.{FragKey}
 use Rattle.ts_base.specs.declared.names.Name.{Name}
@@ -21,7 +21,6 @@ use Rattle.ts_schema.specs.declared.attrs.Attr.{Attr}
 use Rattle.ts_schema.specs.declared.evolution.Evolution.{Evolution}
 use Rattle.ts_schema.specs.declared.faults.SchemaFault.{SchemaFault}
 use Rattle.ts_schema.specs.declared.wants.Want.{Want}
-use Rattle.std.specs.Result.{result_err}
 use Rattle.ts_schema.specs.Evolutions.{evolved_attrs, evolution_fault, schema_at}
 use Rattle.ts_schema.specs.FrameTexts.{frame_of}
 use Rattle.ts_schema.specs.SchemaTexts.{schema_of}
@@ -34,10 +33,11 @@ use Rattle.ts_lease.specs.declared.verdicts.Verdict.TheVariants.{Held}
 use Rattle.ts_model.specs.Codecs.{Codec, Asks, Breaks, is_look}
 use Rattle.ts_model.specs.Jobs.{key_of, frag_of_job, refused_before, looked_at}
 use Rattle.ts_model.specs.Commands.{laid}
-use Rattle.ts_model.specs.Queries.{box_of, delete_condition, ready_in}
+use Rattle.ts_model.specs.Queries.{box_of, delete_condition}
 use Rattle.ts_cond.specs.CondTexts.{cond_of}
 use Rattle.ts_cond.specs.Tests.{Condition}
 use Rattle.ts_cond.specs.declared.query.Query.{Query}
+use Rattle.ts_law.specs.Refusals.{refusal_in}
 use Rattle.ts_base.specs.declared.names.CommitKind.TheVariants.{Del}
 use Rattle.ts_base.specs.declared.names.Name.TheVariants as name
 use Rattle.ts_base.specs.declared.names.Place.TheVariants as place
@@ -250,11 +250,7 @@ pub record EndsAt (looks : Looks) (before : List Exchange) (course : List Call) 
 
 -- why a job is refused where it found this
 abbrev pub refused_in : Found → Command → Option Refusal
-refused_in found (Evolve change) = option_map refusal.SchemaBad (evolution_fault (found.frame).domain (found.there).attrs change)
-refused_in found (Write w) = result_err (laid found.frame (found.there).attrs w)
-refused_in found (Read from to query) = result_err (ready_in found.frame (found.there).attrs query)
-refused_in found (Delete text) = result_err (delete_condition found.frame (found.there).attrs text)
-refused_in found _ = None
+refused_in found command = refusal_in found.frame (found.there).attrs command
 
 -- a part of a fragment breaks its layout at an offset: where a read opens the fragment, where the fetch begins, or by the last reply, which the fetch waited for
 abbrev pub BreaksPart : {F : Type 0} → Codec F → Job → Found → List Exchange → Exchange → FragKey → Part → ℕ → Type 0

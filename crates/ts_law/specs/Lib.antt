@@ -5,6 +5,7 @@ pub mod Fresh
 pub mod Lanes
 pub mod Histories
 pub mod Ends
+pub mod Refusals
 pub mod Runs
 pub mod Doing
 pub mod Kept

@@ -16,8 +16,11 @@ use Rattle.ts_law.specs.Histories.{history_of}
 use Rattle.ts_model.specs.Codecs.{Codec, Spelled}
 use Rattle.ts_law.specs.Stands.{Stands}
 use Rattle.ts_law.specs.Ends.{IsTrueOver}
+use Rattle.ts_law.specs.Refusals.{IsRefusedFor}
+use Rattle.ts_model.specs.declared.answers.Refusal.{Refusal}
 use Rattle.ts_model.specs.Deeds.{History}
 use Rattle.ts_law.specs.Courses.{IsSegment}
+use Rattle.ts_model.specs.declared.answers.Outcome.TheVariants as outcome
 
 -- the calls with their replies, whoever made them
 abbrev pub exchanges : List Told → List Exchange
@@ -33,11 +36,12 @@ abbrev pub AreSegments : {F : Type 0} → Codec F → List Job → List (Driven 
 AreSegments codec jobs results told =
     (number : ℕ) (job : Job) (result : Driven Outcome) → slice_get jobs number ≡ Some job → slice_get results number ≡ Some result → IsSegment codec job (trace_of number told) result
 
--- each first part of what was told leaves objects that stand for its history, and so does each first part of the journal; what each end tells of the history is true; a job that was stopped has no end
+-- each first part of what was told leaves objects that stand for its history, and so does each first part of the journal; what each end tells of the history is true; each job that ended refused is so for its cause; a job that was stopped has no end
 pub record IsTrueRun (spelled : Spelled) (lanes : ℕ → ℕ) (jobs : List Job) (h : History) (m : Held) (told : List Told) (results : List (Driven Outcome)) : Type 0 where
   pub stands : (front back : List Told) → told ≡ front ++ back → Stands spelled (held_after m (entries_of (lane_by lanes) front)) (history_told jobs h front)
   pub journal : (front back : List Entry) → entries_of (lane_by lanes) told ≡ front ++ back → Stands spelled (held_after m front) (history_of h m jobs front)
   pub answers : (number : ℕ) (job : Job) (end : Outcome) → slice_get jobs number ≡ Some job → slice_get results number ≡ Some (Done end) → IsTrueOver spelled m jobs h told number job end
+  pub causes : (number : ℕ) (job : Job) (r : Refusal) → slice_get jobs number ≡ Some job → slice_get results number ≡ Some (Done (outcome.Refused r)) → IsRefusedFor m jobs h told number job r
 
 -- what a run is over a store that held m
 pub record IsRunOver (spelled : Spelled) (seed : ℕ) (lanes : ℕ → ℕ) (jobs : List Job) (m : Held) (later : Option Held) (journal : List Entry) (told : List Told) (results : List (Driven Outcome)) : Type 0 where
