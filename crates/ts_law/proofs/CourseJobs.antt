@@ -1,5 +1,5 @@
 -- A job of each command makes the calls of its course, and ends by it.
-use Rattle.std.proofs.Common.{length, ◌∙◌, ◌⊎◌, ◌≡◌, ℕ, suc, Bool, true, false, cond, List, [], ◌∷◌, ◌++◌, Option, Some, None, Result, Ok, Err, IsTrue, arith, refl, sym, ap, inl, inr, subst}
+use Rattle.std.proofs.Common.{length, ◌∙◌, ◌⊎◌, ◌≡◌, ℕ, suc, Bool, true, false, cond, not, ◌||◌, List, [], ◌∷◌, ◌++◌, Option, Some, None, Result, Ok, Err, IsTrue, arith, refl, sym, ap, inl, inr, subst}
 use Rattle.std.specs.Prelude.{Contains, option_map, nat_eq, map as list_map}
 use Rattle.std.specs.Result.{result_err}
 use Rattle.std.proofs.lemmas.Bool.{lt-ltb, ne_eqb, true≢false}
@@ -35,18 +35,19 @@ use Rattle.ts_lease.specs.Leases.{verdict_in}
 use Rattle.ts_lease.specs.declared.verdicts.Verdict.{Verdict}
 use Rattle.ts_lease.specs.declared.verdicts.Verdict.TheVariants as verdict
 use Rattle.ts_model.proofs.Asked.{asked-push, next_call}
-use Rattle.ts_model.proofs.Lacks.{no_memory_ends}
+use Rattle.ts_model.proofs.Lacks.{lacks-push, no_memory_ends}
+use Rattle.ts_base.specs.Exact.{name_decides}
 use Rattle.ts_model.specs.declared.states.Creating.TheVariants.{PutsFrame, ComparesFrame, ListsDeclared}
 use Rattle.ts_model.specs.declared.states.Seeking.TheVariants.{ListsCommits, ListsSchemas}
 use Rattle.ts_model.specs.declared.commands.Command.TheVariants.{Create, Evolve, Write, Read, Delete}
 use Rattle.ts_model.specs.Codecs.{Codec, AsksLooks}
 use Rattle.ts_model.specs.Commands.{laid, piece_of}
 use Rattle.ts_model.specs.Jobs.{key_of, frag_of_job, written_as, refused_before}
-use Rattle.ts_model.specs.Stages.{after_lease, after_leases, end_at, first_stage, is_leased, is_release, lease_of, list_leases, on_verdict, put_lease, released, settled, stage_asks, stage_from, stage_of}
+use Rattle.ts_model.specs.Stages.{after_lease, after_leases, end_at, first_stage, goes_on, is_done, is_leased, is_release, lease_of, list_leases, on_verdict, put_lease, released, settled, stage_asks, stage_from, stage_of, stage_takes_memory}
 use Rattle.ts_model.specs.Stops.{cuts}
 use Rattle.ts_model.specs.States.{Exchange, end_by, goes, begins, begun, refuse, unless_refused, get_schema, get_frame, list_schemas, list_commits, looked_into, committed_in, deletes_in, meets, commit_of, part_objects, put_of, putting, puts_cells, schema_object_of, write_objects, frame_put, is_own_frame, nothing_listed, asks_for, reading_of, puts_delete, delete_object_of}
-use Rattle.ts_model.specs.Driven.{AskedFrom, EndsBy, MayAsk}
-use Rattle.ts_law.specs.Courses.{EndsUnder, HasPut, HeedsLeases, IsCutAlong, IsCutOff, NotBegun, NotOwn, Removed, removal, Found, cell_puts, evolve_puts, course_of, IsSchemaIn, IsFrameIn, SaysThere, IsGot, AreFound, LooksThere, IsLookOf, lets_on, refused_in, IsCause, EndsAlong, MayEndAs, delete_puts}
+use Rattle.ts_model.specs.Driven.{AskedFrom, EndsBy, MayAsk, lacks_from}
+use Rattle.ts_law.specs.Courses.{EndsUnder, FindsOpposed, HasPut, HeedsLeases, IsCutAlong, IsCutOff, NotBegun, NotOwn, Removed, removal, Found, cell_puts, evolve_puts, course_of, IsSchemaIn, IsFrameIn, SaysThere, IsGot, AreFound, LooksThere, IsLookOf, lets_on, refused_in, IsCause, EndsAlong, MayEndAs, delete_puts}
 use Rattle.ts_model.proofs.ListLemmas.{Contains-nil, Contains-here, Contains-cons, Contains-only, filter-Contains}
 use Rattle.ts_law.proofs.CourseGrows.{among_more}
 use Rattle.ts_law.proofs.LaidRefusals.{IsOfColumns, FailsByColumns, laid_fails}
@@ -379,17 +380,27 @@ module _ {F : Type 0} (codec : Codec F) (any : Job) where
     comes_to : (found : Found) (front : List Exchange) (was : Outcome) → AreFound reading found front × Ends codec reading [] found (put_lease own_lease ∷ list_leases ∷ reads_course) front was → ComesTo front was
     comes_to found front was h = (found, h.0, ends_along reading found (put_lease own_lease ∷ list_leases ∷ reads_course) front was h.1)
 
+    -- where a listing of the leases showed one that opposes its own, it was the last call, the lease is removed next, and no memory was wanting
+    abbrev Heeds : List Exchange → Type 0
+    Heeds front =
+        (more : List Exchange) (other : Name) → FindsOpposed own_lease front more other
+        → (more ≡ []) × (open_from codec reading own_lease refl (PutsLease own_lease) front ≡ Releases own_lease (outcome.Refused (refusal.Leased other))) × (lacks_from codec reading true (PutsLease own_lease) front ≡ false)
+
     -- the calls before the removal of the lease: there is none, the name of the lease was taken, or the lease is held
     data Began (front : List Exchange) : Type 0 where
       NoCall : front ≡ [] → Began front
       WasTaken : front ≡ lease_put reply.Taken ∷ [] → Began front
       HeldLease : HasPut own_lease front → is_leased (open_from codec reading own_lease refl (PutsLease own_lease) front) ≡ true
           → ((was : Outcome) → IsWas codec reading own_lease refl (open_from codec reading own_lease refl (PutsLease own_lease) front) was → ComesTo front was)
-          → ((was : Outcome) → IsWas codec reading own_lease refl (open_from codec reading own_lease refl (PutsLease own_lease) front) was → HeedsLeases own_lease front was) → Began front
+          → Heeds front → Began front
 
-    -- calls of which the second one is no listing of the leases that told names heed them
-    none_listed : (was : Outcome) (front : List Exchange) → ((put : Exchange) (names : List Name) (more : List Exchange) → front ≡ put ∷ leases_listed (reply.Names names) ∷ more → ⊥) → HeedsLeases own_lease front was
-    none_listed was front none put names more other is opposes = absurd (none put names more is)
+    -- so do calls of which the second one is no listing of the leases that told names
+    none_listed : (front : List Exchange) → ((put : Exchange) (names : List Name) (more : List Exchange) → front ≡ put ∷ leases_listed (reply.Names names) ∷ more → ⊥) → Heeds front
+    none_listed front none more other (put, names, is, opposes) = absurd (none put names more is)
+
+    -- the end that such calls came to heeds the leases
+    heeds_end : (front : List Exchange) → Heeds front → HeedsLeases own_lease front (end_at (open_from codec reading own_lease refl (PutsLease own_lease) front))
+    heeds_end front heeds more other finds = let found = heeds more other finds in (found.0, ap end_at found.1)
 
     -- an end that the job may come to where it removes its lease is one that it came to, or want of memory
     of_was : (e was : Outcome) → IsWas codec reading own_lease refl (Releases own_lease e) was → ◌≡◌ {A = State F} (Over e) (Over was) ⊎ (was ≡ outcome.OutOfMemory)
@@ -409,12 +420,11 @@ module _ {F : Type 0} (codec : Codec F) (any : Job) where
             let replies : reply.Names names ≡ reply.Names others = ap (λ z. z.reply) one in
             cc
 
+        not_held : {other : Name} → verdict.Granted ≡ verdict.Held other → ⊥
+        not_held e = cc
+
         listed_same : (put : Exchange) (others : List Name) (more : List Exchange) → lease_put reply.Made ∷ y ∷ ys ≡ put ∷ leases_listed (reply.Names others) ∷ more → others ≡ names
         listed_same put others more same = one_names (lease_put reply.Made) put others more ys same
-
-        told_was : (other another : Name) (was : Outcome) → other ≡ another → IsWas codec reading own_lease refl (Releases own_lease (outcome.Refused (refusal.Leased other))) was → (was ≡ outcome.Refused (refusal.Leased another)) ⊎ (was ≡ outcome.OutOfMemory)
-        told_was other another was one (inl e) = inl (e ∙ ap (λ o. outcome.Refused (refusal.Leased o)) one)
-        told_was other another was one (inr e) = inr e
 
         by_verdict : (v : Verdict) → verdict_in names own_lease ≡ v → OpenAsks codec reading own_lease refl (on_verdict own_lease (Seeks ListsCommits) v) ys → Began (lease_put reply.Made ∷ y ∷ ys)
         by_verdict verdict.Granted is a =
@@ -430,10 +440,10 @@ module _ {F : Type 0} (codec : Codec F) (any : Job) where
               ends_cons codec reading [] found (put_lease own_lease ∷ list_leases ∷ reads_course) (list_leases ∷ reads_course) (lease_put reply.Made) (y ∷ ys) was refl (inr refl)
                   (ends_cons codec reading (lease_put reply.Made ∷ []) found (list_leases ∷ reads_course) reads_course y ys was refl (inr refl) told.1),
             ))
-            (λ was is_was put others more other same opposes.
+            (λ more other (put, others, same, opposes).
             let same_names : others ≡ names = listed_same put others more same in
             let granted : verdict.Granted ≡ verdict.Held other = sym is ∙ ap (λ ns. verdict_in ns own_lease) (sym same_names) ∙ opposes in
-            cc)
+            absurd (not_held granted))
         by_verdict (verdict.Held other) is a =
             let none = releasing_asks codec reading own_lease refl (outcome.Refused (refusal.Leased other)) ys a in
             let at : on_verdict own_lease (Seeks ListsCommits) (verdict_in names own_lease) ≡ Releases own_lease (outcome.Refused (refusal.Leased other)) = ap (on_verdict own_lease (Seeks ListsCommits)) is in
@@ -447,11 +457,12 @@ module _ {F : Type 0} (codec : Codec F) (any : Job) where
               All-cons (λ z. SaysThere found (Read from to query) z.call z.reply) (lease_put reply.Made) (y ∷ []) tt told.0,
               ends_cons codec reading [] found (put_lease own_lease ∷ list_leases ∷ reads_course) (list_leases ∷ reads_course) (lease_put reply.Made) (y ∷ []) was refl (inr refl) told.1,
             ))
-            (λ was is_was put others more another same opposes.
+            (λ more another (put, others, same, opposes).
             let same_names : others ≡ names = one_names (lease_put reply.Made) put others more [] same in
             let held : verdict.Held other ≡ verdict.Held another = sym is ∙ ap (λ ns. verdict_in ns own_lease) (sym same_names) ∙ opposes in
             let one : other ≡ another = cc in
-            told_was other another was one (subst (λ g. IsWas codec reading own_lease refl g was) at is_was)))
+            let last : more ≡ [] = cc in
+            (last, at ∙ ap (λ o. Releases own_lease (outcome.Refused (refusal.Leased o))) one, ap (λ g. not (is_done g)) at)))
     after_list r ys asked =
         let none = releasing_asks codec reading own_lease refl (end_by list_leases r) ys asked in
         subst (λ t. Began (lease_put reply.Made ∷ leases_listed r ∷ t)) (sym none)
@@ -463,7 +474,7 @@ module _ {F : Type 0} (codec : Codec F) (any : Job) where
           All-cons (λ z. SaysThere found (Read from to query) z.call z.reply) (lease_put reply.Made) (leases_listed r ∷ []) tt told.0,
           ends_cons codec reading [] found (put_lease own_lease ∷ list_leases ∷ reads_course) (list_leases ∷ reads_course) (lease_put reply.Made) (leases_listed r ∷ []) was refl (inr refl) told.1,
         ))
-        (λ was is_was. none_listed was (lease_put reply.Made ∷ leases_listed r ∷ [])
+        (none_listed (lease_put reply.Made ∷ leases_listed r ∷ [])
         (λ put names more same.
         let one : leases_listed r ≡ leases_listed (reply.Names names) = cc in
         let replies : r ≡ reply.Names names = ap (λ z. z.reply) one in
@@ -480,7 +491,7 @@ module _ {F : Type 0} (codec : Codec F) (any : Job) where
           All-cons (λ z. SaysThere found (Read from to query) z.call z.reply) (lease_put reply.Made) [] tt (All-nil (λ z. SaysThere found (Read from to query) z.call z.reply)),
           subst (Ends codec reading [] found (put_lease own_lease ∷ list_leases ∷ reads_course) (lease_put reply.Made ∷ [])) (sym none) (inl (list_leases ∷ reads_course, (refl, (list_leases ∷ reads_course, inr refl, refl)))),
         ))
-        (λ was is_was. none_listed was (lease_put reply.Made ∷ []) (λ put names more same. cc))
+        (none_listed (lease_put reply.Made ∷ []) (λ put names more same. cc))
     after_put reply.Made (y ∷ ys) (asked, other, rest) =
         subst (λ c. Began (lease_put reply.Made ∷ record { call = c; reply = y.reply } ∷ ys)) (same_Some list_leases y.call asked) (after_list y.reply ys rest)
     after_put reply.Taken [] asked = WasTaken refl
@@ -493,7 +504,7 @@ module _ {F : Type 0} (codec : Codec F) (any : Job) where
         let found = found_as no_schema no_frame in
         comes_to found (lease_put r ∷ []) was
         (follows_ended codec reading [] found (put_lease own_lease ∷ list_leases ∷ reads_course) (list_leases ∷ reads_course) (put_lease own_lease) r [] was tt tt (inr refl) tt (of_was (end_by (put_lease own_lease) r) was is_was)))
-        (λ was is_was. none_listed was (lease_put r ∷ []) (λ put names more same. cc)))
+        (none_listed (lease_put r ∷ []) (λ put names more same. cc)))
 
     -- the calls before the removal of the lease
     began : (front : List Exchange) → OpenAsks codec reading own_lease refl (PutsLease own_lease) front → Began front
@@ -554,14 +565,22 @@ module _ {F : Type 0} (codec : Codec F) (any : Job) where
         by_open front same (inl over) (HeldLease put held comes heeds) = absurd (not_held (g_of front) held (sym same ∙ over))
         by_open front same (inr short) (HeldLease put held comes heeds) = absurd (true≢false (sym (ap is_leased same ∙ held) ∙ short.1.0))
 
+        lacked : (front : List Exchange) (r : Reply) → lacks_from codec reading true (PutsLease own_lease) (front ++ removal own_lease r ∷ []) ≡ true → lacks_from codec reading true (PutsLease own_lease) front ≡ true
+        lacked front r lacks =
+            let before = lacks_from codec reading true (PutsLease own_lease) front in
+            let here = stage_of codec reading front in
+            let x = removal own_lease r in
+            let is : is_release reading x.call ≡ true = (name_decides own_lease own_lease).1 refl in
+            sym (lacks-push codec reading true (PutsLease own_lease) front x ∙ ap (λ b. cond b before (stage_takes_memory here || not (is_done (goes_on codec reading here x)))) is) ∙ lacks
+
         by_closed : (front : List Exchange) (r : Reply) → MayAsk codec reading (g_of front) (call.Remove own_lease) → stage_of codec reading (front ++ removal own_lease r ∷ []) ≡ Works (Over (released own_lease (end_at (g_of front)) r))
             → EndsBy codec reading (front ++ removal own_lease r ∷ []) end → Began front
             → (found : Found) × AreFound reading found (front ++ removal own_lease r ∷ []) × EndsUnder codec reading found (lease_of reading) (front ++ removal own_lease r ∷ []) end
         by_closed front r may same e (NoCall none) = absurd (none_before (subst (λ t. MayAsk codec reading (g_of t) (call.Remove own_lease)) none may))
         by_closed front r may same e (WasTaken is) = absurd (none_over (outcome.Refused (refusal.Taken own_lease)) (call.Remove own_lease) (subst (λ t. MayAsk codec reading (g_of t) (call.Remove own_lease)) is may))
         by_closed front r may same (inl over) (HeldLease put held comes heeds) =
-            removed_ends front r (end_at (g_of front)) end put (heeds (end_at (g_of front)) (inl refl)) (comes (end_at (g_of front)) (inl refl)) (one_end (released own_lease (end_at (g_of front)) r) end (sym same ∙ over))
-        by_closed front r may same (inr short) (HeldLease put held comes heeds) = removed_ends front r outcome.OutOfMemory end put (heeds outcome.OutOfMemory (inr refl)) (comes outcome.OutOfMemory (inr refl)) short.0
+            removed_ends front r (end_at (g_of front)) end put (heeds_end front heeds) (comes (end_at (g_of front)) (inl refl)) (one_end (released own_lease (end_at (g_of front)) r) end (sym same ∙ over))
+        by_closed front r may same (inr short) (HeldLease put held comes heeds) = removed_ends front r outcome.OutOfMemory end put (λ more other finds. absurd (true≢false (sym (lacked front r short.1.1) ∙ (heeds more other finds).2))) (comes outcome.OutOfMemory (inr refl)) short.0
 
         by_split : Split codec reading own_lease refl (PutsLease own_lease) whole → (found : Found) × AreFound reading found whole × EndsUnder codec reading found (lease_of reading) whole end
         by_split (Open opened same) = by_open whole same ends (began whole opened)
@@ -581,8 +600,8 @@ module _ {F : Type 0} (codec : Codec F) (any : Job) where
         at_removal e m k (NoCall none) = absurd (none_before (subst (λ t. MayAsk codec reading (g_of t) (call.Remove own_lease)) none m))
         at_removal e m k (WasTaken is) = absurd (none_over (outcome.Refused (refusal.Taken own_lease)) (call.Remove own_lease) (subst (λ t. MayAsk codec reading (g_of t) (call.Remove own_lease)) is m))
         at_removal e m k (HeldLease put held comes heeds) =
-            let (found, told, ended) = comes outcome.OutOfMemory (inr refl) in
-            (found, told, inr (record { lease = own_lease; own = refl; was = outcome.OutOfMemory; put = put; heeds = heeds outcome.OutOfMemory (inr refl); ended = ended; cut = k }))
+            let (found, told, ended) = comes (end_at (g_of whole)) (inl refl) in
+            (found, told, inr (record { lease = own_lease; own = refl; was = end_at (g_of whole); put = put; heeds = heeds_end whole heeds; ended = ended; cut = k }))
 
         along : (x : Exchange) → x ≡ as_if c → Began (whole ++ x ∷ []) → (found : Found) × AreFound reading found whole × IsCutOff codec reading found whole
         along x is (NoCall none) = absurd (no_calls whole x none)
@@ -590,7 +609,18 @@ module _ {F : Type 0} (codec : Codec F) (any : Job) where
         along x is (HeldLease put held comes heeds) =
             let (found, told, ended) = comes outcome.OutOfMemory (inr refl) in
             let u = unmade_of (IsLookOf codec reading found) (put_lease own_lease ∷ list_leases ∷ reads_course) whole c (subst (λ y. EndsAlong codec reading found (put_lease own_lease ∷ list_leases ∷ reads_course) (whole ++ y ∷ []) outcome.OutOfMemory) is ended) in
-            (found, found_before reading found whole x told, inl (record { begins = refl; left = u.0; along = u.2; unmade = c; rest = u.1; next = u.3; cut = cut }))
+            (found, found_before reading found whole x told, inl (record {
+              begins = refl;
+              left = u.0;
+              along = u.2;
+              unmade = c;
+              rest = u.1;
+              next = u.3;
+              cut = cut;
+              free = λ lease some more other (put_it, names, same, opposes).
+                  let own : own_lease ≡ lease = same_Some own_lease lease some in
+                  no_calls more x (heeds (more ++ x ∷ []) other (put_it, names, ap (λ t. t ++ x ∷ []) same, ap (verdict_in names) own ∙ opposes)).0;
+            }))
 
         by_kind : (b : Bool) → is_release reading c ≡ b → OpenAsks codec reading own_lease refl (PutsLease own_lease) whole → stage_of codec reading whole ≡ g_of whole → (found : Found) × AreFound reading found whole × IsCutOff codec reading found whole
         by_kind true is opened same =
@@ -676,7 +706,7 @@ module _ {F : Type 0} (codec : Codec F) (any : Job) where
       by_refusal found None is h =
           let ended = subst (λ o. EndsUnder codec (with command) found o (whole ++ as_if c ∷ []) outcome.OutOfMemory) none h in
           let u = unmade_of (IsLookOf codec (with command) found) (course_of codec (with command) found) whole c ended in
-          record { begins = is; left = u.0; along = u.2; unmade = c; rest = u.1; next = u.3; cut = cut }
+          record { begins = is; left = u.0; along = u.2; unmade = c; rest = u.1; next = u.3; cut = cut; free = λ lease some. absurd (none-some lease (sym none ∙ some)) }
       by_refusal found (Some r) is h = absurd (no_calls whole (as_if c) h.0)
 
   -- a job of any command that its stop cuts off

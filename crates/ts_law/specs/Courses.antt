@@ -311,11 +311,14 @@ abbrev pub HasPut : Name → List Exchange → Type 0
 HasPut lease [] = ⊥
 HasPut lease (x ∷ xs) = (x.call ≡ put_lease lease) × (x.reply ≢ reply.Taken)
 
--- a job whose listing of the leases shows one that opposes its own does not go on: it comes to no other end than that refusal, but for want of memory
+-- the calls of a job are the put of its lease, a listing of the leases that shows one which opposes its own, and these more
+abbrev pub FindsOpposed : Name → List Exchange → List Exchange → Name → Type 0
+FindsOpposed lease trace more other =
+    (put : Exchange) × (names : List Name) × (trace ≡ put ∷ record { call = list_leases; reply = reply.Names names } ∷ more) × (verdict_in names lease ≡ Held other)
+
+-- a job whose listing of the leases shows one that opposes its own does not go on: it is refused for the first such one
 abbrev pub HeedsLeases : Name → List Exchange → Outcome → Type 0
-HeedsLeases lease trace was =
-    (put : Exchange) (names : List Name) (more : List Exchange) (other : Name) → trace ≡ put ∷ record { call = list_leases; reply = reply.Names names } ∷ more → verdict_in names lease ≡ Held other
-    → (was ≡ outcome.Refused (refusal.Leased other)) ⊎ (was ≡ outcome.OutOfMemory)
+HeedsLeases lease trace was = (more : List Exchange) (other : Name) → FindsOpposed lease trace more other → (more ≡ []) × (was ≡ outcome.Refused (refusal.Leased other))
 
 -- the removal of a lease, with its reply
 abbrev pub removal : Name → Reply → Exchange
@@ -350,6 +353,8 @@ pub record IsCutAlong {F : Type 0} (codec : Codec F) (job : Job) (found : Found)
   pub rest : List Call
   pub next : IsNext (IsLookOf codec job found) trace left unmade rest
   pub cut : cuts job.stop (length trace) unmade ≡ true
+  -- a job that has a lease found none that opposes it
+  pub free : (lease : Name) → lease_of job ≡ Some lease → (more : List Exchange) (other : Name) → FindsOpposed lease trace more other → ⊥
 
 -- the stop cut the job off where it would have removed its lease, whatever end its calls had come to
 pub record IsCutLeased {F : Type 0} (codec : Codec F) (job : Job) (found : Found) (trace : List Exchange) : Type 0 where

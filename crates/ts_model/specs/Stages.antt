@@ -130,9 +130,8 @@ holds_lease job stage = is_some (lease_of job) && is_leased stage
 
 -- ---- want of memory
 
--- memory can be wanting for what a reply leads to: for what the work does with it, and for the verdict on the leases
+-- memory can be wanting for what a reply leads to: for what the work does with it; the verdict on the leases takes none
 abbrev pub stage_takes_memory : {F : Type 0} → Stage F → Bool
-stage_takes_memory (ListsLeases lease) = true
 stage_takes_memory (Works s) = takes_memory s
 stage_takes_memory stage = false
 
