@@ -133,7 +133,7 @@ agree true x y m n first second = first
 agree false x y m n first second = second
 
 -- a removal leaves the other objects as they were
-removal_apart : (m : Held) (n : Name) (f : Fate) (q : Name) → (q ≡ n → ⊥) → map.get (after m (call.Remove n) f) q ≡ map.get m q
+pub removal_apart : (m : Held) (n : Name) (f : Fate) (q : Name) → (q ≡ n → ⊥) → map.get (after m (call.Remove n) f) q ≡ map.get m q
 removal_apart m n f q apart = agree (took_effect f) (map.remove m n) m m q (map.get-remove name_total m n q ∙ cond-false _ _ _ (no_tie name_total name_exact q n apart)) refl
 
 -- what is held after a removal was held before it

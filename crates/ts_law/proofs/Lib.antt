@@ -45,6 +45,7 @@ pub mod Segments
 pub mod Short
 pub mod Clipped
 pub mod Refused
+pub mod Openings
 pub mod LineJobs
 pub mod TrueRuns
 pub mod RunLaw

@@ -1,19 +1,17 @@
 -- A run keeps its promise.
-use Rattle.std.proofs.Common.{◌≡◌, ◌⊎◌, inl, inr, ℕ, zero, suc, ◌+◌, ◌<◌, ◌≤◌, ◌^◌, List, [], ◌∷◌, ◌++◌, Option, Some, None, Result, Ok, Err, Bool, true, false, cond, length, drop, nat_lt, length-append, append_assoc, refl, sym, ◌∙◌, ap, subst, arith}
+use Rattle.std.proofs.Common.{◌≡◌, ◌⊎◌, inl, inr, ℕ, zero, suc, ◌+◌, ◌<◌, ◌≤◌, ◌^◌, List, [], ◌∷◌, ◌++◌, Option, Some, None, Result, Ok, Err, Bool, true, false, cond, length, drop, nat_lt, append_assoc, refl, sym, ◌∙◌, ap, subst, arith}
 use Rattle.std.specs.Prelude.{slice_get, get_or, All, IfSome, map as list_map, option_map, option_and_then, option_to_list, Contains, ⊤}
 use Rattle.std.proofs.lemmas.Bool.{true≢false, ltb-true, ltb-false}
 use Rattle.std.proofs.lemmas.List.{append-nil}
 use Rattle.std.proofs.lemmas.Option.{none-some, same_Some, slice_get_within}
-use Rattle.std.proofs.lemmas.List.Elements.{All-nil, All-cons, All-head, All-tail, All-contains, Contains-append_left, Contains-append_right, Contains-append_cases}
+use Rattle.std.proofs.lemmas.List.Elements.{All-nil, All-cons, All-head, All-tail, All-contains, All-contains_itself, All-weaker, Contains-append_left, Contains-append_right, filter_map-append}
 use Rattle.std.specs.List.{cons_option}
 use Rattle.ts_base.specs.Held.{Held}
-use Rattle.ts_base.specs.Keys.{frag_of}
 use Rattle.ts_base.specs.declared.keys.Key.{Key}
 use Rattle.ts_base.specs.declared.heads.Cell.{Cell}
 use Rattle.ts_base.specs.declared.names.CommitKind.TheVariants.{Wrt, Del}
 use Rattle.ts_base.specs.declared.names.Name.{Name}
 use Rattle.ts_base.specs.declared.names.Name.TheVariants as name
-use Rattle.ts_base.specs.declared.names.Place.TheVariants as place
 use Rattle.std.specs.Io.KnownBytes.{Appends}
 use Rattle.ts_schema.specs.declared.frames.Frame.{Frame}
 use Rattle.ts_schema.specs.declared.schemas.Schema.{Schema}
@@ -22,6 +20,8 @@ use Rattle.ts_cond.specs.Tests.{Condition}
 use Rattle.ts_store.specs.declared.call.Call.{Call}
 use Rattle.ts_store.specs.declared.call.Call.TheVariants as call
 use Rattle.ts_store.specs.Journals.{held_after}
+use Rattle.ts_store.specs.declared.journal.Entry.{Entry}
+use Rattle.ts_store.specs.Calls.{is_no_memory}
 use Rattle.ts_store.specs.Streams.{AppendsFront}
 use Rattle.ts_model.specs.declared.commands.Job.{Job}
 use Rattle.ts_model.specs.declared.commands.Line.{Line}
@@ -32,7 +32,6 @@ use Rattle.ts_model.specs.declared.answers.Driven.TheVariants.{Done, Stopped}
 use Rattle.ts_model.specs.declared.answers.Outcome.{Outcome}
 use Rattle.ts_model.specs.declared.answers.Outcome.TheVariants as outcome
 use Rattle.ts_model.specs.declared.answers.Refusal.{Refusal}
-use Rattle.ts_model.specs.declared.answers.Refusal.TheVariants as refusal
 use Rattle.ts_model.specs.declared.commands.FrameIn.{FrameIn}
 use Rattle.ts_model.specs.declared.commands.WriteIn.{WriteIn}
 use Rattle.ts_model.specs.declared.deeds.Deed.{Deed}
@@ -41,21 +40,21 @@ use Rattle.ts_model.specs.declared.deeds.Written.{Written}
 use Rattle.ts_model.specs.declared.deeds.Deletion.{Deletion}
 use Rattle.ts_model.specs.Commands.{frame_made, laid}
 use Rattle.ts_model.specs.Queries.{delete_condition}
-use Rattle.ts_model.specs.Deeds.{History, IsNewKey, frame_in, schema_there, schema_with}
+use Rattle.ts_model.specs.Deeds.{History, IsHistory, IsNewKey, frame_in, schema_there}
 use Rattle.ts_model.specs.Answers.{IsAnswer}
 use Rattle.ts_model.specs.Driven.{IsDriven}
 use Rattle.ts_cond.specs.declared.query.Query.{Query}
-use Rattle.ts_base.specs.declared.names.Prefix.{Prefix}
 use Rattle.ts_base.specs.declared.names.Prefix.TheVariants.{Commits, Schemas}
 use Rattle.ts_model.specs.Jobs.{key_of, looked_at, looks_at, schema_of_job, written_as, deletion_as}
 use Rattle.ts_model.specs.Stops.{cuts}
 use Rattle.ts_model.specs.States.{Exchange, made_by}
-use Rattle.ts_model.specs.Told.{Told, trace_of, grown, deed_told, deed_in, deed_of, declared_by, written_by, written_in, deleted_by, deleted_in, schema_used, schemas_found, cells_of, condition_of, history_from, history_told, Replied, Suits}
-use Rattle.ts_model.proofs.ListLemmas.{Contains-cons, Contains-here, Contains-nil, Contains-there}
-use Rattle.ts_model.proofs.Traces.{exchange_of_other, history_told-append, history_told_grows, trace_of-append}
-use Rattle.ts_law.specs.Ends.{IsTrueEnd, IsTrueOver, IsTrueRefusal, IsUndone, ListedAt, kind_of}
-use Rattle.ts_law.specs.Fresh.{IsFreshSeed, IsJobOf, AreJobsOf, Numbered, command_at, id_of, in_lane_order, job_from, lanes_of}
-use Rattle.ts_law.specs.Lanes.{one_lane, IsOwned, IsWithin, IsBefore, InTurn}
+use Rattle.ts_model.specs.Told.{Told, entries_of, entry_of, exchange_of, trace_of, grown, deed_told, deed_in, deed_of, declared_by, written_by, written_in, deleted_by, deleted_in, schema_used, schemas_found, cells_of, condition_of, history_from, history_told, Replied, Suits}
+use Rattle.ts_model.proofs.ListLemmas.{Contains-cons, Contains-filter_map, Contains-here, Contains-nil, Contains-there, filter_map-Contains}
+use Rattle.ts_model.proofs.Traces.{exchange_of_other, exchange_of_own, history_told-append, trace_of-append}
+use Rattle.ts_law.specs.Ends.{IsTrueEnd, IsTrueOver, IsUndone, ListedAt}
+use Rattle.ts_law.specs.Refusals.{IsRefusedFor}
+use Rattle.ts_law.specs.Fresh.{IsFreshSeed, IsJobOf, AreJobsOf, Numbered, command_at, id_of, in_lane_order, job_from, lanes_of, lane_of as line_lane}
+use Rattle.ts_law.specs.Lanes.{lane_by, one_lane, IsOwned, IsWithin, IsBefore, InTurn}
 use Rattle.ts_law.specs.Runs.{AreDriven, exchanges, IsRunOver, IsTrueRun}
 use Rattle.ts_law.proofs.Clipped.{true_end_of}
 use Rattle.ts_law.specs.Stands.{IsNoLease}
@@ -68,58 +67,20 @@ use Rattle.ts_law.proofs.TrueRuns.{kept_first, true_run, works_where_used}
 use Rattle.ts_actor.specs.PlainCodec.{NeverWaits}
 use Rattle.ts_actor.specs.PlainLaws.{plain_laws}
 use Rattle.ts_top.specs.Ends.{ends_text}
-use Rattle.ts_top.specs.Promise.{Extends, HeldOnce, IsDone, IsDeedOf, IsLineDone, Tells, TellsRefusal, IsStored, Promise, Began, Promised}
+use Rattle.ts_top.specs.Promise.{HeldOnce, IsDone, IsDeedOf, IsLineDone, Tells, IsStored, Promise, Began, Promised}
 use Rattle.ts_top.specs.Runners.{run_codec, run_spelled}
 use Rattle.ts_script.specs.Script.{AreLimited}
 use Rattle.ts_top.specs.Seen.{Seen, AskFor, Stopped as HasStopped, Performed, PrintsEnds, whole, sink_failed, no_text, status_printed, Plays, ended, ran_short}
-use Rattle.ts_top.proofs.Exact.{printed_few}
+use Rattle.ts_top.proofs.Places.{Early, Late, cancelled, fronts, goes_on, listed_after, listed_now}
+use Rattle.ts_top.proofs.RefusalsTold.{IsQuiet, calls_in, none_first, nothing_done, refusal_tells}
 use Rattle.ts_top.specs.declared.top.Stop.{Stop}
 use Rattle.ts_top.specs.declared.top.Stop.TheVariants.{Usage, BadScript, NoForm, ReadFault, OutOfMemory}
 
 -- ---- what an end tells
 
--- a refusal that is true of a job tells so of its command
-refusal_tells : (now : History) (job : Job) (r : Refusal) → IsTrueRefusal now job r → TellsRefusal now (key_of job) job.command r
-refusal_tells now job (refusal.Missing n) is = is
-refusal_tells now job (refusal.Damaged n at) is = is
-refusal_tells now job (refusal.Taken n) is = is
-refusal_tells now job (refusal.StoreFault (place.Name (name.Commit f kind))) (inl own) = let mine = refusal.StoreFault (place.Name (name.Commit (frag_of (key_of job)) (kind_of job.command))) in inr (rw (own.0, own.1) (Contains-here mine (refusal.StoreFault (place.Name (name.Schema (key_of job))) ∷ [])))
-refusal_tells now job (refusal.StoreFault (place.Name (name.Commit f kind))) (inr undone) = inl undone
-refusal_tells now job (refusal.StoreFault (place.Name (name.Schema k))) (inl own) = let mine = refusal.StoreFault (place.Name (name.Schema (key_of job))) in inr (rw own (Contains-there (refusal.StoreFault (place.Name (name.Commit (frag_of (key_of job)) (kind_of job.command)))) (mine ∷ []) mine (Contains-here mine [])))
-refusal_tells now job (refusal.StoreFault (place.Name (name.Schema k))) (inr undone) = inl undone
-refusal_tells now job _ is = inl is
-
--- where two lists are one, a first part of one begins with a first part of the other that has no item at which the other breaks off
-fronts : {X : Type 0} (a b a' b' : List X) → a ++ b ≡ a' ++ b' → ((x : X) (xs : List X) → b' ≡ x ∷ xs → Contains a x → ⊥) → (c : List X) × (a' ≡ a ++ c)
-fronts [] b a' b' is apart = (a', refl)
-fronts (e ∷ a) b [] b' is apart = absurd (apart e (a ++ b) (sym is) (Contains-here e a))
-fronts (e ∷ a) b (e' ∷ a') b' is apart =
-    let head : e ≡ e' = ap (λ l. get_or l 0 e) is in
-    let tail : a ++ b ≡ a' ++ b' = ap (drop 1) is in
-    let (c, parts) = fronts a b a' b' tail (λ x xs q at. apart x xs q (Contains-there e a x at)) in
-    (c, ap (λ l. e' ∷ l) parts ∙ ap (λ x. x ∷ a ++ c) (sym head))
-
-cancelled : {X : Type 0} (a b b' : List X) → a ++ b ≡ a ++ b' → b ≡ b'
-cancelled [] b b' is = is
-cancelled (e ∷ a) b b' is = cancelled a b b' (ap (drop 1) is)
-
 none_in : {X : Type 0} (xs : List X) → ((x : X) → Contains xs x → ⊥) → xs ≡ []
 none_in [] none = refl
 none_in (x ∷ xs) none = absurd (none x (Contains-here x xs))
-
-no_items : {X : Type 0} (xs : List X) → length xs ≡ 0 → xs ≡ []
-no_items [] is = refl
-no_items (x ∷ xs) is = absurd (omega (arith, is))
-
--- a history that goes on from another, and this one from it, is that one
-same_history : (h g : History) → Extends h g → Extends g h → g ≡ h
-same_history h g (a, on) (b, back) =
-    let total : length h ≡ length h + length a + length b = ap length (back ∙ ap (λ l. l ++ b) on) ∙ length-append (h ++ a) b ∙ ap (λ n. n + length b) (length-append h a) in
-    on ∙ ap (λ l. h ++ l) (no_items a (omega (arith, total))) ∙ append-nil h
-
--- the calls of jobs before a number, and of the others
-abbrev Early : ℕ → List Told → Type 0
-Early n told = (e : Told) → Contains told e → (number : ℕ) → e.job ≡ Some number → number < n
 
 -- an item behind a list, and then more
 one_more : {A : Type 0} (h : List A) (x : A) (front : List A) → (h ++ x ∷ []) ++ front ≡ h ++ x ∷ front
@@ -136,59 +97,42 @@ place_of [] [] e late b = refl
 place_of [] (x ∷ early) e late b = ap (λ l. x ∷ l) (place_of [] early e late b)
 place_of (x ∷ a) early e late b = ap (λ l. x ∷ l) (place_of a early e late b)
 
-abbrev Late : ℕ → List Told → Type 0
-Late n told = (e : Told) → Contains told e → (number : ℕ) → e.job ≡ Some number → n ≤ number
-
 -- an object whose put is a deed is no lease
 deed_no_lease : (h : History) (job : Job) (found : Option (List Key)) (n : Name) (d : Deed) → deed_of h job found n ≡ Some d → IsNoLease n
 deed_no_lease h job found (name.Lease k mode) d is = absurd (none-some d is)
 deed_no_lease h job found _ d is = tt
 
-module _ (jobs : List Job) (past : History) where
-  -- the history after a first part of what was told goes on to the one after it all
-  goes_on : (a b told : List Told) → told ≡ a ++ b → Extends (history_told jobs past a) (history_told jobs past told)
-  goes_on a b told parts = let grows = history_told_grows jobs past a b in (grows.0, ap (history_told jobs past) parts ∙ grows.1)
+module _ (jobs : List Job) (past : History) (a c told : List Told) (parts : told ≡ a ++ c) (number : ℕ) (early : Early number a) where
+  held_once : (at : ListedAt told number Schemas) (k : Key) (there : Schema) → IsNewKey (history_told jobs past at.before) k → schema_there (history_told jobs past at.before) k.t ≡ Some there
+      → HeldOnce (history_told jobs past a) (history_told jobs past told) k there
+  held_once at k there new holds = (history_told jobs past at.before, listed_after jobs past a c told parts number early Schemas at, goes_on jobs past at.before (at.listing ∷ at.later) told at.place, new, holds)
 
-  module _ (a c told : List Told) (parts : told ≡ a ++ c) (number : ℕ) (early : Early number a) where
-    -- a job lists after the calls of the jobs before it
-    listed_after : (prefix : Prefix) (at : ListedAt told number prefix) → Extends (history_told jobs past a) (history_told jobs past at.before)
-    listed_after prefix at =
-        let apart : (x : Told) (xs : List Told) → at.listing ∷ at.later ≡ x ∷ xs → Contains a x → ⊥ = λ x xs q among.
-        let head : at.listing ≡ x = ap (λ l. get_or l 0 at.listing) q in
-        let less = early x among number (ap (λ (e : Told). e.job) (sym head) ∙ at.own) in
-        omega (arith, less) in
-        let (d, behind) = fronts a c at.before (at.listing ∷ at.later) (sym parts ∙ at.place) apart in
-        goes_on a d at.before behind
-
-    held_once : (at : ListedAt told number Schemas) (k : Key) (there : Schema) → IsNewKey (history_told jobs past at.before) k → schema_there (history_told jobs past at.before) k.t ≡ Some there
-        → HeldOnce (history_told jobs past a) (history_told jobs past told) k there
-    held_once at k there new holds = (history_told jobs past at.before, listed_after Schemas at, goes_on at.before (at.listing ∷ at.later) told at.place, new, holds)
-
-    -- a listing of a job that did nothing was of the history after it
-    listed_now : (prefix : Prefix) (at : ListedAt told number prefix) → history_told jobs past told ≡ history_told jobs past a → history_told jobs past at.before ≡ history_told jobs past told
-    listed_now prefix at still =
-        let on = goes_on at.before (at.listing ∷ at.later) told at.place in
-        same_history (history_told jobs past told) (history_told jobs past at.before) (subst (λ h. Extends h (history_told jobs past at.before)) (sym still) (listed_after prefix at)) on
+  module _ (m : Held) (lane : Option ℕ → ℕ) (job : Job) where
+    -- what an end tells of the command
+    abbrev TellsOf : Outcome → Command → Type 0
+    TellsOf end command = Tells (calls_in m lane a c) (history_told jobs past a) (history_told jobs past told) (key_of job) end command
 
     -- an end that is true of a job tells so of its command
-    end_tells : (job : Job) (end : Outcome) → ((from to : ℕ) (query : Query) → job.command ≡ Read from to query → history_told jobs past told ≡ history_told jobs past a)
-        → (end ≡ outcome.OutOfMemory → IsUndone (history_told jobs past told) job) → IsTrueEnd jobs past told number job end → Tells (history_told jobs past a) (history_told jobs past told) (key_of job) end job.command
-    end_tells job outcome.Created still short is = subst (Tells (history_told jobs past a) (history_told jobs past told) (key_of job) outcome.Created) (sym is.creates) (is.framed, is.declared)
-    end_tells job (outcome.Evolved k) still short (same, is) =
-        subst (Tells (history_told jobs past a) (history_told jobs past told) (key_of job) (outcome.Evolved k)) (sym is.evolves) (same, is.there, held_once is.schemas (key_of job) is.there is.undone is.holds, is.declared)
-    end_tells job (outcome.Written f) still short (same, is) =
-        subst (Tells (history_told jobs past a) (history_told jobs past told) (key_of job) (outcome.Written f)) (sym is.writes_them)
+    end_tells : (end : Outcome) → ((from to : ℕ) (query : Query) → job.command ≡ Read from to query → history_told jobs past told ≡ history_told jobs past a)
+        → (end ≡ outcome.OutOfMemory → IsUndone (history_told jobs past told) job)
+        → ((r : Refusal) → end ≡ outcome.Refused r → IsRefusedFor m jobs past told number job r × (IsQuiet r → history_told jobs past told ≡ history_told jobs past a))
+        → IsTrueEnd jobs past told number job end → TellsOf end job.command
+    end_tells outcome.Created still short cause is = subst (TellsOf outcome.Created) (sym is.creates) (is.framed, is.declared)
+    end_tells (outcome.Evolved k) still short cause (same, is) =
+        subst (TellsOf (outcome.Evolved k)) (sym is.evolves) (same, is.there, held_once is.schemas (key_of job) is.there is.undone is.holds, is.declared)
+    end_tells (outcome.Written f) still short cause (same, is) =
+        subst (TellsOf (outcome.Written f)) (sym is.writes_them)
         (same, is.there, held_once is.schemas (key_of job) is.there is.undone is.holds, is.frame, is.framed, is.cells, is.lays, is.written)
-    end_tells job (outcome.Deleted f) still short (same, is) =
-        subst (Tells (history_told jobs past a) (history_told jobs past told) (key_of job) (outcome.Deleted f)) (sym is.deletes)
+    end_tells (outcome.Deleted f) still short cause (same, is) =
+        subst (TellsOf (outcome.Deleted f)) (sym is.deletes)
         (same, is.there, held_once is.schemas (key_of job) is.there is.undone is.holds, is.frame, is.framed, is.condition, is.says, is.erased)
-    end_tells job (outcome.Read answer) still short (from, to, query, reads, is) =
+    end_tells (outcome.Read answer) still short cause (from, to, query, reads, is) =
         let stays = still from to query reads in
-        subst (Tells (history_told jobs past a) (history_told jobs past told) (key_of job) (outcome.Read answer)) (sym reads)
-        (subst (λ h. IsAnswer h (history_told jobs past told) from to query answer) (listed_now Commits is.commits stays)
-        (subst (λ h. IsAnswer (history_told jobs past is.commits.before) h from to query answer) (listed_now Schemas is.schemas stays) is.answers))
-    end_tells job (outcome.Refused r) still short is = refusal_tells (history_told jobs past told) job r is
-    end_tells job outcome.OutOfMemory still short is = short refl
+        subst (TellsOf (outcome.Read answer)) (sym reads)
+        (subst (λ h. IsAnswer h (history_told jobs past told) from to query answer) (listed_now jobs past a c told parts number early Commits is.commits stays)
+        (subst (λ h. IsAnswer (history_told jobs past is.commits.before) h from to query answer) (listed_now jobs past a c told parts number early Schemas is.schemas stays) is.answers))
+    end_tells (outcome.Refused r) still short cause is = refusal_tells m jobs past lane a c told parts number early job r is (cause r refl).0 (cause r refl).1
+    end_tells outcome.OutOfMemory still short cause is = short refl
 
 -- a read does no deed
 no_deed_of_read : (before h : History) (k : Key) (from to : ℕ) (query : Query) (d : Deed) → IsDeedOf before h k (Read from to query) d → ⊥
@@ -312,11 +256,6 @@ none_split : (front back : List Deed) (d : Deed) → [] ≡ front ++ d ∷ back 
 none_split [] back d is = cc
 none_split (x ∷ front) back d is = cc
 
--- where there is no first deed there is none
-none_first : (deeds : List Deed) → ((back : List Deed) (d : Deed) → deeds ≡ d ∷ back → ⊥) → deeds ≡ []
-none_first [] none = refl
-none_first (d ∷ deeds) none = absurd (none deeds d refl)
-
 -- a deed came by a call of a job, after these deeds
 record Comes (jobs : List Job) (h : History) (seen told : List Told) (front : List Deed) (d : Deed) : Type 0 where
   early : List Told
@@ -402,6 +341,19 @@ module _ (jobs : List Job) where
   own_deeds h seen [] = record { deeds = []; goes_on_so = sym (append-nil h); came = λ front back d is. absurd (none_split front back d is) }
   own_deeds h seen (e ∷ told) = with_first h seen told e (own_deeds (h ++ grown jobs h seen e) (seen ++ e ∷ []) told)
 
+-- a job that made no call did no deed
+silent_deeds : (jobs : List Job) (i : ℕ) (a c told : List Told) (h : History) → told ≡ a ++ c → Early (i + 1) c → Late i c → (own : AreOwned jobs h a c) → trace_of i told ≡ [] → own.deeds ≡ []
+silent_deeds jobs i a c told h parts below above own none = none_first own.deeds (λ back d split. no_call [] d (own.came [] back d split))
+  where
+    no_call : (front : List Deed) (d : Deed) → Comes jobs h a c front d → ⊥
+    no_call front d came =
+        let e = came.by_it in
+        let x : Exchange = record { call = e.call; reply = e.reply } in
+        let among : Contains c e = subst (λ l. Contains l e) (sym came.parts) (Contains-append_right came.early (e ∷ came.late) e (Contains-here e came.late)) in
+        let at_i : came.number ≡ i = omega (arith, below e among came.number came.mine, above e among came.number came.mine) in
+        let there : Contains told e = subst (λ l. Contains l e) (sym parts) (Contains-append_right a c e among) in
+        Contains-nil x (subst (λ t. Contains t x) none (Contains-filter_map (exchange_of i) told e x there (exchange_of_own i e (came.mine ∙ ap Some at_i))))
+
 -- ---- each command has an end
 
 -- results of which none is a stop are ends
@@ -425,6 +377,10 @@ ends_count (e ∷ ends) = ap suc (ends_count ends)
 all_front : {X : Type 0} (P : X → Type 0) (a b : List X) → All P (a ++ b) → All P a
 all_front P [] b all = All-nil P
 all_front P (x ∷ a) b all = All-cons P x a (All-head P x (a ++ b) all) (all_front P a b (All-tail P x (a ++ b) all))
+
+all_back : {X : Type 0} (P : X → Type 0) (a b : List X) → All P (a ++ b) → All P b
+all_back P [] b all = all
+all_back P (x ∷ a) b all = all_back P a b (All-tail P x (a ++ b) all)
 
 turn_front : (lanes : ℕ → ℕ) (a b : List Told) → InTurn lanes (a ++ b) → InTurn lanes a
 turn_front lanes [] b turn = tt
@@ -543,17 +499,25 @@ module _ (gives : ℕ → Bool) (seed : ℕ) (items : List Numbered) (jobs : Lis
       (Replied-front m a b (subst (Replied m) parts replied)) (all_front Suits a b (subst (All Suits) parts suit)) (all_front IsOwned a b (subst (All IsOwned) parts owned))
       (all_front (IsWithin jobs) a b (subst (All (IsWithin jobs)) parts within)) (turn_front one_lane a b (subst (InTurn one_lane) parts in_turn)) (front_driven n)
 
+  -- the lane of each call is that of its command
+  abbrev lane : Option ℕ → ℕ
+  lane = lane_by (lanes_of items)
+
+  -- the journal after so many commands
+  abbrev entered_by : ℕ → List Entry
+  entered_by n = entries_of lane (calls_before n)
+
   -- the first calls are none, and the last are all
-  after_none : after 0 ≡ past
-  after_none =
+  no_calls : calls_before 0 ≡ []
+  no_calls =
       let (a, b, parts, early, late) = cut 0 told owned in_turn in
-      ap (history_told jobs past) (none_in a (λ e at. let less = early e at (own_of e at).0 (own_of e at).1 in omega (arith, less)))
+      none_in a (λ e at. let less = early e at (own_of e at).0 (own_of e at).1 in omega (arith, less))
     where
       own_of : (e : Told) → Contains (calls_before 0) e → IsOwned e
       own_of e at = All-contains IsOwned (calls_before 0) e (all_front IsOwned (calls_before 0) (cut 0 told owned in_turn).1 (subst (All IsOwned) (cut 0 told owned in_turn).2 owned)) at
 
-  after_all : after (length items) ≡ history_told jobs past told
-  after_all =
+  all_calls : calls_before (length items) ≡ told
+  all_calls =
       let (a, b, parts, early, late) = cut (length items) told owned in_turn in
       let none : b ≡ [] = none_in b (λ e at.
       let among : Contains told e = subst (λ l. Contains l e) (sym parts) (Contains-append_right a b e at) in
@@ -561,7 +525,23 @@ module _ (gives : ℕ → Bool) (seed : ℕ) (items : List Numbered) (jobs : Lis
       let less = All-contains (IsWithin jobs) told e within among number mine in
       let from = late e at number mine in
       omega (arith, less, from, are.one_each)) in
-      ap (history_told jobs past) (sym (parts ∙ ap (λ l. a ++ l) none ∙ append-nil a))
+      sym (parts ∙ ap (λ l. a ++ l) none ∙ append-nil a)
+
+  -- the entries of calls of one command have its lane
+  entries_lane : (i : ℕ) (item : Numbered) → slice_get items i ≡ Some item → (c : List Told) → All IsOwned c → Early (i + 1) c → Late i c → All (λ (e : Entry). e.lane ≡ (item.line).lane) (entries_of lane c)
+  entries_lane i item is_item c owns below above = All-weaker (Contains (entries_of lane c)) (λ (e : Entry). e.lane ≡ (item.line).lane) each (entries_of lane c) (All-contains_itself (entries_of lane c))
+    where
+      entry_lane : (b : Bool) (x y : Entry) → cond b None (Some x) ≡ Some y → x ≡ y
+      entry_lane true x y is = absurd (none-some y is)
+      entry_lane false x y is = same_Some x y is
+
+      each : (y : Entry) → Contains (entries_of lane c) y → y.lane ≡ (item.line).lane
+      each y at =
+          let (e, among, is) = filter_map-Contains (entry_of lane) c y at in
+          let (number, mine) = All-contains IsOwned c e owns among in
+          let at_i : number ≡ i = omega (arith, below e among number mine, above e among number mine) in
+          let same = entry_lane (is_no_memory e.reply) (record { lane = lane e.job; call = e.call; fate = e.fate }) y is in
+          ap (λ (x : Entry). x.lane) (sym same) ∙ ap lane (mine ∙ ap Some at_i) ∙ ap line_lane is_item
 
   -- the deed of a call of one command, after the commands before it
   deed_is : (i : ℕ) (job : Job) → slice_get jobs i ≡ Some job → (a c b : List Told) → told ≡ a ++ c ++ b → Early i a → Early (i + 1) c → Late i c
@@ -592,7 +572,8 @@ module _ (gives : ℕ → Bool) (seed : ℕ) (items : List Numbered) (jobs : Lis
       deed
 
   -- a command was done between the commands before it and those after it
-  is_done : (i : ℕ) (item : Numbered) (end : Outcome) → slice_get items i ≡ Some item → slice_get results i ≡ Some (Done end) → IsLineDone gives seed (after i) (after (i + 1)) item end
+  is_done : (i : ℕ) (item : Numbered) (end : Outcome) → slice_get items i ≡ Some item → slice_get results i ≡ Some (Done end)
+      → (calls : List Entry) × (entered_by (i + 1) ≡ entered_by i ++ calls) × IsLineDone gives seed (record { opening = held_after m (entered_by i); entries = calls }) (after i) (after (i + 1)) item end
   is_done i item end is_item result_at =
       let (a, b, parts, early, late) = cut i told owned in_turn in
       let (a', b', parts', early', late') = cut (i + 1) told owned in_turn in
@@ -623,9 +604,24 @@ module _ (gives : ℕ → Bool) (seed : ℕ) (items : List Numbered) (jobs : Lis
       no_deed_of_read (history_told jobs past a) (history_told jobs past a ++ []) (key_of job) from to query d
       (subst (λ q. IsDeedOf (history_told jobs past a) (history_told jobs past a ++ []) (key_of job) q d) reads (of_job [] back d split))) in
       whole ∙ own.goes_on_so ∙ ap (λ l. history_told jobs past a ++ l) none ∙ append-nil (history_told jobs past a) in
-      let done : IsDone (history_told jobs past a) (history_told jobs past a') (key_of job) end job.command =
-      record { deeds = deeds; goes_on = whole ∙ own.goes_on_so; own = of_job; tells = end_tells jobs past a c a' grows i early job end still short is_true } in
-      (job.at, of_line.stamp, subst (λ j. IsDone (history_told jobs past a) (history_told jobs past a') (key_of j) end j.command) same done)
+      let grows_by : history_told jobs past a' ≡ history_told jobs past a ++ deeds = whole ∙ own.goes_on_so in
+      let silent : trace_of i a' ≡ [] → deeds ≡ [] = silent_deeds jobs i a c a' (history_told jobs past a) grows below above own in
+      let history : IsHistory (history_told jobs past a') = ((front_run (i + 1)).stands a' [] (sym (append-nil a'))).history in
+      let causes : (r : Refusal) → end ≡ outcome.Refused r → IsRefusedFor m jobs past a' i job r × (IsQuiet r → history_told jobs past a' ≡ history_told jobs past a) = λ r is.
+      let cause : IsRefusedFor m jobs past a' i job r = (front_run (i + 1)).causes i job r is_job (short_at results (i + 1) i (Done (outcome.Refused r)) (omega arith) (result_at ∙ ap (λ o. Some (Done o)) is)) in
+      (cause, λ quiet.
+      let none : deeds ≡ [] = nothing_done m jobs past lane a c a' grows i early job deeds grows_by history of_job silent r quiet (subst (IsTrueEnd jobs past a' i job) is is_true) cause in
+      grows_by ∙ ap (λ l. history_told jobs past a ++ l) none ∙ append-nil (history_told jobs past a)) in
+      let done : IsDone (calls_in m lane a c) (history_told jobs past a) (history_told jobs past a') (key_of job) end job.command =
+      record { deeds = deeds; goes_on = grows_by; own = of_job; tells = end_tells jobs past a c a' grows i early m lane job end still short causes is_true } in
+      let owns : All IsOwned c = all_back IsOwned a c (all_front IsOwned (a ++ c) b' (subst (All IsOwned) place owned)) in (
+        entries_of lane c,
+        ap (entries_of lane) grows ∙ filter_map-append (entry_of lane) a c,
+        (
+          entries_lane i item is_item c owns below above,
+          (job.at, of_line.stamp, subst (λ j. IsDone (calls_in m lane a c) (history_told jobs past a) (history_told jobs past a') (key_of j) end j.command) same done),
+        ),
+      )
 
 -- ---- the promise
 
@@ -666,7 +662,7 @@ module _ {S : Type 0} (held : S → Option Held) (made : S → List Exchange →
   whole_of text printed (no_text is nothing) (inr e) = absurd (let none : ⊥ = omega (arith, is, e) in none)
 
   kept_promise : (single : Bool) → seen.seed < 2 ^ 64 → AreLimited lines → AskFor seen.words seen.input.old (Ok lines) → PrintsEnds seen.out (ends_text items results) (status_printed single results) seen.status
-      → (m : Held) → held seen.store ≡ Some m → (past : History) → IsStored m past → IsFreshSeed m past seen.seed → Promise held seen past
+      → (m : Held) → held seen.store ≡ Some m → (past : History) → IsStored m past → IsFreshSeed m past seen.seed → Promise held seen m past
   kept_promise single seed_fits limited asks prints m holds past stands fresh =
       let run = performed.run in
       let jobs = performed.jobs in
@@ -677,18 +673,22 @@ module _ {S : Type 0} (held : S → Option Held) (made : S → List Exchange →
       let order : AreInOrder items = in_order lines (omega (arith, limited.few)) limited.fit in
       let count : length ends ≡ length items = sym (ends_count ends) ∙ ap length (sym are) ∙ run.driven.one_each ∙ performed.of_lines.one_each in
       let so_far : ℕ → History = after seen.gives seen.seed items jobs past m run.told results performed.of_lines order stands fresh seed_fits over.replied run.suit run.owned run.in_lanes.within performed.in_turn run.driven in
-      let all = after_all seen.gives seen.seed items jobs past m run.told results performed.of_lines order stands fresh seed_fits over.replied run.suit run.owned run.in_lanes.within performed.in_turn run.driven in
+      let journal : ℕ → List Entry = entered_by seen.gives seen.seed items jobs past m run.told results performed.of_lines order stands fresh seed_fits over.replied run.suit run.owned run.in_lanes.within performed.in_turn run.driven in
+      let all = all_calls seen.gives seen.seed items jobs past m run.told results performed.of_lines order stands fresh seed_fits over.replied run.suit run.owned run.in_lanes.within performed.in_turn run.driven in
+      let none = no_calls seen.gives seen.seed items jobs past m run.told results performed.of_lines order stands fresh seed_fits over.replied run.suit run.owned run.in_lanes.within performed.in_turn run.driven in
       record {
         lines = lines;
         asked = asks;
         ends = ends;
         one_each = count ∙ each_line lines limited.fit;
         after = so_far;
-        first = after_none seen.gives seen.seed items jobs past m run.told results performed.of_lines order stands fresh seed_fits over.replied run.suit run.owned run.in_lanes.within performed.in_turn run.driven;
+        made = journal;
+        first = (ap (history_told jobs past) none, ap (entries_of (lane_by (lanes_of items))) none);
+        last = ap journal count ∙ ap (entries_of (lane_by (lanes_of items))) all ∙ run.entries;
         done = λ i item end is_item is_end.
             is_done seen.gives seen.seed items jobs past m run.told results performed.of_lines order stands fresh seed_fits over.replied run.suit run.owned run.in_lanes.within performed.in_turn run.driven i item end is_item
             (ap (λ rs. slice_get rs i) are ∙ end_at ends i end is_end);
-        stored = (held_after m seen.journal, over.held, subst (IsStored (held_after m seen.journal)) (sym (ap so_far count ∙ all)) stored);
+        stored = (over.held, subst (IsStored (held_after m seen.journal)) (sym (ap so_far count ∙ ap (history_told jobs past) all)) stored);
         front = subst (λ rs. AppendsFront seen.out.old seen.out.new (ends_text items rs)) are (front_of (ends_text items results) (status_printed single results) prints);
         whole = λ done. subst (λ rs. Appends seen.out.old seen.out.new (ends_text items rs)) are (whole_of (ends_text items results) (status_printed single results) prints done);
       }
@@ -727,7 +727,7 @@ module _ {S : Type 0} (held : S → Option Held) (made : S → List Exchange →
   promise_stopped stop h = record { over = λ begun m holds past stands fresh. absurd (not_begun stop h begun); from_nothing = λ begun holds. absurd (not_begun stop h begun) }
 
   module _ (single : Bool) (lines : List Line) (seed_fits : seen.seed < 2 ^ 64) (limited : AreLimited lines) (asks : AskFor seen.words seen.input.old (Ok lines)) where
-    over_any : Plays held made seen single lines → Began seen → (m : Held) → held seen.store ≡ Some m → (past : History) → IsStored m past → IsFreshSeed m past seen.seed → Promise held seen past
+    over_any : Plays held made seen single lines → Began seen → (m : Held) → held seen.store ≡ Some m → (past : History) → IsStored m past → IsFreshSeed m past seen.seed → Promise held seen m past
     over_any (ended results performed prints) begun m holds past stands fresh = kept_promise held made seen lines results performed single seed_fits limited asks prints m holds past stands fresh
     over_any (ran_short seven silent same nothing) begun m holds past stands fresh = absurd (not_begun_short seven silent begun)
 

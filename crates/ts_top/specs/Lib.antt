@@ -3,4 +3,5 @@ pub mod Notices
 pub mod Items
 pub mod Runners
 pub mod Seen
+pub mod Causes
 pub mod Promise

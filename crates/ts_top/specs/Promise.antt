@@ -1,13 +1,13 @@
 -- What a run promises: what its printed text and the end of each command mean, in words of the history.
-use Rattle.std.specs.Prelude.{◌≡◌, ℕ, ◌+◌, Bool, List, [], ◌∷◌, ◌++◌, Option, Some, Ok, length, slice_get, map as list_map, Contains, ◌⊎◌}
+use Rattle.std.specs.Prelude.{◌≡◌, ℕ, ◌+◌, Bool, List, [], ◌∷◌, ◌++◌, Option, Some, Ok, length, slice_get, map as list_map, All, Contains, ◌⊎◌}
 use Rattle.std.specs.Io.KnownBytes.{Appends}
 use Rattle.std.specs.FinMap as map
 use Rattle.ts_base.specs.Held.{Held}
 use Rattle.ts_base.specs.declared.keys.Key.{Key}
 use Rattle.ts_base.specs.declared.heads.Cell.{Cell}
 use Rattle.ts_base.specs.Keys.{frag_of}
-use Rattle.ts_base.specs.declared.names.Name.TheVariants as name
-use Rattle.ts_base.specs.declared.names.Place.TheVariants as place
+use Rattle.ts_store.specs.declared.journal.Entry.{Entry}
+use Rattle.ts_store.specs.Journals.{held_after}
 use Rattle.ts_store.specs.Streams.{AppendsFront}
 use Rattle.ts_schema.specs.declared.frames.Frame.{Frame}
 use Rattle.ts_schema.specs.declared.schemas.Schema.{Schema}
@@ -18,8 +18,6 @@ use Rattle.ts_model.specs.declared.commands.Command.{Command}
 use Rattle.ts_model.specs.declared.commands.Command.TheVariants.{Create, Evolve, Write, Read, Delete}
 use Rattle.ts_model.specs.declared.answers.Outcome.{Outcome}
 use Rattle.ts_model.specs.declared.answers.Outcome.TheVariants as outcome
-use Rattle.ts_model.specs.declared.answers.Refusal.{Refusal}
-use Rattle.ts_model.specs.declared.answers.Refusal.TheVariants as refusal
 use Rattle.ts_model.specs.declared.answers.Driven.TheVariants.{Done}
 use Rattle.ts_model.specs.declared.deeds.Deed.{Deed}
 use Rattle.ts_model.specs.declared.deeds.Deed.TheVariants.{Framed, Declared, Wrote, Erased}
@@ -27,9 +25,9 @@ use Rattle.ts_model.specs.Deeds.{History, frame_in, schema_with, schema_there, w
 use Rattle.ts_model.specs.Answers.{IsAnswer}
 use Rattle.ts_model.specs.Commands.{frame_made, laid}
 use Rattle.ts_model.specs.Queries.{delete_condition}
-use Rattle.ts_law.specs.Ends.{kind_of}
 use Rattle.ts_law.specs.Fresh.{IsFreshSeed, IsStampOf, Numbered, command_at, id_of, in_lane_order}
 use Rattle.ts_law.specs.Stands.{Stands}
+use Rattle.ts_top.specs.Causes.{Calls, TellsRefusal}
 use Rattle.ts_top.specs.Ends.{ends_text}
 use Rattle.ts_top.specs.Runners.{run_spelled}
 use Rattle.ts_top.specs.Seen.{Seen, AskFor}
@@ -42,31 +40,20 @@ Extends sooner later = (deeds : List Deed) × (later ≡ sooner ++ deeds)
 abbrev pub HeldOnce : History → History → Key → Schema → Type 0
 HeldOnce before now k schema = (once : History) × Extends before once × Extends once now × IsNewKey once k × (schema_there once k.t ≡ Some schema)
 
--- faults of a command's own puts: of its commit, and of its schema
-abbrev pub own_faults : Key → Command → List Refusal
-own_faults k command = refusal.StoreFault (place.Name (name.Commit (frag_of k) (kind_of command))) ∷ refusal.StoreFault (place.Name (name.Schema k)) ∷ []
-
--- what a refusal tells: no object is missing, damaged or taken; the history has no deed of the command, but perhaps where a put of its own failed
-abbrev pub TellsRefusal : History → Key → Command → Refusal → Type 0
-TellsRefusal now k command (refusal.Missing n) = ⊥
-TellsRefusal now k command (refusal.Damaged n at) = ⊥
-TellsRefusal now k command (refusal.Taken n) = ⊥
-TellsRefusal now k command r = IsNewKey now k ⊎ Contains (own_faults k command) r
-
 -- what the end of a command with the key tells of the histories before and after it; a read does nothing, so it reads the one history, and one that ran short of memory has no deed of its key
-abbrev pub Tells : History → History → Key → Outcome → Command → Type 0
-Tells before now k (outcome.Read answer) (Read from to query) = IsAnswer now now from to query answer
-Tells before now k outcome.Created (Create made) = (frame_in now ≡ Some (frame_made made)) × (schema_with now k ≡ Some (record { key = k; attrs = made.attrs }))
-Tells before now k (outcome.Evolved n) (Evolve change) = (n ≡ k) × (there : Schema) × HeldOnce before now k there × (schema_with now k ≡ Some (record { key = k; attrs = evolved_attrs there.attrs change }))
-Tells before now k (outcome.Written f) (Write columns) =
+abbrev pub Tells : Calls → History → History → Key → Outcome → Command → Type 0
+Tells calls before now k (outcome.Read answer) (Read from to query) = IsAnswer now now from to query answer
+Tells calls before now k outcome.Created (Create made) = (frame_in now ≡ Some (frame_made made)) × (schema_with now k ≡ Some (record { key = k; attrs = made.attrs }))
+Tells calls before now k (outcome.Evolved n) (Evolve change) = (n ≡ k) × (there : Schema) × HeldOnce before now k there × (schema_with now k ≡ Some (record { key = k; attrs = evolved_attrs there.attrs change }))
+Tells calls before now k (outcome.Written f) (Write columns) =
     (f ≡ frag_of k) × (there : Schema) × HeldOnce before now k there × (frame : Frame) × (frame_in now ≡ Some frame)
     × (cells : List Cell) × (laid frame there.attrs columns ≡ Ok cells) × Contains (writes now) (record { key = k; schema = there.key; cells = cells })
-Tells before now k (outcome.Deleted f) (Delete text) =
+Tells calls before now k (outcome.Deleted f) (Delete text) =
     (f ≡ frag_of k) × (there : Schema) × HeldOnce before now k there × (frame : Frame) × (frame_in now ≡ Some frame)
     × (condition : Condition) × (delete_condition frame there.attrs text ≡ Ok condition) × Contains (deletions now) (record { key = k; cond = condition })
-Tells before now k (outcome.Refused r) command = TellsRefusal now k command r
-Tells before now k outcome.OutOfMemory command = IsNewKey now k
-Tells before now k _ _ = ⊥
+Tells calls before now k (outcome.Refused r) command = TellsRefusal calls before now k command r
+Tells calls before now k outcome.OutOfMemory command = IsNewKey now k
+Tells calls before now k _ _ = ⊥
 
 -- a deed that a command with the key may do, where the history was `before` as the command began and is `h` as it does the deed
 abbrev pub IsDeedOf : History → History → Key → Command → Deed → Type 0
@@ -82,32 +69,36 @@ IsDeedOf before h k (Delete text) (Erased e) =
 IsDeedOf before h k _ _ = ⊥
 
 -- a command was done: each deed that came is one of it, over the history before the deed, and its end tells the truth
-pub record IsDone (before now : History) (k : Key) (end : Outcome) (command : Command) : Type 0 where
+pub record IsDone (calls : Calls) (before now : History) (k : Key) (end : Outcome) (command : Command) : Type 0 where
   pub deeds : List Deed
   pub goes_on : now ≡ before ++ deeds
   pub own : (front back : List Deed) (d : Deed) → deeds ≡ front ++ d ∷ back → IsDeedOf before (before ++ front) k command d
-  pub tells : Tells before now k end command
+  pub tells : Tells calls before now k end command
 
--- the command of a line was done, at a stamp of the line: its key is that stamp, with the identifier that is made of the seed, the line's lane and its number there
-abbrev pub IsLineDone : (ℕ → Bool) → ℕ → History → History → Numbered → Outcome → Type 0
-IsLineDone gives seed before now item end =
-    (at : ℕ) × IsStampOf gives item.line at × IsDone before now (record { t = at; id = id_of seed item.line.lane item.number }) end (command_at item.line at)
+-- the command of a line was done, at a stamp of the line, by calls in the line's lane: its key is that stamp, with the identifier that is made of the seed, the lane and the line's number there
+abbrev pub IsLineDone : (ℕ → Bool) → ℕ → Calls → History → History → Numbered → Outcome → Type 0
+IsLineDone gives seed calls before now item end =
+    All (λ e. e.lane ≡ item.line.lane) calls.entries
+    × ((at : ℕ) × IsStampOf gives item.line at × IsDone calls before now (record { t = at; id = id_of seed item.line.lane item.number }) end (command_at item.line at))
 
 -- the objects stand for the history, as the program spells them
 abbrev pub IsStored : Held → History → Type 0
 IsStored m h = Stands run_spelled m h
 
--- what a run promises over a history: the commands that were asked for were done one after the other in lane order, with these ends; the store holds what stands for the history after them; and what was printed is the text of the ends, with status 0 or 6, or a front of it
-pub record Promise {S : Type 0} (held : S → Option Held) (seen : Seen S) (past : History) : Type 0 where
+-- what a run promises over objects and the history that they stand for: the commands that were asked for were done one after the other in lane order, with these ends; the store holds what stands for the history after them; and what was printed is the text of the ends, with status 0 or 6, or a front of it
+pub record Promise {S : Type 0} (held : S → Option Held) (seen : Seen S) (m : Held) (past : History) : Type 0 where
   pub lines : List Line
   pub asked : AskFor seen.words seen.input.old (Ok lines)
   pub ends : List Outcome
   pub one_each : length ends ≡ length lines
-  -- the history after so many commands
+  -- the history after so many commands, and the journal up to there
   pub after : ℕ → History
-  pub first : after 0 ≡ past
-  pub done : (i : ℕ) (item : Numbered) (end : Outcome) → slice_get (in_lane_order lines) i ≡ Some item → slice_get ends i ≡ Some end → IsLineDone seen.gives seen.seed (after i) (after (i + 1)) item end
-  pub stored : (m : Held) × (held seen.later ≡ Some m) × IsStored m (after (length ends))
+  pub made : ℕ → List Entry
+  pub first : (after 0 ≡ past) × (made 0 ≡ [])
+  pub last : made (length ends) ≡ seen.journal
+  pub done : (i : ℕ) (item : Numbered) (end : Outcome) → slice_get (in_lane_order lines) i ≡ Some item → slice_get ends i ≡ Some end
+      → (calls : List Entry) × (made (i + 1) ≡ made i ++ calls) × IsLineDone seen.gives seen.seed (record { opening = held_after m (made i); entries = calls }) (after i) (after (i + 1)) item end
+  pub stored : (held seen.later ≡ Some (held_after m seen.journal)) × IsStored (held_after m seen.journal) (after (length ends))
   pub front : AppendsFront seen.out.old seen.out.new (ends_text (in_lane_order lines) (list_map Done ends))
   pub whole : (seen.status ≡ 0) ⊎ (seen.status ≡ 6) → Appends seen.out.old seen.out.new (ends_text (in_lane_order lines) (list_map Done ends))
 
@@ -117,5 +108,5 @@ Began seen = (seen.status ≡ 0) ⊎ (seen.status ≡ 5) ⊎ (seen.status ≡ 6)
 
 -- a run that began keeps the promise: over a store that held what stands for a history, where the seed is fresh, and with any seed over a store that held nothing
 pub record Promised {S : Type 0} (held : S → Option Held) (seen : Seen S) : Type 0 where
-  pub over : Began seen → (m : Held) → held seen.store ≡ Some m → (past : History) → IsStored m past → IsFreshSeed m past seen.seed → Promise held seen past
-  pub from_nothing : Began seen → held seen.store ≡ Some map.empty → Promise held seen []
+  pub over : Began seen → (m : Held) → held seen.store ≡ Some m → (past : History) → IsStored m past → IsFreshSeed m past seen.seed → Promise held seen m past
+  pub from_nothing : Began seen → held seen.store ≡ Some map.empty → Promise held seen map.empty []
