@@ -56,9 +56,9 @@ speaks_no_removal c n q speaks same = subst (λ d. SpeaksOf d n) same speaks
 lease_id : (job : Job) (lease : Name) → lease_of job ≡ Some lease → id_in lease ≡ Some job.id
 lease_id job lease is = let (mode, named) = lease_is job lease is in ap id_in named
 
-module _ {F : Type 0} (codec : Codec F) (spelled : Spelled) (tracks : Tracking F) (laws : CodecLaws codec spelled tracks) (past : History) (jobs : List Job) (seen : List Told) (m : Held) (number : ℕ) (job : Job) where
+module _ {F : Type 0} (codec : Codec F) (spelled : Spelled) (tracks : Tracking F) (laws : CodecLaws codec spelled tracks) (opening : Held) (past : History) (jobs : List Job) (seen : List Told) (m : Held) (number : ℕ) (job : Job) where
   -- a job at its work removes nothing
-  work_removes : (s : State F) (n : Name) → Claims codec spelled tracks past jobs seen m number job s → asks codec job s ≡ Some (call.Remove n) → ⊥
+  work_removes : (s : State F) (n : Name) → Claims codec spelled tracks opening past jobs seen m number job s → asks codec job s ≡ Some (call.Remove n) → ⊥
   work_removes (Creates PutsFrame) n claims asked = let f = asked_by frame_put (made_by job.command) (call.Remove n) asked in no_put n name.Domain _ f.2
   work_removes (Creates ComparesFrame) n claims asked = no_get n name.Domain 0 (2 ^ 64 - 1) (same_Some _ _ asked)
   work_removes (Creates ListsDeclared) n claims asked = no_listing n Schemas (same_Some _ _ asked)
@@ -83,7 +83,7 @@ module _ {F : Type 0} (codec : Codec F) (spelled : Spelled) (tracks : Tracking F
   work_removes (Over end) n claims asked = none-some _ asked
 
   -- what a job removes carries its identifier
-  removes_own : (stage : Stage F) (n : Name) → StageClaims codec spelled tracks past jobs seen m number job stage → MayAsk codec job stage (call.Remove n) → id_in n ≡ Some job.id
+  removes_own : (stage : Stage F) (n : Name) → StageClaims codec spelled tracks opening past jobs seen m number job stage → MayAsk codec job stage (call.Remove n) → id_in n ≡ Some job.id
   removes_own (PutsLease lease) n claims (inl asked) = absurd (no_put n lease [] (same_Some (put_lease lease) (call.Remove n) asked))
   removes_own (ListsLeases lease) n claims (inl asked) = absurd (no_listing n Leases (same_Some _ _ asked))
   removes_own (stages.Works s) n claims (inl asked) = absurd (work_removes s n claims asked)
@@ -110,12 +110,12 @@ call_holds m e n replied other held = by_call e.call refl
     by_call (call.Size q) is = subst (λ x. Holds x n) (sym (look_stays m e (subst IsLook (sym is) tt) replied).0) held
 
 -- what is held and carries an identifier that no job has stays held by the calls of jobs
-pub stays_held_on : {F : Type 0} (codec : Codec F) (spelled : Spelled) (tracks : Tracking F) → CodecLaws codec spelled tracks → (past : History) (jobs : List Job) (id : ℕ)
+pub stays_held_on : {F : Type 0} (codec : Codec F) (spelled : Spelled) (tracks : Tracking F) → CodecLaws codec spelled tracks → (opening : Held) (past : History) (jobs : List Job) (id : ℕ)
     → ((number : ℕ) (job : Job) → slice_get jobs number ≡ Some job → job.id ≡ id → ⊥) → (n : Name) → id_in n ≡ Some id
-    → (seen rest : List Told) (m : Held) → Kept codec spelled tracks past jobs [] seen m → AreAllowed codec jobs [] seen rest → Replied m rest → Holds m n → Holds (held_told m rest) n
-stays_held_on codec spelled tracks laws past jobs id other n carries seen [] m kept may replied held = held
-stays_held_on codec spelled tracks laws past jobs id other n carries seen (e ∷ rest) m kept may replied held =
-    stays_held_on codec spelled tracks laws past jobs id other n carries (seen ++ e ∷ []) rest (after_told m e) (step_kept codec spelled tracks laws past jobs [] seen m e kept may.0 replied.0) may.1 replied.1
+    → (seen rest : List Told) (m : Held) → Kept codec spelled tracks opening past jobs [] seen m → AreAllowed codec jobs [] seen rest → Replied m rest → Holds m n → Holds (held_told m rest) n
+stays_held_on codec spelled tracks laws opening past jobs id other n carries seen [] m kept may replied held = held
+stays_held_on codec spelled tracks laws opening past jobs id other n carries seen (e ∷ rest) m kept may replied held =
+    stays_held_on codec spelled tracks laws opening past jobs id other n carries (seen ++ e ∷ []) rest (after_told m e) (step_kept codec spelled tracks laws opening past jobs [] seen m e kept may.0 replied.0) may.1 replied.1
     (call_holds m e n replied.0 apart held)
   where
     first : IsAllowed codec jobs [] seen e
@@ -123,6 +123,6 @@ stays_held_on codec spelled tracks laws past jobs id other n carries seen (e ∷
 
     apart : (q : Name) → e.call ≡ call.Remove q → n ≡ q → ⊥
     apart q is same =
-        let carried = removes_own codec spelled tracks laws past jobs seen m first.number first.job (stage_of codec first.job (trace_of first.number seen)) q
+        let carried = removes_own codec spelled tracks laws opening past jobs seen m first.number first.job (stage_of codec first.job (trace_of first.number seen)) q
         (kept.claims first.number first.job first.is_job first.alive) (subst (MayAsk codec first.job (stage_of codec first.job (trace_of first.number seen))) is first.asked) in
         other first.number first.job first.is_job (same_Some (first.job).id id (sym carried ∙ ap id_in (sym same) ∙ carries))
