@@ -14,7 +14,7 @@ mod totals;
 mod vacs;
 
 pub use lines::{decode_vac, encode_vac};
-pub use named::{names_merged, removal_set};
+pub use named::{names_merged, removal_set, set_of};
 pub use plans::plan;
-pub use selection::{Selection, select};
+pub use selection::{Selection, select, selection_of};
 pub use vacs::{Limits, Planned, VacList, VacOf};

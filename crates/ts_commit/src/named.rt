@@ -70,9 +70,9 @@ pub(crate) fn add_named_by(
     Ok(())
 }
 
-// The fragments of a list.
+/// The fragments of a list, as a set.
 #[tactic(auto, using(crate::proofs::Sets::among_in_order))]
-fn set_of(alloc: Global, frags: &[FragKey]) -> Result<BTreeSet<FragKey>, OutOfMemory>
+pub fn set_of(alloc: Global, frags: &[FragKey]) -> Result<BTreeSet<FragKey>, OutOfMemory>
     ensures set { IfOk result (λ set. set.keys ≡ with_names [] frags.now) }
     ensures same { IfOk result (λ set. (f : FragKey) → contains frag_cmp set f ≡ is_among f frags.now) }
 {

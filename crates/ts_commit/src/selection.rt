@@ -49,6 +49,21 @@ pub fn select(
     ensures loaded { IfOk result (λ selection. selection.loaded ≡ list_map (λ head. head.frag) (loaded a b heads.now vacs.now)) }
     ensures clipped { IfOk result (λ selection. selection.clipped ≡ clipped_names a b heads.now) }
 {
+    selection_of(alloc, heads, vacs, a, b)
+}
+
+/// The same of any heads and `.vac` objects, whether they agree with a listing or not: a read asks it
+/// of what it was told.
+pub fn selection_of(
+    alloc: Global,
+    heads: &HeadList,
+    vacs: &VacList,
+    a: u64,
+    b: u64,
+) -> Result<Selection, OutOfMemory>
+    ensures loaded { IfOk result (λ selection. selection.loaded ≡ list_map (λ head. head.frag) (loaded a b heads.now vacs.now)) }
+    ensures clipped { IfOk result (λ selection. selection.clipped ≡ clipped_names a b heads.now) }
+{
     let heads = heads.as_slice();
     let loaded = loaded_of(alloc, heads, vacs.as_slice(), a, b)?;
     let clipped = clipped_of(alloc, heads, a, b)?;

@@ -11,7 +11,7 @@ use Rattle.ts_store.specs.declared.call.Reply.{Reply}
 use Rattle.ts_model.specs.declared.commands.Job.{Job}
 use Rattle.ts_model.specs.Codecs.{Codec}
 use Rattle.ts_model.specs.States.{Exchange}
-use Rattle.ts_law.specs.Courses.{Found, GotSchema, IsKeyThere, IsGot, IsOpened, IsFetched, IsUnderWay, IsListedIn}
+use Rattle.ts_law.specs.Courses.{Found, GotSchema, IsKeyThere, IsGot, IsOpened, IsFetched, IsUnderWay, IsListedIn, IsCountingIn}
 
 -- the calls of the first list are calls of the second
 abbrev pub AreAmong : List Exchange → List Exchange → Type 0
@@ -42,6 +42,10 @@ got_stays job found a b among got = record {
 -- a fragment or a delete that was listed
 pub listed_stays : (kind : List Name → List FragKey) (a b : List Exchange) (from to : ℕ) (f : FragKey) → AreAmong a b → IsListedIn kind a from to f → IsListedIn kind b from to f
 listed_stays kind a b from to f among (names, told, has, in_time) = (names, among _ told, has, in_time)
+
+-- a fragment whose `.vac` counts
+pub counting_stays : (a b : List Exchange) (f : FragKey) → AreAmong a b → IsCountingIn a f → IsCountingIn b f
+counting_stays a b f among (names, told, has) = (names, among _ told, has)
 
 module _ {F : Type 0} (codec : Codec F) where
   -- a fragment that was opened

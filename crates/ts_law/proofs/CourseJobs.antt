@@ -57,7 +57,7 @@ use Rattle.ts_cond.specs.Tests.{Condition}
 use Rattle.ts_model.specs.Queries.{ready_in, delete_condition}
 use Rattle.ts_law.proofs.QueryRefusals.{IsOfQuery, FailsByQuery, ready_fails, delete_condition_fails}
 use Rattle.ts_law.proofs.CourseCalls.{Ends, WorkAsks, WorkEnds, Well, ends_cons, work_from, over_ends, Goes, Follows, follows_on, follows_refused, follows_ended, goes_none, goes_by, follows_putting, puts_go, Next}
-use Rattle.ts_law.proofs.CourseReads.{follows_opening, reads_on}
+use Rattle.ts_law.proofs.CourseReads.{follows_getting_vacs, reads_on}
 use Rattle.ts_law.proofs.CutOff.{as_if, found_before, last_same, no_calls, unmade_of}
 use Rattle.ts_law.proofs.CourseStages.{Closed, IsWas, Open, OpenAsks, Split, bare_asks, bare_from, open-push, open_from, releasing_asks, same_work, settled_leased, split, work_open, work_was}
 use Rattle.ts_law.proofs.KeptLaws.{no_removal}
@@ -201,11 +201,12 @@ module _ {F : Type 0} (codec : Codec F) (any : Job) where
       → Follows codec (with (Read from to query)) seen (found_as there frame) [] x xs end (asks_for codec from to (looked_into (Read from to query) names) frame there asked)
   read_works looks from to query names there frame seen x xs end told got on look (Ok ready) is fails =
       let job = with (Read from to query) in
-      follows_opening codec job looks from to query refl (found_as there frame) ready is seen [] x xs end on (inl (look, refl)) (reads_on codec job looks from to query refl (found_as there frame) ready is (seen ++ x ∷ []) xs end)
-      (reading_of from to (looked_into (Read from to query) names) frame there ready) [] (record {
+      follows_getting_vacs codec job looks from to query refl (found_as there frame) ready is seen [] x xs end on (inl (look, refl)) (reads_on codec job looks from to query refl (found_as there frame) ready is (seen ++ x ∷ []) xs end)
+      (reading_of from to (looked_into (Read from to query) names) frame there ready) (record {
         finds = refl;
         got = got;
         fragments = λ f at. let kept = filter-Contains (meets from to) (committed_in names) f at in (names, among_more seen x _ told, kept.0, kept.1);
+        merged = λ f at. (names, among_more seen x _ told, at);
         dead = λ f at. let kept = filter-Contains (meets from to) (deletes_in names) f at in (names, among_more seen x _ told, kept.0, kept.1);
         objects = λ o at. absurd (Contains-nil o at);
         further = λ s at. absurd (Contains-nil s at);

@@ -22,23 +22,26 @@ use Rattle.ts_model.specs.declared.states.State.{State}
 use Rattle.ts_model.specs.declared.states.Opened.{Opened}
 use Rattle.ts_model.specs.declared.states.Reading.{Reading}
 use Rattle.ts_model.specs.declared.states.State.TheVariants.{Collects}
-use Rattle.ts_model.specs.declared.states.Collecting.TheVariants.{GetsHeads, GetsSchemas, GetsDeletes, Fetches}
+use Rattle.ts_model.specs.declared.states.Collecting.TheVariants.{GetsVacs, GetsHeads, GetsSchemas, GetsDeletes, Fetches}
 use Rattle.ts_model.specs.declared.commands.Command.TheVariants.{Read}
 use Rattle.ts_model.specs.Codecs.{Codec, Stepped, Asks, Takes, Breaks, is_look, AsksLooks}
-use Rattle.ts_model.specs.States.{Exchange, get_all, get_head, get_schema, on_bytes, after_fetched, opening, gathering, fetching, fetches_one, fetch_leads, fetch_begins, after_head, after_schema, known_schema, keys_named, want_of, answer_of, on_read, getting_deletes, with_deletion, deletion_named, get_delete, after_delete, wanted, committed_in, deletes_in}
-use Rattle.ts_law.specs.Courses.{Found, SaysThere, GotSchema, IsGot, IsOpened, IsFetched, IsUnderWay, IsListedIn, IsLookedInto, LooksInside, AtHead, AtSchema, AtDelete, InFetch, IsLookBy, IsLookOf, BreaksPart, IsNext, lets_on, refused_in}
+use Rattle.ts_model.specs.States.{Exchange, get_all, get_head, get_schema, on_bytes, after_fetched, opening, gathering, fetching, fetches_one, fetch_leads, fetch_begins, after_head, after_schema, known_schema, keys_named, want_of, answer_of, on_read, getting_deletes, with_deletion, deletion_named, get_delete, after_delete, get_vac, after_vac, getting_vacs, heads_of, loaded_of, loads, opened_among, vac_of, with_clipped, with_vac, wanted, committed_in, deletes_in}
+use Rattle.ts_law.specs.Courses.{Found, SaysThere, GotSchema, IsGot, IsOpened, IsFetched, IsUnderWay, IsListedIn, IsCountingIn, IsLookedInto, LooksInside, AtVac, AtHead, AtSchema, AtDelete, InFetch, IsLookBy, IsLookOf, BreaksPart, IsNext, lets_on, refused_in}
 use Rattle.ts_model.proofs.KeyLemmas.{key_same, key_itself}
-use Rattle.ts_model.proofs.ListLemmas.{Contains-here, Contains-there, find-Some}
+use Rattle.ts_model.proofs.ListLemmas.{Contains-here, Contains-there, filter-Contains, find-Some}
 use Rattle.ts_model.specs.declared.deeds.Deletion.{Deletion}
 use Rattle.ts_model.specs.declared.queries.Ready.{Ready}
 use Rattle.ts_cond.specs.declared.query.Query.{Query}
 use Rattle.ts_cond.specs.CondTexts.{cond_of}
+use Rattle.ts_commit.specs.declared.vacs.VacOf.{VacOf}
+use Rattle.ts_commit.specs.Selections.{clipped_names, is_among}
+use Rattle.ts_commit.specs.Vacs.{names_of}
 use Rattle.ts_cond.specs.Tests.{Condition}
 use Rattle.ts_base.specs.declared.names.CommitKind.TheVariants.{Del}
 use Rattle.ts_model.specs.Queries.{ready_in}
 use Rattle.ts_model.proofs.Referred.{ready_box}
 use Rattle.ts_law.proofs.CourseCalls.{lets_bytes, lets_length, look_leaves, dropped, item_in, Goes, Follows, follows_on, follows_over, follows_none, follows_refused, follows_ended, goes_none, goes_by}
-use Rattle.ts_law.proofs.CourseGrows.{among_more, schema_stays, got_stays, listed_stays, way_stays}
+use Rattle.ts_law.proofs.CourseGrows.{counting_stays, among_more, schema_stays, got_stays, listed_stays, way_stays}
 use Rattle.ts_law.proofs.ReadSteps.{named_apart}
 use Rattle.ts_base.specs.declared.names.Name.TheVariants as name
 use Rattle.ts_store.specs.declared.call.Reply.TheVariants as reply
@@ -65,8 +68,8 @@ module _ {F : Type 0} (codec : Codec F) (job : Job) where
     unrefused = subst (λ k. refused_in found k ≡ None) (sym is) (ap result_err is_ready)
 
     -- what the read asks of the interval in what it found
-    abbrev reading : List FragKey → List FragKey → List Deletion → Reading
-    reading fragments delete_names erased = record { from = from; to = to; ready = ready; frame = found.frame; there = found.there; fragments = fragments; delete_names = delete_names; deletions = erased }
+    abbrev reading : List FragKey → List FragKey → List VacOf → List FragKey → List FragKey → List Deletion → Reading
+    reading fragments counting vacs clipped delete_names erased = record { from = from; to = to; ready = ready; frame = found.frame; there = found.there; fragments = fragments; counting = counting; vacs = vacs; clipped = clipped; delete_names = delete_names; deletions = erased }
 
     -- the fragment is near, and the object of its part with the head was got, and has this head
     abbrev WasOpened : List Exchange → Reading → Opened → Type 0
@@ -74,9 +77,10 @@ module _ {F : Type 0} (codec : Codec F) (job : Job) where
 
     -- a read got what it found, the objects that it opened and its further schemas, and it listed what it looks into
     pub record HasGot (seen : List Exchange) (r : Reading) (opened : List Opened) (schemas : List Schema) : Type 0 where
-      pub finds : r ≡ reading r.fragments r.delete_names r.deletions
+      pub finds : r ≡ reading r.fragments r.counting r.vacs r.clipped r.delete_names r.deletions
       pub got : IsGot job found seen
       pub fragments : (f : FragKey) → Contains r.fragments f → IsLookedInto seen from to f
+      pub merged : (f : FragKey) → Contains r.counting f → IsCountingIn seen f
       pub dead : (f : FragKey) → Contains r.delete_names f → IsListedIn deletes_in seen from to f
       pub objects : (o : Opened) → Contains opened o → WasOpened seen r o
       pub further : (s : Schema) → Contains schemas s → GotSchema seen s
@@ -87,6 +91,7 @@ module _ {F : Type 0} (codec : Codec F) (job : Job) where
       finds = has.finds;
       got = got_stays job found seen (seen ++ x ∷ []) (among_more seen x) has.got;
       fragments = λ f at. listed_stays committed_in seen (seen ++ x ∷ []) from to f (among_more seen x) (has.fragments f at);
+      merged = λ f at. counting_stays seen (seen ++ x ∷ []) f (among_more seen x) (has.merged f at);
       dead = λ f at. listed_stays deletes_in seen (seen ++ x ∷ []) from to f (among_more seen x) (has.dead f at);
       objects = λ o at. let was = has.objects o at in (listed_stays committed_in seen (seen ++ x ∷ []) from to o.frag (among_more seen x) was.0, among_more seen x _ was.1, was.2);
       further = λ s at. schema_stays seen (seen ++ x ∷ []) s (among_more seen x) (has.further s at);
@@ -138,6 +143,7 @@ module _ {F : Type 0} (codec : Codec F) (job : Job) where
 
     -- the calls of a read, from any of its states on, are looks, and end by it
     pub record ReadsOn (seen xs : List Exchange) (end : Outcome) : Type 0 where
+      vacs : (r : Reading) → HasGot seen r [] [] → Goes codec job seen found [] xs end (Collects (GetsVacs r))
       heads : (r : Reading) (opened : List Opened) → HasGot seen r opened [] → Goes codec job seen found [] xs end (Collects (GetsHeads r opened))
       gets : (r : Reading) (opened : List Opened) (named : List Key) (schemas : List Schema) → AreNamed r opened named → HasGot seen r opened schemas → Goes codec job seen found [] xs end (Collects (GetsSchemas r opened named schemas))
       deletes : (r : Reading) (opened : List Opened) (schemas : List Schema) → HasGot seen r opened schemas → Goes codec job seen found [] xs end (Collects (GetsDeletes r opened schemas))
@@ -201,17 +207,43 @@ module _ {F : Type 0} (codec : Codec F) (job : Job) where
           by_count true = follows_on codec job seen found course [] x xs end (Collects (GetsSchemas r opened named schemas)) (silent x.call x.reply) on following (later.gets r opened named schemas names objects)
           by_count false = follows_getting_deletes r opened schemas objects
 
+      -- the fragments that are loaded
+      chosen_has : (r : Reading) (opened : List Opened) (frags clipped : List FragKey) → HasGot now r opened [] → HasGot now (with_clipped r clipped) (opened_among frags opened) []
+      chosen_has r opened frags clipped has = record {
+        finds = ap (λ q. with_clipped q clipped) has.finds;
+        got = has.got;
+        fragments = has.fragments;
+        merged = has.merged;
+        dead = has.dead;
+        objects = λ o at. has.objects o (filter-Contains (λ x. is_among x.frag frags) opened o at).0;
+        further = has.further;
+      }
+
       -- the gets of the heads that are left
       pub follows_opening : (r : Reading) (opened : List Opened) → HasGot now r opened [] → Follows codec job seen found course x xs end (opening codec r opened)
       follows_opening r opened objects = by_count (nat_lt (length opened) (length r.fragments))
         where
-          by_count : (b : Bool) → Follows codec job seen found course x xs end (cond b (Collects (GetsHeads r opened)) (gathering codec r opened (keys_named r opened) []))
+          clipped : List FragKey
+          clipped = clipped_names r.from r.to (heads_of opened)
+
+          chosen : List Opened
+          chosen = opened_among (loaded_of r opened) opened
+
+          by_count : (b : Bool) → Follows codec job seen found course x xs end (cond b (Collects (GetsHeads r opened)) (loads codec (with_clipped r clipped) chosen))
           by_count true = follows_on codec job seen found course [] x xs end (Collects (GetsHeads r opened)) (silent x.call x.reply) on following (later.heads r opened objects)
-          by_count false = follows_gathering r opened (keys_named r opened) [] (named_apart r opened) objects
+          by_count false = follows_gathering (with_clipped r clipped) chosen (keys_named (with_clipped r clipped) chosen) [] (named_apart (with_clipped r clipped) chosen) (chosen_has r opened (loaded_of r opened) clipped objects)
+
+      -- the gets of the `.vac` objects that are left
+      pub follows_getting_vacs : (r : Reading) → HasGot now r [] [] → Follows codec job seen found course x xs end (getting_vacs codec r)
+      follows_getting_vacs r objects = by_count (nat_lt (length r.vacs) (length r.counting))
+        where
+          by_count : (b : Bool) → Follows codec job seen found course x xs end (cond b (Collects (GetsVacs r)) (opening codec r []))
+          by_count true = follows_on codec job seen found course [] x xs end (Collects (GetsVacs r)) (silent x.call x.reply) on following (later.vacs r objects)
+          by_count false = follows_opening r [] objects
 
     -- one object more
     object_pushed : (seen : List Exchange) (r : Reading) (opened : List Opened) (o : Opened) → HasGot seen r opened [] → WasOpened seen r o → HasGot seen r (opened ++ o ∷ []) []
-    object_pushed seen r opened o has was = record { finds = has.finds; got = has.got; fragments = has.fragments; dead = has.dead; objects = λ p at. by_case p (Contains-push_cases opened o p at); further = has.further }
+    object_pushed seen r opened o has was = record { finds = has.finds; got = has.got; fragments = has.fragments; merged = has.merged; dead = has.dead; objects = λ p at. by_case p (Contains-push_cases opened o p at); further = has.further }
       where
         by_case : (p : Opened) → Contains opened p ⊎ (o ≡ p) → WasOpened seen r p
         by_case p (inl old) = has.objects p old
@@ -219,7 +251,7 @@ module _ {F : Type 0} (codec : Codec F) (job : Job) where
 
     -- one schema more
     schema_pushed : (seen : List Exchange) (r : Reading) (opened : List Opened) (schemas : List Schema) (s : Schema) → HasGot seen r opened schemas → GotSchema seen s → HasGot seen r opened (schemas ++ s ∷ [])
-    schema_pushed seen r opened schemas s has got = record { finds = has.finds; got = has.got; fragments = has.fragments; dead = has.dead; objects = has.objects; further = λ t at. by_case t (Contains-push_cases schemas s t at) }
+    schema_pushed seen r opened schemas s has got = record { finds = has.finds; got = has.got; fragments = has.fragments; merged = has.merged; dead = has.dead; objects = has.objects; further = λ t at. by_case t (Contains-push_cases schemas s t at) }
       where
         by_case : (t : Schema) → Contains schemas t ⊎ (s ≡ t) → GotSchema seen t
         by_case t (inl old) = has.further t old
@@ -227,7 +259,35 @@ module _ {F : Type 0} (codec : Codec F) (job : Job) where
 
     -- one delete more
     delete_pushed : (seen : List Exchange) (r : Reading) (opened : List Opened) (schemas : List Schema) (e : Deletion) → HasGot seen r opened schemas → HasGot seen (with_deletion r e) opened schemas
-    delete_pushed seen r opened schemas e has = record { finds = ap (λ q. with_deletion q e) has.finds; got = has.got; fragments = has.fragments; dead = has.dead; objects = has.objects; further = has.further }
+    delete_pushed seen r opened schemas e has = record { finds = ap (λ q. with_deletion q e) has.finds; got = has.got; fragments = has.fragments; merged = has.merged; dead = has.dead; objects = has.objects; further = has.further }
+
+    -- one `.vac` more
+    vac_pushed : (seen : List Exchange) (r : Reading) (f : FragKey) (names : List FragKey) → HasGot seen r [] [] → HasGot seen (with_vac r f names) [] []
+    vac_pushed seen r f names has = record { finds = ap (λ q. with_vac q f names) has.finds; got = has.got; fragments = has.fragments; merged = has.merged; dead = has.dead; objects = has.objects; further = has.further }
+
+    -- a `.vac`
+    vacs_go : (seen : List Exchange) (x : Exchange) (xs : List Exchange) (end : Outcome) → ((y : Exchange) → ReadsOn (seen ++ y ∷ []) xs end) → (r : Reading) → HasGot seen r [] [] → Goes codec job seen found [] (x ∷ xs) end (Collects (GetsVacs r))
+    vacs_go seen x xs end later r objects = by_item (slice_get r.counting (length r.vacs)) refl
+      where
+        by_item : (i : Option FragKey) → slice_get r.counting (length r.vacs) ≡ i → Goes codec job seen found [] (x ∷ xs) end (Collects (GetsVacs r))
+        by_item None none = λ a e. absurd (none-some x.call (sym (ap (option_map get_vac) none) ∙ a.0))
+        by_item (Some f) there = goes_by codec job seen found [] x xs end (Collects (GetsVacs r)) (get_vac f) (ap (option_map get_vac) there) (λ same. rw there (by_reply x.reply))
+          where
+            look : IsLookOf codec job found seen (get_vac f)
+            look = looks_inside seen (get_vac f) objects.got (AtVac f (objects.merged f (item_in r.counting (length r.vacs) f there)) refl)
+
+            by_names : (bytes : List ℕ) (c : Result (List FragKey) ℕ) → names_of bytes ≡ c
+                → Follows codec job seen found [] (record { call = get_vac f; reply = reply.Bytes bytes }) xs end (on_read (vac_of f) (λ names. getting_vacs codec (with_vac r f names)) c)
+            by_names bytes (Ok names) reads =
+                let y : Exchange = record { call = get_vac f; reply = reply.Bytes bytes } in
+                follows_getting_vacs seen [] y xs end refl (inl (look, refl)) (later y) (with_vac r f names) (vac_pushed (seen ++ y ∷ []) r f names (has_more seen y r [] [] objects))
+            by_names bytes (Err at) reads =
+                let y : Exchange = record { call = get_vac f; reply = reply.Bytes bytes } in
+                follows_refused codec job seen found [] [] y xs end (refusal.Damaged (vac_of f) at) (silent (get_vac f) (reply.Bytes bytes)) (inl (look, refl)) (inl (bytes, Contains-push seen y, reads))
+
+            by_reply : (r' : Reply) → Follows codec job seen found [] (record { call = get_vac f; reply = r' }) xs end (on_bytes (get_vac f) (after_vac codec r f) r')
+            by_reply (reply.Bytes bytes) = by_names bytes (names_of bytes) refl
+            by_reply r' = follows_ended codec job seen found [] [] (get_vac f) r' xs end tt (silent (get_vac f) r') (inl (look, refl))
 
     -- the head of a fragment
     heads_go : (seen : List Exchange) (x : Exchange) (xs : List Exchange) (end : Outcome) → ((y : Exchange) → ReadsOn (seen ++ y ∷ []) xs end) → (r : Reading) (opened : List Opened) → HasGot seen r opened [] → Goes codec job seen found [] (x ∷ xs) end (Collects (GetsHeads r opened))
@@ -355,6 +415,7 @@ module _ {F : Type 0} (codec : Codec F) (job : Job) where
     -- a read that has the frame and the schema there makes looks, and ends by them
     pub reads_on : (seen xs : List Exchange) (end : Outcome) → ReadsOn seen xs end
     reads_on seen [] end = record {
+      vacs = λ r objects. goes_none codec job seen found [] end (Collects (GetsVacs r)) (λ e q. cc);
       heads = λ r opened objects. goes_none codec job seen found [] end (Collects (GetsHeads r opened)) (λ e q. cc);
       gets = λ r opened named schemas names objects. goes_none codec job seen found [] end (Collects (GetsSchemas r opened named schemas)) (λ e q. cc);
       deletes = λ r opened schemas objects. goes_none codec job seen found [] end (Collects (GetsDeletes r opened schemas)) (λ e q. cc);
@@ -363,6 +424,7 @@ module _ {F : Type 0} (codec : Codec F) (job : Job) where
     reads_on seen (x ∷ xs) end =
         let later : (y : Exchange) → ReadsOn (seen ++ y ∷ []) xs end = λ y. reads_on (seen ++ y ∷ []) xs end in
         record {
+          vacs = vacs_go seen x xs end later;
           heads = heads_go seen x xs end later;
           gets = gets_go seen x xs end later;
           deletes = deletes_go seen x xs end later;

@@ -63,9 +63,9 @@ module _ {F : Type 0} (codec : Codec F) (spelled : Spelled) (tracks : Tracking F
   ClaimedAfter s = Claims codec spelled tracks opening past jobs (seen ++ e ∷ []) m' number job s
 
   -- a delete that a read listed is a deed
-  listed_deed : (from to : ℕ) (fragments delete_names : List FragKey) → LooksInto spelled opening past jobs seen m number from to fragments delete_names → (f : FragKey) → Contains delete_names f
+  listed_deed : (from to : ℕ) (fragments counting delete_names : List FragKey) → LooksInto spelled opening past jobs seen m number from to fragments counting delete_names → (f : FragKey) → Contains delete_names f
       → (x : Deletion) × Contains (deletions h) x × (frag_of x.key ≡ f)
-  listed_deed from to fragments delete_names listed f at =
+  listed_deed from to fragments counting delete_names listed f at =
       let commits = listed.since.commits in
       let then = held_told opening commits.before in
       let of = erase_from_looked spelled then (history_told jobs past commits.before) listed.since.stands from to f (subst (λ fs. Contains fs f) listed.deletes_are at) in
@@ -82,15 +82,12 @@ module _ {F : Type 0} (codec : Codec F) (spelled : Spelled) (tracks : Tracking F
       → GettingDeletes codec spelled opening past jobs (seen ++ e ∷ []) m' number job r opened schemas → GettingDeletes codec spelled opening past jobs (seen ++ e ∷ []) m' number job (with_deletion r x) opened schemas
   erased_more r opened schemas x next deed is =
       let gathers = is.gathers in
-      let opens = gathers.opens in
-      let reads = opens.reads in
+      let reads = gathers.reads in
+      let chosen = gathers.chosen in
       record {
         gathers = record {
-          opens = record {
-            reads = record { query = reads.query; reads = reads.reads; at = reads.at; framed = reads.framed; is_ready = reads.is_ready };
-            are_open = record { frags = (opens.are_open).frags; each = (opens.are_open).each };
-          };
-          all = gathers.all;
+          reads = record { query = reads.query; reads = reads.reads; at = reads.at; framed = reads.framed; is_ready = reads.is_ready };
+          chosen = record { each = chosen.each; usable = chosen.usable; covered = chosen.covered; unclipped = chosen.unclipped };
           gathered = gathers.gathered;
         };
         all_schemas = is.all_schemas;
@@ -113,7 +110,7 @@ module _ {F : Type 0} (codec : Codec F) (spelled : Spelled) (tracks : Tracking F
       let look = looked spelled past jobs seen e m job (get_delete f) next.2 tt comes.stands comes.replied comes.claims.0 in
       let unlisted = no_listing codec spelled tracks opening past jobs seen e m number job n next.2 in
       let claims = comes.claims.1 in
-      let deed = listed_deed r.from r.to r.fragments r.delete_names (((((claims.gathers).opens).reads).at).listed) f (Contains-slice_get r.delete_names (length r.deletions) f next.1) in
+      let deed = listed_deed r.from r.to r.fragments r.counting r.delete_names (((((claims.gathers)).reads).at).listed) f (Contains-slice_get r.delete_names (length r.deletions) f next.1) in
       let x = deed.0 in
       let named : frag_of x.key ≡ f = deed.2 in
       let of : deletion_of h f ≡ Some x = subst (λ g. deletion_of h g ≡ Some x) named (deletion_of_name h x (comes.stands).history deed.1) in

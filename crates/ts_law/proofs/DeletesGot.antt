@@ -19,8 +19,8 @@ use Rattle.ts_law.proofs.Fetches.{Contains-map, map-Contains}
 use Rattle.ts_model.proofs.HistoryLaws.{one_deletion}
 use Rattle.ts_model.proofs.KeyLemmas.{key_of_frag}
 
-module _ (spelled : Spelled) (opening : Held) (past : History) (jobs : List Job) (seen : List Told) (m : Held) (number from to : ℕ) (fragments delete_names : List FragKey)
-    (listed : LooksInto spelled opening past jobs seen m number from to fragments delete_names) (is : IsHistory (history_told jobs past seen))
+module _ (spelled : Spelled) (opening : Held) (past : History) (jobs : List Job) (seen : List Told) (m : Held) (number from to : ℕ) (fragments counting delete_names : List FragKey)
+    (listed : LooksInto spelled opening past jobs seen m number from to fragments counting delete_names) (is : IsHistory (history_told jobs past seen))
     (grows : (x : Deletion) → Contains (deletions (history_told jobs past listed.since.commits.before)) x → Contains (deletions (history_told jobs past seen)) x)
     (erased : List Deletion) (are : AreDeletions (history_told jobs past seen) delete_names erased) (all : length erased ≡ length delete_names) where
   -- the history at the listing of the commits

@@ -15,7 +15,7 @@ use Rattle.ts_base.specs.declared.names.Part.{Part}
 use Rattle.ts_base.specs.declared.names.Place.TheVariants as place
 use Rattle.ts_base.specs.declared.heads.Version.{Version}
 use Rattle.ts_base.specs.declared.heads.Piece.{Piece}
-use Rattle.ts_base.specs.Keys.{frag_of, is_within}
+use Rattle.ts_base.specs.Keys.{is_within}
 use Rattle.ts_base.specs.Held.{Held}
 use Rattle.ts_schema.specs.declared.schemas.Schema.{Schema}
 use Rattle.ts_schema.specs.Wants.{taken}
@@ -41,8 +41,8 @@ use Rattle.ts_model.specs.Codecs.Stepped.{Asks, Takes, Breaks}
 use Rattle.ts_model.specs.Jobs.{looks_at}
 use Rattle.ts_commit.specs.Selections.{has_origin, is_usable}
 use Rattle.ts_law.specs.Stands.{HoldsIn}
-use Rattle.ts_model.specs.States.{known_schema, known_attrs, want_of, ended, fetch_leads, fetch_begins, fetches_one, fetching, after_fetched}
-use Rattle.ts_law.specs.Kept.{AreGot, Clean, GettingDeletes, Gathering, Fetching, Claims, heads_of}
+use Rattle.ts_model.specs.States.{heads_of, known_schema, known_attrs, want_of, ended, fetch_leads, fetch_begins, fetches_one, fetching, after_fetched}
+use Rattle.ts_law.specs.Kept.{AreGot, Clean, GettingDeletes, Gathering, Fetching, Claims}
 use Rattle.ts_model.specs.Told.{Told, IsReplied, after_told, held_told, history_told}
 use Rattle.ts_law.specs.Ends.{IsTrueRefusal}
 use Rattle.ts_law.specs.Steps.{Comes, Advances}
@@ -52,8 +52,7 @@ use Rattle.ts_law.proofs.DeletesGot.{all_deletions, deleted_in}
 use Rattle.ts_model.proofs.Traces.{history_told_grows}
 use Rattle.ts_law.proofs.Effects.{IsLook, look_stays, look_history, look_leads}
 use Rattle.ts_law.proofs.Stays.{clean_look, fetching_stays}
-use Rattle.ts_law.proofs.ListSteps.{looked_from_committed, meets_of_origin}
-use Rattle.ts_law.proofs.Fetches.{Contains-map, got_more, knows, knows_attrs, map-Contains, one_head, origin_open}
+use Rattle.ts_law.proofs.Fetches.{Contains-map, got_more, knows, knows_attrs, one_head}
 use Rattle.ts_law.proofs.OriginLaws.{any_member}
 use Rattle.ts_law.proofs.TakenLaws.{newest_taken, none_taken}
 use Rattle.ts_law.proofs.ReadingLaw.{answer_is, last_is_all}
@@ -93,15 +92,19 @@ module _ {F : Type 0} (codec : Codec F) (spelled : Spelled) (tracks : Tracking F
 
   -- the history at the listing of the commits
   abbrev g : History
-  g = history_told jobs past (((((gathers.opens).reads).at).listed).since.commits).before
+  g = history_told jobs past (((((gathers).reads).at).listed).since.commits).before
 
   -- what was held then
   abbrev then : Held
-  then = held_told opening (((((gathers.opens).reads).at).listed).since.commits).before
+  then = held_told opening (((((gathers).reads).at).listed).since.commits).before
 
   -- the history now
   abbrev h : History
   h = history_told jobs past seen
+
+  -- the fragments that are loaded
+  abbrev frags : List FragKey
+  frags = list_map (λ o. o.frag) opened
 
   -- the versions in the fragments before the next one were got
   abbrev IsFound : ℕ → List Version → Type 0
@@ -123,7 +126,7 @@ module _ {F : Type 0} (codec : Codec F) (spelled : Spelled) (tracks : Tracking F
   tracked frag one = tracks r.frame (one.holds).schema one.piece ((one.holds).spells).look (want_of r ((one.holds).schema).attrs)
 
   -- a step of a fetch leads to a call, or on with the versions that are wanted
-  step_claims : (next : ℕ) (frag : FragKey) (got : List Version) (on : List Version → State F) → slice_get r.fragments next ≡ Some frag → (one : IsUsed frag) → IsFound next got
+  step_claims : (next : ℕ) (frag : FragKey) (got : List Version) (on : List Version → State F) → slice_get frags next ≡ Some frag → (one : IsUsed frag) → IsFound next got
       → ((vs : List Version) → vs ≡ wanted_of frag one → Holds (on vs))
       → (s : Stepped F) → GoesWell (tracked frag one) (wanted_of frag one) s → Holds (fetch_leads r opened schemas next frag got on s)
   step_claims next frag got on at one found rest (Asks f c) well = (
@@ -137,17 +140,13 @@ module _ {F : Type 0} (codec : Codec F) (spelled : Spelled) (tracks : Tracking F
   step_claims next frag got on at one found rest (Takes vs) well = rest vs well
   step_claims next frag got on at one found rest (Breaks part at_offset) well = absurd well
 
-  -- the fragments of the open ones are all that were listed
-  all_frags : list_map (λ o. o.frag) opened ≡ r.fragments
-  all_frags = ((gathers.opens).are_open).frags ∙ ap (λ n. take n r.fragments) gathers.all ∙ take_all (length r.fragments) r.fragments (omega arith)
+  -- the fragment of the open one at a place is the one there
+  frag_at : (next : ℕ) (o : Opened) → slice_get opened next ≡ Some o → slice_get frags next ≡ Some o.frag
+  frag_at next o at = slice_get-map (λ o. o.frag) opened next ∙ ap (option_map (λ o. o.frag)) at
 
-  -- the fragment of the open one at a place is the one listed there
-  frag_at : (next : ℕ) (o : Opened) → slice_get opened next ≡ Some o → slice_get r.fragments next ≡ Some o.frag
-  frag_at next o at = ap (λ fs. slice_get fs next) (sym all_frags) ∙ slice_get-map (λ o. o.frag) opened next ∙ ap (option_map (λ o. o.frag)) at
-
-  -- the fragment that is listed at a place is that of the open one there
-  open_there : (next : ℕ) (frag : FragKey) → slice_get r.fragments next ≡ Some frag → (o : Opened) × (slice_get opened next ≡ Some o) × (o.frag ≡ frag)
-  open_there next frag at = by (slice_get opened next) refl (sym (slice_get-map (λ o. o.frag) opened next) ∙ ap (λ fs. slice_get fs next) all_frags ∙ at)
+  -- the fragment at a place is that of the open one there
+  open_there : (next : ℕ) (frag : FragKey) → slice_get frags next ≡ Some frag → (o : Opened) × (slice_get opened next ≡ Some o) × (o.frag ≡ frag)
+  open_there next frag at = by (slice_get opened next) refl (sym (slice_get-map (λ o. o.frag) opened next) ∙ at)
     where
       by : (q : Option Opened) → slice_get opened next ≡ q → option_map (λ o. o.frag) q ≡ Some frag → (o : Opened) × (slice_get opened next ≡ Some o) × (o.frag ≡ frag)
       by None none e = absurd (none-some frag e)
@@ -155,12 +154,14 @@ module _ {F : Type 0} (codec : Codec F) (spelled : Spelled) (tracks : Tracking F
 
   -- an open fragment is one that the read can use
   abbrev used_open : (o : Opened) → Contains opened o → IsUsed o.frag
-  used_open o at = let opens = ((gathers.opens).are_open).each o at in record { piece = opens.piece; holds = opens.holds; same_frame = opens.same_frame; usable = opens.usable }
+  used_open o at =
+      let opens = (gathers.chosen).each o at in
+      record { piece = opens.piece; holds = opens.holds; same_frame = opens.same_frame; usable = subst (λ head. is_usable r.from r.to head ≡ true) opens.head ((gathers.chosen).usable o at) }
 
   module _ (is_g : IsHistory g) (is_h : IsHistory h) where
     -- the history now begins with that at the listing of the commits
     from_g : (more : History) × (h ≡ g ++ more)
-    from_g = begins_now jobs past seen _ _ _ (((((gathers.opens).reads).at).listed).since.commits).place
+    from_g = begins_now jobs past seen _ _ _ (((((gathers).reads).at).listed).since.commits).place
 
     -- a schema of that history is one of this
     grows : (k : Key) (s : Schema) → schema_with g k ≡ Some s → schema_with h k ≡ Some s
@@ -172,13 +173,7 @@ module _ {F : Type 0} (codec : Codec F) (spelled : Spelled) (tracks : Tracking F
 
     -- a write in the interval went into one of the open fragments
     opened_with : (w : Written) → Contains (writes g) w → is_within r.from r.to w.key ≡ true → (o : Opened) × Contains opened o × (has_origin w.key o.head ≡ true)
-    opened_with w at within =
-        let listed = (((gathers.opens).reads).at).listed in
-        let into = listed.since.stands.covered w at in
-        let f = frag_of w.key in
-        let looked = looked_from_committed then r.from r.to f into.0 (meets_of_origin spelled then g r.from r.to f w.key into.1 within) in
-        let o = map-Contains (λ o. o.frag) opened f (subst (λ fs. Contains fs f) (sym listed.fragments_are ∙ sym all_frags) looked) in
-        (o.0, o.1, origin_open codec spelled tracks laws g then r opened (gathers.opens).are_open f w.key into.1 o.0 o.1 o.2)
+    opened_with w at within = (gathers.chosen).covered w at within
 
     -- so it is an origin in one of the heads
     headed : (w : Written) → Contains (writes g) w → is_within r.from r.to w.key ≡ true → list_any (has_origin w.key) (heads_of opened) ≡ true
@@ -188,12 +183,12 @@ module _ {F : Type 0} (codec : Codec F) (spelled : Spelled) (tracks : Tracking F
     known_to : (w : Written) → Contains (writes g) w → is_within r.from r.to w.key ≡ true → known_attrs r schemas w.schema ≡ attrs_with g w.schema
     known_to w at within =
         let o = opened_with w at within in
-        knows_attrs codec spelled g h then r opened schemas grows ((((gathers.opens).reads).at).works).declared (gathers.opens).are_open gathers.gathered deletes_found.all_schemas w is_g at o.0 o.1 o.2
+        knows_attrs codec spelled g h then r opened schemas grows ((((gathers).reads).at).works).declared (gathers.chosen).each gathers.gathered deletes_found.all_schemas w is_g at o.0 o.1 o.2
 
     -- after the last fragment the answer is that of the history
     end_claims : (next : ℕ) (got : List Version) → drop next opened ≡ [] → IsFound next got → Holds (fetching codec r opened schemas next [] got)
     end_claims next got none found =
-        let reads = (gathers.opens).reads in
+        let reads = (gathers).reads in
         let past_end = drop_none opened next none in
         let whole : take next opened ≡ opened = take_all next opened past_end in
         let are : AreGot g r.from r.to (r.ready).sub (heads_of opened) got = subst (λ os. AreGot g r.from r.to (r.ready).sub (heads_of os) got) whole found in (
@@ -207,11 +202,11 @@ module _ {F : Type 0} (codec : Codec F) (spelled : Spelled) (tracks : Tracking F
             between = (reads.at).between;
             order = (reads.at).order;
             answers = answer_is g r.from r.to (r.ready).sub got (λ c inside. are.inside c inside ∙ last_is_all g r.from r.to (heads_of opened) headed c) are.outside r schemas refl known_to
-                (deleted_in spelled opening past jobs seen m number r.from r.to r.fragments r.delete_names (reads.at).listed is_h deletions_grow r.deletions deletes_found.deletions all_deletes)
-                (all_deletions spelled opening past jobs seen m number r.from r.to r.fragments r.delete_names (reads.at).listed is_h deletions_grow r.deletions deletes_found.deletions all_deletes)
+                (deleted_in spelled opening past jobs seen m number r.from r.to r.fragments r.counting r.delete_names (reads.at).listed is_h deletions_grow r.deletions deletes_found.deletions all_deletes)
+                (all_deletions spelled opening past jobs seen m number r.from r.to r.fragments r.counting r.delete_names (reads.at).listed is_h deletions_grow r.deletions deletes_found.deletions all_deletes)
                 (history_told jobs past (((reads.at).works).schemas).before) reads.query reads.framed
                 (subst (λ command. schema_there (history_told jobs past (((reads.at).works).schemas).before) (looks_at job command) ≡ Some r.there) reads.reads ((reads.at).works).holds)
-                reads.is_ready;
+                reads.is_ready (gathers.chosen).unclipped;
           },
         )
 
@@ -220,14 +215,14 @@ module _ {F : Type 0} (codec : Codec F) (spelled : Spelled) (tracks : Tracking F
         → ((vs : List Version) → vs ≡ wanted_of o.frag (used_open o there) → Holds (on vs))
         → Holds (fetches_one codec r opened schemas next o got on (known_schema r schemas (o.head).schema))
     one_claims next o got on at there found rest =
-        let opens = ((gathers.opens).are_open).each o there in
+        let opens = (gathers.chosen).each o there in
         let schema = (opens.holds).schema in
         let spells = (opens.holds).spells in
         let want = want_of r schema.attrs in
         let well : OpensWell codec (tracks r.frame schema opens.piece spells.look want) r.frame schema opens.piece o.object want =
         laws.opens r.frame schema opens.piece spells.look want o.object (subst (λ frame. spelled frame schema opens.piece spells.look) opens.same_frame spells.spells) opens.object in
         let begins : codec.opens r.frame schema o.frag o.object want ≡ Ok well.fetch = ap (λ f. codec.opens r.frame schema f o.object want) (sym spells.named) ∙ well.opens in
-        let known = knows codec spelled g h then r opened schemas grows ((((gathers.opens).reads).at).works).declared (gathers.opens).are_open gathers.gathered deletes_found.all_schemas o there in
+        let known = knows codec spelled g h then r opened schemas grows ((((gathers).reads).at).works).declared (gathers.chosen).each gathers.gathered deletes_found.all_schemas o there in
         subst (λ s. Holds (fetches_one codec r opened schemas next o got on s)) (sym known)
         (subst (λ x. Holds (fetch_begins codec r opened schemas next o.frag got on x)) (sym begins)
         (step_claims next o.frag got on (frag_at next o at) (used_open o there) found rest (codec.steps well.fetch reply.Start) well.starts))
@@ -236,7 +231,7 @@ module _ {F : Type 0} (codec : Codec F) (spelled : Spelled) (tracks : Tracking F
     found_more : (next : ℕ) (o : Opened) (got : List Version) → slice_get opened next ≡ Some o → (one : IsUsed o.frag) → IsFound next got → (vs : List Version) → vs ≡ wanted_of o.frag one → IsFound (suc next) (got ++ vs)
     found_more next o got at one found vs all =
         let one_more : next + 1 ≡ suc next = omega arith in
-        let opens = ((gathers.opens).are_open).each o (Contains-slice_get opened next o at) in
+        let opens = (gathers.chosen).each o (Contains-slice_get opened next o at) in
         let same : (one.piece).head ≡ o.head = one_head codec spelled tracks laws g then o.frag one.piece opens.piece one.holds opens.holds ∙ sym opens.head in
         let heads : heads_of (take (suc next) opened) ≡ heads_of (take next opened) ++ (one.piece).head ∷ [] =
         ap (λ n. heads_of (take n opened)) (sym one_more) ∙ ap heads_of (take_next opened next o at) ∙ map-append (λ x. x.head) (take next opened) (o ∷ [])
@@ -274,7 +269,7 @@ module _ {F : Type 0} (codec : Codec F) (spelled : Spelled) (tracks : Tracking F
     failed_claims (call.Remove q) f part speaks = absurd speaks
     failed_claims (call.List p) f part speaks = absurd speaks
 
-    module _ (next : ℕ) (frag : FragKey) (got : List Version) (at : slice_get r.fragments next ≡ Some frag) (found : IsFound next got) (fetch : F) where
+    module _ (next : ℕ) (frag : FragKey) (got : List Version) (at : slice_get frags next ≡ Some frag) (found : IsFound next got) (fetch : F) where
       -- where the read goes on with the versions of the fragment
       abbrev goes_on : List Version → State F
       goes_on vs = fetching codec r opened schemas (suc next) (drop (suc next) opened) (got ++ vs)
@@ -320,7 +315,7 @@ module _ {F : Type 0} (codec : Codec F) (spelled : Spelled) (tracks : Tracking F
 pub fetching_claims : {F : Type 0} (codec : Codec F) (spelled : Spelled) (tracks : Tracking F) (opening : Held) (past : History) (jobs : List Job) (seen : List Told) (m : Held) (number : ℕ) (job : Job)
     (r : Reading) (opened : List Opened) (schemas : List Schema) (next : ℕ) (got : List Version) → CodecLaws codec spelled tracks → Clean m (history_told jobs past seen) job
     → (fetches : Fetching codec spelled opening past jobs seen m number job r opened schemas next got)
-    → IsHistory (history_told jobs past (((((((fetches.deletes_found).gathers).opens).reads).at).listed).since.commits).before) → IsHistory (history_told jobs past seen)
+    → IsHistory (history_told jobs past (((((((fetches.deletes_found).gathers)).reads).at).listed).since.commits).before) → IsHistory (history_told jobs past seen)
     → Claims codec spelled tracks opening past jobs seen m number job (fetching codec r opened schemas next (drop next opened) got)
 fetching_claims codec spelled tracks opening past jobs seen m number job r opened schemas next got laws clean fetches is_g is_h =
     rest_claims codec spelled tracks laws opening past jobs seen m number job clean r opened schemas fetches.deletes_found fetches.all_deletes is_g is_h (drop next opened) next got refl fetches.found
@@ -381,7 +376,7 @@ module _ {F : Type 0} (codec : Codec F) (spelled : Spelled) (tracks : Tracking F
       let later = fetching_stays spelled opening past jobs seen e m (after_told m e) job.id leads.leaves number codec job r opened schemas next got
       (λ own lists. subst (λ x. SpeaksOf x (name.Part ((way.piece).head).frag asks.part)) (sym is ∙ lists) asks.named) fetches in
       let spells = (way.holds).spells in
-      let since = ((((((fetches.deletes_found).gathers).opens).reads).at).listed).since in
+      let since = ((((((fetches.deletes_found).gathers)).reads).at).listed).since in
       let held : map.get m (name.Part frag asks.part) ≡ Some asks.bytes = since.held (name.Part frag asks.part) asks.bytes tt (spells.held asks.part asks.bytes asks.held) in
       let speaks : SpeaksOf c (name.Part frag asks.part) = subst (λ f. SpeaksOf c (name.Part f asks.part)) spells.named asks.named in
       let is_h : IsHistory (history_told jobs past seen) = (comes.stands).history in

@@ -32,9 +32,9 @@ use Rattle.ts_model.specs.Deeds.{History, IsHistory, writes, schema_with, attrs_
 use Rattle.ts_model.specs.Codecs.{Codec, CodecLaws, Spelled, Tracking}
 use Rattle.ts_model.specs.Pieces.{version_of}
 use Rattle.ts_law.specs.Origins.{origins_of, wrote_in, last_of, last_version, newest_at}
-use Rattle.ts_law.specs.Stands.{HoldsIn, WentInto}
+use Rattle.ts_law.specs.Stands.{HoldsIn}
 use Rattle.ts_model.specs.States.{keys_named, known_schema, known_attrs}
-use Rattle.ts_law.specs.Kept.{AreGot, AreOpen, AreSchemas, IsOpen}
+use Rattle.ts_law.specs.Kept.{AreGot, AreSchemas, IsOpen}
 use Rattle.ts_model.proofs.ListLemmas.{Contains-nil, Contains-cons, Contains-here, Contains-there, Contains-filter, filter-Contains, find-Some, find_member}
 use Rattle.ts_model.proofs.KeyLemmas.{key_same, key_itself, greatest-None, greatest-Some, same_from_both}
 use Rattle.ts_model.proofs.HistoryLaws.{one_write}
@@ -258,15 +258,15 @@ module _ (r : Reading) (opened : List Opened) where
 module _ {F : Type 0} (codec : Codec F) (spelled : Spelled) (g h : History) (m : Held) (r : Reading) (opened : List Opened) (schemas : List Schema)
     (grows : (k : Key) (s : Schema) → schema_with g k ≡ Some s → schema_with h k ≡ Some s)
     (there : schema_with h (r.there).key ≡ Some r.there)
-    (are_open : AreOpen codec spelled g m r opened) (gathered : AreSchemas h (keys_named r opened) schemas) (all_schemas : length schemas ≡ length (keys_named r opened)) where
+    (open_ones : (o : Opened) → Contains opened o → IsOpen codec spelled g m r.frame o) (gathered : AreSchemas h (keys_named r opened) schemas) (all_schemas : length schemas ≡ length (keys_named r opened)) where
   -- the schemas that were gathered have all keys that the heads name
   all_keys : list_map (λ s. s.key) schemas ≡ keys_named r opened
   all_keys = gathered.keys_are ∙ ap (λ n. take n (keys_named r opened)) all_schemas ∙ take_all (length (keys_named r opened)) (keys_named r opened) (omega arith)
 
   module _ (o : Opened) (at : Contains opened o) where
     -- how it is open
-    abbrev open_at : IsOpen codec spelled g m r.frame r.from r.to o
-    open_at = are_open.each o at
+    abbrev open_at : IsOpen codec spelled g m r.frame o
+    open_at = open_ones o at
 
     -- its schema
     abbrev own_schema : Schema
@@ -289,7 +289,7 @@ module _ {F : Type 0} (codec : Codec F) (spelled : Spelled) (g h : History) (m :
         found.1 ∙ sym (gathered.each found.0 is.0) ∙ ap (schema_with h) (key_same (found.0).key key is.1) ∙ is_declared
 
     -- a read knows the schema of each open fragment
-    pub knows : known_schema r schemas (o.head).schema ≡ Some ((are_open.each o at).holds).schema
+    pub knows : known_schema r schemas (o.head).schema ≡ Some ((open_ones o at).holds).schema
     knows = by_test (key_eq key (r.there).key) refl
       where
         by_test : (b : Bool) → key_eq key (r.there).key ≡ b → cond b (Some r.there) (find (λ s. key_eq s.key key) schemas) ≡ Some own_schema
@@ -299,16 +299,8 @@ module _ {F : Type 0} (codec : Codec F) (spelled : Spelled) (g h : History) (m :
   -- a read knows the attributes of the schema of each write that went into an open fragment
   pub knows_attrs : (w : Written) → IsHistory g → Contains (writes g) w → (o : Opened) → Contains opened o → has_origin w.key o.head ≡ true → known_attrs r schemas w.schema ≡ attrs_with g w.schema
   knows_attrs w is written o at origin =
-      let opens = are_open.each o at in
+      let opens = open_ones o at in
       let own = ((opens.holds).holds).origins w.key (key_there w.key (opens.piece).head.origins (subst (λ x. has_origin w.key x ≡ true) opens.head origin)) in
       let key : w.schema ≡ (o.head).schema = ap (λ (u : Written). u.schema) (sym (one_write g own.0 w is own.1 written own.2)) ∙ own.3 ∙ ap (λ x. x.schema) (sym opens.head) in
       ap (λ k. known_attrs r schemas k) key ∙ ap (λ s. option_map_or (λ t. t.attrs) s []) (knows o at)
       ∙ ap (λ s. option_map_or (λ t. t.attrs) s []) (sym (opens.holds).declared) ∙ ap (λ x. attrs_with g x.schema) (sym opens.head) ∙ ap (attrs_with g) (sym key)
-
--- a write that went into a fragment which is open is one of the origins in its head
-pub origin_open : {F : Type 0} (codec : Codec F) (spelled : Spelled) (tracks : Tracking F) → CodecLaws codec spelled tracks → (g : History) (m : Held) (r : Reading) (opened : List Opened)
-    → AreOpen codec spelled g m r opened → (f : FragKey) (k : Key) → WentInto spelled g m f k → (o : Opened) → Contains opened o → o.frag ≡ f → has_origin k o.head ≡ true
-origin_open codec spelled tracks laws g m r opened are_open f k went o at own =
-    let opens = are_open.each o at in
-    let same : (went.piece).head ≡ o.head = one_head codec spelled tracks laws g m f went.piece opens.piece went.holds (subst (λ x. HoldsIn spelled g m x opens.piece) own opens.holds) ∙ sym opens.head in
-    subst (λ x. has_origin k x ≡ true) same went.origin

@@ -2,7 +2,7 @@
 use Rattle.std.proofs.Common.{List, Some, ap, [], refl, subst, sym, ℕ, ◌++◌, ◌∷◌, ◌≡◌}
 use Rattle.ts_base.specs.Held.{Held}
 use Rattle.ts_law.proofs.Objects.{CarryAll, delete_carries, schema_carries, write_carries}
-use Rattle.ts_law.proofs.Stays.{absent_stays, clean_stays, end_stays, getting_deletes_stays, fetching_stays, frame_stays, gathering_stays, has_listed_stays, has_near_stays, new_stays, opening_stays, works_stays}
+use Rattle.ts_law.proofs.Stays.{absent_stays, clean_stays, end_stays, getting_deletes_stays, fetching_stays, frame_stays, getting_vacs_stays, gathering_stays, has_listed_stays, has_near_stays, new_stays, opening_stays, works_stays}
 use Rattle.ts_model.specs.Commands.{frame_made, piece_of}
 use Rattle.ts_model.specs.Deeds.{History, frame_in}
 use Rattle.ts_model.specs.Codecs.{Codec, Spelled, Tracking}
@@ -14,7 +14,7 @@ use Rattle.ts_model.specs.declared.states.Stage.{Stage}
 use Rattle.ts_model.specs.declared.states.Stage.TheVariants.{ListsLeases, PutsLease, Releases}
 use Rattle.ts_model.specs.declared.states.Stage.TheVariants as stages
 use Rattle.ts_model.specs.States.{begun, list_schemas}
-use Rattle.ts_law.specs.Stands.{vac_of}
+use Rattle.ts_model.specs.States.{vac_of}
 use Rattle.ts_law.specs.Steps.{Keeps}
 use Rattle.ts_law.proofs.VacLaws.{bare_stays}
 use Rattle.ts_model.specs.Told.{Told, after_told, history_told}
@@ -25,7 +25,7 @@ use Rattle.ts_model.specs.declared.states.State.{State}
 use Rattle.ts_model.specs.declared.states.State.TheVariants.{Creates, Seeks, Puts, Collects, Over}
 use Rattle.ts_model.specs.declared.states.Creating.TheVariants.{PutsFrame, ComparesFrame, ListsDeclared}
 use Rattle.ts_model.specs.declared.states.Seeking.TheVariants.{ListsCommits, ListsSchemas, GetsSchema, GetsFrame}
-use Rattle.ts_model.specs.declared.states.Collecting.TheVariants.{GetsHeads, GetsSchemas, GetsDeletes, Fetches}
+use Rattle.ts_model.specs.declared.states.Collecting.TheVariants.{GetsVacs, GetsHeads, GetsSchemas, GetsDeletes, Fetches}
 use Rattle.ts_schema.specs.Evolutions.{evolved_attrs}
 use Rattle.ts_schema.specs.declared.frames.Frame.{Frame}
 use Rattle.ts_model.specs.declared.answers.Outcome.TheVariants as outcome
@@ -105,6 +105,7 @@ module _ {F : Type 0} (codec : Codec F) (spelled : Spelled) (tracks : Tracking F
     claims_stay_at (Seeks (GetsSchema listing there)) is =
         (cleans is.0, (is.1.0, is.1.1, has_listed_stays spelled opening past jobs seen e m (after_told m e) id keeps number job job.command listing is.1.0 unlisted is.1.2))
     claims_stay_at (Seeks (GetsFrame listing there)) is = (cleans is.0, has_listed_stays spelled opening past jobs seen e m (after_told m e) id keeps number job job.command listing there unlisted is.1)
+    claims_stay_at (Collects (GetsVacs r)) is = (cleans is.0, getting_vacs_stays spelled opening past jobs seen e m (after_told m e) id keeps number job r unlisted is.1, is.2)
     claims_stay_at (Collects (GetsHeads r opened)) is = (cleans is.0, opening_stays spelled opening past jobs seen e m (after_told m e) id keeps number codec job r opened unlisted is.1, is.2)
     claims_stay_at (Collects (GetsSchemas r opened named schemas)) is =
         (cleans is.0, is.1, gathering_stays spelled opening past jobs seen e m (after_told m e) id keeps number codec job r opened schemas unlisted is.2, is.3)

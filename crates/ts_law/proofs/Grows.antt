@@ -1,9 +1,9 @@
 -- What pieces hold as the history grows, and what an ordinary piece holds.
-use Rattle.std.proofs.Common.{◌≡◌, ℕ, ℤ, Bool, true, false, cond, ◌&&◌, ◌||◌, not, List, [], ◌∷◌, ◌++◌, Option, Some, None, refl, sym, ◌∙◌, ap, subst, arith}
-use Rattle.std.specs.Prelude.{Contains, filter, option_and_then, nat_le}
+use Rattle.std.proofs.Common.{◌≡◌, ℕ, ℤ, Bool, true, false, cond, ◌||◌, List, [], ◌∷◌, ◌++◌, Option, Some, None, refl, sym, ◌∙◌, ap, subst, arith}
+use Rattle.std.specs.Prelude.{Contains, filter, option_and_then}
 use Rattle.std.specs.List.{list_any}
 use Rattle.std.specs.List.Sorted.{IsStrictlySortedBy}
-use Rattle.std.proofs.lemmas.Bool.{true≢false, and_parts, and_from}
+use Rattle.std.proofs.lemmas.Bool.{true≢false}
 use Rattle.std.proofs.lemmas.List.{append-nil}
 use Rattle.std.proofs.lemmas.List.Elements.{Contains-append_left}
 use Rattle.std.proofs.lemmas.Option.{same_Some, none-some}
@@ -11,13 +11,13 @@ use Rattle.ts_base.specs.declared.keys.Key.{Key}
 use Rattle.ts_base.specs.declared.keys.FragKey.{FragKey}
 use Rattle.ts_base.specs.declared.heads.Piece.{Piece}
 use Rattle.ts_base.specs.declared.heads.Version.{Version}
-use Rattle.ts_base.specs.Keys.{key_cmp, key_eq, frag_of}
+use Rattle.ts_base.specs.Keys.{key_cmp, key_eq}
 use Rattle.ts_base.specs.Held.{Held}
 use Rattle.ts_base.specs.declared.names.Part.{Part}
 use Rattle.ts_base.specs.declared.names.Name.TheVariants as name
 use Rattle.std.specs.FinMap as map
 use Rattle.ts_domain.specs.Boxes.{is_in_box}
-use Rattle.ts_commit.specs.Selections.{meets, lies_in, has_origin, keeps_last}
+use Rattle.ts_commit.specs.Selections.{has_origin, keeps_last}
 use Rattle.ts_model.specs.declared.deeds.Written.{Written}
 use Rattle.ts_model.specs.declared.deeds.Deed.{Deed}
 use Rattle.ts_model.specs.declared.deeds.Deed.TheVariants.{Framed, Declared, Wrote, Erased}
@@ -30,7 +30,7 @@ use Rattle.ts_model.specs.Pieces.{version_of, HoldsWrite}
 use Rattle.ts_model.proofs.ListLemmas.{Contains-nil, Contains-here, Contains-there, Contains-only, filter_map-Contains, Contains-filter, filter-Contains, Contains-filter_map}
 use Rattle.ts_model.proofs.KeyLemmas.{key_same, key_itself, key_other, greatest-None}
 use Rattle.ts_model.proofs.HistoryLaws.{writes-append, frame_in-append, schema_with-append, absent_from_new, one_write}
-use Rattle.ts_law.specs.Origins.{origins_of, last_of, last_version, made_by, with_key, kept_of, IsHullOfCells, box_in, HoldsWrites, IsReadable}
+use Rattle.ts_law.specs.Origins.{origins_of, last_of, last_version, made_by, with_key, kept_of, IsHullOfCells, box_in, HoldsWrites}
 use Rattle.ts_law.specs.Stands.{HoldsIn, Within}
 use Rattle.ts_law.proofs.NewestBy.{key_of_version, last_is, has_cell-version}
 use Rattle.ts_law.proofs.OriginLaws.{key_there, filter_all, made_by_filter, made_by_own}
@@ -226,19 +226,6 @@ module _ (h : History) (is : IsHistory h) (w : Written) (written : Contains (wri
       least = λ outer all c inside. all w c own_origin (box dense c ∙ inside);
     };
   }
-
--- a read of any interval that meets the span of an ordinary piece can use it: the span is one timestamp
-pub ordinary_readable : (w : Written) (p : Piece) → HoldsWrite w p → IsReadable p.head
-ordinary_readable w p holds a b meet =
-    let stamped : meets a b (frag_of w.key) ≡ true = subst (λ f. meets a b f ≡ true) holds.named meet in
-    let tests = and_parts (nat_le a b) (nat_le w.key.t b && nat_le a w.key.t) stamped in
-    let ends = and_parts (nat_le w.key.t b) (nat_le a w.key.t) tests.1 in
-    let lies : lies_in a b p.head.frag ≡ true = subst (λ f. lies_in a b f ≡ true) (sym holds.named) (and_from (nat_le a w.key.t) (nat_le w.key.t b) ends.1 ends.0) in
-    and_from (meets a b p.head.frag) (not (keeps_last p.head) || lies_in a b p.head.frag) meet (either (not (keeps_last p.head)) (lies_in a b p.head.frag) lies)
-  where
-    either : (s t : Bool) → t ≡ true → s || t ≡ true
-    either true t e = refl
-    either false t e = e
 
 -- the piece of a write into a dense array has the cells of the box between its corners
 pub piece_box : (frame : Frame) (w : Written) → (frame.dense ≡ true → FillBox w.cells) → (piece_of frame w).head.dense ≡ true → (c : List ℤ) → has_cell c w ≡ is_in_box (box_in (piece_of frame w).head) c

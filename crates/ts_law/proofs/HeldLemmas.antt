@@ -1,5 +1,5 @@
 -- What is held after a put, and which names a listing tells.
-use Rattle.std.proofs.Common.{◌≡◌, ℕ, true, false, cond, ◌⊎◌, inl, inr, List, Some, None, refl, sym, ◌∙◌, ap, subst}
+use Rattle.std.proofs.Common.{◌≡◌, ℕ, true, false, cond, ◌⊎◌, inl, inr, List, Option, Some, None, refl, sym, ◌∙◌, ap, subst}
 use Rattle.std.specs.Prelude.{Contains, IsTrue}
 use Rattle.std.specs.List.{list_any}
 use Rattle.std.specs.Ordering.{eq_by_cmp}
@@ -59,6 +59,14 @@ held_before m n bytes q held = elim (eq_by_cmp name_cmp q n) as (λ b. eq_by_cmp
 -- what is held stays when another object is put
 pub stays_held : (m : Held) (n : Name) (bytes : List ℕ) (q : Name) (kept : List ℕ) → (Holds m n → ⊥) → map.get m q ≡ Some kept → map.get (map.insert m n bytes) q ≡ Some kept
 stays_held m n bytes q kept free e = get_apart m n bytes q (λ same. free (subst (Holds m) same (Holds-from_get m q kept e))) ∙ e
+
+-- a held name has bytes
+pub bytes_there : (m : Held) (n : Name) → Holds m n → (bytes : List ℕ) × (map.get m n ≡ Some bytes)
+bytes_there m n held = by (map.get m n) refl
+  where
+    by : (o : Option (List ℕ)) → map.get m n ≡ o → (bytes : List ℕ) × (map.get m n ≡ Some bytes)
+    by None none = absurd (true≢false (sym held ∙ ap is_some none))
+    by (Some bytes) is = (bytes, is)
 
 pub holds_stays : (m : Held) (n : Name) (bytes : List ℕ) (q : Name) → (Holds m n → ⊥) → Holds m q → Holds (map.insert m n bytes) q
 holds_stays m n bytes q free held = elim (map.get m q) as (λ o. map.get m q ≡ o → Holds (map.insert m n bytes) q) [

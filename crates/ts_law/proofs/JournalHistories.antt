@@ -32,12 +32,12 @@ use Rattle.ts_model.specs.declared.states.NewObject.{NewObject}
 use Rattle.ts_model.specs.declared.states.State.TheVariants.{Creates, Seeks, Puts, Collects, Over}
 use Rattle.ts_model.specs.declared.states.Creating.TheVariants.{PutsFrame, ComparesFrame, ListsDeclared}
 use Rattle.ts_model.specs.declared.states.Seeking.TheVariants.{ListsCommits, ListsSchemas, GetsSchema, GetsFrame}
-use Rattle.ts_model.specs.declared.states.Collecting.TheVariants.{GetsHeads, GetsSchemas, GetsDeletes, Fetches}
+use Rattle.ts_model.specs.declared.states.Collecting.TheVariants.{GetsVacs, GetsHeads, GetsSchemas, GetsDeletes, Fetches}
 use Rattle.ts_model.specs.Commands.{frame_made, create_refusal, fits}
 use Rattle.ts_model.specs.Deeds.{History}
 use Rattle.ts_model.specs.Codecs.{Codec, CodecLaws, Spelled, Tracking}
 use Rattle.ts_model.specs.Jobs.{IsFit, AreApart, job_with, key_of}
-use Rattle.ts_model.specs.States.{asks, frame_put, get_delete, get_head, get_schema, made_by, put_of, want_of}
+use Rattle.ts_model.specs.States.{get_vac, vac_of, asks, frame_put, get_delete, get_head, get_schema, made_by, put_of, want_of}
 use Rattle.ts_model.specs.Stages.{put_lease, stage_of}
 use Rattle.ts_model.specs.Driven.{MayAsk}
 use Rattle.ts_model.specs.declared.states.Stage.{Stage}
@@ -294,6 +294,9 @@ module _ {F : Type 0} (codec : Codec F) (spelled : Spelled) (tracks : Tracking F
   put_from number job (Seeks (ListsSchemas listing)) n bytes claims asked = absurd (no_listing Schemas n bytes (same_Some _ _ asked))
   put_from number job (Seeks (GetsSchema listing there)) n bytes claims asked = absurd (no_get (name.Schema there) 0 _ n bytes (same_Some _ _ asked))
   put_from number job (Seeks (GetsFrame listing there)) n bytes claims asked = absurd (no_get name.Domain 0 _ n bytes (same_Some _ _ asked))
+  put_from number job (Collects (GetsVacs r)) n bytes claims asked =
+      let f = asked_by get_vac (slice_get r.counting _) (call.Put n bytes) asked in
+      absurd (no_get (vac_of f.0) 0 _ n bytes f.2)
   put_from number job (Collects (GetsHeads r opened)) n bytes claims asked =
       let f = asked_by (get_head codec r) (slice_get r.fragments _) (call.Put n bytes) asked in
       absurd (no_get (name.Part f.0 (codec.head_part r.frame)) 0 _ n bytes f.2)

@@ -17,7 +17,7 @@ use Rattle.ts_model.proofs.HistoryLaws.{job_of_id}
 use Rattle.ts_model.proofs.ListLemmas.{Contains-slice_get}
 use Rattle.ts_law.proofs.ListSteps.{commits_steps, schemas_steps}
 use Rattle.ts_law.proofs.PutSteps.{compare_steps, declared_steps, frame_steps, puts_steps}
-use Rattle.ts_law.proofs.ReadSteps.{framed_steps, further_steps, heads_steps, schema_steps}
+use Rattle.ts_law.proofs.ReadSteps.{vacs_steps, framed_steps, further_steps, heads_steps, schema_steps}
 use Rattle.ts_model.proofs.Traces.{held_told-append, stage_of-other, stage_of-own}
 use Rattle.ts_model.specs.Commands.{frame_made}
 use Rattle.ts_model.specs.Deeds.{History}
@@ -31,7 +31,7 @@ use Rattle.ts_model.specs.declared.states.Stage.{Stage}
 use Rattle.ts_model.specs.declared.states.Stage.TheVariants.{ListsLeases, PutsLease, Releases}
 use Rattle.ts_model.specs.declared.states.Stage.TheVariants as stages
 use Rattle.ts_law.proofs.LeaseSteps.{lease_is, release_is, stage_step}
-use Rattle.ts_model.specs.States.{asks, frame_put, get_delete, get_head, get_schema, made_by, put_of, want_of}
+use Rattle.ts_model.specs.States.{get_vac, vac_of, asks, frame_put, get_delete, get_head, get_schema, made_by, put_of, want_of}
 use Rattle.ts_model.specs.Stages.{put_lease, stage_of}
 use Rattle.ts_law.specs.Steps.{Advances, Comes, StageAdvances}
 use Rattle.ts_model.specs.Told.{IsReplied, Replied, Told, after_told, held_told, trace_of}
@@ -41,7 +41,7 @@ use Rattle.ts_model.specs.declared.states.State.{State}
 use Rattle.ts_model.specs.declared.states.State.TheVariants.{Creates, Seeks, Puts, Collects, Over}
 use Rattle.ts_model.specs.declared.states.Creating.TheVariants.{PutsFrame, ComparesFrame, ListsDeclared}
 use Rattle.ts_model.specs.declared.states.Seeking.TheVariants.{ListsCommits, ListsSchemas, GetsSchema, GetsFrame}
-use Rattle.ts_model.specs.declared.states.Collecting.TheVariants.{GetsHeads, GetsSchemas, GetsDeletes, Fetches}
+use Rattle.ts_model.specs.declared.states.Collecting.TheVariants.{GetsVacs, GetsHeads, GetsSchemas, GetsDeletes, Fetches}
 use Rattle.ts_schema.specs.FrameTexts.{frame_object}
 use Rattle.ts_store.specs.declared.call.Call.{Call}
 use Rattle.ts_store.specs.declared.call.Call.TheVariants as call
@@ -90,6 +90,9 @@ module _ {F : Type 0} (codec : Codec F) (spelled : Spelled) (tracks : Tracking F
   own_put number job (Seeks (ListsSchemas listing)) n bytes id claims asked carried = absurd (no_listing Schemas n bytes (same_Some _ _ asked))
   own_put number job (Seeks (GetsSchema listing there)) n bytes id claims asked carried = absurd (no_get (name.Schema there) 0 (2 ^ 64 - 1) n bytes (same_Some _ _ asked))
   own_put number job (Seeks (GetsFrame listing there)) n bytes id claims asked carried = absurd (no_get name.Domain 0 (2 ^ 64 - 1) n bytes (same_Some _ _ asked))
+  own_put number job (Collects (GetsVacs r)) n bytes id claims asked carried =
+      let f = asked_by get_vac (slice_get r.counting (length r.vacs)) (call.Put n bytes) asked in
+      absurd (no_get (vac_of f.0) 0 (2 ^ 64 - 1) n bytes f.2)
   own_put number job (Collects (GetsHeads r opened)) n bytes id claims asked carried =
       let f = asked_by (get_head codec r) (slice_get r.fragments (length opened)) (call.Put n bytes) asked in
       absurd (no_get (name.Part f.0 (codec.head_part r.frame)) 0 (2 ^ 64 - 1) n bytes f.2)
@@ -185,6 +188,7 @@ module _ {F : Type 0} (codec : Codec F) (spelled : Spelled) (tracks : Tracking F
   own_step opening past jobs seen e m number job (Seeks (ListsSchemas listing)) comes = schemas_steps codec spelled tracks opening past jobs seen e m number job laws listing comes
   own_step opening past jobs seen e m number job (Seeks (GetsSchema listing there)) comes = schema_steps codec spelled tracks opening past jobs seen e m number job laws listing there comes
   own_step opening past jobs seen e m number job (Seeks (GetsFrame listing there)) comes = framed_steps codec spelled tracks opening past jobs seen e m number job laws listing there comes
+  own_step opening past jobs seen e m number job (Collects (GetsVacs r)) comes = vacs_steps codec spelled tracks opening past jobs seen e m number job laws r comes
   own_step opening past jobs seen e m number job (Collects (GetsHeads r opened)) comes = heads_steps codec spelled tracks opening past jobs seen e m number job laws r opened comes
   own_step opening past jobs seen e m number job (Collects (GetsSchemas r opened named schemas)) comes = further_steps codec spelled tracks opening past jobs seen e m number job laws r opened named schemas comes
   own_step opening past jobs seen e m number job (Collects (GetsDeletes r opened schemas)) comes = deletes_steps codec spelled tracks opening past jobs seen e m number job laws r opened schemas comes

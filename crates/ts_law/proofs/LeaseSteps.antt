@@ -30,7 +30,7 @@ use Rattle.ts_model.specs.declared.states.State.{State}
 use Rattle.ts_model.specs.declared.states.State.TheVariants.{Creates, Seeks, Puts, Collects, Over}
 use Rattle.ts_model.specs.declared.states.Creating.TheVariants.{PutsFrame, ComparesFrame, ListsDeclared}
 use Rattle.ts_model.specs.declared.states.Seeking.TheVariants.{ListsCommits, ListsSchemas, GetsSchema, GetsFrame}
-use Rattle.ts_model.specs.declared.states.Collecting.TheVariants.{GetsHeads, GetsSchemas, GetsDeletes, Fetches}
+use Rattle.ts_model.specs.declared.states.Collecting.TheVariants.{GetsVacs, GetsHeads, GetsSchemas, GetsDeletes, Fetches}
 use Rattle.ts_model.specs.declared.states.Stage.{Stage}
 use Rattle.ts_model.specs.declared.states.Stage.TheVariants.{PutsLease, ListsLeases, Releases}
 use Rattle.ts_model.specs.declared.states.Stage.TheVariants as stages
@@ -51,7 +51,8 @@ use Rattle.ts_model.proofs.Traces.{deed_told_own, later_no_deed}
 use Rattle.ts_law.specs.Ends.{IsTrueEnd, IsUndone}
 use Rattle.ts_law.specs.Fresh.{id_in}
 use Rattle.ts_law.specs.Kept.{Claims, Clean, IsBefore, StageClaims}
-use Rattle.ts_law.specs.Stands.{HoldsIn, IsNoLease, Stands, vac_of}
+use Rattle.ts_law.specs.Stands.{HoldsIn, IsNoLease, Stands}
+use Rattle.ts_model.specs.States.{vac_of}
 use Rattle.ts_law.specs.Steps.{Advances, Comes, Keeps, Leads, StageAdvances, StageComes}
 use Rattle.ts_law.proofs.Effects.{Added, IsLook, PutWent, Still, keeps_still, look_history, look_leads, look_stays, put_went}
 use Rattle.ts_law.proofs.Grows.{holds_on_in}
@@ -118,7 +119,7 @@ module _ (spelled : Spelled) (m m' : Held) (same : (n : Name) → IsNoLease n �
     short_frame = λ bytes is. stands.short_frame bytes (sym (same name.Domain tt) ∙ is);
     short_schemas = λ k bytes is. stands.short_schemas k bytes (sym (same (name.Schema k) tt) ∙ is);
     short_deletes = λ f bytes is. stands.short_deletes f bytes (sym (same (name.Commit f Del) tt) ∙ is);
-    whole = λ f committed. let own = stands.whole f (ap is_some (sym (same (wrt_of f) tt)) ∙ committed) in (own.0, beside h f own.1, own.2);
+    whole = λ f committed. let own = stands.whole f (ap is_some (sym (same (wrt_of f) tt)) ∙ committed) in (own.0, beside h f own.1);
     merged = merged_beside m m' same spelled h stands.merged;
     covered = λ w at.
         let own = stands.covered w at in
@@ -235,6 +236,7 @@ module _ {F : Type 0} (codec : Codec F) (spelled : Spelled) (tracks : Tracking F
   going_undone (Seeks (ListsSchemas listing)) going is = is.0.undone
   going_undone (Seeks (GetsSchema listing there)) going is = is.0.undone
   going_undone (Seeks (GetsFrame listing there)) going is = is.0.undone
+  going_undone (Collects (GetsVacs r)) going is = is.0.undone
   going_undone (Collects (GetsHeads r opened)) going is = is.0.undone
   going_undone (Collects (GetsSchemas r opened named schemas)) going is = is.0.undone
   going_undone (Collects (GetsDeletes r opened schemas)) going is = is.0.undone

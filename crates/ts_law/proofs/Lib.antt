@@ -23,6 +23,7 @@ pub mod MapValues
 pub mod ReadingLaw
 pub mod Fetches
 pub mod DeletesGot
+pub mod Loading
 pub mod FetchSteps
 pub mod ListSteps
 pub mod ReadSteps

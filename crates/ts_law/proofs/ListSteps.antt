@@ -1,6 +1,6 @@
 -- What the listings of a job find, and where they lead.
 use Rattle.std.proofs.Common.{◌≡◌, ℕ, ◌&&◌, true, List, [], ◌∷◌, ◌++◌, Option, Some, None, refl, sym, ◌∙◌, ap, subst, arith}
-use Rattle.std.specs.Prelude.{Contains, filter, nat_le, option_map}
+use Rattle.std.specs.Prelude.{Contains, filter, filter_map, nat_le, option_map}
 use Rattle.std.proofs.lemmas.Bool.{and_from, and_parts, le-leb, leb-true}
 use Rattle.std.specs.FinMap as map
 use Rattle.std.proofs.lemmas.Option.{same_Some, none-some}
@@ -11,7 +11,7 @@ use Rattle.ts_base.specs.declared.names.Name.TheVariants as name
 use Rattle.ts_base.specs.declared.names.CommitKind.TheVariants as kind
 use Rattle.ts_base.specs.declared.names.Prefix.{Prefix}
 use Rattle.ts_base.specs.declared.names.Prefix.TheVariants.{Commits, Schemas}
-use Rattle.ts_base.specs.Keys.{is_within, frag_of}
+use Rattle.ts_base.specs.Keys.{is_within, frag_eq, frag_of}
 use Rattle.ts_base.specs.Names.{wrt_of}
 use Rattle.ts_base.specs.Held.{Held}
 use Rattle.ts_store.specs.declared.call.Call.{Call}
@@ -36,8 +36,10 @@ use Rattle.ts_model.specs.Deeds.{History, IsHistory, deletions, deletion_of, sch
 use Rattle.ts_model.specs.Codecs.{Codec, CodecLaws, Spelled, Tracking}
 use Rattle.ts_model.specs.Jobs.{looked_at}
 use Rattle.ts_law.specs.Stands.{IsCommitted, WentInto, Stands}
-use Rattle.ts_law.proofs.OriginLaws.{key_there}
-use Rattle.ts_model.specs.States.{wrt_in, committed_in, del_in, deletes_in, schema_key_in, schemas_in, meets, looked_into, list_commits, list_schemas, on_names, seeks}
+use Rattle.ts_law.proofs.OriginLaws.{key_there, member_any}
+use Rattle.ts_model.proofs.KeyLemmas.{frag_same}
+use Rattle.ts_commit.specs.Selections.{is_among}
+use Rattle.ts_model.specs.States.{wrt_in, committed_in, vac_in, vac_of, del_in, counting_in, deletes_in, schema_key_in, schemas_in, meets, looked_into, list_commits, list_schemas, on_names, seeks}
 use Rattle.ts_model.specs.Told.{Told, trace_of, after_told, IsReplied, schemas_found, held_told, history_told}
 use Rattle.ts_law.specs.Ends.{IsUndone}
 use Rattle.ts_law.specs.Kept.{Clean, Works, HasLooked, HasListed, Claims}
@@ -76,7 +78,7 @@ committed_from_looked m from to f at =
     (subst (Holds m) (wrt_in-some found.0 f found.2) (Holds-from_listed Commits m found.0 found.1).0, parts.1)
 
 -- the fragment of a write in the interval meets it
-meets_of_within : (from to : ℕ) (k : Key) → is_within from to k ≡ true → meets from to (frag_of k) ≡ true
+pub meets_of_within : (from to : ℕ) (k : Key) → is_within from to k ≡ true → meets from to (frag_of k) ≡ true
 meets_of_within from to k within = grind arith
 
 -- a fragment that a write in the interval went into meets it
@@ -97,6 +99,29 @@ meets_of_origin spelled m h from to f k went within =
 -- an instant that meets the interval is stamped in it
 within_of_meets : (from to : ℕ) (k : Key) → meets from to (frag_of k) ≡ true → is_within from to k ≡ true
 within_of_meets from to k meet = grind arith
+
+-- ---- the `.vac` objects that a listing of the commits finds
+
+-- a name of a `.vac` is that of its fragment
+vac_in-some : (n : Name) (f : FragKey) → vac_in n ≡ Some f → n ≡ vac_of f
+vac_in-some name.Domain f e = absurd (none-some f e)
+vac_in-some (name.Schema k) f e = absurd (none-some f e)
+vac_in-some (name.Commit g kind.Wrt) f e = absurd (none-some f e)
+vac_in-some (name.Commit g kind.Del) f e = absurd (none-some f e)
+vac_in-some (name.Commit g kind.Vac) f e = ap vac_of (same_Some g f e)
+vac_in-some (name.Part g part) f e = absurd (none-some f e)
+vac_in-some (name.Lease k mode) f e = absurd (none-some f e)
+
+-- a fragment whose `.vac` counts is committed, and its `.vac` is held
+pub counting_held : (m : Held) (f : FragKey) → Contains (counting_in (names_under Commits m)) f → IsCommitted m f × Holds m (vac_of f)
+counting_held m f at =
+    let names = names_under Commits m in
+    let parts = filter-Contains (λ g. is_among g (committed_in names)) (filter_map vac_in names) f at in
+    let found = filter_map-Contains vac_in names f parts.0 in
+    let held = subst (Holds m) (vac_in-some found.0 f found.2) (Holds-from_listed Commits m found.0 found.1).0 in
+    let among = member_any (frag_eq f) (committed_in names) parts.1 in
+    let committed = filter_map-Contains wrt_in names f (subst (Contains (committed_in names)) (sym (frag_same f among.0 among.2)) among.1) in
+    (subst (Holds m) (wrt_in-some committed.0 f committed.2) (Holds-from_listed Commits m committed.0 committed.1).0, held)
 
 -- ---- the deletes that a listing of the commits finds
 
@@ -259,6 +284,7 @@ module _ {F : Type 0} (codec : Codec F) (spelled : Spelled) (tracks : Tracking F
       held = λ n bytes no_lease was. ap (λ x. map.get x n) (same_held ∙ now) ∙ was;
     };
     fragments_are = ap (λ x. filter (meets from to) (committed_in (names_under Commits x))) now;
+    counting_are = ap (λ x. counting_in (names_under Commits x)) now;
     deletes_are = ap (λ x. filter (meets from to) (deletes_in (names_under Commits x))) now;
   }
 
@@ -309,7 +335,7 @@ module _ {F : Type 0} (codec : Codec F) (spelled : Spelled) (tracks : Tracking F
   has_listed keeps (Evolve change) listed before s works at = works
   has_listed keeps (Write w) listed before s works at = works
   has_listed keeps (Read from to query) listed before s works at = record {
-    listed = near_stays spelled opening past jobs seen e m m' job.id keeps number from to listed.fragments listed.delete_names before;
+    listed = near_stays spelled opening past jobs seen e m m' job.id keeps number from to listed.fragments listed.counting listed.delete_names before;
     works = works;
     between = before.since.commits.later;
     order = at ∙ before.since.commits.place;

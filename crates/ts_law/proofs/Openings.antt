@@ -18,7 +18,7 @@ use Rattle.ts_model.specs.declared.states.State.{State}
 use Rattle.ts_model.specs.declared.states.State.TheVariants.{Creates, Seeks, Puts, Collects, Over}
 use Rattle.ts_model.specs.declared.states.Creating.TheVariants.{PutsFrame, ComparesFrame, ListsDeclared}
 use Rattle.ts_model.specs.declared.states.Seeking.TheVariants.{ListsCommits, ListsSchemas, GetsSchema, GetsFrame}
-use Rattle.ts_model.specs.declared.states.Collecting.TheVariants.{GetsHeads, GetsSchemas, GetsDeletes, Fetches}
+use Rattle.ts_model.specs.declared.states.Collecting.TheVariants.{GetsVacs, GetsHeads, GetsSchemas, GetsDeletes, Fetches}
 use Rattle.ts_model.specs.declared.states.Stage.{Stage}
 use Rattle.ts_model.specs.declared.states.Stage.TheVariants.{ListsLeases, PutsLease, Releases}
 use Rattle.ts_model.specs.declared.states.Stage.TheVariants as stages
@@ -26,7 +26,7 @@ use Rattle.ts_model.specs.Codecs.{Codec, CodecLaws, SpeaksOf, Spelled, Tracking}
 use Rattle.ts_model.specs.Deeds.{History}
 use Rattle.ts_model.specs.Driven.{MayAsk}
 use Rattle.ts_model.specs.Stages.{lease_of, put_lease, stage_of}
-use Rattle.ts_model.specs.States.{asks, frame_put, get_delete, get_head, get_schema, made_by, put_of, want_of}
+use Rattle.ts_model.specs.States.{asks, frame_put, get_delete, get_head, get_schema, made_by, put_of, want_of, get_vac, vac_of}
 use Rattle.ts_model.specs.Told.{IsReplied, Replied, Told, after_told, held_told, trace_of}
 use Rattle.ts_law.specs.Fresh.{id_in}
 use Rattle.ts_law.specs.Kept.{AreAllowed, Claims, IsAllowed, Kept, StageClaims}
@@ -67,6 +67,9 @@ module _ {F : Type 0} (codec : Codec F) (spelled : Spelled) (tracks : Tracking F
   work_removes (Seeks (ListsSchemas listing)) n claims asked = no_listing n Schemas (same_Some _ _ asked)
   work_removes (Seeks (GetsSchema listing there)) n claims asked = no_get n (name.Schema there) 0 (2 ^ 64 - 1) (same_Some _ _ asked)
   work_removes (Seeks (GetsFrame listing there)) n claims asked = no_get n name.Domain 0 (2 ^ 64 - 1) (same_Some _ _ asked)
+  work_removes (Collects (GetsVacs r)) n claims asked =
+      let f = asked_by get_vac (slice_get r.counting (length r.vacs)) (call.Remove n) asked in
+      no_get n (vac_of f.0) 0 (2 ^ 64 - 1) f.2
   work_removes (Collects (GetsHeads r opened)) n claims asked =
       let f = asked_by (get_head codec r) (slice_get r.fragments (length opened)) (call.Remove n) asked in
       no_get n (name.Part f.0 (codec.head_part r.frame)) 0 (2 ^ 64 - 1) f.2

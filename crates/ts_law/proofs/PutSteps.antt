@@ -34,7 +34,8 @@ use Rattle.ts_model.specs.Jobs.{AreApart, IsFit, deletion_as, frag_of_job, key_o
 use Rattle.ts_law.specs.Kept.{Claims, Clean, Putting, Works}
 use Rattle.ts_model.specs.Pieces.{HoldsWrite, IsOrdinary}
 use Rattle.ts_model.specs.Queries.{delete_condition}
-use Rattle.ts_law.specs.Stands.{Spells, Stands, vac_of}
+use Rattle.ts_law.specs.Stands.{Spells, Stands}
+use Rattle.ts_model.specs.States.{vac_of}
 use Rattle.ts_law.specs.Origins.{box_in}
 use Rattle.ts_domain.specs.Boxes.{is_in_box}
 use Rattle.ts_law.proofs.Grows.{piece_box}

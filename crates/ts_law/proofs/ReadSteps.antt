@@ -17,7 +17,9 @@ use Rattle.ts_base.specs.declared.names.Place.TheVariants as place
 use Rattle.ts_base.specs.declared.names.Prefix.{Prefix}
 use Rattle.ts_base.specs.declared.heads.Head.{Head}
 use Rattle.ts_base.specs.declared.heads.Piece.{Piece}
-use Rattle.ts_base.specs.Keys.{frag_of, key_eq, key_cmp}
+use Rattle.ts_base.specs.Keys.{frag_eq, frag_of, key_eq, key_cmp}
+use Rattle.ts_commit.specs.declared.vacs.VacOf.{VacOf}
+use Rattle.ts_commit.specs.Vacs.{names_of}
 use Rattle.ts_base.specs.Held.{Held}
 use Rattle.ts_base.specs.Exact.{key_total}
 use Rattle.ts_store.specs.declared.call.Call.{Call}
@@ -40,22 +42,21 @@ use Rattle.ts_model.specs.declared.states.Listed.{Listed}
 use Rattle.ts_model.specs.declared.states.State.{State}
 use Rattle.ts_model.specs.declared.states.State.TheVariants.{Seeks, Collects}
 use Rattle.ts_model.specs.declared.states.Seeking.TheVariants.{GetsSchema, GetsFrame}
-use Rattle.ts_model.specs.declared.states.Collecting.TheVariants.{GetsHeads, GetsSchemas, GetsDeletes}
+use Rattle.ts_model.specs.declared.states.Collecting.TheVariants.{GetsVacs, GetsHeads, GetsSchemas, GetsDeletes}
 use Rattle.ts_model.specs.declared.states.Opened.{Opened}
 use Rattle.ts_model.specs.declared.states.Reading.{Reading}
 use Rattle.ts_model.specs.Deeds.{History, IsHistory, frame_in, schema_with}
 use Rattle.ts_model.specs.Codecs.{Codec, CodecLaws, Spelled, Tracking}
 use Rattle.ts_model.specs.Jobs.{looked_at, IsFit, AreApart}
-use Rattle.ts_commit.specs.Selections.{is_usable}
-use Rattle.ts_law.specs.Stands.{HoldsIn, IsCommitted, Stands}
-use Rattle.ts_law.specs.Origins.{IsReadable}
-use Rattle.ts_model.specs.States.{list_schemas, get_all, get_frame, get_head, get_schema, on_bytes, on_read, keys_named, fetching, getting_deletes, gathering, opening as opening_on, reading_of, asks_for, works, meets, after_head, after_schema, with_item}
+use Rattle.ts_commit.specs.Selections.{clipped_names, has_origin, is_among, is_usable, loaded}
+use Rattle.ts_law.specs.Stands.{HoldsIn, IsCommitted, Names, Stands}
+use Rattle.ts_model.specs.States.{list_schemas, get_all, get_frame, get_head, get_schema, on_bytes, on_read, keys_named, fetching, getting_deletes, gathering, opening as opening_on, reading_of, asks_for, after_vac, get_vac, getting_vacs, heads_of, loaded_of, loads, opened_among, vac_of, with_clipped, with_vac, works, meets, after_head, after_schema, with_item}
 use Rattle.ts_model.specs.Told.{Told, after_told, IsReplied, held_told, history_told}
-use Rattle.ts_law.specs.Ends.{IsTrueRefusal, IsUndone, ListedAt}
-use Rattle.ts_law.specs.Kept.{AreDeletions, Clean, Works, HasListed, ReadsAt, IsOpen, Opening, Gathering, GettingDeletes, Claims}
+use Rattle.ts_law.specs.Ends.{AreHeads, IsTrueRefusal, IsUndone, ListedAt}
+use Rattle.ts_law.specs.Kept.{AreDeletions, Clean, Works, HasListed, AreChosen, GettingVacs, ReadsAt, ReadsIn, Since, IsOpen, Opening, Gathering, GettingDeletes, Claims}
 use Rattle.ts_model.specs.Queries.{ready_in}
 use Rattle.ts_law.specs.Steps.{Advances, Comes}
-use Rattle.ts_model.proofs.ListLemmas.{Contains-nil, Contains-here, Contains-there, filter-Contains, Contains-slice_get, take_next}
+use Rattle.ts_model.proofs.ListLemmas.{Contains-filter, Contains-nil, Contains-here, Contains-there, filter-Contains, Contains-slice_get, take_next}
 use Rattle.ts_model.proofs.KeyLemmas.{key_same}
 use Rattle.ts_model.proofs.HistoryLaws.{IsHistory-front, frame_facts, framed_by_schema, frame_in-append, schema_with-is, schema_with-append, there_is_with, schema_facts}
 use Rattle.ts_model.proofs.Traces.{history_told_grows}
@@ -63,10 +64,14 @@ use Rattle.ts_law.proofs.Declaring.{frame_again, attrs_again}
 use Rattle.ts_law.proofs.Effects.{got}
 use Rattle.ts_law.proofs.PutSteps.{works_delete, works_evolve, works_write}
 use Rattle.ts_law.proofs.QueryRefusals.{FailsByQuery, query_true, ready_fails}
-use Rattle.ts_law.proofs.Fetches.{got_none}
+use Rattle.ts_law.proofs.Fetches.{Contains-map, got_none, map-Contains, one_head}
+use Rattle.ts_law.proofs.Loading.{OneHead, loaded_usable, loaded_with, none_clipped}
+use Rattle.ts_law.proofs.OriginLaws.{any_member, member_any}
+use Rattle.ts_model.proofs.KeyLemmas.{frag_itself, frag_same}
 use Rattle.ts_law.proofs.FetchSteps.{fetching_claims}
-use Rattle.ts_law.proofs.ListSteps.{committed_from_looked, looked}
-use Rattle.ts_law.proofs.Stays.{has_listed_stays, opening_stays, gathering_stays}
+use Rattle.ts_law.proofs.ListSteps.{committed_from_looked, counting_held, looked}
+use Rattle.ts_law.proofs.HeldLemmas.{bytes_there}
+use Rattle.ts_law.proofs.Stays.{getting_vacs_stays, has_listed_stays, opening_stays, gathering_stays}
 
 -- ---- the keys that heads name
 
@@ -153,9 +158,9 @@ module _ {F : Type 0} (codec : Codec F) (spelled : Spelled) (tracks : Tracking F
             (record {
               deletes_found = deletions;
               all_deletes = as_many (λ x. frag_of x.key) r.deletions r.delete_names deletions.deletions.names_are (ltb-false (length r.deletions) (length r.delete_names) end);
-              found = got_none (history_told jobs past ((((((deletions.gathers).opens).reads).at).listed).since.commits).before) r.from r.to (r.ready).sub;
+              found = got_none (history_told jobs past ((((((deletions.gathers)).reads).at).listed).since.commits).before) r.from r.to (r.ready).sub;
             })
-            (history_at ((((deletions.gathers).opens.reads).at).listed).since.commits is) is
+            (history_at ((((deletions.gathers).reads).at).listed).since.commits is) is
       ] refl
 
   -- a read gets the next further schema, or goes on to the deletes, of which it has none
@@ -172,17 +177,108 @@ module _ {F : Type 0} (codec : Codec F) (spelled : Spelled) (tracks : Tracking F
         })
       ] refl
 
+  -- what was held at a listing, and the history there
+  abbrev then_at : (r : Reading) → ReadsIn spelled opening past jobs seen m number job r → Held
+  then_at r reads = held_told opening (((reads.at).listed).since.commits).before
+
+  abbrev history_then : (r : Reading) → ReadsIn spelled opening past jobs seen m number job r → History
+  history_then r reads = history_told jobs past (((reads.at).listed).since.commits).before
+
+  -- the heads of the open fragments are those of the listing, once all are open
+  heads_are : (r : Reading) (opened : List Opened) (opens : Opening codec spelled opening past jobs seen m number job r opened) → length opened ≡ length r.fragments
+      → AreHeads spelled (history_then r opens.reads) (then_at r opens.reads) r.from r.to (heads_of opened)
+  heads_are r opened opens all = record {
+    frags = own_frags opened (λ o at. opens.are_open.each o at) ∙ opens.are_open.frags ∙ ap (λ n. take n r.fragments) all ∙ take_all (length r.fragments) r.fragments (omega arith) ∙ ((opens.reads.at).listed).fragments_are;
+    each = λ head at.
+        let o = map-Contains (λ x. x.head) opened head at in
+        let is = opens.are_open.each o.0 o.1 in
+        (is.piece, subst (λ f. HoldsIn spelled (history_then r opens.reads) (then_at r opens.reads) f is.piece) (sym (named o.0 is) ∙ ap (λ x. x.frag) o.2) is.holds, sym is.head ∙ o.2);
+  }
+    where
+      named : (o : Opened) → IsOpen codec spelled (history_then r opens.reads) (then_at r opens.reads) r.frame o → o.head.frag ≡ o.frag
+      named o is = ap (λ x. x.frag) is.head ∙ ((is.holds).spells).named
+
+      own_frags : (os : List Opened) → ((o : Opened) → Contains os o → IsOpen codec spelled (history_then r opens.reads) (then_at r opens.reads) r.frame o)
+          → list_map (λ head. head.frag) (heads_of os) ≡ list_map (λ o. o.frag) os
+      own_frags [] all = refl
+      own_frags (o ∷ os) all = λ i. named o (all o (Contains-here o os)) i ∷ own_frags os (λ x at. all x (Contains-there o os x at)) i
+
+  -- a read that opened all fragments loads some of them
+  chosen_are : CodecLaws codec spelled tracks → (r : Reading) (opened : List Opened) (opens : Opening codec spelled opening past jobs seen m number job r opened) → length opened ≡ length r.fragments
+      → AreChosen codec spelled (history_then r opens.reads) (then_at r opens.reads) (with_clipped r (clipped_names r.from r.to (heads_of opened))) (opened_among (loaded_of r opened) opened)
+  chosen_are laws r opened opens all = record {
+    each = λ o at. opens.are_open.each o (among o at).0;
+    usable = λ o at. (among o at).1;
+    covered = λ w at within.
+        let up = loaded_with spelled then g r.from r.to heads are one since.stands r.vacs opens.are_vacs.each w at within in
+        let o = map-Contains (λ x. x.head) opened up.0 (loaded_usable spelled then g r.from r.to heads are one since.stands r.vacs opens.are_vacs.each up.0 up.1).0 in
+        let is = opens.are_open.each o.0 o.1 in
+        let named : up.0.frag ≡ o.0.frag = ap (λ x. x.frag) (sym o.2 ∙ is.head) ∙ ((is.holds).spells).named in
+        let listed = subst (λ f. is_among f (loaded_of r opened) ≡ true) named (any_member (frag_eq up.0.frag) (loaded_of r opened) up.0.frag (Contains-map (λ x. x.frag) (loaded r.from r.to heads r.vacs) up.0 up.1) (frag_itself up.0.frag)) in
+        (o.0, Contains-filter (λ x. is_among x.frag (loaded_of r opened)) opened o.0 o.1 listed, subst (λ x. has_origin w.key x ≡ true) (sym o.2) up.2);
+    unclipped = none_clipped spelled then g r.from r.to heads are one since.stands;
+  }
+    where
+      then : Held
+      then = then_at r opens.reads
+
+      g : History
+      g = history_then r opens.reads
+
+      heads : List Head
+      heads = heads_of opened
+
+      since : Since spelled opening past jobs seen m number
+      since = ((opens.reads.at).listed).since
+
+      are : AreHeads spelled g then r.from r.to heads
+      are = heads_are r opened opens all
+
+      one : OneHead spelled g then
+      one = one_head codec spelled tracks laws g then
+
+      -- an open fragment that is loaded can be used
+      among : (o : Opened) → Contains (opened_among (loaded_of r opened) opened) o → Contains opened o × (is_usable r.from r.to o.head ≡ true)
+      among o at =
+          let parts = filter-Contains (λ x. is_among x.frag (loaded_of r opened)) opened o at in
+          let found = member_any (frag_eq o.frag) (loaded_of r opened) parts.1 in
+          let head = map-Contains (λ x. x.frag) (loaded r.from r.to heads r.vacs) found.0 found.1 in
+          let can = loaded_usable spelled then g r.from r.to heads are one since.stands r.vacs opens.are_vacs.each head.0 head.1 in
+          let own = are.each head.0 can.0 in
+          let is = opens.are_open.each o parts.0 in
+          let same_frag : head.0.frag ≡ o.frag = head.2 ∙ sym (frag_same o.frag found.0 found.2) in
+          let same : head.0 ≡ o.head = sym own.2 ∙ one o.frag own.0 is.piece (subst (λ f. HoldsIn spelled g then f own.0) same_frag own.1) is.holds ∙ sym is.head in
+          (parts.0, subst (λ x. is_usable r.from r.to x ≡ true) same can.1)
+
+  -- a read that opened all fragments goes on with those that it loads
+  loads_claims : CodecLaws codec spelled tracks → Clean m now job → IsHistory now → (r : Reading) (opened : List Opened) → r.deletions ≡ []
+      → (opens : Opening codec spelled opening past jobs seen m number job r opened) → length opened ≡ length r.fragments
+      → Claimed (loads codec (with_clipped r (clipped_names r.from r.to (heads_of opened))) (opened_among (loaded_of r opened) opened))
+  loads_claims laws clean is r opened none opens all =
+      let reads = opens.reads in
+      gathering_claims laws clean is (with_clipped r (clipped_names r.from r.to (heads_of opened))) (opened_among (loaded_of r opened) opened) [] none (record {
+        reads = record { query = reads.query; reads = reads.reads; at = reads.at; framed = reads.framed; is_ready = reads.is_ready };
+        chosen = chosen_are laws r opened opens all;
+        gathered = record { keys_are = refl; each = λ s at. absurd (Contains-nil s at) };
+      })
+
   -- a read opens the next fragment, or goes on once all are open
   opening_claims : CodecLaws codec spelled tracks → Clean m now job → IsHistory now → (r : Reading) (opened : List Opened) → r.deletions ≡ []
       → Opening codec spelled opening past jobs seen m number job r opened → Claimed (opening_on codec r opened)
   opening_claims laws clean is r opened none opens =
-      elim (nat_lt (length opened) (length r.fragments)) as (λ b. nat_lt (length opened) (length r.fragments) ≡ b → Claimed (cond b (Collects (GetsHeads r opened)) (gathering codec r opened (keys_named r opened) []))) [
+      elim (nat_lt (length opened) (length r.fragments)) as (λ b. nat_lt (length opened) (length r.fragments) ≡ b → Claimed (cond b (Collects (GetsHeads r opened))
+      (loads codec (with_clipped r (clipped_names r.from r.to (heads_of opened))) (opened_among (loaded_of r opened) opened)))) [
         | true ↦ λ _. (clean, opens, none)
-        | false ↦ λ end. gathering_claims laws clean is r opened [] none (record {
-          opens = opens;
-          all = as_many (λ o. o.frag) opened r.fragments opens.are_open.frags (ltb-false (length opened) (length r.fragments) end);
-          gathered = record { keys_are = refl; each = λ s at. absurd (Contains-nil s at) };
-        })
+        | false ↦ λ end. loads_claims laws clean is r opened none opens (as_many (λ o. o.frag) opened r.fragments opens.are_open.frags (ltb-false (length opened) (length r.fragments) end))
+      ] refl
+
+  -- a read gets the next `.vac`, or opens its fragments
+  getting_vacs_claims : CodecLaws codec spelled tracks → Clean m now job → IsHistory now → (r : Reading) → r.deletions ≡ []
+      → GettingVacs spelled opening past jobs seen m number job r → Claimed (getting_vacs codec r)
+  getting_vacs_claims laws clean is r none vacs =
+      elim (nat_lt (length r.vacs) (length r.counting)) as (λ b. nat_lt (length r.vacs) (length r.counting) ≡ b → Claimed (cond b (Collects (GetsVacs r)) (opening_on codec r []))) [
+        | true ↦ λ _. (clean, vacs, none)
+        | false ↦ λ end. opening_claims laws clean is r [] none (record { reads = vacs.reads; are_vacs = vacs.are_vacs; are_open = record { frags = refl; each = λ o at. absurd (Contains-nil o at) } })
       ] refl
 
 -- ---- the gets
@@ -282,13 +378,13 @@ module _ {F : Type 0} (codec : Codec F) (spelled : Spelled) (tracks : Tracking F
 
   -- a read opens its fragments, or it is refused for its query
   asks_lead : CodecLaws codec spelled tracks → Clean m' h' job → IsHistory h' → (from to : ℕ) (query : Query) (listing : Listed) (frame : Frame) (there : Schema)
-      → (at : ReadsAt spelled opening past jobs (seen ++ e ∷ []) m' number job from to listing.fragments listing.delete_names there) → frame_in (history_told jobs past ((at.works).schemas).before) ≡ Some frame
+      → (at : ReadsAt spelled opening past jobs (seen ++ e ∷ []) m' number job from to listing.fragments listing.counting listing.delete_names there) → frame_in (history_told jobs past ((at.works).schemas).before) ≡ Some frame
       → job.command ≡ Read from to query → (o : Result Ready Refusal) → ready_in frame there.attrs query ≡ o → FailsByQuery o → ClaimedAfter (asks_for codec from to listing frame there o)
   asks_lead laws clean is from to query listing frame there at framed command (Err r) asked fails = query_true h' job r fails clean.undone
   asks_lead laws clean is from to query listing frame there at framed command (Ok ready) asked fails =
-      opening_claims codec spelled tracks opening past jobs (seen ++ e ∷ []) m' number job laws clean is (reading_of from to listing frame there ready) [] refl (record {
+      getting_vacs_claims codec spelled tracks opening past jobs (seen ++ e ∷ []) m' number job laws clean is (reading_of from to listing frame there ready) refl (record {
         reads = record { query = query; reads = command; at = at; framed = framed; is_ready = asked };
-        are_open = record { frags = refl; each = λ o at. absurd (Contains-nil o at) };
+        are_vacs = record { frags = refl; each = λ v at. absurd (Contains-nil v at) };
       })
 
   -- a job works in the schema there once it has the frame
@@ -326,6 +422,49 @@ module _ {F : Type 0} (codec : Codec F) (spelled : Spelled) (tracks : Tracking F
             (has_listed_stays spelled opening past jobs seen e m m' job.id look.leads.leaves number job job.command listing there (no_listing name.Domain is) comes.claims.1)));
       }
 
+  -- ---- the `.vac` objects
+
+  -- one more was got
+  vacs_more : (r : Reading) (f : FragKey) (names : List FragKey) → slice_get r.counting (length r.vacs) ≡ Some f → (is : GettingVacs spelled opening past jobs (seen ++ e ∷ []) m' number job r)
+      → IsCommitted (held_told opening (((is.reads.at).listed).since.commits).before) f × Names (held_told opening (((is.reads.at).listed).since.commits).before) f names
+      → GettingVacs spelled opening past jobs (seen ++ e ∷ []) m' number job (with_vac r f names)
+  vacs_more r f names next is one =
+      let reads = is.reads in
+      let then = held_told opening (((is.reads.at).listed).since.commits).before in
+      record {
+        reads = record { query = reads.query; reads = reads.reads; at = reads.at; framed = reads.framed; is_ready = reads.is_ready };
+        are_vacs = record {
+          frags = push_next (λ v. v.frag) r.vacs (record { frag = f; names = names }) r.counting is.are_vacs.frags next;
+          each = λ v at. elim (Contains-push_cases r.vacs (record { frag = f; names = names }) v at) [
+            | inl before ↦ is.are_vacs.each v before
+            | inr last ↦ subst (λ (x : VacOf). IsCommitted then x.frag × Names then x.frag x.names) last one
+          ];
+        };
+      }
+
+  -- the get of a `.vac` leads a read to the next one, or to its fragments
+  pub vacs_steps : CodecLaws codec spelled tracks → (r : Reading) → ComesHere (Collects (GetsVacs r)) → AdvancesHere (Collects (GetsVacs r))
+  vacs_steps laws r comes =
+      let next = asked_of get_vac (slice_get r.counting (length r.vacs)) e.call comes.asked in
+      let f = next.0 in
+      let look = looked spelled past jobs seen e m job (get_vac f) next.2 tt comes.stands comes.replied comes.claims.0 in
+      let unlisted = no_listing (vac_of f) next.2 in
+      let vacs = getting_vacs_stays spelled opening past jobs seen e m m' job.id look.leads.leaves number job r unlisted comes.claims.1 in
+      let listed = (vacs.reads.at).listed in
+      let then = held_told opening (listed.since.commits).before in
+      let counts = counting_held then f (subst (λ fs. Contains fs f) listed.counting_are (Contains-slice_get r.counting (length r.vacs) f next.1)) in
+      let bytes = bytes_there then (vac_of f) counts.1 in
+      let reads = listed.since.stands.merged.reads f bytes.0 counts.0 bytes.1 in
+      let held : map.get m (vac_of f) ≡ Some bytes.0 = ap (λ n. map.get n (vac_of f)) (sym look.same_held) ∙ listed.since.held (vac_of f) bytes.0 tt bytes.1 in
+      record {
+        leads = look.leads;
+        own = subst (λ o. ClaimedAfter (with_item (λ g. on_bytes (get_vac g) (after_vac codec r g) e.reply) o)) (sym next.1)
+            (whole_lead (vac_of f) bytes.0 (after_vac codec r f) next.2 comes.replied held reads.0 (inr look.clean.undone)
+            (read_lead (vac_of f) (λ names. getting_vacs codec (with_vac r f names)) reads.1.0 (names_of bytes.0) reads.1.1
+            (getting_vacs_claims codec spelled tracks opening past jobs (seen ++ e ∷ []) m' number job laws look.clean look.history (with_vac r f reads.1.0) comes.claims.2
+            (vacs_more r f reads.1.0 next.1 vacs (counts.0, record { bytes = bytes.0; held = bytes.1; reads = reads.1.1 })))));
+      }
+
   -- ---- the heads
 
   module _ (laws : CodecLaws codec spelled tracks) (r : Reading) (opened : List Opened) (f : FragKey) (next : slice_get r.fragments (length opened) ≡ Some f)
@@ -342,8 +481,8 @@ module _ {F : Type 0} (codec : Codec F) (spelled : Spelled) (tracks : Tracking F
     committed : IsCommitted then f × (meets r.from r.to f ≡ true)
     committed = committed_from_looked then r.from r.to f (subst (λ fs. Contains fs f) ((opens.reads.at).listed).fragments_are (Contains-slice_get r.fragments (length opened) f next))
 
-    -- the fragment's piece, which the read can use
-    abbrev own : (p : Piece) × HoldsIn spelled g then f p × IsReadable p.head
+    -- the fragment's piece
+    abbrev own : (p : Piece) × HoldsIn spelled g then f p
     own = ((opens.reads.at).listed).since.stands.whole f committed.0
 
     abbrev piece : Piece
@@ -360,10 +499,6 @@ module _ {F : Type 0} (codec : Codec F) (spelled : Spelled) (tracks : Tracking F
     -- the fragment, open
     abbrev more : Opened
     more = record { frag = f; head = piece.head; object = found.0 }
-
-    -- the read can use it
-    usable : is_usable r.from r.to piece.head ≡ true
-    usable = own.2 r.from r.to (subst (λ x. meets r.from r.to x ≡ true) (sym (holds.spells).named) committed.1)
 
     -- an array has one frame
     same_frame : holds.frame ≡ r.frame
@@ -384,12 +519,13 @@ module _ {F : Type 0} (codec : Codec F) (spelled : Spelled) (tracks : Tracking F
     opened_more : Opening codec spelled opening past jobs (seen ++ e ∷ []) m' number job r (opened ++ more ∷ [])
     opened_more = record {
       reads = opens.reads;
+      are_vacs = opens.are_vacs;
       are_open = record {
         frags = push_next (λ o. o.frag) opened more r.fragments opens.are_open.frags next;
         each = λ o at. elim (Contains-push_cases opened more o at) [
           | inl before ↦ opens.are_open.each o before
           | inr last ↦
-              subst (IsOpen codec spelled g then r.frame r.from r.to) last (record { piece = piece; holds = holds; same_frame = same_frame; usable = usable; head = refl; object = at_part })
+              subst (IsOpen codec spelled g then r.frame) last (record { piece = piece; holds = holds; same_frame = same_frame; head = refl; object = at_part })
         ];
       };
     }
@@ -425,11 +561,11 @@ module _ {F : Type 0} (codec : Codec F) (spelled : Spelled) (tracks : Tracking F
       → (s : Schema) × (schema_with h k ≡ Some s)
   further_declared r opened schemas gathers k at =
       let by = named_by r opened k at in
-      let is = gathers.opens.are_open.each by.0 by.1 in
+      let is = gathers.chosen.each by.0 by.1 in
       let keyed : (is.piece).head.schema ≡ k = ap (λ head. head.schema) (sym is.head) ∙ by.2 in (
         (is.holds).schema,
-        schema_at_listing codec spelled tracks opening past jobs seen m number job ((((gathers.opens.reads).at).listed).since.commits) k (is.holds).schema
-            (subst (λ l. schema_with (history_told jobs past ((((gathers.opens.reads).at).listed).since.commits).before) l ≡ Some (is.holds).schema) keyed (is.holds).declared),
+        schema_at_listing codec spelled tracks opening past jobs seen m number job ((((gathers.reads).at).listed).since.commits) k (is.holds).schema
+            (subst (λ l. schema_with (history_told jobs past ((((gathers.reads).at).listed).since.commits).before) l ≡ Some (is.holds).schema) keyed (is.holds).declared),
       )
 
   -- the get of a further schema leads a read to the next one, or to the first fetch
@@ -453,8 +589,8 @@ module _ {F : Type 0} (codec : Codec F) (spelled : Spelled) (tracks : Tracking F
             (subst (λ l. ClaimedAfter (gathering codec r opened named (schemas ++ record { key = l; attrs = s.attrs } ∷ []))) keyed
             (subst (λ ks. ClaimedAfter (gathering codec r opened ks (schemas ++ s ∷ []))) (sym comes.claims.1)
             (gathering_claims codec spelled tracks opening past jobs (seen ++ e ∷ []) m' number job laws look.clean look.history r opened (schemas ++ s ∷ []) comes.claims.3 (record {
-              opens = gathers.opens;
-              all = gathers.all;
+              reads = gathers.reads;
+              chosen = gathers.chosen;
               gathered = record {
                 keys_are = push_next (λ x. x.key) schemas s (keys_named r opened) gathers.gathered.keys_are (at ∙ ap Some (sym keyed));
                 each = λ x in_them. elim (Contains-push_cases schemas s x in_them) [

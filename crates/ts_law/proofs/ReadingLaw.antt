@@ -214,9 +214,9 @@ module _ (h : History) (from to : ℕ) (sub : SubBox) (got : List Version)
     shows_all false sparse long = shows_sparse sparse
 
     -- the answer of a read that got these versions is that of the history
-    pub answer_is : (later : History) (query : Query) → frame_in later ≡ Some r.frame → schema_there later to ≡ Some r.there → ready_in r.frame (r.there).attrs query ≡ Ok r.ready
+    pub answer_is : (later : History) (query : Query) → frame_in later ≡ Some r.frame → schema_there later to ≡ Some r.there → ready_in r.frame (r.there).attrs query ≡ Ok r.ready → r.clipped ≡ []
         → IsAnswer h later from to query (answer_of r schemas got)
-    answer_is later query framed there is_ready =
+    answer_is later query framed there is_ready unclipped =
         let dims = r.frame.domain in
         let long = subst (λ (s : SubBox). length s.high ≡ length s.low) (sym (ready_box r.frame r.there.attrs query r.ready is_ready)) (length-map dims (high_of query.sub) ∙ sym (length-map dims (low_of query.sub))) in
         let found = shows_all r.frame.dense refl long in
@@ -231,5 +231,5 @@ module _ (h : History) (from to : ℕ) (sub : SubBox) (got : List Version)
           each = found.2;
           rows = ap (selected r.frame r.there.attrs r.ready) found.1;
           types = refl;
-          whole = refl;
+          whole = unclipped;
         }

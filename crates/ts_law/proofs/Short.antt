@@ -26,14 +26,14 @@ use Rattle.ts_model.specs.declared.states.State.{State}
 use Rattle.ts_model.specs.declared.states.State.TheVariants.{Creates, Seeks, Puts, Collects, Over}
 use Rattle.ts_model.specs.declared.states.Creating.TheVariants.{PutsFrame, ComparesFrame, ListsDeclared}
 use Rattle.ts_model.specs.declared.states.Seeking.TheVariants.{ListsCommits, ListsSchemas, GetsSchema, GetsFrame}
-use Rattle.ts_model.specs.declared.states.Collecting.TheVariants.{GetsHeads, GetsSchemas, GetsDeletes, Fetches}
+use Rattle.ts_model.specs.declared.states.Collecting.TheVariants.{GetsVacs, GetsHeads, GetsSchemas, GetsDeletes, Fetches}
 use Rattle.ts_model.specs.declared.states.NewObject.{NewObject}
 use Rattle.ts_model.specs.Commands.{frame_made}
 use Rattle.ts_model.specs.Deeds.{History, key_in, keys}
 use Rattle.ts_model.specs.Driven.{EndsBy, MayAsk, lacks_after, lacks_from}
 use Rattle.ts_model.specs.Codecs.{Codec, CodecLaws, Spelled, Tracking}
 use Rattle.ts_model.specs.Jobs.{AreApart, key_of}
-use Rattle.ts_model.specs.States.{Exchange, asks, begun, frame_put, get_delete, get_head, get_schema, goes, is_over, made_by, on_made, put_of, putting, takes_memory, unless_refused, want_of, with_item}
+use Rattle.ts_model.specs.States.{get_vac, vac_of, Exchange, asks, begun, frame_put, get_delete, get_head, get_schema, goes, is_over, made_by, on_made, put_of, putting, takes_memory, unless_refused, want_of, with_item}
 use Rattle.ts_model.specs.Stages.{begins_at, first_stage, goes_on, is_done, lease_of, stage_of, stage_takes_memory}
 use Rattle.ts_model.specs.declared.states.Stage.{Stage}
 use Rattle.ts_model.specs.declared.states.Stage.TheVariants.{ListsLeases, PutsLease, Releases}
@@ -178,6 +178,9 @@ module _ {F : Type 0} (codec : Codec F) (spelled : Spelled) (tracks : Tracking F
   asks_frame (Creates ComparesFrame) n bytes takes is asked = absurd (no_get name.Domain 0 _ n bytes (same_Some _ _ asked))
   asks_frame (Seeks (GetsFrame listing there)) n bytes takes is asked = absurd (no_get name.Domain 0 _ n bytes (same_Some _ _ asked))
   asks_frame (Seeks (GetsSchema listing there)) n bytes takes is asked = absurd (no_get (name.Schema there) 0 _ n bytes (same_Some _ _ asked))
+  asks_frame (Collects (GetsVacs r)) n bytes takes is asked =
+      let f = asked_by get_vac (slice_get r.counting (length r.vacs)) (call.Put n bytes) asked in
+      absurd (no_get (vac_of f.0) 0 _ n bytes f.2)
   asks_frame (Collects (GetsHeads r opened)) n bytes takes is asked =
       let f = asked_by (get_head codec r) (slice_get r.fragments (length opened)) (call.Put n bytes) asked in
       absurd (no_get (name.Part f.0 (codec.head_part r.frame)) 0 _ n bytes f.2)

@@ -29,9 +29,10 @@ use Rattle.ts_law.specs.Ends.{HasDeclared, IsCreated, IsTrueEnd, IsTrueRefusal, 
 use Rattle.ts_model.specs.Codecs.{Codec, Spelled, Tracking}
 use Rattle.ts_law.specs.Fresh.{IsCarried, IsNewId, id_in}
 use Rattle.ts_model.specs.Jobs.{AreApart, IsFit, deletion_as, frag_of_job, job_with, key_of, looked_at, schema_of_job, written_as}
-use Rattle.ts_law.specs.Kept.{Aims, AreDeletions, AreGot, AreOpen, AreSchemas, Claims, Clean, GettingDeletes, Fetching, Gathering, HasListed, HasLooked, IsOfJobs, Kept, LooksInto, OnWay, Opening, Putting, ReadsAt, ReadsIn, StageClaims, Works, heads_of}
-use Rattle.ts_law.specs.Stands.{IsBare, vac_of, Stands}
-use Rattle.ts_model.specs.States.{begun, keys_named, made_by, unless_refused}
+use Rattle.ts_law.specs.Kept.{Aims, AreDeletions, AreGot, AreOpen, AreSchemas, Claims, Clean, AreChosen, GettingDeletes, GettingVacs, Fetching, Gathering, HasListed, HasLooked, IsOfJobs, Kept, LooksInto, OnWay, Opening, Putting, ReadsAt, ReadsIn, StageClaims, Works}
+use Rattle.ts_law.specs.Stands.{IsBare, Stands}
+use Rattle.ts_model.specs.States.{vac_of}
+use Rattle.ts_model.specs.States.{heads_of, begun, keys_named, made_by, unless_refused}
 use Rattle.ts_model.specs.Stages.{begins_at, first_stage, lease_of, stage_of}
 use Rattle.ts_model.specs.declared.states.Stage.{Stage}
 use Rattle.ts_model.specs.declared.states.Stage.TheVariants.{ListsLeases, PutsLease, Releases}
@@ -58,7 +59,7 @@ use Rattle.ts_model.specs.declared.states.State.{State}
 use Rattle.ts_model.specs.declared.states.State.TheVariants.{Creates, Seeks, Puts, Collects, Over}
 use Rattle.ts_model.specs.declared.states.Creating.TheVariants.{PutsFrame, ComparesFrame, ListsDeclared}
 use Rattle.ts_model.specs.declared.states.Seeking.TheVariants.{ListsCommits, ListsSchemas, GetsSchema, GetsFrame}
-use Rattle.ts_model.specs.declared.states.Collecting.TheVariants.{GetsHeads, GetsSchemas, GetsDeletes, Fetches}
+use Rattle.ts_model.specs.declared.states.Collecting.TheVariants.{GetsVacs, GetsHeads, GetsSchemas, GetsDeletes, Fetches}
 use Rattle.ts_schema.specs.Evolutions.{evolved_attrs}
 use Rattle.ts_schema.specs.Faults.{schema_fault}
 use Rattle.ts_schema.specs.declared.faults.SchemaFault.{SchemaFault}
@@ -345,14 +346,15 @@ module _ (jobs : List Job) (job : Job) where
     }
 
     -- what a read listed is the same among all
-    abbrev near_more : (from to : ℕ) (fragments delete_names : List FragKey) → LooksInto spelled opening past jobs seen m number from to fragments delete_names → LooksInto spelled opening past all seen m number from to fragments delete_names
-    near_more from to fragments delete_names is = record {
+    abbrev near_more : (from to : ℕ) (fragments counting delete_names : List FragKey) → LooksInto spelled opening past jobs seen m number from to fragments counting delete_names → LooksInto spelled opening past all seen m number from to fragments counting delete_names
+    near_more from to fragments counting delete_names is = record {
       since = record {
         commits = (is.since).commits;
         stands = subst (Stands spelled (held_told opening ((is.since).commits).before)) (listed_more Commits (is.since).commits) (is.since).stands;
         held = (is.since).held;
       };
       fragments_are = is.fragments_are;
+      counting_are = is.counting_are;
       deletes_are = is.deletes_are;
     }
 
@@ -361,14 +363,14 @@ module _ (jobs : List Job) (job : Job) where
     has_near_more (Create f) listed is = is
     has_near_more (Evolve change) listed is = is
     has_near_more (Write w) listed is = is
-    has_near_more (Read from to query) listed is = near_more from to listed.fragments listed.delete_names is
+    has_near_more (Read from to query) listed is = near_more from to listed.fragments listed.counting listed.delete_names is
     has_near_more (Delete text) listed is = is
 
     -- what a read listed, and then the schemas, is the same among all
-    abbrev reads_at_more : (from to : ℕ) (fragments delete_names : List FragKey) (there : Schema)
-        → ReadsAt spelled opening past jobs seen m number j from to fragments delete_names there → ReadsAt spelled opening past all seen m number j from to fragments delete_names there
-    reads_at_more from to fragments delete_names there is = record {
-      listed = near_more from to fragments delete_names is.listed;
+    abbrev reads_at_more : (from to : ℕ) (fragments counting delete_names : List FragKey) (there : Schema)
+        → ReadsAt spelled opening past jobs seen m number j from to fragments counting delete_names there → ReadsAt spelled opening past all seen m number j from to fragments counting delete_names there
+    reads_at_more from to fragments counting delete_names there is = record {
+      listed = near_more from to fragments counting delete_names is.listed;
       works = works_more there is.works;
       between = is.between;
       order = is.order;
@@ -380,7 +382,7 @@ module _ (jobs : List Job) (job : Job) where
     has_listed_more (Create f) listed there is = is
     has_listed_more (Evolve change) listed there is = works_more there is
     has_listed_more (Write w) listed there is = works_more there is
-    has_listed_more (Read from to query) listed there is = reads_at_more from to listed.fragments listed.delete_names there is
+    has_listed_more (Read from to query) listed there is = reads_at_more from to listed.fragments listed.counting listed.delete_names there is
     has_listed_more (Delete text) listed there is = works_more there is
 
     -- what a read knows is the same among all
@@ -388,15 +390,20 @@ module _ (jobs : List Job) (job : Job) where
     reads_in_more r is = record {
       query = is.query;
       reads = is.reads;
-      at = reads_at_more r.from r.to r.fragments r.delete_names r.there is.at;
+      at = reads_at_more r.from r.to r.fragments r.counting r.delete_names r.there is.at;
       framed = subst (λ g. frame_in g ≡ Some r.frame) (listed_more Schemas ((is.at).works).schemas) is.framed;
       is_ready = is.is_ready;
     }
+
+    -- a read that gets `.vac` objects is such among all
+    abbrev getting_vacs_more : (r : Reading) → GettingVacs spelled opening past jobs seen m number j r → GettingVacs spelled opening past all seen m number j r
+    getting_vacs_more r is = record { reads = reads_in_more r is.reads; are_vacs = is.are_vacs }
 
     -- a read that opens is such among all
     abbrev opening_more : (r : Reading) (opened : List Opened) → Opening codec spelled opening past jobs seen m number j r opened → Opening codec spelled opening past all seen m number j r opened
     opening_more r opened is = record {
       reads = reads_in_more r is.reads;
+      are_vacs = is.are_vacs;
       are_open = subst (λ g. AreOpen codec spelled g (held_told opening (((is.reads).at).listed).since.commits.before) r opened) (listed_more Commits (((is.reads).at).listed).since.commits) is.are_open;
     }
 
@@ -404,8 +411,8 @@ module _ (jobs : List Job) (job : Job) where
     abbrev gathering_more : (r : Reading) (opened : List Opened) (schemas : List Schema)
         → Gathering codec spelled opening past jobs seen m number j r opened schemas → Gathering codec spelled opening past all seen m number j r opened schemas
     gathering_more r opened schemas is = record {
-      opens = opening_more r opened is.opens;
-      all = is.all;
+      reads = reads_in_more r is.reads;
+      chosen = subst (λ g. AreChosen codec spelled g (held_told opening (((is.reads).at).listed).since.commits.before) r opened) (listed_more Commits (((is.reads).at).listed).since.commits) is.chosen;
       gathered = subst (λ g. AreSchemas g (keys_named r opened) schemas) now is.gathered;
     }
 
@@ -424,7 +431,7 @@ module _ (jobs : List Job) (job : Job) where
     fetching_more r opened schemas next got is = record {
       deletes_found = getting_deletes_more r opened schemas is.deletes_found;
       all_deletes = is.all_deletes;
-      found = subst (λ g. AreGot g r.from r.to (r.ready).sub (heads_of (take next opened)) got) (listed_more Commits ((((((is.deletes_found).gathers).opens).reads).at).listed).since.commits) is.found;
+      found = subst (λ g. AreGot g r.from r.to (r.ready).sub (heads_of (take next opened)) got) (listed_more Commits ((((((is.deletes_found).gathers)).reads).at).listed).since.commits) is.found;
     }
 
     -- what the last put of a job makes of it is the same among all
@@ -526,6 +533,7 @@ module _ (jobs : List Job) (job : Job) where
     claims_more (Seeks (ListsSchemas listed)) is = (clean_more is.0, has_near_more j.command listed is.1)
     claims_more (Seeks (GetsSchema listed there)) is = (clean_more is.0, (is.1.0, is.1.1, has_listed_more j.command listed is.1.0 is.1.2))
     claims_more (Seeks (GetsFrame listed there)) is = (clean_more is.0, has_listed_more j.command listed there is.1)
+    claims_more (Collects (GetsVacs r)) is = (clean_more is.0, getting_vacs_more r is.1, is.2)
     claims_more (Collects (GetsHeads r opened)) is = (clean_more is.0, opening_more r opened is.1, is.2)
     claims_more (Collects (GetsSchemas r opened named schemas)) is = (clean_more is.0, is.1, gathering_more r opened schemas is.2, is.3)
     claims_more (Collects (GetsDeletes r opened schemas)) is = (clean_more is.0, getting_deletes_more r opened schemas is.1)
@@ -534,7 +542,7 @@ module _ (jobs : List Job) (job : Job) where
       is.1,
       (
         fetching_more r opened schemas next got is.2.0,
-        subst (λ g. OnWay spelled tracks g (held_told opening (((((((is.2.0).deletes_found).gathers).opens).reads).at).listed).since.commits.before) r frag fetch c) (listed_more Commits (((((((is.2.0).deletes_found).gathers).opens).reads).at).listed).since.commits) is.2.1,
+        subst (λ g. OnWay spelled tracks g (held_told opening (((((((is.2.0).deletes_found).gathers)).reads).at).listed).since.commits.before) r frag fetch c) (listed_more Commits (((((((is.2.0).deletes_found).gathers)).reads).at).listed).since.commits) is.2.1,
       ),
     )
     claims_more (Over end) is = end_more end is

@@ -32,7 +32,7 @@ use Rattle.ts_model.specs.declared.deeds.Deed.TheVariants.{Framed, Declared, Wro
 use Rattle.ts_model.specs.Deeds.{History, schema_in, deletion_in, frame_in, schemas, writes, deletions, keys, schema_with, deletion_of, has_cell, SchemaFollows, WriteFollows, DeletionFollows, IsNewKey, IsHistory}
 use Rattle.ts_model.specs.Pieces.{HoldsWrite}
 use Rattle.ts_model.specs.Codecs.{Spelled}
-use Rattle.ts_law.specs.Origins.{IsReadable, box_in}
+use Rattle.ts_law.specs.Origins.{box_in}
 use Rattle.ts_law.specs.Stands.{IsBare, IsCommitted, Spells, HoldsIn, WentInto, Stands}
 use Rattle.ts_law.specs.Fresh.{id_in}
 use Rattle.ts_law.specs.Steps.{Keeps, Leads}
@@ -43,7 +43,7 @@ use Rattle.ts_model.proofs.KeyLemmas.{frag_itself, frag_same, key_itself, key_sa
 use Rattle.ts_model.proofs.HistoryLaws.{writes-append, frame_in-append, schema_with-append, IsHistory-push, no_deeds}
 use Rattle.ts_law.proofs.HeldLemmas.{Holds, Holds-from_get, get_put, get_apart, held_before, stays_held, holds_stays}
 use Rattle.ts_law.proofs.VacLaws.{MarksNone, merged_grows, named_before}
-use Rattle.ts_law.proofs.Grows.{PartsStay, holds_on_in, holds_in_grows, ordinary_holds, ordinary_readable, origin_is}
+use Rattle.ts_law.proofs.Grows.{PartsStay, holds_on_in, holds_in_grows, ordinary_holds, origin_is}
 
 -- ---- histories that grow
 
@@ -149,7 +149,7 @@ marks_wrt m f bare = record { no_vac = λ g e. cc; bare = λ g same. subst (IsBa
 
 -- what is asked of a committed fragment, and of a write
 abbrev IsWhole : Spelled → History → Held → FragKey → Type 0
-IsWhole spelled h m f = (p : Piece) × HoldsIn spelled h m f p × IsReadable p.head
+IsWhole spelled h m f = (p : Piece) × HoldsIn spelled h m f p
 
 abbrev IsCovered : Spelled → History → Held → Written → Type 0
 IsCovered spelled h m w = IsCommitted m (frag_of w.key) × WentInto spelled h m (frag_of w.key) w.key
@@ -174,7 +174,7 @@ module _ (spelled : Spelled) (m : Held) (h : History) (n : Name) (bytes : List �
   -- each fragment that was committed before goes on holding what its origins wrote
   whole_grows : AreNew → (f : FragKey) → IsCommitted later f → (wrt_of f ≡ n → IsWhole spelled (h ++ more) later f) → IsWhole spelled (h ++ more) later f
   whole_grows new f committed own = elim (held_before m n bytes (wrt_of f) committed) [
-    | inl before ↦ let is = stands.whole f before in (is.0, in_grows new f is.0 is.1, is.2)
+    | inl before ↦ let is = stands.whole f before in (is.0, in_grows new f is.0 is.1)
     | inr same ↦ own same
   ]
 
@@ -389,7 +389,7 @@ module _ (spelled : Spelled) (m : Held) (h : History) (w : Written) (frame : Fra
     short_schemas = short_schemas_grow spelled m h (wrt_of own) [] come free stands short_nothing;
     short_deletes = short_deletes_grow spelled m h (wrt_of own) [] come free stands short_nothing;
     whole = λ f committed. whole_grows spelled m h (wrt_of own) [] come free stands fresh f committed
-        (λ same. subst (IsWhole spelled (h ++ come) then_held) (sym (frag_of_wrt f own same)) (p, own_holds, ordinary_readable w p holds));
+        (λ same. subst (IsWhole spelled (h ++ come) then_held) (sym (frag_of_wrt f own same)) (p, own_holds));
     merged = merged_grows m (wrt_of own) [] free (marks_wrt m own bare) spelled h come fresh stands.merged;
     covered = λ v at. covered_grows spelled m h (wrt_of own) [] come free stands fresh v at (λ one. subst (IsCovered spelled (h ++ come) then_held) (Contains-only w v one) own_went);
   }

@@ -18,9 +18,9 @@ use Rattle.ts_law.specs.Ends.{HasDeclared, IsTrueEnd, IsTrueRefusal, ListedAt}
 use Rattle.ts_model.specs.Codecs.{Codec, Spelled}
 use Rattle.ts_law.specs.Fresh.{id_in}
 use Rattle.ts_model.specs.Jobs.{deletion_as, frag_of_job, key_of, schema_of_job, written_as}
-use Rattle.ts_law.specs.Kept.{AreDeletions, AreSchemas, Clean, GettingDeletes, Fetching, Gathering, HasListed, HasLooked, LooksInto, Opening, ReadsAt, ReadsIn, Since, Works}
+use Rattle.ts_law.specs.Kept.{AreDeletions, AreSchemas, Clean, GettingDeletes, GettingVacs, Fetching, Gathering, HasListed, HasLooked, LooksInto, Opening, ReadsAt, ReadsIn, Since, Works}
 use Rattle.ts_model.specs.States.{keys_named, list_schemas}
-use Rattle.ts_law.specs.Stands.{vac_of}
+use Rattle.ts_model.specs.States.{vac_of}
 use Rattle.ts_law.specs.Steps.{Keeps}
 use Rattle.ts_law.proofs.VacLaws.{bare_stays}
 use Rattle.ts_model.specs.Told.{Told, history_told}
@@ -138,10 +138,11 @@ module _ (spelled : Spelled) (opening : Held) (past : History) (jobs : List Job)
   }
 
   -- what a read listed stays
-  abbrev pub near_stays : (from to : ℕ) (fragments delete_names : List FragKey) → LooksInto spelled opening past jobs seen m number from to fragments delete_names → LooksInto spelled opening past jobs (seen ++ e ∷ []) m' number from to fragments delete_names
-  near_stays from to fragments delete_names is = record {
+  abbrev pub near_stays : (from to : ℕ) (fragments counting delete_names : List FragKey) → LooksInto spelled opening past jobs seen m number from to fragments counting delete_names → LooksInto spelled opening past jobs (seen ++ e ∷ []) m' number from to fragments counting delete_names
+  near_stays from to fragments counting delete_names is = record {
     since = since_stays is.since;
     fragments_are = is.fragments_are;
+    counting_are = is.counting_are;
     deletes_are = is.deletes_are;
   }
 
@@ -150,7 +151,7 @@ module _ (spelled : Spelled) (opening : Held) (past : History) (jobs : List Job)
   has_near_stays (Create f) listed is = is
   has_near_stays (Evolve change) listed is = is
   has_near_stays (Write w) listed is = is
-  has_near_stays (Read from to query) listed is = near_stays from to listed.fragments listed.delete_names is
+  has_near_stays (Read from to query) listed is = near_stays from to listed.fragments listed.counting listed.delete_names is
   has_near_stays (Delete text) listed is = is
 
   -- the schema that a job works in stays
@@ -166,10 +167,10 @@ module _ (spelled : Spelled) (opening : Held) (past : History) (jobs : List Job)
   }
 
   -- what a read listed, and then the schemas, stays
-  abbrev pub reads_at_stays : (job : Job) (from to : ℕ) (fragments delete_names : List FragKey) (there : Schema) → Unlisted
-      → ReadsAt spelled opening past jobs seen m number job from to fragments delete_names there → ReadsAt spelled opening past jobs (seen ++ e ∷ []) m' number job from to fragments delete_names there
-  reads_at_stays job from to fragments delete_names there unlisted is = record {
-    listed = near_stays from to fragments delete_names is.listed;
+  abbrev pub reads_at_stays : (job : Job) (from to : ℕ) (fragments counting delete_names : List FragKey) (there : Schema) → Unlisted
+      → ReadsAt spelled opening past jobs seen m number job from to fragments counting delete_names there → ReadsAt spelled opening past jobs (seen ++ e ∷ []) m' number job from to fragments counting delete_names there
+  reads_at_stays job from to fragments counting delete_names there unlisted is = record {
+    listed = near_stays from to fragments counting delete_names is.listed;
     works = works_stays job there unlisted is.works;
     between = is.between;
     order = is.order;
@@ -181,7 +182,7 @@ module _ (spelled : Spelled) (opening : Held) (past : History) (jobs : List Job)
   has_listed_stays job (Create f) listed there unlisted is = is
   has_listed_stays job (Evolve change) listed there unlisted is = works_stays job there unlisted is
   has_listed_stays job (Write w) listed there unlisted is = works_stays job there unlisted is
-  has_listed_stays job (Read from to query) listed there unlisted is = reads_at_stays job from to listed.fragments listed.delete_names there unlisted is
+  has_listed_stays job (Read from to query) listed there unlisted is = reads_at_stays job from to listed.fragments listed.counting listed.delete_names there unlisted is
   has_listed_stays job (Delete text) listed there unlisted is = works_stays job there unlisted is
 
   -- what a read knows stays
@@ -189,10 +190,14 @@ module _ (spelled : Spelled) (opening : Held) (past : History) (jobs : List Job)
   reads_in_stays job r unlisted is = record {
     query = is.query;
     reads = is.reads;
-    at = reads_at_stays job r.from r.to r.fragments r.delete_names r.there unlisted is.at;
+    at = reads_at_stays job r.from r.to r.fragments r.counting r.delete_names r.there unlisted is.at;
     framed = is.framed;
     is_ready = is.is_ready;
   }
+
+  -- a read that gets `.vac` objects goes on as it was
+  abbrev pub getting_vacs_stays : (job : Job) (r : Reading) → Unlisted → GettingVacs spelled opening past jobs seen m number job r → GettingVacs spelled opening past jobs (seen ++ e ∷ []) m' number job r
+  getting_vacs_stays job r unlisted is = record { reads = reads_in_stays job r unlisted is.reads; are_vacs = is.are_vacs }
 
   module _ {F : Type 0} (codec : Codec F) where
     -- the further schemas of a read stay
@@ -214,6 +219,7 @@ module _ (spelled : Spelled) (opening : Held) (past : History) (jobs : List Job)
         → Opening codec spelled opening past jobs seen m number job r opened → Opening codec spelled opening past jobs (seen ++ e ∷ []) m' number job r opened
     opening_stays job r opened unlisted is = record {
       reads = reads_in_stays job r unlisted is.reads;
+      are_vacs = is.are_vacs;
       are_open = is.are_open;
     }
 
@@ -221,8 +227,8 @@ module _ (spelled : Spelled) (opening : Held) (past : History) (jobs : List Job)
     abbrev pub gathering_stays : (job : Job) (r : Reading) (opened : List Opened) (schemas : List Schema) → Unlisted
         → Gathering codec spelled opening past jobs seen m number job r opened schemas → Gathering codec spelled opening past jobs (seen ++ e ∷ []) m' number job r opened schemas
     gathering_stays job r opened schemas unlisted is = record {
-      opens = opening_stays job r opened unlisted is.opens;
-      all = is.all;
+      reads = reads_in_stays job r unlisted is.reads;
+      chosen = is.chosen;
       gathered = are_schemas_stays (keys_named r opened) schemas is.gathered;
     }
 

@@ -35,6 +35,7 @@ use Rattle.ts_law.specs.Histories.{history_of}
 use Rattle.ts_law.specs.Kept.{Kept, AreAllowed, Works}
 use Rattle.ts_model.proofs.ListLemmas.{Contains-nil, Contains-here, Contains-there, slice_get-Contains, slice_get_left}
 use Rattle.ts_model.proofs.Traces.{exchange_of_own, exchange_of_other, stage_of-own, stage_of-other}
+use Rattle.ts_law.proofs.Fetches.{one_head}
 use Rattle.ts_law.proofs.Clipped.{true_over}
 use Rattle.ts_law.proofs.KeptLaws.{end_is_true, all_kept, every_prefix}
 use Rattle.ts_law.proofs.LineJobs.{AreInOrder, ids_apart, id_has_seed, jobs_fit}
@@ -157,7 +158,7 @@ module _ {F : Type 0} (codec : Codec F) (spelled : Spelled) (tracks : Tracking F
     stands = prefix_stands;
     journal = journal_stands;
     answers = λ number job end at end_at.
-        true_over spelled m jobs h told number job end (λ front back parts. (every_prefix codec spelled tracks laws m h jobs [] [] m told front back begins may replied parts).stands)
+        true_over spelled m jobs h told number job end (λ g n. one_head codec spelled tracks laws g n) (λ front back parts. (every_prefix codec spelled tracks laws m h jobs [] [] m told front back begins may replied parts).stands)
         (λ short. short_undone codec spelled tracks laws h jobs m told begins may replied number job at (subst (EndsBy codec job (trace_of number told)) short (driven.driven number job (Done end) at end_at).ends))
         (true_end number job end at end_at);
     causes = λ number job r at end_at.

@@ -14,7 +14,8 @@ use Rattle.ts_model.specs.declared.deeds.Written.{Written}
 use Rattle.ts_model.specs.Deeds.{History, IsNewKey, keys, writes}
 use Rattle.ts_model.specs.Codecs.{Spelled}
 use Rattle.ts_model.proofs.HistoryLaws.{keys-append}
-use Rattle.ts_law.specs.Stands.{AreMerged, DoesName, IsBare, IsCommitted, IsKnown, IsNoLease, vac_of}
+use Rattle.ts_law.specs.Stands.{AreMerged, DoesName, IsBare, IsCommitted, IsKnown, IsNoLease}
+use Rattle.ts_model.specs.States.{vac_of}
 use Rattle.ts_law.specs.Steps.{Keeps}
 use Rattle.ts_law.proofs.HeldLemmas.{Holds, get_apart, held_before, holds_stays, stays_held}
 use Rattle.ts_law.proofs.Grows.{PartsStay, within_grows, within_on}

@@ -26,7 +26,7 @@ use Rattle.ts_schema.specs.FrameTexts.{frame_of}
 use Rattle.ts_schema.specs.SchemaTexts.{schema_of}
 use Rattle.ts_model.specs.declared.commands.Command.TheVariants.{Create, Evolve, Write, Read, Delete}
 use Rattle.ts_model.specs.Stops.{cuts, Uncut}
-use Rattle.ts_model.specs.States.{schemas_in, place_of, get_all, put_of, made_by, frame_put, schema_object_of, write_objects, is_own_frame, get_frame, list_schemas, list_commits, get_schema, get_delete, committed_in, deletes_in, meets, delete_object_of, wanted, Exchange}
+use Rattle.ts_model.specs.States.{schemas_in, place_of, get_all, put_of, made_by, frame_put, schema_object_of, write_objects, is_own_frame, get_frame, list_schemas, list_commits, get_schema, get_delete, get_vac, counting_in, committed_in, deletes_in, meets, delete_object_of, wanted, Exchange}
 use Rattle.ts_model.specs.Stages.{lease_of, list_leases, put_lease, released}
 use Rattle.ts_lease.specs.Leases.{verdict_in}
 use Rattle.ts_lease.specs.declared.verdicts.Verdict.TheVariants.{Held}
@@ -38,7 +38,8 @@ use Rattle.ts_cond.specs.CondTexts.{cond_of}
 use Rattle.ts_cond.specs.Tests.{Condition}
 use Rattle.ts_cond.specs.declared.query.Query.{Query}
 use Rattle.ts_law.specs.Refusals.{refusal_in}
-use Rattle.ts_base.specs.declared.names.CommitKind.TheVariants.{Del}
+use Rattle.ts_base.specs.declared.names.CommitKind.TheVariants.{Del, Vac}
+use Rattle.ts_commit.specs.Vacs.{names_of}
 use Rattle.ts_base.specs.declared.names.Name.TheVariants as name
 use Rattle.ts_base.specs.declared.names.Place.TheVariants as place
 use Rattle.ts_store.specs.declared.call.Call.TheVariants as call
@@ -179,6 +180,10 @@ IsListedIn kind trace from to f = (names : List Name) × Contains trace (record 
 abbrev pub IsLookedInto : List Exchange → ℕ → ℕ → FragKey → Type 0
 IsLookedInto trace from to f = IsListedIn committed_in trace from to f
 
+-- a read listed a fragment with the commits whose `.vac` counts
+abbrev pub IsCountingIn : List Exchange → FragKey → Type 0
+IsCountingIn trace f = (names : List Name) × Contains trace (record { call = list_commits; reply = reply.Names names }) × Contains (counting_in names) f
+
 -- a read got the head of a fragment in an array of the frame that it found
 abbrev pub GotHead : {F : Type 0} → Codec F → Found → List Exchange → FragKey → Head → Type 0
 GotHead codec found trace f head =
@@ -190,6 +195,8 @@ LooksThere job trace c = ((k : Key) × IsKeyThere job trace k × (c ≡ get_sche
 
 -- what a read looks at in the array that it found: each is a get of a whole object, but for the calls for which a fetch asks
 pub data LooksInside {F : Type 0} (codec : Codec F) (job : Job) (found : Found) (trace : List Exchange) (from to : ℕ) (c : Call) : Type 0 where
+  -- a `.vac` that counts
+  AtVac : (f : FragKey) → IsCountingIn trace f → c ≡ get_vac f → LooksInside codec job found trace from to c
   -- the part that has the head of a near fragment
   AtHead : (f : FragKey) → IsLookedInto trace from to f → c ≡ get_all (name.Part f (codec.head_part found.frame)) → LooksInside codec job found trace from to c
   -- a further schema: one that is named by a head which the read got, and is not the schema there
@@ -262,12 +269,13 @@ BreaksPart {F} codec job found trace last f part at =
 abbrev pub BreaksFetch : {F : Type 0} → Codec F → Job → Found → List Exchange → Exchange → Name → ℕ → Type 0
 BreaksFetch codec job found trace last n at = (f : FragKey) × (part : Part) × (n ≡ name.Part f part) × IsGot job found trace × BreaksPart codec job found trace last f part at
 
--- the bytes of an object break its layout at an offset: a schema, the frame, a delete, or the head of a fragment in an array of the frame that the job got
+-- the bytes of an object break its layout at an offset: a schema, the frame, a delete, a `.vac`, or the head of a fragment in an array of the frame that the job got
 abbrev pub BreaksAt : {F : Type 0} → Codec F → Job → Found → List Exchange → Name → List ℕ → ℕ → Type 0
 BreaksAt codec job found trace (name.Schema k) bytes at = schema_of bytes ≡ Err at
 BreaksAt codec job found trace name.Domain bytes at = frame_of bytes ≡ Err at
 BreaksAt codec job found trace (name.Part f part) bytes at = IsGot job found trace × (part ≡ codec.head_part found.frame) × (codec.head found.frame f bytes ≡ Err at)
 BreaksAt codec job found trace (name.Commit f Del) bytes at = cond_of bytes ≡ Err at
+BreaksAt codec job found trace (name.Commit f Vac) bytes at = names_of bytes ≡ Err at
 BreaksAt codec job found trace n bytes at = ⊥
 
 -- an array is there already: its frame is another one than a create makes, or it has a schema

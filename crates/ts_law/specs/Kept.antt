@@ -13,6 +13,7 @@ use Rattle.ts_model.specs.declared.commands.Job.{Job}
 use Rattle.ts_model.specs.declared.commands.FrameIn.{FrameIn}
 use Rattle.ts_model.specs.declared.commands.WriteIn.{WriteIn}
 use Rattle.ts_model.specs.declared.answers.Outcome.{Outcome}
+use Rattle.ts_model.specs.declared.deeds.Written.{Written}
 use Rattle.ts_model.specs.declared.states.State.{State}
 use Rattle.ts_model.specs.declared.states.Stage.{Stage}
 use Rattle.ts_model.specs.declared.states.Stage.TheVariants.{PutsLease, ListsLeases, Releases}
@@ -28,7 +29,7 @@ use Rattle.ts_model.specs.declared.deeds.Deletion.{Deletion}
 use Rattle.ts_schema.specs.declared.frames.Frame.{Frame}
 use Rattle.ts_schema.specs.declared.schemas.Schema.{Schema}
 use Rattle.ts_schema.specs.declared.evolution.Evolution.{Evolution}
-use Rattle.ts_base.specs.Keys.{frag_of}
+use Rattle.ts_base.specs.Keys.{frag_of, is_within}
 use Rattle.ts_base.specs.Held.{Held}
 use Rattle.ts_schema.specs.Evolutions.{evolved_attrs, evolution_fault, schema_at}
 use Rattle.ts_schema.specs.Parts.{IsShort}
@@ -36,7 +37,7 @@ use Rattle.ts_model.specs.declared.commands.Command.TheVariants.{Create, Evolve,
 use Rattle.ts_model.specs.declared.states.State.TheVariants.{Creates, Seeks, Puts, Collects, Over}
 use Rattle.ts_model.specs.declared.states.Creating.TheVariants.{PutsFrame, ComparesFrame, ListsDeclared}
 use Rattle.ts_model.specs.declared.states.Seeking.TheVariants.{ListsCommits, ListsSchemas, GetsSchema, GetsFrame}
-use Rattle.ts_model.specs.declared.states.Collecting.TheVariants.{GetsHeads, GetsSchemas, GetsDeletes, Fetches}
+use Rattle.ts_model.specs.declared.states.Collecting.TheVariants.{GetsVacs, GetsHeads, GetsSchemas, GetsDeletes, Fetches}
 use Rattle.ts_base.specs.declared.names.Prefix.TheVariants.{Commits, Schemas}
 use Rattle.ts_model.specs.Told.{Told, trace_of, IsShortCall, schemas_found, held_told, history_told}
 use Rattle.ts_store.specs.Calls.{names_under}
@@ -47,15 +48,16 @@ use Rattle.ts_domain.specs.declared.boxes.SubBox.{SubBox}
 use Rattle.ts_domain.specs.Boxes.{is_in_box}
 use Rattle.ts_model.specs.Queries.{ready_in, delete_condition}
 use Rattle.ts_model.specs.Driven.{MayAsk}
-use Rattle.ts_model.specs.States.{delete_object_of, schema_object_of, write_objects, keys_named, want_of, begun, committed_in, deletes_in, meets}
+use Rattle.ts_model.specs.States.{delete_object_of, schema_object_of, write_objects, keys_named, want_of, begun, committed_in, counting_in, deletes_in, heads_of, meets}
 use Rattle.ts_model.specs.Stages.{lease_of, stage_of}
 use Rattle.ts_model.specs.Codecs.{Codec, Spelled, Tracking}
 use Rattle.ts_model.specs.Jobs.{key_of, frag_of_job, AreFit, AreApart, looked_at, job_with}
-use Rattle.ts_law.specs.Stands.{HoldsIn, IsBare, IsNoLease, Stands}
+use Rattle.ts_law.specs.Stands.{HoldsIn, IsBare, IsCommitted, IsNoLease, Names, Stands}
 use Rattle.ts_law.specs.Origins.{last_version, newest_at, wrote_in}
-use Rattle.ts_commit.specs.Selections.{is_usable}
+use Rattle.ts_commit.specs.Selections.{has_origin, is_usable}
+use Rattle.ts_commit.specs.declared.vacs.VacOf.{VacOf}
 use Rattle.ts_law.specs.Ends.{ListedAt, IsUndone, IsTrueEnd}
-use Rattle.ts_model.specs.Deeds.{History, frame_in, deletions, schema_with, schema_there}
+use Rattle.ts_model.specs.Deeds.{History, frame_in, writes, deletions, schema_with, schema_there}
 use Rattle.ts_model.specs.Commands.{frame_made, create_refusal, laid}
 use Rattle.ts_store.specs.declared.call.Call.TheVariants as call
 use Rattle.ts_model.specs.declared.answers.Outcome.TheVariants as outcome
@@ -90,22 +92,24 @@ pub record Since (spelled : Spelled) (opening : Held) (past : History) (jobs : L
   pub held : HeldSince (held_told opening commits.before) m
 
 -- what a read looks into of the commits that it listed
-pub record LooksInto (spelled : Spelled) (opening : Held) (past : History) (jobs : List Job) (seen : List Told) (m : Held) (number from to : ℕ) (fragments delete_names : List FragKey) : Type 0 where
+pub record LooksInto (spelled : Spelled) (opening : Held) (past : History) (jobs : List Job) (seen : List Told) (m : Held) (number from to : ℕ) (fragments counting delete_names : List FragKey) : Type 0 where
   pub since : Since spelled opening past jobs seen m number
   -- the fragments whose span meets the interval
   pub fragments_are : fragments ≡ filter (meets from to) (committed_in (names_under Commits (held_told opening (since.commits).before)))
-  -- the deletes that are stamped in it
+  -- those that have a `.vac`
+  pub counting_are : counting ≡ counting_in (names_under Commits (held_told opening (since.commits).before))
+  -- the deletes that are stamped in the interval
   pub deletes_are : delete_names ≡ filter (meets from to) (deletes_in (names_under Commits (held_told opening (since.commits).before)))
 
 -- what a job listed before the schemas: a read the commits, another job nothing
 abbrev pub HasLooked : Spelled → Held → History → List Job → List Told → Held → ℕ → Command → Listed → Type 0
 HasLooked spelled opening past jobs seen m number (Create f) listed = ⊥
-HasLooked spelled opening past jobs seen m number (Read from to query) listed = LooksInto spelled opening past jobs seen m number from to listed.fragments listed.delete_names
+HasLooked spelled opening past jobs seen m number (Read from to query) listed = LooksInto spelled opening past jobs seen m number from to listed.fragments listed.counting listed.delete_names
 HasLooked spelled opening past jobs seen m number _ listed = ⊤
 
 -- a read that listed the commits, and later the schemas
-pub record ReadsAt (spelled : Spelled) (opening : Held) (past : History) (jobs : List Job) (seen : List Told) (m : Held) (number : ℕ) (job : Job) (from to : ℕ) (fragments delete_names : List FragKey) (there : Schema) : Type 0 where
-  pub listed : LooksInto spelled opening past jobs seen m number from to fragments delete_names
+pub record ReadsAt (spelled : Spelled) (opening : Held) (past : History) (jobs : List Job) (seen : List Told) (m : Held) (number : ℕ) (job : Job) (from to : ℕ) (fragments counting delete_names : List FragKey) (there : Schema) : Type 0 where
+  pub listed : LooksInto spelled opening past jobs seen m number from to fragments counting delete_names
   pub works : Works past jobs seen number job there
   pub between : List Told
   pub order : (works.schemas).before ≡ (listed.since.commits).before ++ (listed.since.commits).listing ∷ between
@@ -113,30 +117,41 @@ pub record ReadsAt (spelled : Spelled) (opening : Held) (past : History) (jobs :
 -- what a job listed before it gets the schema there
 abbrev pub HasListed : Spelled → Held → History → List Job → List Told → Held → ℕ → Job → Command → Listed → Schema → Type 0
 HasListed spelled opening past jobs seen m number job (Create f) listed there = ⊥
-HasListed spelled opening past jobs seen m number job (Read from to query) listed there = ReadsAt spelled opening past jobs seen m number job from to listed.fragments listed.delete_names there
+HasListed spelled opening past jobs seen m number job (Read from to query) listed there = ReadsAt spelled opening past jobs seen m number job from to listed.fragments listed.counting listed.delete_names there
 HasListed spelled opening past jobs seen m number job _ listed there = Works past jobs seen number job there
 
 -- a read that has the schema there and the frame
 pub record ReadsIn (spelled : Spelled) (opening : Held) (past : History) (jobs : List Job) (seen : List Told) (m : Held) (number : ℕ) (job : Job) (r : Reading) : Type 0 where
   pub query : Query
   pub reads : job.command ≡ Read r.from r.to query
-  pub at : ReadsAt spelled opening past jobs seen m number job r.from r.to r.fragments r.delete_names r.there
+  pub at : ReadsAt spelled opening past jobs seen m number job r.from r.to r.fragments r.counting r.delete_names r.there
   pub framed : frame_in (history_told jobs past ((at.works).schemas).before) ≡ Some r.frame
   pub is_ready : ready_in r.frame (r.there).attrs query ≡ Ok r.ready
 
--- an open fragment, which a read of the interval can use: its head is that of its piece, and its object is that of the part with the head
-pub record IsOpen {F : Type 0} (codec : Codec F) (spelled : Spelled) (g : History) (m : Held) (frame : Frame) (from to : ℕ) (o : Opened) : Type 0 where
+-- a read got the first of the `.vac` objects of these committed fragments
+pub record AreVacs (m : Held) (counting : List FragKey) (vacs : List VacOf) : Type 0 where
+  pub frags : list_map (λ v. v.frag) vacs ≡ take (length vacs) counting
+  pub each : (v : VacOf) → Contains vacs v → IsCommitted m v.frag × Names m v.frag v.names
+
+-- an open fragment: its head is that of its piece, and its object is that of the part with the head
+pub record IsOpen {F : Type 0} (codec : Codec F) (spelled : Spelled) (g : History) (m : Held) (frame : Frame) (o : Opened) : Type 0 where
   pub piece : Piece
   pub holds : HoldsIn spelled g m o.frag piece
   pub same_frame : holds.frame ≡ frame
-  pub usable : is_usable from to piece.head ≡ true
   pub head : o.head ≡ piece.head
   pub object : (holds.spells).look (codec.head_part frame) ≡ Some o.object
 
 -- the first fragments of a read are open
 pub record AreOpen {F : Type 0} (codec : Codec F) (spelled : Spelled) (g : History) (m : Held) (r : Reading) (opened : List Opened) : Type 0 where
   pub frags : list_map (λ o. o.frag) opened ≡ take (length opened) r.fragments
-  pub each : (o : Opened) → Contains opened o → IsOpen codec spelled g m r.frame r.from r.to o
+  pub each : (o : Opened) → Contains opened o → IsOpen codec spelled g m r.frame o
+
+-- a read loads these fragments: each is open, and the read can use it; each write in the interval went into one of them, and no fragment is clipped
+pub record AreChosen {F : Type 0} (codec : Codec F) (spelled : Spelled) (g : History) (m : Held) (r : Reading) (chosen : List Opened) : Type 0 where
+  pub each : (o : Opened) → Contains chosen o → IsOpen codec spelled g m r.frame o
+  pub usable : (o : Opened) → Contains chosen o → is_usable r.from r.to o.head ≡ true
+  pub covered : (w : Written) → Contains (writes g) w → is_within r.from r.to w.key ≡ true → (o : Opened) × Contains chosen o × (has_origin w.key o.head ≡ true)
+  pub unclipped : r.clipped ≡ []
 
 -- the further schemas of a read are those of these keys, as far as it got them, and each is a deed
 pub record AreSchemas (h : History) (keys : List Key) (schemas : List Schema) : Type 0 where
@@ -150,24 +165,26 @@ pub record AreGot (g : History) (from to : ℕ) (sub : SubBox) (heads : List Hea
   -- elsewhere there is none
   pub outside : (c : List ℤ) → is_in_box sub c ≡ false → newest_at got c ≡ None
 
--- the heads of open fragments
-abbrev pub heads_of : List Opened → List Head
-heads_of opened = list_map (λ o. o.head) opened
-
 -- the deletes that a read got are those under the first of these names, and each is a deed
 pub record AreDeletions (h : History) (delete_names : List FragKey) (erased : List Deletion) : Type 0 where
   pub names_are : list_map (λ e. frag_of e.key) erased ≡ take (length erased) delete_names
   pub each : (e : Deletion) → Contains erased e → Contains (deletions h) e
 
+-- a read that has the first of its `.vac` objects
+pub record GettingVacs (spelled : Spelled) (opening : Held) (past : History) (jobs : List Job) (seen : List Told) (m : Held) (number : ℕ) (job : Job) (r : Reading) : Type 0 where
+  pub reads : ReadsIn spelled opening past jobs seen m number job r
+  pub are_vacs : AreVacs (held_told opening (((reads.at).listed).since.commits).before) r.counting r.vacs
+
 -- a read of which the first fragments are open
 pub record Opening {F : Type 0} (codec : Codec F) (spelled : Spelled) (opening : Held) (past : History) (jobs : List Job) (seen : List Told) (m : Held) (number : ℕ) (job : Job) (r : Reading) (opened : List Opened) : Type 0 where
   pub reads : ReadsIn spelled opening past jobs seen m number job r
+  pub are_vacs : AreVacs (held_told opening (((reads.at).listed).since.commits).before) r.counting r.vacs
   pub are_open : AreOpen codec spelled (history_told jobs past (((reads.at).listed).since.commits).before) (held_told opening (((reads.at).listed).since.commits).before) r opened
 
--- a read of which all fragments are open, and which has some of their schemas
+-- a read that knows what it loads, and has some of the schemas of these fragments
 pub record Gathering {F : Type 0} (codec : Codec F) (spelled : Spelled) (opening : Held) (past : History) (jobs : List Job) (seen : List Told) (m : Held) (number : ℕ) (job : Job) (r : Reading) (opened : List Opened) (schemas : List Schema) : Type 0 where
-  pub opens : Opening codec spelled opening past jobs seen m number job r opened
-  pub all : length opened ≡ length r.fragments
+  pub reads : ReadsIn spelled opening past jobs seen m number job r
+  pub chosen : AreChosen codec spelled (history_told jobs past (((reads.at).listed).since.commits).before) (held_told opening (((reads.at).listed).since.commits).before) r opened
   pub gathered : AreSchemas (history_told jobs past seen) (keys_named r opened) schemas
 
 -- a read that has all schemas of its fragments, and some of the deletes
@@ -180,7 +197,7 @@ pub record GettingDeletes {F : Type 0} (codec : Codec F) (spelled : Spelled) (op
 pub record Fetching {F : Type 0} (codec : Codec F) (spelled : Spelled) (opening : Held) (past : History) (jobs : List Job) (seen : List Told) (m : Held) (number : ℕ) (job : Job) (r : Reading) (opened : List Opened) (schemas : List Schema) (next : ℕ) (got : List Version) : Type 0 where
   pub deletes_found : GettingDeletes codec spelled opening past jobs seen m number job r opened schemas
   pub all_deletes : length r.deletions ≡ length r.delete_names
-  pub found : AreGot (history_told jobs past ((((((deletes_found.gathers).opens).reads).at).listed).since.commits).before) r.from r.to (r.ready).sub (heads_of (take next opened)) got
+  pub found : AreGot (history_told jobs past ((((((deletes_found.gathers)).reads).at).listed).since.commits).before) r.from r.to (r.ready).sub (heads_of (take next opened)) got
 
 -- the fetch of a fragment, which the read can use, has come so far on its parts
 pub record OnWay {F : Type 0} (spelled : Spelled) (tracks : Tracking F) (g : History) (m : Held) (r : Reading) (frag : FragKey) (fetch : F) (c : Call) : Type 0 where
@@ -239,6 +256,8 @@ SeekClaims spelled opening past jobs seen m number job (GetsFrame listed there) 
 
 -- what the state of a read that collects says is true
 abbrev pub CollectClaims : {F : Type 0} → Codec F → Spelled → Tracking F → Held → History → List Job → List Told → Held → ℕ → Job → Collecting F → Type 0
+CollectClaims codec spelled tracks opening past jobs seen m number job (GetsVacs r) =
+    Clean m (history_told jobs past seen) job × GettingVacs spelled opening past jobs seen m number job r × (r.deletions ≡ [])
 CollectClaims codec spelled tracks opening past jobs seen m number job (GetsHeads r opened) =
     Clean m (history_told jobs past seen) job × Opening codec spelled opening past jobs seen m number job r opened × (r.deletions ≡ [])
 CollectClaims codec spelled tracks opening past jobs seen m number job (GetsSchemas r opened keys schemas) =
@@ -246,10 +265,10 @@ CollectClaims codec spelled tracks opening past jobs seen m number job (GetsSche
 CollectClaims codec spelled tracks opening past jobs seen m number job (GetsDeletes r opened schemas) =
     Clean m (history_told jobs past seen) job × GettingDeletes codec spelled opening past jobs seen m number job r opened schemas
 CollectClaims codec spelled tracks opening past jobs seen m number job (Fetches r opened schemas next frag got fetch c) =
-    Clean m (history_told jobs past seen) job × (slice_get r.fragments next ≡ Some frag)
+    Clean m (history_told jobs past seen) job × (slice_get (list_map (λ o. o.frag) opened) next ≡ Some frag)
     × ((fetches : Fetching codec spelled opening past jobs seen m number job r opened schemas next got)
-    × OnWay spelled tracks (history_told jobs past (((((((fetches.deletes_found).gathers).opens).reads).at).listed).since.commits).before)
-    (held_told opening (((((((fetches.deletes_found).gathers).opens).reads).at).listed).since.commits).before) r frag fetch c)
+    × OnWay spelled tracks (history_told jobs past (((((((fetches.deletes_found).gathers)).reads).at).listed).since.commits).before)
+    (held_told opening (((((((fetches.deletes_found).gathers)).reads).at).listed).since.commits).before) r frag fetch c)
 
 -- what a job's state says is true
 abbrev pub Claims : {F : Type 0} → Codec F → Spelled → Tracking F → Held → History → List Job → List Told → Held → ℕ → Job → State F → Type 0

@@ -9,7 +9,7 @@ use Rattle.ts_base.specs.declared.heads.Version.{Version}
 use Rattle.ts_base.specs.Keys.{key_cmp, key_eq, greatest, is_within}
 use Rattle.ts_domain.specs.declared.boxes.SubBox.{SubBox}
 use Rattle.ts_domain.specs.Boxes.{is_in_box, Covers}
-use Rattle.ts_commit.specs.Selections.{has_origin, keeps_last, meets, is_usable}
+use Rattle.ts_commit.specs.Selections.{has_origin, keeps_last}
 use Rattle.ts_model.specs.declared.deeds.Written.{Written}
 use Rattle.ts_model.specs.Deeds.{History, writes, has_cell}
 use Rattle.ts_model.specs.Pieces.{version_at, version_of}
@@ -73,9 +73,3 @@ pub record HoldsWrites (h : History) (p : Piece) : Type 0 where
   pub versions : (k : Key) (c : List ℤ) → version_at p.versions k c ≡ kept_of (keeps_last p.head) (origins_of h p.head) k c
   -- a dense one lies between the corners of its origins' cells
   pub hull : p.head.dense ≡ true → IsHullOfCells (box_in p.head) (origins_of h p.head)
-
--- ---- which fragments can be read
-
--- a read of any interval that meets the span of the fragment can use it
-abbrev pub IsReadable : Head → Type 0
-IsReadable head = (a b : ℕ) → meets a b head.frag ≡ true → is_usable a b head ≡ true

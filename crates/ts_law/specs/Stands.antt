@@ -12,13 +12,14 @@ use Rattle.ts_schema.specs.declared.schemas.Schema.{Schema}
 use Rattle.ts_commit.specs.Selections.{has_origin}
 use Rattle.ts_commit.specs.Vacs.{names_of}
 use Rattle.ts_base.specs.Held.{Held}
-use Rattle.ts_base.specs.declared.names.CommitKind.TheVariants.{Del, Vac}
+use Rattle.ts_base.specs.declared.names.CommitKind.TheVariants.{Del}
 use Rattle.ts_base.specs.Keys.{frag_of}
 use Rattle.ts_base.specs.Names.{wrt_of}
 use Rattle.ts_schema.specs.FrameTexts.{frame_object}
 use Rattle.ts_schema.specs.SchemaTexts.{schema_object}
 use Rattle.ts_schema.specs.Parts.{Look, IsShort}
-use Rattle.ts_law.specs.Origins.{HoldsWrites, IsReadable}
+use Rattle.ts_law.specs.Origins.{HoldsWrites}
+use Rattle.ts_model.specs.States.{vac_of}
 use Rattle.ts_law.specs.Fresh.{id_in}
 use Rattle.ts_model.specs.Codecs.{Spelled}
 use Rattle.ts_cond.specs.CondTexts.{cond_object}
@@ -60,10 +61,6 @@ pub record WentInto (spelled : Spelled) (h : History) (m : Held) (f : FragKey) (
   pub origin : has_origin k piece.head ≡ true
 
 -- ---- what the `.vac` objects tell
-
--- the object by which a consolidated fragment names those that it replaces
-abbrev pub vac_of : FragKey → Name
-vac_of f = name.Commit f Vac
 
 -- what the held `.vac` of a fragment names
 pub record Names (m : Held) (g : FragKey) (names : List FragKey) : Type 0 where
@@ -123,8 +120,8 @@ pub record Stands (spelled : Spelled) (m : Held) (h : History) : Type 0 where
   pub short_frame : (bytes : List ℕ) → map.get m name.Domain ≡ Some bytes → IsShort bytes
   pub short_schemas : (k : Key) (bytes : List ℕ) → map.get m (name.Schema k) ≡ Some bytes → IsShort bytes
   pub short_deletes : (f : FragKey) (bytes : List ℕ) → map.get m (name.Commit f Del) ≡ Some bytes → IsShort bytes
-  -- the parts of a committed fragment spell a piece, which holds what its origins wrote; a read can use it wherever it meets its span
-  pub whole : (f : FragKey) → IsCommitted m f → (p : Piece) × HoldsIn spelled h m f p × IsReadable p.head
+  -- the parts of a committed fragment spell a piece, which holds what its origins wrote
+  pub whole : (f : FragKey) → IsCommitted m f → (p : Piece) × HoldsIn spelled h m f p
   -- the `.vac` objects of committed fragments tell what is so
   pub merged : AreMerged spelled h m
   -- the fragment of each write is committed, and the write went into it

@@ -10,14 +10,14 @@ use Rattle.ts_model.specs.declared.states.State.{State}
 use Rattle.ts_model.specs.declared.states.State.TheVariants.{Creates, Seeks, Puts, Collects, Over}
 use Rattle.ts_model.specs.declared.states.Creating.TheVariants.{PutsFrame, ComparesFrame, ListsDeclared}
 use Rattle.ts_model.specs.declared.states.Seeking.TheVariants.{ListsCommits, ListsSchemas, GetsSchema, GetsFrame}
-use Rattle.ts_model.specs.declared.states.Collecting.TheVariants.{GetsHeads, GetsSchemas, GetsDeletes, Fetches}
+use Rattle.ts_model.specs.declared.states.Collecting.TheVariants.{GetsVacs, GetsHeads, GetsSchemas, GetsDeletes, Fetches}
 use Rattle.ts_model.specs.declared.states.Stage.{Stage}
 use Rattle.ts_model.specs.declared.states.Stage.TheVariants.{Works}
 use Rattle.ts_model.specs.Driven.{lacks_after, lacks_from}
 use Rattle.ts_model.specs.Stages.{stage_goes, goes_on, stage_from, stage_takes_memory, is_done, is_release, lease_of, end_at, released, releases, settled}
 use Rattle.ts_model.proofs.Asked.{no_release}
 use Rattle.ts_model.specs.Codecs.{Codec}
-use Rattle.ts_model.specs.States.{Exchange, asks, goes, ended, on_bytes, on_made, with_item, putting, put_of, made_by, after_frame, after_head, after_schema, after_delete, frame_put, get_schema, get_delete, get_head}
+use Rattle.ts_model.specs.States.{get_vac, after_vac, Exchange, asks, goes, ended, on_bytes, on_made, with_item, putting, put_of, made_by, after_frame, after_head, after_schema, after_delete, frame_put, get_schema, get_delete, get_head}
 use Rattle.ts_store.specs.declared.call.Call.TheVariants as call
 use Rattle.ts_store.specs.declared.call.Reply.TheVariants as reply
 use Rattle.ts_model.specs.declared.answers.Outcome.TheVariants as outcome
@@ -114,6 +114,7 @@ module _ (F : Type 0) where
     no_memory_ends job (Seeks (ListsSchemas listed)) c asked = refl
     no_memory_ends job (Seeks (GetsSchema listed there)) c asked = refl
     no_memory_ends job (Seeks (GetsFrame listed there)) c asked = refl
+    no_memory_ends job (Collects (GetsVacs q)) c asked = item_short (λ f. on_bytes (get_vac f) (after_vac codec q f) reply.NoMemory) (λ f. refl) (slice_get q.counting (length q.vacs))
     no_memory_ends job (Collects (GetsHeads q opened)) c asked = item_short (λ f. on_bytes (get_head codec q f) (after_head codec q opened f) reply.NoMemory) (λ f. refl) (slice_get q.fragments (length opened))
     no_memory_ends job (Collects (GetsSchemas q opened keys schemas)) c asked = item_short (λ k. on_bytes (get_schema k) (after_schema codec q opened keys schemas k) reply.NoMemory) (λ k. refl) (slice_get keys (length schemas))
     no_memory_ends job (Collects (GetsDeletes q opened schemas)) c asked = item_short (λ f. on_bytes (get_delete f) (after_delete codec q opened schemas f) reply.NoMemory) (λ f. refl) (slice_get q.delete_names (length q.deletions))

@@ -6,6 +6,7 @@ use Rattle.ts_base.specs.declared.names.Name.{Name}
 use Rattle.ts_base.specs.declared.names.Place.{Place}
 use Rattle.ts_base.specs.declared.names.PartBytes.{PartBytes}
 use Rattle.ts_base.specs.declared.heads.Version.{Version}
+use Rattle.ts_base.specs.declared.heads.Head.{Head}
 use Rattle.ts_base.specs.declared.heads.Cell.{Cell}
 use Rattle.ts_base.specs.declared.values.Val.{Val}
 use Rattle.ts_store.specs.declared.call.Call.{Call}
@@ -37,6 +38,8 @@ use Rattle.ts_base.specs.Keys.{key_eq, key_cmp, key_lt}
 use Rattle.ts_base.specs.Names.{wrt_of, del_of}
 use Rattle.ts_domain.specs.declared.boxes.SubBox.{SubBox}
 use Rattle.ts_domain.specs.Boxes.{coords_of_box}
+use Rattle.ts_commit.specs.Selections.{is_among, loaded, clipped_names}
+use Rattle.ts_commit.specs.Vacs.{names_of}
 use Rattle.ts_cond.specs.CondTexts.{cond_object, cond_of}
 use Rattle.ts_cond.specs.Picks.{matches}
 use Rattle.ts_cond.specs.Tests.{Condition}
@@ -48,8 +51,8 @@ use Rattle.ts_model.specs.declared.commands.Command.TheVariants.{Create, Evolve,
 use Rattle.ts_model.specs.declared.states.State.TheVariants.{Creates, Seeks, Puts, Collects, Over}
 use Rattle.ts_model.specs.declared.states.Creating.TheVariants.{PutsFrame, ComparesFrame, ListsDeclared}
 use Rattle.ts_model.specs.declared.states.Seeking.TheVariants.{ListsCommits, ListsSchemas, GetsSchema, GetsFrame}
-use Rattle.ts_model.specs.declared.states.Collecting.TheVariants.{GetsHeads, GetsSchemas, GetsDeletes, Fetches}
-use Rattle.ts_base.specs.declared.names.CommitKind.TheVariants.{Wrt, Del}
+use Rattle.ts_model.specs.declared.states.Collecting.TheVariants.{GetsVacs, GetsHeads, GetsSchemas, GetsDeletes, Fetches}
+use Rattle.ts_base.specs.declared.names.CommitKind.TheVariants.{Wrt, Del, Vac}
 use Rattle.ts_base.specs.declared.names.Prefix.TheVariants.{Commits, Schemas}
 use Rattle.ts_model.specs.Pieces.{newest_of}
 use Rattle.ts_model.specs.Codecs.{Stepped, Codec, Asks, Takes, Breaks}
@@ -94,6 +97,19 @@ del_in _ = None
 abbrev pub deletes_in : List Name → List FragKey
 deletes_in names = filter_map del_in names
 
+-- the object by which a consolidated fragment names those that it replaces
+abbrev pub vac_of : FragKey → Name
+vac_of f = name.Commit f Vac
+
+-- the fragment whose `.vac` has the name
+abbrev pub vac_in : Name → Option FragKey
+vac_in (name.Commit f Vac) = Some f
+vac_in _ = None
+
+-- the fragments of a listing whose `.vac` counts, in its order: they are committed
+abbrev pub counting_in : List Name → List FragKey
+counting_in names = filter (λ f. is_among f (committed_in names)) (filter_map vac_in names)
+
 -- the key of a schema object
 abbrev pub schema_key_in : Name → Option Key
 schema_key_in (name.Schema k) = Some k
@@ -109,11 +125,11 @@ meets a b f = nat_le a b && (nat_le f.t1 b && nat_le a f.t2)
 
 -- nothing to look into
 abbrev pub nothing_listed : Listed
-nothing_listed = record { fragments = []; delete_names = [] }
+nothing_listed = record { fragments = []; counting = []; delete_names = [] }
 
--- what a read looks into: of its listing the committed fragments whose span meets the interval, and the deletes that are stamped in it
+-- what a read looks into: of its listing the committed fragments whose span meets the interval, those that have a `.vac`, and the deletes that are stamped in the interval
 abbrev pub looked_into : Command → List Name → Listed
-looked_into (Read from to query) names = record { fragments = filter (meets from to) (committed_in names); delete_names = filter (meets from to) (deletes_in names) }
+looked_into (Read from to query) names = record { fragments = filter (meets from to) (committed_in names); counting = counting_in names; delete_names = filter (meets from to) (deletes_in names) }
 looked_into _ names = nothing_listed
 
 -- ---- how jobs end
@@ -244,12 +260,12 @@ cells_filled r schemas got = list_map (λ c. (c, row_or_fill r schemas (map.get 
 abbrev pub cells_shown : Reading → List Schema → List Version → List (List ℤ × List Val)
 cells_shown r schemas got = cond (r.frame).dense (cells_filled r schemas got) (cells_left r schemas got)
 
--- the answer of a read that got these versions; it can use each fragment that is near, so none is clipped
+-- the answer of a read that got these versions
 abbrev pub answer_of : Reading → List Schema → List Version → Answer
 answer_of r schemas got = record {
   types = types_shown r.frame (r.there).attrs r.ready;
   rows = selected r.frame (r.there).attrs r.ready (cells_shown r schemas got);
-  clipped = [];
+  clipped = r.clipped;
 }
 
 -- what is wanted of a fragment with so many attributes: the cells of a box that are stamped in [a, b], with all their values
@@ -289,9 +305,34 @@ getting_deletes codec r opened schemas = cond (nat_lt (length r.deletions) (leng
 abbrev pub gathering : {F : Type 0} → Codec F → Reading → List Opened → List Key → List Schema → State F
 gathering codec r opened keys schemas = cond (nat_lt (length schemas) (length keys)) (Collects (GetsSchemas r opened keys schemas)) (getting_deletes codec r opened schemas)
 
--- a read opens the next fragment, or goes on once all are open
+-- the heads of open fragments
+abbrev pub heads_of : List Opened → List Head
+heads_of opened = list_map (λ o. o.head) opened
+
+-- the fragments that a read loads, of those that meet its interval
+abbrev pub loaded_of : Reading → List Opened → List FragKey
+loaded_of r opened = list_map (λ head. head.frag) (loaded r.from r.to (heads_of opened) r.vacs)
+
+-- these of them
+abbrev pub opened_among : List FragKey → List Opened → List Opened
+opened_among frags opened = filter (λ o. is_among o.frag frags) opened
+
+-- what a read reads, once it knows which fragments are clipped
+abbrev pub with_clipped : Reading → List FragKey → Reading
+with_clipped r clipped = record { from = r.from; to = r.to; ready = r.ready; frame = r.frame; there = r.there; fragments = r.fragments; counting = r.counting; vacs = r.vacs; clipped = clipped; delete_names = r.delete_names; deletions = r.deletions }
+
+-- a read that knows what is clipped goes on with the fragments that it loads
+abbrev pub loads : {F : Type 0} → Codec F → Reading → List Opened → State F
+loads codec r chosen = gathering codec r chosen (keys_named r chosen) []
+
+-- a read opens the next fragment, or selects what it loads once all are open
 abbrev pub opening : {F : Type 0} → Codec F → Reading → List Opened → State F
-opening codec r opened = cond (nat_lt (length opened) (length r.fragments)) (Collects (GetsHeads r opened)) (gathering codec r opened (keys_named r opened) [])
+opening codec r opened =
+    cond (nat_lt (length opened) (length r.fragments)) (Collects (GetsHeads r opened)) (loads codec (with_clipped r (clipped_names r.from r.to (heads_of opened))) (opened_among (loaded_of r opened) opened))
+
+-- a read gets the next `.vac`, or opens its fragments
+abbrev pub getting_vacs : {F : Type 0} → Codec F → Reading → State F
+getting_vacs codec r = cond (nat_lt (length r.vacs) (length r.counting)) (Collects (GetsVacs r)) (opening codec r [])
 
 -- ---- the work of a job in the schema there
 
@@ -305,13 +346,13 @@ abbrev pub puts_delete : {F : Type 0} → Job → Result Condition Refusal → S
 puts_delete job (Ok condition) = putting (delete_object_of job condition ∷ []) 0 (outcome.Deleted (frag_of_job job))
 puts_delete job (Err r) = refuse r
 
--- what a read reads, before it got any delete
+-- what a read reads, before it got any `.vac` or delete
 abbrev pub reading_of : ℕ → ℕ → Listed → Frame → Schema → Ready → Reading
-reading_of from to listed frame s ready = record { from = from; to = to; ready = ready; frame = frame; there = s; fragments = listed.fragments; delete_names = listed.delete_names; deletions = [] }
+reading_of from to listed frame s ready = record { from = from; to = to; ready = ready; frame = frame; there = s; fragments = listed.fragments; counting = listed.counting; vacs = []; clipped = []; delete_names = listed.delete_names; deletions = [] }
 
--- a read opens its fragments, or is refused
+-- a read gets its first `.vac`, or is refused
 abbrev pub asks_for : {F : Type 0} → Codec F → ℕ → ℕ → Listed → Frame → Schema → Result Ready Refusal → State F
-asks_for codec from to listed frame s (Ok ready) = opening codec (reading_of from to listed frame s ready) []
+asks_for codec from to listed frame s (Ok ready) = getting_vacs codec (reading_of from to listed frame s ready)
 asks_for codec from to listed frame s (Err r) = refuse r
 
 -- what a job does once it has the schema there and the frame
@@ -377,9 +418,17 @@ abbrev pub after_schema : {F : Type 0} → Codec F → Reading → List Opened �
 after_schema codec r opened keys schemas k bytes =
     on_read (name.Schema k) (λ attrs. gathering codec r opened keys (schemas ++ record { key = k; attrs = attrs } ∷ [])) (schema_of bytes)
 
+-- with a `.vac` more
+abbrev pub with_vac : Reading → FragKey → List FragKey → Reading
+with_vac r f names = record { from = r.from; to = r.to; ready = r.ready; frame = r.frame; there = r.there; fragments = r.fragments; counting = r.counting; vacs = r.vacs ++ record { frag = f; names = names } ∷ []; clipped = r.clipped; delete_names = r.delete_names; deletions = r.deletions }
+
+-- where a `.vac` leads
+abbrev pub after_vac : {F : Type 0} → Codec F → Reading → FragKey → List ℕ → State F
+after_vac codec r f bytes = on_read (vac_of f) (λ names. getting_vacs codec (with_vac r f names)) (names_of bytes)
+
 -- with a delete more
 abbrev pub with_deletion : Reading → Deletion → Reading
-with_deletion r e = record { from = r.from; to = r.to; ready = r.ready; frame = r.frame; there = r.there; fragments = r.fragments; delete_names = r.delete_names; deletions = r.deletions ++ e ∷ [] }
+with_deletion r e = record { from = r.from; to = r.to; ready = r.ready; frame = r.frame; there = r.there; fragments = r.fragments; counting = r.counting; vacs = r.vacs; clipped = r.clipped; delete_names = r.delete_names; deletions = r.deletions ++ e ∷ [] }
 
 -- the delete under a name with this condition
 abbrev pub deletion_named : FragKey → Condition → Deletion
@@ -412,6 +461,10 @@ begun command = unless_refused (begins command) (refused_before command)
 -- the get of the part that has the head
 abbrev pub get_head : {F : Type 0} → Codec F → Reading → FragKey → Call
 get_head codec r f = get_all (name.Part f (codec.head_part r.frame))
+
+-- the get of a `.vac`
+abbrev pub get_vac : FragKey → Call
+get_vac f = get_all (vac_of f)
 
 -- the get of a schema
 abbrev pub get_schema : Key → Call
@@ -448,6 +501,7 @@ seek_asks (GetsFrame listed there) = get_frame
 
 -- the next call of a read that collects
 abbrev pub collect_asks : {F : Type 0} → Codec F → Collecting F → Option Call
+collect_asks codec (GetsVacs r) = option_map get_vac (slice_get r.counting (length r.vacs))
 collect_asks codec (GetsHeads r opened) = option_map (get_head codec r) (slice_get r.fragments (length opened))
 collect_asks codec (GetsSchemas r opened keys schemas) = option_map get_schema (slice_get keys (length schemas))
 collect_asks codec (GetsDeletes r opened schemas) = option_map get_delete (slice_get r.delete_names (length r.deletions))
@@ -476,6 +530,7 @@ seek_goes codec job (GetsFrame listed there) r = on_bytes get_frame (λ bytes. o
 
 -- where a reply leads a read that collects
 abbrev pub collect_goes : {F : Type 0} → Codec F → Collecting F → Reply → State F
+collect_goes codec (GetsVacs r) r' = with_item (λ f. on_bytes (get_vac f) (after_vac codec r f) r') (slice_get r.counting (length r.vacs))
 collect_goes codec (GetsHeads r opened) r' = with_item (λ f. on_bytes (get_head codec r f) (after_head codec r opened f) r') (slice_get r.fragments (length opened))
 collect_goes codec (GetsSchemas r opened keys schemas) r' = with_item (λ k. on_bytes (get_schema k) (after_schema codec r opened keys schemas k) r') (slice_get keys (length schemas))
 collect_goes codec (GetsDeletes r opened schemas) r' = with_item (λ f. on_bytes (get_delete f) (after_delete codec r opened schemas f) r') (slice_get r.delete_names (length r.deletions))

@@ -8,6 +8,7 @@ use ts_base::{
     Boxed, ByteList, Duplicate, FragKey, FragList, Head, Key, KeyList, Name, OutOfMemory, Sequence,
     VersionList,
 };
+use ts_commit::VacList;
 use ts_schema::{Frame, Schema, SchemaList};
 use ts_store::Call;
 
@@ -54,6 +55,8 @@ impl Duplicate for Opened {
 pub struct Listed {
     /// The committed fragments whose span meets the interval, ascending.
     pub fragments: FragList,
+    /// The committed fragments that have a `.vac`, ascending.
+    pub counting: FragList,
     /// The names of the deletes that are stamped in the interval, ascending: a delete is named as the
     /// fragment of a write with its key would be.
     pub delete_names: FragList,
@@ -74,6 +77,12 @@ pub struct Reading {
     pub there: Schema,
     /// The committed fragments whose span meets the interval, ascending.
     pub fragments: FragList,
+    /// The committed fragments that have a `.vac`, ascending.
+    pub counting: FragList,
+    /// The `.vac` objects of the first of them, as many as it got.
+    pub vacs: VacList,
+    /// The fragments that are clipped, ascending; none before it got all heads.
+    pub clipped: FragList,
     /// The names of the deletes that are stamped in the interval, ascending: a delete is named as the
     /// fragment of a write with its key would be.
     pub delete_names: FragList,
@@ -127,6 +136,11 @@ pub enum Seeking {
 /// are written.
 #[derive(Debug, Drop)]
 pub enum Collecting<F> {
+    /// It gets the `.vac` objects of committed fragments, one after the other.
+    GetsVacs {
+        /// What it reads, with the `.vac` objects before the next one.
+        reading: Reading,
+    },
     /// It gets the part that has the head, of one fragment after the other.
     GetsHeads {
         /// What it reads.
@@ -138,7 +152,7 @@ pub enum Collecting<F> {
     GetsSchemas {
         /// What it reads.
         reading: Reading,
-        /// The fragments.
+        /// The fragments that it loads.
         opened: OpenedList,
         /// The keys of the schemas, ascending.
         keys: KeyList,
@@ -149,7 +163,7 @@ pub enum Collecting<F> {
     GetsDeletes {
         /// What it reads, with the deletes before the next one.
         reading: Reading,
-        /// The fragments.
+        /// The fragments that it loads.
         opened: OpenedList,
         /// The schemas that the heads name.
         schemas: SchemaList,
@@ -158,7 +172,7 @@ pub enum Collecting<F> {
     Fetches {
         /// What it reads.
         reading: Reading,
-        /// The fragments.
+        /// The fragments that it loads.
         opened: OpenedList,
         /// The schemas that the heads name.
         schemas: SchemaList,

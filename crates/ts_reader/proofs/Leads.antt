@@ -17,9 +17,11 @@ use Rattle.ts_model.specs.declared.states.Opened.{Opened}
 use Rattle.ts_model.specs.declared.states.Reading.{Reading}
 use Rattle.ts_model.specs.declared.states.State.{State}
 use Rattle.ts_model.specs.declared.states.State.TheVariants.{Collects}
-use Rattle.ts_model.specs.declared.states.Collecting.TheVariants.{GetsDeletes, GetsHeads}
+use Rattle.ts_model.specs.declared.states.Collecting.TheVariants.{GetsDeletes, GetsHeads, GetsVacs}
 use Rattle.ts_model.specs.Codecs.{Stepped, Codec, Asks, Takes, Breaks}
-use Rattle.ts_model.specs.States.{fetch_leads, fetch_begins, fetches_one, fetching, known_schema, keys_named, gathering, opening, on_read, after_head, getting_deletes, asks_for, reading_of}
+use Rattle.ts_model.specs.States.{fetch_leads, fetch_begins, fetches_one, fetching, known_schema, keys_named, gathering, opening, on_read, after_head, getting_deletes, asks_for, getting_vacs, heads_of, loaded_of, loads, opened_among, with_clipped}
+use Rattle.ts_commit.specs.Selections.{clipped_names}
+use Rattle.ts_commit.specs.declared.vacs.VacOf.{VacOf}
 use Rattle.ts_reader.specs.declared.fetching.FetchStep.{FetchStep}
 use Rattle.ts_reader.specs.Fetching.{step_by, first_step, step_in, state_after_step}
 
@@ -65,12 +67,23 @@ pub told_leads : {F : Type 0} (r : Reading) (opened : List Opened) (schemas : Li
     → l ≡ step_by frag step → fetch_leads r opened schemas next frag got on step ≡ state_after_step r opened schemas next frag got on l
 told_leads r opened schemas next got on codec frag step l led = step_leads codec r opened schemas next got on frag step ∙ ap (state_after_step r opened schemas next frag got on) (sym led)
 
--- where all heads are read the further schemas come next
-pub all_open : {F : Type 0} (codec : Codec F) (r : Reading) (opened : List Opened) (keys : List Key) (schemas : List Schema) → nat_lt (length opened) (length r.fragments) ≡ false → keys ≡ keys_named r opened → schemas ≡ []
-    → gathering codec r opened keys schemas ≡ opening codec r opened
-all_open codec r opened keys schemas last named none =
-    ap (λ ks. gathering codec r opened ks schemas) named ∙ ap (λ ss. gathering codec r opened (keys_named r opened) ss) none
-    ∙ sym (ap (λ b. cond b (Collects (GetsHeads r opened)) (gathering codec r opened (keys_named r opened) [])) last)
+-- where all heads are read the fragments that are loaded come next
+pub all_open : {F : Type 0} (codec : Codec F) (r : Reading) (opened : List Opened) → nat_lt (length opened) (length r.fragments) ≡ false
+    → loads codec (with_clipped r (clipped_names r.from r.to (heads_of opened))) (opened_among (loaded_of r opened) opened) ≡ opening codec r opened
+all_open codec r opened last = sym (ap (λ b. cond b (Collects (GetsHeads r opened)) (loads codec (with_clipped r (clipped_names r.from r.to (heads_of opened))) (opened_among (loaded_of r opened) opened))) last)
+
+-- the further schemas of the fragments that are loaded come first
+pub all_loaded : {F : Type 0} (codec : Codec F) (r : Reading) (opened : List Opened) (keys : List Key) (schemas : List Schema) → keys ≡ keys_named r opened → schemas ≡ []
+    → gathering codec r opened keys schemas ≡ loads codec r opened
+all_loaded codec r opened keys schemas named none = ap (λ ks. gathering codec r opened ks schemas) named ∙ ap (λ ss. gathering codec r opened (keys_named r opened) ss) none
+
+-- what is loaded goes on where its parts are those of a read
+pub loads_same : {F : Type 0} (codec : Codec F) (r q : Reading) (opened chosen : List Opened) → r ≡ q → opened ≡ chosen → loads codec r opened ≡ loads codec q chosen
+loads_same codec r q opened chosen same_r same_o = ap (λ x. loads codec x opened) same_r ∙ ap (loads codec q) same_o
+
+-- where all `.vac` objects are got the fragments come next
+pub all_vacs : {F : Type 0} (codec : Codec F) (r : Reading) (opened : List Opened) → nat_lt (length r.vacs) (length r.counting) ≡ false → opened ≡ [] → opening codec r opened ≡ getting_vacs codec r
+all_vacs codec r opened last none = ap (opening codec r) none ∙ sym (ap (λ b. cond b (Collects (GetsVacs r)) (opening codec r [])) last)
 
 -- a head that is read opens its fragment
 pub head_read : {F : Type 0} (codec : Codec F) (r : Reading) (opened more : List Opened) (f : FragKey) (bytes : List ℕ) (head : Head) → codec.head r.frame f bytes ≡ Ok head → more ≡ opened ++ record { frag = f; head = head; object = bytes } ∷ []
@@ -85,10 +98,10 @@ pub all_deletions : {F : Type 0} (codec : Codec F) (r : Reading) (opened : List 
 all_deletions codec r opened schemas got last none =
     ap (λ vs. fetching codec r opened schemas 0 opened vs) none ∙ sym (ap (λ b. cond b (Collects (GetsDeletes r opened schemas)) (fetching codec r opened schemas 0 opened [])) last)
 
--- a query that is ready opens the first fragment
-pub asked_for : {F : Type 0} (codec : Codec F) (from to : ℕ) (listed : Listed) (frame : Frame) (s : Schema) (ready : Ready) (found : Result Ready Refusal) (erased : List Deletion) (opened : List Opened) → found ≡ Ok ready → erased ≡ [] → opened ≡ []
-    → opening codec (record { from = from; to = to; ready = ready; frame = frame; there = s; fragments = listed.fragments; delete_names = listed.delete_names; deletions = erased }) opened ≡ asks_for codec from to listed frame s found
-asked_for codec from to listed frame s ready found erased opened is none empty =
-    ap (λ es. opening codec (record { from = from; to = to; ready = ready; frame = frame; there = s; fragments = listed.fragments; delete_names = listed.delete_names; deletions = es }) opened) none
-    ∙ ap (opening codec (reading_of from to listed frame s ready)) empty
+-- a query that is ready gets the first `.vac`
+pub asked_for : {F : Type 0} (codec : Codec F) (from to : ℕ) (listed : Listed) (frame : Frame) (s : Schema) (ready : Ready) (found : Result Ready Refusal) (vacs : List VacOf) (clipped : List FragKey) (erased : List Deletion)
+    → found ≡ Ok ready → vacs ≡ [] → clipped ≡ [] → erased ≡ []
+    → getting_vacs codec (record { from = from; to = to; ready = ready; frame = frame; there = s; fragments = listed.fragments; counting = listed.counting; vacs = vacs; clipped = clipped; delete_names = listed.delete_names; deletions = erased }) ≡ asks_for codec from to listed frame s found
+asked_for codec from to listed frame s ready found vacs clipped erased is no_vacs no_clipped none =
+    (λ i. getting_vacs codec (record { from = from; to = to; ready = ready; frame = frame; there = s; fragments = listed.fragments; counting = listed.counting; vacs = no_vacs i; clipped = no_clipped i; delete_names = listed.delete_names; deletions = none i }))
     ∙ sym (ap (asks_for codec from to listed frame s) is)

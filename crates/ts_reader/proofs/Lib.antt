@@ -3,6 +3,7 @@ pub mod Collected
 pub mod Erased
 pub mod Inside
 pub mod Leads
+pub mod Merged
 pub mod Newer
 pub mod Rising
 pub mod QueryLaws

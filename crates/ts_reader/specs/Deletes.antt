@@ -16,7 +16,7 @@ use Rattle.ts_cond.specs.Picks.{matches, picks_of}
 use Rattle.ts_model.specs.declared.deeds.Deletion.{Deletion}
 use Rattle.ts_model.specs.declared.states.Reading.{Reading}
 use Rattle.ts_model.specs.Queries.{attr_fields}
-use Rattle.ts_model.specs.States.{cell_shown, del_in, is_erased_by, wrt_in}
+use Rattle.ts_model.specs.States.{cell_shown, del_in, is_erased_by, vac_in, wrt_in}
 use Rattle.ts_reader.specs.declared.bindings.Binding.{Binding}
 use Rattle.ts_reader.specs.declared.bindings.Bindings.{Bindings}
 
@@ -24,7 +24,7 @@ use Rattle.ts_reader.specs.declared.bindings.Bindings.{Bindings}
 abbrev pub frag_in : CommitKind → Name → Option FragKey
 frag_in Wrt name = wrt_in name
 frag_in Del name = del_in name
-frag_in Vac name = None
+frag_in Vac name = vac_in name
 
 -- where each delete finds its fields in rows of these attributes
 abbrev pub picks_under : List Attr → List Deletion → List (List Pick)

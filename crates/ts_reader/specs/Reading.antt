@@ -5,7 +5,7 @@ use Rattle.ts_base.specs.declared.keys.FragKey.{FragKey}
 use Rattle.ts_base.specs.declared.keys.Key.{Key}
 use Rattle.ts_base.specs.Keys.{key_cmp}
 use Rattle.ts_base.specs.declared.names.CommitKind.{CommitKind}
-use Rattle.ts_base.specs.declared.names.CommitKind.TheVariants.{Del}
+use Rattle.ts_base.specs.declared.names.CommitKind.TheVariants.{Del, Vac}
 use Rattle.ts_base.specs.declared.names.Name.TheVariants as name
 use Rattle.ts_base.specs.Names.{IsSpelled, IsSpelledFrag}
 use Rattle.ts_base.specs.declared.heads.Stop.TheVariants.{Never}
@@ -26,7 +26,7 @@ use Rattle.ts_model.specs.declared.states.Reading.{Reading}
 use Rattle.ts_model.specs.declared.states.State.{State}
 use Rattle.ts_model.specs.declared.states.State.TheVariants.{Collects}
 use Rattle.ts_model.specs.declared.states.Collecting.{Collecting}
-use Rattle.ts_model.specs.declared.states.Collecting.TheVariants.{GetsHeads, GetsSchemas, GetsDeletes, Fetches}
+use Rattle.ts_model.specs.declared.states.Collecting.TheVariants.{GetsVacs, GetsHeads, GetsSchemas, GetsDeletes, Fetches}
 use Rattle.ts_model.specs.Codecs.{Codec}
 use Rattle.ts_model.specs.Jobs.{IsFit}
 use Rattle.ts_model.specs.Queries.{most_cells}
@@ -50,9 +50,14 @@ IsSpelledAs kind f = IsSpelled (name.Commit f kind)
 abbrev pub IsSpelledDelete : FragKey → Type 0
 IsSpelledDelete f = IsSpelledAs Del f
 
+-- the `.vac` of a fragment has a spelling
+abbrev pub IsSpelledVac : FragKey → Type 0
+IsSpelledVac f = IsSpelledAs Vac f
+
 -- what a read looks into has spellings
 pub record AreListed (listed : Listed) : Type 0 where
   pub fragments : All IsSpelledFrag listed.fragments
+  pub counting : All IsSpelledVac listed.counting
   pub deletes : All IsSpelledDelete listed.delete_names
 
 -- the array has a frame and attributes, the box lies in the domain, and what is looked into has spellings
@@ -64,6 +69,7 @@ pub record IsReading (r : Reading) : Type 0 where
   -- a read of a dense array has not too many cells
   pub few_cells : (r.frame).dense ≡ true → cells_of (r.ready).sub ≤ most_cells
   pub fragments : All IsSpelledFrag r.fragments
+  pub counting : All IsSpelledVac r.counting
   pub deletes : All IsSpelledDelete r.delete_names
 
 -- the fragments have spellings
@@ -94,6 +100,7 @@ pub record IsFetching {F : Type 0} (codec : Codec F) (r : Reading) (opened : Lis
 
 -- a read can collect so: what it looks into has spellings, the further schemas rise, and what it gets lies in its box
 abbrev pub IsCollecting : {F : Type 0} → Codec F → Collecting F → Type 0
+IsCollecting codec (GetsVacs r) = IsReading r
 IsCollecting codec (GetsHeads r opened) = IsReading r × AreSpelled opened
 IsCollecting codec (GetsSchemas r opened keys schemas) = IsReading r × AreSpelled opened × AreFirst keys schemas
 IsCollecting codec (GetsDeletes r opened schemas) = IsKnown r opened schemas
@@ -112,8 +119,9 @@ IsReadState codec s = MaySeek AreListed (MayCollect codec) s
 abbrev pub fetches_left : ℕ → ℕ
 fetches_left fragments = fragments * 2 ^ 128
 
--- the most calls of a read that collects, where a fetch has so many left: those of its fetches, of the deletes, of the further schemas and of the heads
+-- the most calls of a read that collects, where a fetch has so many left: those of its fetches, of the deletes, of the further schemas, of the heads and of the `.vac` objects
 abbrev pub collect_left : {F : Type 0} → (F → ℕ) → Collecting F → ℕ
+collect_left left (GetsVacs r) = 2 ^ 194 + 2 ^ 193 + (length r.counting - length r.vacs)
 collect_left left (GetsHeads r opened) = 2 ^ 194 + (length r.fragments - length opened)
 collect_left left (GetsSchemas r opened keys schemas) = 2 ^ 193 + (length keys - length schemas)
 collect_left left (GetsDeletes r opened schemas) = 2 ^ 192 + (length r.delete_names - length r.deletions)

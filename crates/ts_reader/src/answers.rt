@@ -11,7 +11,7 @@ use crate::bindings::{Binding, Bindings, binding_at, bindings_of, is_erased};
 use crate::slots::slots_of;
 use std::alloc::Global;
 use ts_actor::newest_of;
-use ts_base::{FragList, OutOfMemory, Row, Version, VersionList};
+use ts_base::{Duplicate, OutOfMemory, Row, Version, VersionList};
 use ts_domain::Order;
 use ts_model::{Answer, Reading, Shown, ShownList, fills_of, rows_of, types_shown};
 use ts_order::coords_at;
@@ -39,7 +39,7 @@ pub(crate) fn answer_of(
     Ok(Answer {
         types: types_shown(alloc, frame, there, ready)?,
         rows: rows_of(alloc, frame, there, ready, cells)?,
-        clipped: FragList::new(alloc),
+        clipped: reading.clipped.copy(alloc)?,
     })
 }
 

@@ -25,7 +25,7 @@ use ts_wire::ReadFault;
 pub(crate) struct Gathered {
     /// What it reads.
     pub reading: Reading,
-    /// The fragments.
+    /// The fragments that it loads.
     pub opened: OpenedList,
     /// The further schemas that it knows.
     pub schemas: SchemaList,

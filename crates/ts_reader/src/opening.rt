@@ -5,17 +5,21 @@ ghost use Rattle.ts_schema.specs.FrameTexts.{IsFrame};
 ghost use Rattle.ts_schema.specs.SchemaTexts.{AreAttrs};
 ghost use Rattle.ts_model.specs.Queries.{ready_in};
 ghost use Rattle.ts_model.specs.Selections.{IsNamedBox};
-ghost use Rattle.ts_model.specs.States.{after_head, after_schema, asks_for, gathering, get_head, get_schema, on_bytes, opening, with_item, works};
+ghost use Rattle.ts_model.specs.States.{after_head, after_schema, asks_for, gathering, get_head, get_schema, heads_of, loaded_of, loads, on_bytes, opened_among, opening, with_clipped, with_item, works};
+ghost use Rattle.ts_commit.specs.Selections.{clipped_names};
 ghost use Rattle.ts_reader.specs.Reading.{AreFirst, AreListed, AreSpelled, IsReadJob, IsReadState, IsReading, reads_left};
 
 use crate::ends::{damaged, ended};
 use crate::fetching::Gathered;
 use crate::getting_deletes::next_delete;
+use crate::getting_vacs::next_vac;
+use crate::loading::{Loaded, choose};
 use crate::named::keys_named;
 use std::alloc::Global;
 use std::thread::Threads;
 use ts_actor::{Pieces, get_all};
-use ts_base::{Boxed, ByteList, FragKey, KeyList, Name, OutOfMemory};
+use ts_base::{Boxed, ByteList, FragKey, FragList, KeyList, Name, OutOfMemory};
+use ts_commit::VacList;
 use ts_cond::Query;
 use ts_model::{
     Collecting, Command, DeletionList, Job, Listed, Opened, OpenedList, Outcome, QueryFault,
@@ -78,18 +82,21 @@ fn ask_for<P: Pieces, R: Threads + Sync>(
                 frame,
                 there,
                 fragments: listed.fragments,
+                counting: listed.counting,
+                vacs: VacList::new(alloc),
+                clipped: FragList::new(alloc),
                 delete_names: listed.delete_names,
                 deletions: DeletionList::new(alloc),
             };
-            open_next::<P, R>(rt, alloc, reading, OpenedList::new(alloc))
+            next_vac::<P, R>(rt, alloc, reading)
         }
         Err(QueryFault::Refused(refusal)) => Ok(State::Over(Outcome::Refused(refusal))),
         Err(QueryFault::OutOfMemory) => Err(OutOfMemory),
     }
 }
 
-// A read opens the next fragment, or goes on once all are open.
-fn open_next<P: Pieces, R: Threads + Sync>(
+/// A read opens the next fragment, or goes on with those that it loads once all are open.
+pub(crate) fn open_next<P: Pieces, R: Threads + Sync>(
     rt: &R,
     alloc: Global,
     reading: Reading,
@@ -107,6 +114,39 @@ fn open_next<P: Pieces, R: Threads + Sync>(
         let heads = Boxed::new(alloc, Collecting::GetsHeads { reading, opened })?;
         return Ok(State::Collects(heads));
     }
+    load::<P, R>(rt, alloc, reading, opened)
+}
+
+// A read that opened all fragments goes on with those that it loads.
+fn load<P: Pieces, R: Threads + Sync>(
+    rt: &R,
+    alloc: Global,
+    reading: Reading,
+    opened: OpenedList,
+) -> Result<State<P::Fetch>, OutOfMemory>
+    requires reading { IsReading reading }
+    requires spelled { AreSpelled opened }
+    ensures is { IfOk result (λ next. next ≡ loads P.codec (with_clipped reading (clipped_names reading.from reading.to (heads_of opened))) (opened_among (loaded_of reading opened) opened)) }
+    ensures may { IfOk result (IsReadState P.codec) }
+    ensures fewer { IfOk result (λ next. reads_left P.left next ≤ 2 ^ 194) }
+{
+    let Loaded { reading, chosen } = choose(alloc, reading, opened)?;
+    gather::<P, R>(rt, alloc, reading, chosen)
+}
+
+// A read gets the first of the further schemas that these heads name, or goes on.
+fn gather<P: Pieces, R: Threads + Sync>(
+    rt: &R,
+    alloc: Global,
+    reading: Reading,
+    opened: OpenedList,
+) -> Result<State<P::Fetch>, OutOfMemory>
+    requires reading { IsReading reading }
+    requires spelled { AreSpelled opened }
+    ensures is { IfOk result (λ next. next ≡ loads P.codec reading opened) }
+    ensures may { IfOk result (IsReadState P.codec) }
+    ensures fewer { IfOk result (λ next. reads_left P.left next ≤ 2 ^ 194) }
+{
     let keys = keys_named(alloc, reading.there.key, opened.as_slice())?;
     let schemas = SchemaList::new(alloc);
     gather_next::<P, R>(

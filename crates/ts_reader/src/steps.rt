@@ -4,11 +4,12 @@ ghost use Rattle.ts_base.specs.Names.{IsSpelledFrag};
 ghost use Rattle.std.specs.Thread.{IsSync};
 ghost use Rattle.ts_store.specs.Calls.{IsSpelledReply};
 ghost use Rattle.ts_actor.specs.Fetches.{IsWorkCall};
-ghost use Rattle.ts_model.specs.States.{asks, collect_asks, collect_goes, get_delete, get_head, get_schema, goes, takes_memory};
-ghost use Rattle.ts_reader.specs.Reading.{AreListed, IsCollecting, IsReadJob, IsReadState, IsSpelledDelete, MayCollect, MayRead, collect_left, collects_left, reads_left};
+ghost use Rattle.ts_model.specs.States.{asks, collect_asks, collect_goes, get_delete, get_head, get_schema, get_vac, goes, takes_memory};
+ghost use Rattle.ts_reader.specs.Reading.{AreListed, IsCollecting, IsReadJob, IsReadState, IsSpelledDelete, IsSpelledVac, MayCollect, MayRead, collect_left, collects_left, reads_left};
 
 use crate::fetching::{Gathered, OngoingFetch, after_fetched};
 use crate::getting_deletes::after_delete_reply;
+use crate::getting_vacs::after_vac_reply;
 use crate::listing::look_into;
 use crate::opening::{after_further, after_head_reply, begin_reading};
 use std::alloc::Global;
@@ -129,6 +130,7 @@ fn ask_collecting<P: Pieces>(
     ensures spelled { IfOk result (λ call. IfSome call IsWorkCall) }
 {
     match collecting {
+        Collecting::GetsVacs { reading } => Ok(vac_asked(reading)),
         Collecting::GetsHeads { reading, opened } => Ok(head_asked::<P>(reading, opened)),
         Collecting::GetsSchemas {
             reading: _,
@@ -169,6 +171,7 @@ fn go_collecting<P: Pieces, R: Threads + Sync>(
     ensures fewer { IfOk result (λ next. collect_asks P.codec collecting ≢ None → reads_left P.left next < collect_left P.left collecting) }
 {
     match collecting {
+        Collecting::GetsVacs { reading } => after_vac_reply::<P, R>(rt, alloc, reading, reply),
         Collecting::GetsHeads { reading, opened } => {
             after_head_reply::<P, R>(rt, alloc, reading, opened, reply)
         }
@@ -220,6 +223,21 @@ fn go_collecting<P: Pieces, R: Threads + Sync>(
             };
             after_fetched::<P, R>(rt, alloc, gathered, ongoing, asked, reply)
         }
+    }
+}
+
+// The get of the next `.vac`, if there is one.
+fn vac_asked(reading: &Reading) -> Option<Call>
+    requires { All IsSpelledVac reading.now.counting }
+    ensures is { result ≡ option_map get_vac (slice_get reading.now.counting (length reading.now.vacs)) }
+    ensures spelled { IfSome result IsWorkCall }
+{
+    let place = reading.vacs.len();
+    if place < reading.counting.len() {
+        let name = Name::Commit(*reading.counting.at(place), CommitKind::Vac);
+        Some(get_all(name))
+    } else {
+        None
     }
 }
 

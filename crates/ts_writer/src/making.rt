@@ -162,6 +162,7 @@ pub(crate) fn nothing_listed(alloc: Global) -> Listed
 {
     Listed {
         fragments: FragList::new(alloc),
+        counting: FragList::new(alloc),
         delete_names: FragList::new(alloc),
     }
 }

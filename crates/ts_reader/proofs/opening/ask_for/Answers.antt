@@ -7,20 +7,21 @@ use Rattle.ts_reader.proofs.Leads.{asked_for}
 use Rattle.ts_reader.proofs.QueryLaws.{ready_covered}
 use Rattle.ts_reader.proofs.opening.ask_for.Goals as goal
 
-pub open_next-requires-clause-reading : goal.open_next-requires-clause-reading
-open_next-requires-clause-reading g c κs within = record {
+pub next_vac-requires : goal.next_vac-requires
+next_vac-requires g c = (c.type_bounds.sync-R, record {
   is_frame = c.requires.frame;
   are_attrs = c.requires.attrs;
   inside = ready_covered c.args.frame c.args.there.attrs c.args.query.now c.in-Ok.ready c.in-Ok.ensures;
   valid = ready_is_box c.args.frame c.args.there.attrs c.args.query.now c.in-Ok.ready c.requires.frame c.requires.bounds c.in-Ok.ensures;
   few_cells = ready_few c.args.frame c.args.there.attrs c.args.query.now c.in-Ok.ready c.in-Ok.ensures;
   fragments = c.requires.listed.fragments;
+  counting = c.requires.listed.counting;
   deletes = c.requires.listed.deletes;
-}
+})
 
 pub returns-in-Ok-clause-is : goal.returns-in-Ok-clause-is
 returns-in-Ok-clause-is g c =
-    IfOk-weaker c.open_next.result _ _ (λ s is.
+    IfOk-weaker c.next_vac.result _ _ (λ s is.
     is
-    ∙ asked_for g.P.Pieces.codec c.args.from c.args.to c.args.listed c.args.frame c.args.there c.in-Ok.ready (ready_in c.args.frame c.args.there.attrs c.args.query.now) c.new.result c.new-in-Ok.result
-    c.in-Ok.ensures c.new.ensures c.new-in-Ok.ensures) c.open_next.ensures.is
+    ∙ asked_for g.P.Pieces.codec c.args.from c.args.to c.args.listed c.args.frame c.args.there c.in-Ok.ready (ready_in c.args.frame c.args.there.attrs c.args.query.now) c.new.result c.new-in-Ok.result c.new-in-Ok-2.result
+    c.in-Ok.ensures c.new.ensures c.new-in-Ok.ensures c.new-in-Ok-2.ensures) c.next_vac.ensures.is

@@ -1,16 +1,10 @@
--- All heads are read: the further schemas come next.
-use Rattle.std.proofs.Common.{◌≡◌, rules, false, nat_lt, length, ap, refl, ◌∙◌}
-use Rattle.std.specs.FinMap as finite
+-- All heads are read: what is loaded comes next.
+use Rattle.std.proofs.Common.{◌≡◌, rules, false, nat_lt, length, ◌∙◌}
 use Rattle.std.proofs.lemmas.Result.{IfOk-weaker}
-use Rattle.ts_reader.specs.Newest.{keys_of_others}
 use Rattle.ts_reader.proofs.Leads.{all_open}
 use Rattle.ts_reader.proofs.opening.open_next.Goals as goal
 
 pub returns-clause-is : goal.returns-clause-is
 returns-clause-is g c =
     let last : nat_lt (length c.args.opened) (length c.args.reading.fragments) ≡ false = search rules in
-    let named = c.in_ok-keys.ensures.is ∙ ap (λ os. finite.keys (keys_of_others c.args.reading.there.key os)) c.as_slice.ensures in
-    IfOk-weaker c.gather_next.result _ _ (λ s is. is ∙ all_open g.P.Pieces.codec c.args.reading c.args.opened c.in_ok-keys.keys c.new-schemas.result last named c.new-schemas.ensures) c.gather_next.ensures.is
-
-pub gather_next-requires-clause-first : goal.gather_next-requires-clause-first
-gather_next-requires-clause-first g c κs within = rw c.new-schemas.ensures (record { rise = c.in_ok-keys.ensures.rise; first = refl })
+    IfOk-weaker c.load.result _ _ (λ s is. is ∙ all_open g.P.Pieces.codec c.args.reading c.args.opened last) c.load.ensures.is

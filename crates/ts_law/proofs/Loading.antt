@@ -1,0 +1,147 @@
+-- What a read loads: each write in its interval went into one of the fragments that it loads, and no fragment is clipped, where the fragment of each write is committed.
+use Rattle.std.proofs.Common.{◌≡◌, ℕ, zero, suc, ◌+◌, ◌<◌, ◌≤◌, Bool, true, false, ◌&&◌, ◌||◌, not, List, [], ◌∷◌, refl, sym, ◌∙◌, ap, subst, arith}
+use Rattle.std.specs.Prelude.{Contains, map as list_map}
+use Rattle.std.specs.List.{list_any}
+use Rattle.std.proofs.lemmas.Bool.{and_parts, and_from}
+use Rattle.ts_base.specs.declared.keys.Key.{Key}
+use Rattle.ts_base.specs.declared.keys.FragKey.{FragKey}
+use Rattle.ts_base.specs.declared.heads.Head.{Head}
+use Rattle.ts_base.specs.declared.heads.Piece.{Piece}
+use Rattle.ts_base.specs.Keys.{frag_eq, frag_of, is_within}
+use Rattle.ts_base.specs.Held.{Held}
+use Rattle.ts_commit.specs.declared.vacs.VacOf.{VacOf}
+use Rattle.ts_commit.specs.Selections.{lies_in, has_origin, keeps_last, is_usable, usable, is_head_of, is_named, is_among, loaded, is_clipped, clips, clipped_names}
+use Rattle.ts_model.specs.declared.deeds.Written.{Written}
+use Rattle.ts_model.specs.Deeds.{History, writes}
+use Rattle.ts_model.specs.Codecs.{Spelled}
+use Rattle.ts_model.specs.States.{meets}
+use Rattle.ts_model.proofs.ListLemmas.{Contains-here, Contains-there, Contains-filter, filter-Contains}
+use Rattle.ts_model.proofs.KeyLemmas.{frag_same}
+use Rattle.ts_law.specs.Ends.{AreHeads}
+use Rattle.ts_law.specs.Stands.{DoesName, HoldsIn, IsCommitted, Names, Stands}
+use Rattle.ts_law.proofs.Fetches.{Contains-map, map-Contains}
+use Rattle.ts_law.proofs.Grows.{filter_none}
+use Rattle.ts_law.proofs.ListSteps.{committed_from_looked, looked_from_committed, meets_of_within}
+use Rattle.ts_law.proofs.OriginLaws.{any_member, member_any}
+
+-- each fragment of a history and a map has one head
+abbrev pub OneHead : Spelled → History → Held → Type 0
+OneHead spelled h m = (f : FragKey) (p q : Piece) → HoldsIn spelled h m f p → HoldsIn spelled h m f q → p.head ≡ q.head
+
+-- one of two tests that hold
+or_second : (s t : Bool) → t ≡ true → s || t ≡ true
+or_second true t e = refl
+or_second false t e = e
+
+-- a test that none passes is passed by none
+any_none : {X : Type 0} (q : X → Bool) (xs : List X) → ((x : X) → Contains xs x → q x ≡ false) → list_any q xs ≡ false
+any_none q [] fails = refl
+any_none q (x ∷ xs) fails = ap (λ t. t || list_any q xs) (fails x (Contains-here x xs)) ∙ any_none q xs (λ y at. fails y (Contains-there x xs y at))
+
+module _ (spelled : Spelled) (m : Held) (h : History) (a b : ℕ) (heads : List Head) (are : AreHeads spelled h m a b heads) (one : OneHead spelled h m) (stands : Stands spelled m h) where
+  -- each head is that of a committed fragment whose span meets the interval
+  head_committed : (head : Head) → Contains heads head → IsCommitted m head.frag × (meets a b head.frag ≡ true)
+  head_committed head at = committed_from_looked m a b head.frag (subst (λ l. Contains l head.frag) are.frags (Contains-map (λ x. x.frag) heads head at))
+
+  -- a committed fragment whose span meets the interval has its head among them
+  has_head : (f : FragKey) → IsCommitted m f → meets a b f ≡ true → (head : Head) × Contains heads head × (head.frag ≡ f)
+  has_head f committed near = map-Contains (λ x. x.frag) heads f (subst (λ l. Contains l f) (sym are.frags) (looked_from_committed m a b f committed near))
+
+  -- the head of a piece that a fragment holds is the one among them
+  same_head : (head : Head) → Contains heads head → (p : Piece) → HoldsIn spelled h m head.frag p → p.head ≡ head
+  same_head head at p holds = let own = are.each head at in one head.frag p own.0 holds own.1 ∙ own.2
+
+  -- ---- what is clipped
+
+  -- a write in the interval went into a fragment that the read can use: its own
+  used_head : (w : Written) → Contains (writes h) w → is_within a b w.key ≡ true → (head : Head) × Contains (usable a b heads) head × (has_origin w.key head ≡ true)
+  used_head w at within =
+      let f = frag_of w.key in
+      let own = stands.covered w at in
+      let near : meets a b f ≡ true = meets_of_within a b w.key within in
+      let head = has_head f own.0 near in
+      let went = own.1 in
+      let same : (went.piece).head ≡ head.0 = same_head head.0 head.1 went.piece (subst (λ g. HoldsIn spelled h m g went.piece) (sym head.2) went.holds) in
+      let can : is_usable a b head.0 ≡ true = subst (λ g. meets a b g && (not (keeps_last head.0) || lies_in a b g) ≡ true) (sym head.2)
+      (and_from (meets a b f) (not (keeps_last head.0) || lies_in a b f) near (or_second (not (keeps_last head.0)) (lies_in a b f) within)) in
+      (head.0, Contains-filter (is_usable a b) heads head.0 head.1 can, subst (λ x. has_origin w.key x ≡ true) same went.origin)
+
+  -- so no write is clipped
+  none_clips : (w : Written) → Contains (writes h) w → is_clipped a b heads w.key ≡ false
+  none_clips w at = by (is_within a b w.key) refl
+    where
+      by : (t : Bool) → is_within a b w.key ≡ t → t && not (list_any (has_origin w.key) (usable a b heads)) ≡ false
+      by false e = refl
+      by true e = let head = used_head w at e in ap not (any_member (has_origin w.key) (usable a b heads) head.0 head.1 head.2)
+
+  -- and no fragment
+  pub none_clipped : clipped_names a b heads ≡ []
+  none_clipped = ap (list_map (λ head. head.frag)) (filter_none (clips a b heads) heads (λ head at. none head at))
+    where
+      no_both : (s : Bool) → not s && false ≡ false
+      no_both true = refl
+      no_both false = refl
+
+      origin_kept : (head : Head) → Contains heads head → (k : Key) → Contains head.origins k → is_clipped a b heads k ≡ false
+      origin_kept head at k origin =
+          let own = are.each head at in
+          let w = ((own.1).holds).origins k (subst (λ x. Contains x.origins k) (sym own.2) origin) in
+          subst (λ l. is_clipped a b heads l ≡ false) w.2 (none_clips w.0 w.1)
+
+      none : (head : Head) → Contains heads head → clips a b heads head ≡ false
+      none head at = ap (λ t. not (is_usable a b head) && t) (any_none (is_clipped a b heads) head.origins (origin_kept head at)) ∙ no_both (is_usable a b head)
+
+  -- ---- what is loaded
+
+  module _ (vacs : List VacOf) (each_vac : (v : VacOf) → Contains vacs v → IsCommitted m v.frag × Names m v.frag v.names) where
+    -- a fragment has its origins in another, which can be used and has a greater rank
+    abbrev IsAbove : Head → Head → Type 0
+    IsAbove head up = Contains (usable a b heads) up × ((stands.merged).rank head.frag < (stands.merged).rank up.frag) × ((k : Key) → has_origin k head ≡ true → has_origin k up ≡ true)
+
+    -- so it is with what the `.vac` of a usable fragment names
+    named_by : (head up : Head) → Contains heads head → Contains (usable a b heads) up → IsCommitted m up.frag → DoesName m up.frag head.frag → IsAbove head up
+    named_by head up at up_at up_committed names =
+        let committed = (head_committed head at).0 in
+        let within = (stands.merged).within up.frag head.frag up_committed committed names in
+        let falls = (stands.merged).falls up.frag head.frag up_committed committed names in
+        let first : (within.piece).head ≡ head = same_head head at within.piece within.holds in
+        let second : (within.other).head ≡ up = same_head up (filter-Contains (is_usable a b) heads up up_at).0 within.other within.other_holds in
+        (up_at, falls, λ k e. subst (λ x. has_origin k x ≡ true) second (within.within k (subst (λ x. has_origin k x ≡ true) (sym first) e)))
+
+    -- and with what one of the `.vac` objects names
+    named_in : (head up : Head) (v : VacOf) → Contains heads head → Contains (usable a b heads) up → up.frag ≡ v.frag → Contains vacs v → Contains v.names head.frag → IsAbove head up
+    named_in head up v at up_at same there names =
+        let vac = each_vac v there in
+        named_by head up at up_at (subst (IsCommitted m) (sym same) vac.0) (v.names, subst (λ f. Names m f v.names) (sym same) vac.1, names)
+
+    -- so a usable fragment that is named is below another
+    named_above : (head : Head) → Contains (usable a b heads) head → is_named (usable a b heads) vacs head.frag ≡ true → (up : Head) × IsAbove head up
+    named_above head at named =
+        let v = member_any (λ v. list_any (is_head_of v.frag) (usable a b heads) && is_among head.frag v.names) vacs named in
+        let tests = and_parts (list_any (is_head_of (v.0).frag) (usable a b heads)) (is_among head.frag (v.0).names) v.2 in
+        let up = member_any (is_head_of (v.0).frag) (usable a b heads) tests.0 in
+        let there = member_any (frag_eq head.frag) (v.0).names tests.1 in (
+          up.0,
+          named_in head up.0 v.0 (filter-Contains (is_usable a b) heads head at).0 up.1 (frag_same (up.0).frag (v.0).frag up.2) v.1
+              (subst (Contains (v.0).names) (sym (frag_same head.frag there.0 there.2)) there.1),
+        )
+
+    -- names are followed upwards to a fragment that is loaded
+    climb : (steps : ℕ) (head : Head) → Contains (usable a b heads) head → (stands.merged).top ≤ (stands.merged).rank head.frag + steps → (k : Key) → has_origin k head ≡ true
+        → (up : Head) × Contains (loaded a b heads vacs) up × (has_origin k up ≡ true)
+    climb zero head at enough k origin =
+        let below = (stands.merged).below head.frag (head_committed head (filter-Contains (is_usable a b) heads head at).0).0 in
+        absurd (omega (arith, enough, below))
+    climb (suc steps) head at enough k origin =
+        elim (is_named (usable a b heads) vacs head.frag) as (λ t. is_named (usable a b heads) vacs head.frag ≡ t → (up : Head) × Contains (loaded a b heads vacs) up × (has_origin k up ≡ true)) [
+          | true ↦ λ named. let up = named_above head at named in let falls = up.1.1 in climb steps up.0 up.1.0 (omega (arith, falls, enough)) k (up.1.2 k origin)
+          | false ↦ λ free. (head, Contains-filter (λ x. not (is_named (usable a b heads) vacs x.frag)) (usable a b heads) head at (ap not free), origin)
+        ] refl
+
+    -- a write in the interval went into a fragment that is loaded
+    pub loaded_with : (w : Written) → Contains (writes h) w → is_within a b w.key ≡ true → (up : Head) × Contains (loaded a b heads vacs) up × (has_origin w.key up ≡ true)
+    loaded_with w at within = let head = used_head w at within in climb (stands.merged).top head.0 head.1 (omega arith) w.key head.2
+
+    -- a fragment that is loaded can be used
+    pub loaded_usable : (head : Head) → Contains (loaded a b heads vacs) head → Contains heads head × (is_usable a b head ≡ true)
+    loaded_usable head at = filter-Contains (is_usable a b) heads head (filter-Contains (λ x. not (is_named (usable a b heads) vacs x.frag)) (usable a b heads) head at).0
