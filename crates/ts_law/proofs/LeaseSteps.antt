@@ -123,7 +123,12 @@ module _ (spelled : Spelled) (m m' : Held) (same : (n : Name) → IsNoLease n �
     merged = merged_beside m m' same spelled h stands.merged;
     covered = λ w at.
         let own = stands.covered w at in
-        (ap is_some (same (wrt_of (frag_of w.key)) tt) ∙ own.0, record { piece = own.1.piece; holds = beside h (frag_of w.key) own.1.holds; origin = own.1.origin });
+        record {
+          frag = own.frag;
+          committed = ap is_some (same (wrt_of own.frag) tt) ∙ own.committed;
+          went = record { piece = own.went.piece; holds = beside h own.frag own.went.holds; origin = own.went.origin };
+          usable = own.usable;
+        };
   }
 
 -- ---- a removal

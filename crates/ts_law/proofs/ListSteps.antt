@@ -36,6 +36,7 @@ use Rattle.ts_model.specs.Deeds.{History, IsHistory, deletions, deletion_of, sch
 use Rattle.ts_model.specs.Codecs.{Codec, CodecLaws, Spelled, Tracking}
 use Rattle.ts_model.specs.Jobs.{looked_at}
 use Rattle.ts_law.specs.Stands.{IsCommitted, WentInto, Stands}
+use Rattle.ts_law.proofs.Grows.{meets_of_within}
 use Rattle.ts_law.proofs.OriginLaws.{key_there, member_any}
 use Rattle.ts_model.proofs.KeyLemmas.{frag_same}
 use Rattle.ts_commit.specs.Selections.{is_among}
@@ -76,10 +77,6 @@ committed_from_looked m from to f at =
     let parts = filter-Contains (meets from to) (committed_in (names_under Commits m)) f at in
     let found = filter_map-Contains wrt_in (names_under Commits m) f parts.0 in
     (subst (Holds m) (wrt_in-some found.0 f found.2) (Holds-from_listed Commits m found.0 found.1).0, parts.1)
-
--- the fragment of a write in the interval meets it
-pub meets_of_within : (from to : ℕ) (k : Key) → is_within from to k ≡ true → meets from to (frag_of k) ≡ true
-meets_of_within from to k within = grind arith
 
 -- a fragment that a write in the interval went into meets it
 pub meets_of_origin : (spelled : Spelled) (m : Held) (h : History) (from to : ℕ) (f : FragKey) (k : Key) → WentInto spelled h m f k → is_within from to k ≡ true → meets from to f ≡ true

@@ -21,17 +21,12 @@ use Rattle.ts_law.specs.Ends.{AreHeads}
 use Rattle.ts_law.specs.Stands.{DoesName, HoldsIn, IsCommitted, Names, Stands}
 use Rattle.ts_law.proofs.Fetches.{Contains-map, map-Contains}
 use Rattle.ts_law.proofs.Grows.{filter_none}
-use Rattle.ts_law.proofs.ListSteps.{committed_from_looked, looked_from_committed, meets_of_within}
+use Rattle.ts_law.proofs.ListSteps.{committed_from_looked, looked_from_committed, meets_of_origin}
 use Rattle.ts_law.proofs.OriginLaws.{any_member, member_any}
 
 -- each fragment of a history and a map has one head
 abbrev pub OneHead : Spelled → History → Held → Type 0
 OneHead spelled h m = (f : FragKey) (p q : Piece) → HoldsIn spelled h m f p → HoldsIn spelled h m f q → p.head ≡ q.head
-
--- one of two tests that hold
-or_second : (s t : Bool) → t ≡ true → s || t ≡ true
-or_second true t e = refl
-or_second false t e = e
 
 -- a test that none passes is passed by none
 any_none : {X : Type 0} (q : X → Bool) (xs : List X) → ((x : X) → Contains xs x → q x ≡ false) → list_any q xs ≡ false
@@ -53,17 +48,15 @@ module _ (spelled : Spelled) (m : Held) (h : History) (a b : ℕ) (heads : List 
 
   -- ---- what is clipped
 
-  -- a write in the interval went into a fragment that the read can use: its own
+  -- a write in the interval went into a fragment that the read can use
   used_head : (w : Written) → Contains (writes h) w → is_within a b w.key ≡ true → (head : Head) × Contains (usable a b heads) head × (has_origin w.key head ≡ true)
   used_head w at within =
-      let f = frag_of w.key in
       let own = stands.covered w at in
-      let near : meets a b f ≡ true = meets_of_within a b w.key within in
-      let head = has_head f own.0 near in
-      let went = own.1 in
+      let near : meets a b own.frag ≡ true = meets_of_origin spelled m h a b own.frag w.key own.went within in
+      let head = has_head own.frag own.committed near in
+      let went = own.went in
       let same : (went.piece).head ≡ head.0 = same_head head.0 head.1 went.piece (subst (λ g. HoldsIn spelled h m g went.piece) (sym head.2) went.holds) in
-      let can : is_usable a b head.0 ≡ true = subst (λ g. meets a b g && (not (keeps_last head.0) || lies_in a b g) ≡ true) (sym head.2)
-      (and_from (meets a b f) (not (keeps_last head.0) || lies_in a b f) near (or_second (not (keeps_last head.0)) (lies_in a b f) within)) in
+      let can : is_usable a b head.0 ≡ true = subst (λ x. is_usable a b x ≡ true) same (own.usable a b within) in
       (head.0, Contains-filter (is_usable a b) heads head.0 head.1 can, subst (λ x. has_origin w.key x ≡ true) same went.origin)
 
   -- so no write is clipped

@@ -33,7 +33,7 @@ use Rattle.ts_model.specs.Deeds.{History, schema_in, deletion_in, frame_in, sche
 use Rattle.ts_model.specs.Pieces.{HoldsWrite}
 use Rattle.ts_model.specs.Codecs.{Spelled}
 use Rattle.ts_law.specs.Origins.{box_in}
-use Rattle.ts_law.specs.Stands.{IsBare, IsCommitted, Spells, HoldsIn, WentInto, Stands}
+use Rattle.ts_law.specs.Stands.{IsBare, IsCommitted, IsReached, Spells, HoldsIn, WentInto, Stands}
 use Rattle.ts_law.specs.Fresh.{id_in}
 use Rattle.ts_law.specs.Steps.{Keeps, Leads}
 use Rattle.ts_model.specs.declared.commands.Job.{Job}
@@ -43,7 +43,7 @@ use Rattle.ts_model.proofs.KeyLemmas.{frag_itself, frag_same, key_itself, key_sa
 use Rattle.ts_model.proofs.HistoryLaws.{writes-append, frame_in-append, schema_with-append, IsHistory-push, no_deeds}
 use Rattle.ts_law.proofs.HeldLemmas.{Holds, Holds-from_get, get_put, get_apart, held_before, stays_held, holds_stays}
 use Rattle.ts_law.proofs.VacLaws.{MarksNone, merged_grows, named_before}
-use Rattle.ts_law.proofs.Grows.{PartsStay, holds_on_in, holds_in_grows, ordinary_holds, origin_is}
+use Rattle.ts_law.proofs.Grows.{PartsStay, own_usable, holds_on_in, holds_in_grows, ordinary_holds, origin_is}
 
 -- ---- histories that grow
 
@@ -152,7 +152,7 @@ abbrev IsWhole : Spelled → History → Held → FragKey → Type 0
 IsWhole spelled h m f = (p : Piece) × HoldsIn spelled h m f p
 
 abbrev IsCovered : Spelled → History → Held → Written → Type 0
-IsCovered spelled h m w = IsCommitted m (frag_of w.key) × WentInto spelled h m (frag_of w.key) w.key
+IsCovered spelled h m w = IsReached spelled h m w.key
 
 module _ (spelled : Spelled) (m : Held) (h : History) (n : Name) (bytes : List ℕ) (more : History) (free : Holds m n → ⊥) (stands : Stands spelled m h) where
   -- what is held after the put
@@ -183,8 +183,13 @@ module _ (spelled : Spelled) (m : Held) (h : History) (n : Name) (bytes : List �
   covered_grows new w at come = elim (Contains-append_cases (writes h) (writes more) w (subst (λ ws. Contains ws w) (writes-append h more) at)) [
     | inl before ↦
         let is = stands.covered w before in
-        let went = is.1 in
-        (holds_stays m n bytes (wrt_of (frag_of w.key)) free is.0, record { piece = went.piece; holds = in_grows new (frag_of w.key) went.piece went.holds; origin = went.origin })
+        let went = is.went in
+        record {
+          frag = is.frag;
+          committed = holds_stays m n bytes (wrt_of is.frag) free is.committed;
+          went = record { piece = went.piece; holds = in_grows new is.frag went.piece went.holds; origin = went.origin };
+          usable = is.usable;
+        }
     | inr own ↦ come own
   ]
 
@@ -374,10 +379,12 @@ module _ (spelled : Spelled) (m : Held) (h : History) (w : Written) (frame : Fra
 
   -- it is in its fragment
   own_went : IsCovered spelled (h ++ come) then_held w
-  own_went = (
-    Holds-from_get then_held (wrt_of own) [] (get_put m (wrt_of own) []),
-    record { piece = p; holds = own_holds; origin = origin_is (h ++ come) is_history w written p holds box w.key ∙ key_itself w.key },
-  )
+  own_went = record {
+    frag = own;
+    committed = Holds-from_get then_held (wrt_of own) [] (get_put m (wrt_of own) []);
+    went = record { piece = p; holds = own_holds; origin = origin_is (h ++ come) is_history w written p holds box w.key ∙ key_itself w.key };
+    usable = λ a b within. own_usable a b w.key p.head holds.named within;
+  }
 
   pub stands_commit : Stands spelled then_held (h ++ come)
   stands_commit = record {

@@ -9,11 +9,11 @@ use Rattle.ts_base.specs.declared.heads.Piece.{Piece}
 use Rattle.ts_model.specs.declared.deeds.Written.{Written}
 use Rattle.ts_schema.specs.declared.frames.Frame.{Frame}
 use Rattle.ts_schema.specs.declared.schemas.Schema.{Schema}
-use Rattle.ts_commit.specs.Selections.{has_origin}
+use Rattle.ts_commit.specs.Selections.{has_origin, is_usable}
 use Rattle.ts_commit.specs.Vacs.{names_of}
 use Rattle.ts_base.specs.Held.{Held}
 use Rattle.ts_base.specs.declared.names.CommitKind.TheVariants.{Del}
-use Rattle.ts_base.specs.Keys.{frag_of}
+use Rattle.ts_base.specs.Keys.{frag_of, is_within}
 use Rattle.ts_base.specs.Names.{wrt_of}
 use Rattle.ts_schema.specs.FrameTexts.{frame_object}
 use Rattle.ts_schema.specs.SchemaTexts.{schema_object}
@@ -107,6 +107,13 @@ pub record IsBare (m : Held) (f : FragKey) : Type 0 where
   pub none : map.get m (vac_of f) ≡ None
   pub unnamed : (g : FragKey) → IsCommitted m g → DoesName m g f → ⊥
 
+-- the write of the key went into a committed fragment that a read can use, wherever its interval has the write
+pub record IsReached (spelled : Spelled) (h : History) (m : Held) (k : Key) : Type 0 where
+  pub frag : FragKey
+  pub committed : IsCommitted m frag
+  pub went : WentInto spelled h m frag k
+  pub usable : (a b : ℕ) → is_within a b k ≡ true → is_usable a b (went.piece).head ≡ true
+
 -- the map stands for the history
 pub record Stands (spelled : Spelled) (m : Held) (h : History) : Type 0 where
   pub history : IsHistory h
@@ -124,5 +131,5 @@ pub record Stands (spelled : Spelled) (m : Held) (h : History) : Type 0 where
   pub whole : (f : FragKey) → IsCommitted m f → (p : Piece) × HoldsIn spelled h m f p
   -- the `.vac` objects of committed fragments tell what is so
   pub merged : AreMerged spelled h m
-  -- the fragment of each write is committed, and the write went into it
-  pub covered : (w : Written) → Contains (writes h) w → IsCommitted m (frag_of w.key) × WentInto spelled h m (frag_of w.key) w.key
+  -- each write went into a committed fragment that reads can use
+  pub covered : (w : Written) → Contains (writes h) w → IsReached spelled h m w.key
