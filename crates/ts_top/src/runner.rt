@@ -12,9 +12,9 @@ use std::alloc::Global;
 use std::thread::Threads;
 use ts_actor::{Driven, PlainPieces, drive};
 use ts_base::{Duplicate, OutOfMemory, Stop};
+use ts_commands::AnyActor;
 use ts_model::{Command, Job, Line, Outcome};
 use ts_store::{Clock, Recorder, Store};
-use ts_world::AnyActor;
 
 /// Does a job to its end, or to where it is stopped.
 pub(crate) fn run_job<R: Threads + Sync, S: Store>(

@@ -25,9 +25,9 @@ use Rattle.ts_law.proofs.Alone.{IsTrueAlone, true_alone}
 use Rattle.ts_law.proofs.Doing.{ran-told}
 use Rattle.ts_actor.specs.Drives.{Called, Leads, AreAsked, EndsAs, Drove}
 use Rattle.ts_actor.proofs.JobRuns.{job_ends, asked_by, comes_out}
-use Rattle.ts_world.specs.declared.actors.AnyActor.{AnyActor}
-use Rattle.ts_world.specs.Actors.{job_of, Follows}
-use Rattle.ts_world.proofs.Laws.{asks_it}
+use Rattle.ts_commands.specs.declared.actors.AnyActor.{AnyActor}
+use Rattle.ts_commands.specs.Actors.{job_of, Follows}
+use Rattle.ts_commands.proofs.Asked.{asks_it}
 
 -- a store with a journal of the calls that were made of it
 record Entered (S : Type 0) : Type 0 where

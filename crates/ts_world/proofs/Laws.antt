@@ -8,7 +8,6 @@ use Rattle.std.proofs.lemmas.List.{length-set, length-map, length_push}
 use Rattle.std.proofs.lemmas.List.Elements.{All-weaker, filter_map-append}
 use Rattle.ts_base.specs.declared.heads.Stop.TheVariants.{Never}
 use Rattle.ts_base.specs.Held.{Held}
-use Rattle.ts_store.specs.declared.call.Call.{Call}
 use Rattle.ts_store.specs.declared.journal.Entry.{Entry}
 use Rattle.ts_store.specs.Calls.{is_no_memory}
 use Rattle.ts_store.specs.Journals.{entry}
@@ -29,28 +28,14 @@ use Rattle.ts_model.specs.Codecs.{Codec, CodecLaws, Spelled, Tracking}
 use Rattle.ts_law.proofs.KeptLaws.{step_kept}
 use Rattle.ts_law.proofs.Lanes.{none_made, no_lanes, one_more_call, one_more_job}
 use Rattle.ts_law.proofs.Spawns.{spawn_kept, starts_kept}
-use Rattle.ts_actor.specs.Traces.{asking}
-use Rattle.ts_actor.proofs.MachineLaws.{asks_next}
-use Rattle.ts_writer.specs.Writing.{IsCreateJob, IsCreateState, IsDeleteJob, IsEvolveJob, IsWriteJob, IsLaterState}
-use Rattle.ts_reader.specs.Reading.{IsReadJob, MayRead}
-use Rattle.ts_world.specs.declared.actors.AnyActor.{AnyActor}
-use Rattle.ts_world.specs.declared.actors.AnyActor.TheVariants.{Creator, Evolver, Writer, Deleter, Reader}
+use Rattle.ts_commands.proofs.Asked.{asks_it}
 use Rattle.ts_world.specs.declared.slots.Running.{Running}
 use Rattle.ts_world.specs.declared.slots.Slot.{Slot}
 use Rattle.ts_world.specs.declared.slots.Slot.TheVariants as slot
-use Rattle.ts_world.specs.Actors.{job_of, Follows}
 use Rattle.ts_world.specs.Views.{lane_of}
 use Rattle.ts_world.specs.Slots.{IsRunning, IsSlot, IsActor, IsKept, dropped_slot}
 use Rattle.ts_law.proofs.Lists.{item_at}
 use Rattle.ts_world.proofs.Lists.{get_changed, get_unchanged}
-
--- the call that an actor waits for is one that its job may make where the calls before it have led
-pub asks_it : {P F : Type 0} (codec : Codec F) (a : AnyActor P F) (past : List Exchange) (c : Call) → Follows codec a (asking past c) → MayAsk codec (job_of a) (stage_of codec (job_of a) past) c
-asks_it codec (Creator a) past c follows = asks_next codec IsCreateJob IsCreateState a.machine.job a.machine.phase past c follows
-asks_it codec (Evolver a) past c follows = asks_next codec IsEvolveJob (λ job s. IsLaterState s) a.machine.job a.machine.phase past c follows
-asks_it codec (Writer a) past c follows = asks_next codec IsWriteJob (λ job s. IsLaterState s) a.machine.job a.machine.phase past c follows
-asks_it codec (Deleter a) past c follows = asks_next codec IsDeleteJob (λ job s. IsLaterState s) a.machine.job a.machine.phase past c follows
-asks_it codec (Reader a) past c follows = asks_next codec IsReadJob (MayRead codec) a.machine.job a.machine.phase past c follows
 
 module _ {P F : Type 0} (codec : Codec F) (spelled : Spelled) (tracks : Tracking F) (past : History) (jobs : List Job) (told : List Told) (held : Held) (journal : List Entry) (slots : List (Slot P F)) (is : IsKept codec spelled tracks past jobs told held journal slots) where
   -- the job of an actor

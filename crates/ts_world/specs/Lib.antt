@@ -1,4 +1,3 @@
-pub mod Actors
 pub mod Views
 pub mod Slots
 pub mod Clauses

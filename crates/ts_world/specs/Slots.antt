@@ -29,7 +29,7 @@ use Rattle.ts_world.specs.declared.slots.Running.{Running}
 use Rattle.ts_world.specs.declared.slots.Slot.{Slot}
 use Rattle.ts_world.specs.declared.slots.Slot.TheVariants as slot
 use Rattle.ts_world.specs.declared.parts.Parts.{Parts}
-use Rattle.ts_world.specs.Actors.{job_of, Follows}
+use Rattle.ts_commands.specs.Actors.{job_of, Follows}
 use Rattle.ts_world.specs.Views.{Standing, WorldView, Runs, Ended, Dropped, lane_of}
 
 -- where the actor of a slot stands

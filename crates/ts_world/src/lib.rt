@@ -1,7 +1,6 @@
 //! The world of every interleaving: actors that share one store, and whatever may happen to them.
 #![tactic(auto)]
 
-mod actors;
 mod events;
 mod parts;
 mod slots;
@@ -10,6 +9,5 @@ mod tests;
 mod told;
 mod world;
 
-pub use actors::AnyActor;
 pub use events::{Event, WorldFault};
 pub use world::World;

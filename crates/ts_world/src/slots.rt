@@ -4,17 +4,17 @@ ghost use Rattle.std.specs.Option.{option_copied};
 ghost use Rattle.ts_store.specs.Calls.{IsSpelledReply};
 ghost use Rattle.ts_model.specs.Jobs.{IsFit};
 ghost use Rattle.ts_actor.specs.Traces.{Trace, CanCome, Expects, filled};
-ghost use Rattle.ts_world.specs.Actors.{job_of, Follows};
+ghost use Rattle.ts_commands.specs.Actors.{job_of, Follows};
 ghost use Rattle.ts_world.specs.Slots.{standing_of, IsSlot, IsDue, IsNextSlot, IsDueAt, IsAdvanced, AsksFor, dropped_slot};
 ghost use Rattle.ts_world.specs.Views.{Dropped, end_in};
 
-use crate::actors::AnyActor;
 use crate::events::WorldFault;
 use std::alloc::Global;
 use std::mem;
 use std::thread::Threads;
 use ts_actor::{Actor, Pieces, Step};
 use ts_base::Duplicate;
+use ts_commands::AnyActor;
 use ts_model::{Job, Outcome};
 use ts_store::{Call, Reply};
 

@@ -8,8 +8,8 @@ use Rattle.ts_writer.specs.Deleters as deleter
 use Rattle.ts_writer.specs.Evolvers as evolver
 use Rattle.ts_writer.specs.Writers as writer
 use Rattle.ts_reader.specs.Readers as reader
-use Rattle.ts_world.specs.declared.actors.AnyActor.{AnyActor}
-use Rattle.ts_world.specs.declared.actors.AnyActor.TheVariants.{Creator, Evolver, Writer, Deleter, Reader}
+use Rattle.ts_commands.specs.declared.actors.AnyActor.{AnyActor}
+use Rattle.ts_commands.specs.declared.actors.AnyActor.TheVariants.{Creator, Evolver, Writer, Deleter, Reader}
 
 -- the job of an actor
 abbrev pub job_of : {P F : Type 0} → AnyActor P F → Job

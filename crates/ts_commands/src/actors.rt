@@ -3,7 +3,7 @@ ghost use Rattle.std.specs.Prelude.{◌≡◌};
 ghost use Rattle.ts_model.specs.Jobs.{IsFit};
 ghost use Rattle.ts_model.specs.Driven.{EndsBy};
 ghost use Rattle.ts_actor.specs.Traces.{start};
-ghost use Rattle.ts_world.specs.Actors.{job_of, Follows, calls_left};
+ghost use Rattle.ts_commands.specs.Actors.{job_of, Follows, calls_left};
 
 use std::alloc::Global;
 use std::thread::Threads;
