@@ -3,7 +3,9 @@ use Rattle.std.proofs.Common.{List, None, Option, Some, [], ap, append_assoc, in
 use Rattle.std.specs.Prelude.{Contains, IsTrue, option_map, slice_get}
 use Rattle.std.specs.Option.{is_some}
 use Rattle.std.proofs.lemmas.Option.{none-some, same_Some}
+use Rattle.std.proofs.lemmas.List.{append-nil}
 use Rattle.std.specs.FinMap as map
+use Rattle.ts_model.proofs.ListLemmas.{slice_get_left}
 use Rattle.ts_base.specs.Held.{Held}
 use Rattle.ts_base.specs.declared.names.Name.{Name}
 use Rattle.ts_base.specs.declared.names.Name.TheVariants as name
@@ -28,7 +30,7 @@ use Rattle.ts_model.specs.Driven.{MayAsk}
 use Rattle.ts_model.specs.Stages.{lease_of, put_lease, stage_of}
 use Rattle.ts_model.specs.States.{asks, frame_put, get_delete, get_head, get_schema, made_by, put_of, want_of, get_vac, vac_of}
 use Rattle.ts_model.specs.Told.{IsReplied, Replied, Told, after_told, held_told, trace_of}
-use Rattle.ts_law.specs.Fresh.{id_in}
+use Rattle.ts_law.specs.Fresh.{IsNewId, id_in}
 use Rattle.ts_law.specs.Kept.{AreAllowed, Claims, IsAllowed, Kept, StageClaims}
 use Rattle.ts_law.proofs.Effects.{Added, IsLook, PutWent, Still, look_stays, put_went}
 use Rattle.ts_law.proofs.HeldLemmas.{Holds, holds_stays}
@@ -129,3 +131,30 @@ stays_held_on codec spelled tracks laws opening past jobs id other n carries see
         let carried = removes_own codec spelled tracks laws opening past jobs seen m first.number first.job (stage_of codec first.job (trace_of first.number seen)) q
         (kept.claims first.number first.job first.is_job first.alive) (subst (MayAsk codec first.job (stage_of codec first.job (trace_of first.number seen))) is first.asked) in
         other first.number first.job first.is_job (same_Some (first.job).id id (sym carried ∙ ap id_in (sym same) ∙ carries))
+
+-- ---- calls that may come
+
+-- one call more may come
+pub allowed_push : {F : Type 0} (codec : Codec F) (jobs : List Job) (seen told : List Told) (e : Told) → AreAllowed codec jobs [] seen told → IsAllowed codec jobs [] (seen ++ told) e → AreAllowed codec jobs [] seen (told ++ e ∷ [])
+allowed_push codec jobs seen [] e may last = (subst (λ t. IsAllowed codec jobs [] t e) (append-nil seen) last, tt)
+allowed_push codec jobs seen (d ∷ told) e may last = (may.0, allowed_push codec jobs (seen ++ d ∷ []) told e may.1 (subst (λ t. IsAllowed codec jobs [] t e) (sym (append_assoc seen (d ∷ []) told)) last))
+
+-- they may come where there is one job more
+pub allowed_more : {F : Type 0} (codec : Codec F) (jobs : List Job) (job : Job) (seen told : List Told) → AreAllowed codec jobs [] seen told → AreAllowed codec (jobs ++ job ∷ []) [] seen told
+allowed_more codec jobs job seen [] may = tt
+allowed_more codec jobs job seen (e ∷ told) may =
+    let is = may.0 in (
+      record { number = is.number; job = is.job; own = is.own; is_job = slice_get_left jobs (job ∷ []) is.number is.job is.is_job; alive = is.alive; asked = is.asked; short = is.short },
+      allowed_more codec jobs job (seen ++ e ∷ []) told may.1,
+    )
+
+-- an identifier that is new over what is held now was so over what was held at the beginning
+pub new_at_first : {F : Type 0} (codec : Codec F) (spelled : Spelled) (tracks : Tracking F) → CodecLaws codec spelled tracks → (past : History) (jobs : List Job) (told : List Told) (opening now : Held) (id : ℕ)
+    → Kept codec spelled tracks opening past jobs [] [] opening → AreAllowed codec jobs [] [] told → Replied opening told → now ≡ held_told opening told → IsNewId now past jobs id → IsNewId opening past jobs id
+new_at_first codec spelled tracks laws past jobs told opening now id begins may replied is new = record {
+  free = λ carried. elim carried [
+    | inl deed ↦ new.free (inl deed)
+    | inr held ↦ new.free (inr (held.0, subst (λ m. Holds m held.0) (sym is) (stays_held_on codec spelled tracks laws opening past jobs id new.other held.0 held.2 [] told opening begins may replied held.1), held.2))
+  ];
+  other = new.other;
+}

@@ -608,10 +608,12 @@ module _ (gives : ℕ → Bool) (seed : ℕ) (items : List Numbered) (jobs : Lis
       let silent : trace_of i a' ≡ [] → deeds ≡ [] = silent_deeds jobs i a c a' (history_told jobs past a) grows below above own in
       let history : IsHistory (history_told jobs past a') = ((front_run (i + 1)).stands a' [] (sym (append-nil a'))).history in
       let causes : (r : Refusal) → end ≡ outcome.Refused r → IsRefusedFor m jobs past a' i job r × (IsQuiet r → history_told jobs past a' ≡ history_told jobs past a) = λ r is.
-      let cause : IsRefusedFor m jobs past a' i job r = (front_run (i + 1)).causes i job r is_job (short_at results (i + 1) i (Done (outcome.Refused r)) (omega arith) (result_at ∙ ap (λ o. Some (Done o)) is)) in
-      (cause, λ quiet.
-      let none : deeds ≡ [] = nothing_done m jobs past lane a c a' grows i early job deeds grows_by history of_job silent r quiet (subst (IsTrueEnd jobs past a' i job) is is_true) cause in
-      grows_by ∙ ap (λ l. history_told jobs past a ++ l) none ∙ append-nil (history_told jobs past a)) in
+      let cause : IsRefusedFor m jobs past a' i job r = (front_run (i + 1)).causes i job r is_job (short_at results (i + 1) i (Done (outcome.Refused r)) (omega arith) (result_at ∙ ap (λ o. Some (Done o)) is)) in (
+        cause,
+        λ quiet.
+            let none : deeds ≡ [] = nothing_done m jobs past lane a c a' grows i early job deeds grows_by history of_job silent r quiet (subst (IsTrueEnd jobs past a' i job) is is_true) cause in
+            grows_by ∙ ap (λ l. history_told jobs past a ++ l) none ∙ append-nil (history_told jobs past a),
+      ) in
       let done : IsDone (calls_in m lane a c) (history_told jobs past a) (history_told jobs past a') (key_of job) end job.command =
       record { deeds = deeds; goes_on = grows_by; own = of_job; tells = end_tells jobs past a c a' grows i early m lane job end still short causes is_true } in
       let owns : All IsOwned c = all_back IsOwned a c (all_front IsOwned (a ++ c) b' (subst (All IsOwned) place owned)) in (

@@ -76,7 +76,7 @@ of_create before h k made (Declared s) is = inr (ap (λ (t : Schema). Some t.key
 of_create before h k made (Wrote w) is = absurd is
 of_create before h k made (Erased e) is = absurd is
 
--- of lists of one length of front an item falls at a place
+-- deeds fall apart at one that they have
 at_place : (deeds : List Deed) (d : Deed) → Contains deeds d → (front : List Deed) × (back : List Deed) × (deeds ≡ front ++ d ∷ back)
 at_place [] d at = absurd (Contains-nil d at)
 at_place (y ∷ ys) d at = elim (Contains-cons y ys d at) [
@@ -84,7 +84,7 @@ at_place (y ∷ ys) d at = elim (Contains-cons y ys d at) [
   | inr later ↦ let (front, back, is) = at_place ys d later in (y ∷ front, back, ap (λ l. y ∷ l) is)
 ]
 
--- where there is no first deed there is none
+-- deeds of which none is the first are none
 pub none_first : (deeds : List Deed) → ((back : List Deed) (d : Deed) → deeds ≡ d ∷ back → ⊥) → deeds ≡ []
 none_first [] none = refl
 none_first (d ∷ deeds) none = absurd (none deeds d refl)

@@ -14,7 +14,8 @@ use Rattle.ts_world.specs.declared.events.WorldFault.{WorldFault}
 use Rattle.ts_world.specs.Views.{Standing, WorldView, lane_of}
 use Rattle.ts_world.specs.Clauses.{IsSound, BeganWith, Called, Happens}
 
-replied-push : (m : Held) (told : List Told) (e : Told) → Replied m told → IsReplied (held_told m told) e → Replied m (told ++ e ∷ [])
+-- one call more is replied to
+pub replied-push : (m : Held) (told : List Told) (e : Told) → Replied m told → IsReplied (held_told m told) e → Replied m (told ++ e ∷ [])
 replied-push m [] e r q = (q, tt)
 replied-push m (d ∷ told) e r q = (r.0, replied-push (after_told m d) told e r.1 q)
 

@@ -1,5 +1,5 @@
 -- Each event keeps what a world keeps.
-use Rattle.std.proofs.Common.{◌≡◌, ℕ, ◌<◌, Bool, false, cond, inl, inr, List, [], ◌∷◌, ◌++◌, Option, Some, None, length, map, set, refl, sym, ◌∙◌, ap, subst, arith}
+use Rattle.std.proofs.Common.{◌≡◌, ℕ, Bool, false, cond, inl, inr, List, [], ◌∷◌, ◌++◌, Option, Some, None, length, map, set, refl, sym, ◌∙◌, ap, subst, arith}
 use Rattle.std.specs.Prelude.{slice_get, option_map}
 use Rattle.std.specs.List.{cons_option}
 use Rattle.std.proofs.lemmas.Bool.{cases_eq}
@@ -21,11 +21,12 @@ use Rattle.ts_law.specs.Fresh.{IsNewId}
 use Rattle.ts_law.specs.Lanes.{IsWithin}
 use Rattle.ts_model.specs.Told.{Told, IsShortCall, trace_of, entry_of, entries_of, after_told, IsReplied}
 use Rattle.ts_model.specs.Driven.{MayAsk}
-use Rattle.ts_law.specs.Kept.{Kept}
+use Rattle.ts_law.specs.Kept.{IsAllowed, Kept}
 use Rattle.ts_model.proofs.ListLemmas.{Contains-nil, slice_get_push}
-use Rattle.ts_model.proofs.Traces.{trace_of-own, trace_of-other}
+use Rattle.ts_model.proofs.Traces.{held_told-append, trace_of-own, trace_of-other}
 use Rattle.ts_model.specs.Codecs.{Codec, CodecLaws, Spelled, Tracking}
 use Rattle.ts_law.proofs.KeptLaws.{step_kept}
+use Rattle.ts_law.proofs.Openings.{allowed_more, allowed_push, new_at_first}
 use Rattle.ts_law.proofs.Lanes.{none_made, no_lanes, one_more_call, one_more_job}
 use Rattle.ts_law.proofs.Spawns.{spawn_kept, starts_kept}
 use Rattle.ts_commands.proofs.Asked.{asks_it}
@@ -35,6 +36,7 @@ use Rattle.ts_world.specs.declared.slots.Slot.TheVariants as slot
 use Rattle.ts_world.specs.Views.{lane_of}
 use Rattle.ts_world.specs.Slots.{IsRunning, IsSlot, IsActor, IsKept, dropped_slot}
 use Rattle.ts_law.proofs.Lists.{item_at}
+use Rattle.ts_world.proofs.Began.{replied-push}
 use Rattle.ts_world.proofs.Lists.{get_changed, get_unchanged}
 
 module _ {P F : Type 0} (codec : Codec F) (spelled : Spelled) (tracks : Tracking F) (past : History) (jobs : List Job) (told : List Told) (held : Held) (journal : List Entry) (slots : List (Slot P F)) (is : IsKept codec spelled tracks past jobs told held journal slots) where
@@ -61,8 +63,11 @@ module _ {P F : Type 0} (codec : Codec F) (spelled : Spelled) (tracks : Tracking
     asked_now : MayAsk codec job (stage_of codec job (trace_of number told)) e.call
     asked_now = subst (MayAsk codec job (stage_of codec job (trace_of number told))) (sym calls) (running_asks number r job at of)
 
+    allowed_now : IsAllowed codec jobs [] told e
+    allowed_now = record { number = number; job = job; own = own; is_job = of; alive = Contains-nil number; asked = asked_now; short = short }
+
     kept_now : CodecLaws codec spelled tracks → Kept codec spelled tracks is.opening past jobs [] (told ++ e ∷ []) (after_told held e)
-    kept_now laws = step_kept codec spelled tracks laws is.opening past jobs [] told held e is.kept (record { number = number; job = job; own = own; is_job = of; alive = Contains-nil number; asked = asked_now; short = short }) replied
+    kept_now laws = step_kept codec spelled tracks laws is.opening past jobs [] told held e is.kept allowed_now replied
 
     entered : entries_of lane_of (told ++ e ∷ []) ≡ entries_of lane_of told ++ entry number e.call e.fate ∷ []
     entered =
@@ -86,6 +91,9 @@ module _ {P F : Type 0} (codec : Codec F) (spelled : Spelled) (tracks : Tracking
     pub called_kept : CodecLaws codec spelled tracks → (s : Slot P F) → IsSlot codec job (trace_of number told ++ last ∷ []) s → IsKept codec spelled tracks past jobs (told ++ e ∷ []) (after_told held e) (journal ++ entry number e.call e.fate ∷ []) (set slots number s)
     called_kept laws s slot_is = record {
       opening = is.opening;
+      begins = is.begins;
+      may = allowed_push codec jobs [] told e is.may allowed_now;
+      replied = replied-push is.opening told e is.replied (subst (λ m. IsReplied m e) is.kept.is_held replied);
       kept = kept_now laws;
       entries = ap (λ es. es ++ entry number e.call e.fate ∷ []) is.entries ∙ sym entered;
       in_lanes = one_more_call codec jobs told e number job is.in_lanes own of asked_now;
@@ -110,9 +118,12 @@ module _ {P F : Type 0} (codec : Codec F) (spelled : Spelled) (tracks : Tracking
       subst (λ (i : Job). IsActor codec told k i t) same_job (subst (λ (i : Slot P F). IsActor codec told k job i) same_slot
       (record { free = free; slot_is = subst (λ (x : List Exchange). IsSlot codec job x s) (sym (no_calls k end)) slot_is }))
 
-  pub spawned_kept : (job : Job) (s : Slot P F) → IsNewId held past jobs job.id → IsFit job → job.stop ≡ Never → IsSlot codec job [] s → IsKept codec spelled tracks past (jobs ++ job ∷ []) told held journal (slots ++ s ∷ [])
-  spawned_kept job s new fit free slot_is = record {
+  pub spawned_kept : CodecLaws codec spelled tracks → (job : Job) (s : Slot P F) → IsNewId held past jobs job.id → IsFit job → job.stop ≡ Never → IsSlot codec job [] s → IsKept codec spelled tracks past (jobs ++ job ∷ []) told held journal (slots ++ s ∷ [])
+  spawned_kept laws job s new fit free slot_is = record {
     opening = is.opening;
+    begins = spawn_kept codec spelled tracks is.opening past jobs [] [] is.opening job is.begins fit (new_at_first codec spelled tracks laws past jobs told is.opening held job.id is.begins is.may is.replied is.kept.is_held new);
+    may = allowed_more codec jobs job [] told is.may;
+    replied = is.replied;
     kept = spawn_kept codec spelled tracks is.opening past jobs [] told held job is.kept fit new;
     entries = is.entries;
     in_lanes = one_more_job codec jobs told job is.in_lanes;
@@ -145,6 +156,9 @@ module _ {P F : Type 0} (codec : Codec F) (spelled : Spelled) (tracks : Tracking
   pub restarted_kept : IsKept codec spelled tracks past jobs told held journal (map dropped_slot slots)
   restarted_kept = record {
     opening = is.opening;
+    begins = is.begins;
+    may = is.may;
+    replied = is.replied;
     kept = is.kept;
     entries = is.entries;
     in_lanes = is.in_lanes;
@@ -156,6 +170,9 @@ module _ {P F : Type 0} (codec : Codec F) (spelled : Spelled) (tracks : Tracking
 pub first_kept : {P F : Type 0} (codec : Codec F) (spelled : Spelled) (tracks : Tracking F) (past : History) (m : Held) → Stands spelled m past → IsKept {P = P} codec spelled tracks past [] [] m [] []
 first_kept codec spelled tracks past m stands = record {
   opening = m;
+  begins = starts_kept codec spelled tracks past m stands;
+  may = tt;
+  replied = tt;
   kept = starts_kept codec spelled tracks past m stands;
   entries = refl;
   in_lanes = no_lanes codec;

@@ -14,6 +14,8 @@ use Rattle.ts_store.specs.Journals.{entry, held_after}
 use Rattle.ts_model.specs.declared.commands.Command.{Command}
 use Rattle.ts_model.specs.declared.commands.Job.{Job}
 use Rattle.ts_model.specs.declared.answers.Outcome.{Outcome}
+use Rattle.ts_model.specs.declared.answers.Outcome.TheVariants as outcome
+use Rattle.ts_model.specs.declared.answers.Refusal.{Refusal}
 use Rattle.ts_model.specs.declared.answers.Driven.TheVariants.{Done}
 use Rattle.ts_model.specs.Deeds.{History, keys}
 use Rattle.ts_model.specs.Commands.{fits}
@@ -24,7 +26,8 @@ use Rattle.ts_model.specs.Stages.{stage_of}
 use Rattle.ts_law.specs.Fresh.{id_in}
 use Rattle.ts_law.specs.Lanes.{own_lane, AreInLanes}
 use Rattle.ts_model.specs.Told.{trace_of, entries_of, IsReplied, Replied, after_told, held_told, history_told}
-use Rattle.ts_law.specs.Ends.{IsTrueEnd}
+use Rattle.ts_law.specs.Ends.{IsTrueOver}
+use Rattle.ts_law.specs.Refusals.{IsRefusedFor}
 use Rattle.ts_law.specs.Courses.{IsSegment}
 use Rattle.ts_model.specs.Driven.{MayAsk, IsDriven}
 use Rattle.ts_world.specs.declared.events.Event.{Event}
@@ -35,14 +38,25 @@ use Rattle.ts_world.specs.Views.{Standing, Runs, Ended, Dropped, WorldView, drop
 
 -- ---- at any time
 
--- the end of an actor: its job made calls that it may make and ended by them, they go along the job's course, and what the end tells of the history is true
-pub record EndsTruly {F : Type 0} (codec : Codec F) (w : WorldView) (number : ℕ) (job : Job) (end : Outcome) : Type 0 where
+-- the world began with a store that held m: each call was replied to as by a store of one thread, and the objects are those that the journal leaves
+pub record BeganWith (m : Held) (w : WorldView) : Type 0 where
+  pub replied : Replied m w.told
+  pub held_told_is : w.held ≡ held_told m w.told
+  pub held_is : w.held ≡ held_after m w.journal
+
+-- the end of an actor in a world that began with this: its job made calls that it may make and ended by them, they go along the job's course, what the end tells of the history and of the objects is true, and a refusal is for its cause
+pub record EndsTruly {F : Type 0} (codec : Codec F) (spelled : Spelled) (opening : Held) (w : WorldView) (number : ℕ) (job : Job) (end : Outcome) : Type 0 where
   pub driven : IsDriven codec job (trace_of number w.told) (Done end)
   pub segment : IsSegment codec job (trace_of number w.told) (Done end)
-  pub is_true : IsTrueEnd w.jobs w.past w.told number job end
+  pub is_true : IsTrueOver spelled opening w.jobs w.past w.told number job end
+  pub cause : (r : Refusal) → end ≡ outcome.Refused r → IsRefusedFor opening w.jobs w.past w.told number job r
 
 -- what holds of a world at any time
 pub record IsSound {F : Type 0} (codec : Codec F) (spelled : Spelled) (w : WorldView) : Type 0 where
+  -- what the store held when the world began, which stood for the past
+  pub opening : Held
+  pub stood : Stands spelled opening w.past
+  pub began : BeganWith opening w
   -- the objects that are held stand for the past and the deeds of the calls
   pub stands : Stands spelled w.held (history_told w.jobs w.past w.told)
   -- the journal has each call that found memory, in the lane of its actor
@@ -55,14 +69,8 @@ pub record IsSound {F : Type 0} (codec : Codec F) (spelled : Spelled) (w : World
   pub in_lanes : AreInLanes codec own_lane w.jobs w.told
   -- an actor that runs has one more call to make
   pub runs : (number : ℕ) (job : Job) → slice_get w.jobs number ≡ Some job → slice_get w.actors number ≡ Some Runs → (c : Call) × MayAsk codec job (stage_of codec job (trace_of number w.told)) c
-  -- an actor that ended did so by its own calls, and told the truth
-  pub ends : (number : ℕ) (job : Job) (end : Outcome) → slice_get w.jobs number ≡ Some job → slice_get w.actors number ≡ Some (Ended end) → EndsTruly codec w number job end
-
--- the world began with a store that held m: each call was replied to as by a store of one thread, and the objects are those that the journal leaves
-pub record BeganWith (m : Held) (w : WorldView) : Type 0 where
-  pub replied : Replied m w.told
-  pub held_told_is : w.held ≡ held_told m w.told
-  pub held_is : w.held ≡ held_after m w.journal
+  -- an actor that ended did so by its own calls, and told the truth of that beginning and of what came since
+  pub ends : (number : ℕ) (job : Job) (end : Outcome) → slice_get w.jobs number ≡ Some job → slice_get w.actors number ≡ Some (Ended end) → EndsTruly codec spelled opening w number job end
 
 -- ---- before an event
 

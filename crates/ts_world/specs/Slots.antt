@@ -16,12 +16,12 @@ use Rattle.ts_store.specs.Memory.{held_in}
 use Rattle.ts_model.specs.declared.commands.Job.{Job}
 use Rattle.ts_model.specs.Deeds.{History}
 use Rattle.ts_model.specs.States.{Exchange}
-use Rattle.ts_model.specs.Told.{Told, IsShortCall, trace_of, entries_of, changes}
+use Rattle.ts_model.specs.Told.{Told, IsShortCall, Replied, trace_of, entries_of, changes, held_told}
 use Rattle.ts_model.specs.Codecs.{Codec, Spelled, Tracking}
 use Rattle.ts_law.specs.Fresh.{id_in}
 use Rattle.ts_law.specs.Lanes.{own_lane, AreInLanes}
 use Rattle.ts_model.specs.Driven.{EndsBy}
-use Rattle.ts_law.specs.Kept.{Kept}
+use Rattle.ts_law.specs.Kept.{AreAllowed, Kept}
 use Rattle.ts_actor.specs.Traces.{asking}
 use Rattle.ts_world.specs.declared.events.WorldFault.{WorldFault}
 use Rattle.ts_world.specs.declared.events.WorldFault.TheVariants.{IdTaken, NoActor, OutOfMemory}
@@ -59,9 +59,14 @@ pub record IsActor {P F : Type 0} (codec : Codec F) (told : List Told) (number :
   pub free : job.stop ≡ Never
   pub slot_is : IsSlot codec job (trace_of number told) s
 
--- what a world keeps: what every call keeps since the objects that the world began with, the journal of the calls, whose they are, and its actors
+-- what a world keeps: what every call keeps from the beginning on, the journal of the calls, whose they are, and its actors
 pub record IsKept {P F : Type 0} (codec : Codec F) (spelled : Spelled) (tracks : Tracking F) (past : History) (jobs : List Job) (told : List Told) (held : Held) (journal : List Entry) (slots : List (Slot P F)) : Type 0 where
+  -- what the store held at the beginning, what every call keeps there, and that each call could come and was replied to
   pub opening : Held
+  pub begins : Kept codec spelled tracks opening past jobs [] [] opening
+  pub may : AreAllowed codec jobs [] [] told
+  pub replied : Replied opening told
+  -- and what every call keeps now
   pub kept : Kept codec spelled tracks opening past jobs [] told held
   pub entries : journal ≡ entries_of lane_of told
   pub in_lanes : AreInLanes codec own_lane jobs told

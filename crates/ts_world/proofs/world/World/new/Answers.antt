@@ -12,4 +12,4 @@ invariant_of-result g c =
 pub returns-clause-sound : goal.returns-clause-sound
 returns-clause-sound g c =
     rw (c.new.ensures, c.new-2.ensures.items, c.new-3.ensures, c.new-4.ensures.items)
-    (is_sound g.P.Pieces.codec g.P.Spelling.spelled g.P.Pieces.tracks g.met.P.Pieces.laws.looks _ _ _ _ _ _ (first_kept {P = g.row.P.Denot} g.P.Pieces.codec g.P.Spelling.spelled g.P.Pieces.tracks c.args.past (held_in c.args.store) c.requires))
+    (is_sound g.P.Pieces.codec g.P.Spelling.spelled g.P.Pieces.tracks g.met.P.Pieces.laws _ _ _ _ _ _ (first_kept {P = g.row.P.Denot} g.P.Pieces.codec g.P.Spelling.spelled g.P.Pieces.tracks c.args.past (held_in c.args.store) c.requires))
