@@ -237,7 +237,9 @@ fn stage_after<K: Automaton, R: Threads + Sync>(
             let next = K::go(rt, alloc, job, state, reply)?;
             Ok(settled(lease_of(job), next))
         }
-        Stage::Releases { lease, end } => Ok(Stage::Works(State::Over(released(lease, end, &reply)))),
+        Stage::Releases { lease, end } => Ok(Stage::Works(State::Over(released(
+            lease, end, &reply,
+        )))),
     }
 }
 

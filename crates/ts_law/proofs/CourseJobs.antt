@@ -609,19 +609,22 @@ module _ {F : Type 0} (codec : Codec F) (any : Job) where
         along x is (WasTaken taken) = let last = last_same whole [] x (lease_put reply.Taken) taken in let none : reply.NoMemory ≡ reply.Taken = ap (λ y. y.reply) (sym is ∙ last.1) in cc
         along x is (HeldLease put held comes heeds) =
             let (found, told, ended) = comes outcome.OutOfMemory (inr refl) in
-            let u = unmade_of (IsLookOf codec reading found) (put_lease own_lease ∷ list_leases ∷ reads_course) whole c (subst (λ y. EndsAlong codec reading found (put_lease own_lease ∷ list_leases ∷ reads_course) (whole ++ y ∷ []) outcome.OutOfMemory) is ended) in
-            (found, found_before reading found whole x told, inl (record {
-              begins = refl;
-              left = u.0;
-              along = u.2;
-              unmade = c;
-              rest = u.1;
-              next = u.3;
-              cut = cut;
-              free = λ lease some more other (put_it, names, same, opposes).
-                  let own : own_lease ≡ lease = same_Some own_lease lease some in
-                  no_calls more x (heeds (more ++ x ∷ []) other (put_it, names, ap (λ t. t ++ x ∷ []) same, ap (verdict_in names) own ∙ opposes)).0;
-            }))
+            let u = unmade_of (IsLookOf codec reading found) (put_lease own_lease ∷ list_leases ∷ reads_course) whole c (subst (λ y. EndsAlong codec reading found (put_lease own_lease ∷ list_leases ∷ reads_course) (whole ++ y ∷ []) outcome.OutOfMemory) is ended) in (
+              found,
+              found_before reading found whole x told,
+              inl (record {
+                begins = refl;
+                left = u.0;
+                along = u.2;
+                unmade = c;
+                rest = u.1;
+                next = u.3;
+                cut = cut;
+                free = λ lease some more other (put_it, names, same, opposes).
+                    let own : own_lease ≡ lease = same_Some own_lease lease some in
+                    no_calls more x (heeds (more ++ x ∷ []) other (put_it, names, ap (λ t. t ++ x ∷ []) same, ap (verdict_in names) own ∙ opposes)).0;
+              }),
+            )
 
         by_kind : (b : Bool) → is_release reading c ≡ b → OpenAsks codec reading own_lease refl (PutsLease own_lease) whole → stage_of codec reading whole ≡ g_of whole → (found : Found) × AreFound reading found whole × IsCutOff codec reading found whole
         by_kind true is opened same =

@@ -8,16 +8,19 @@ use Rattle.ts_reader.proofs.QueryLaws.{ready_covered}
 use Rattle.ts_reader.proofs.opening.ask_for.Goals as goal
 
 pub next_vac-requires : goal.next_vac-requires
-next_vac-requires g c = (c.type_bounds.sync-R, record {
-  is_frame = c.requires.frame;
-  are_attrs = c.requires.attrs;
-  inside = ready_covered c.args.frame c.args.there.attrs c.args.query.now c.in-Ok.ready c.in-Ok.ensures;
-  valid = ready_is_box c.args.frame c.args.there.attrs c.args.query.now c.in-Ok.ready c.requires.frame c.requires.bounds c.in-Ok.ensures;
-  few_cells = ready_few c.args.frame c.args.there.attrs c.args.query.now c.in-Ok.ready c.in-Ok.ensures;
-  fragments = c.requires.listed.fragments;
-  counting = c.requires.listed.counting;
-  deletes = c.requires.listed.deletes;
-})
+next_vac-requires g c = (
+  c.type_bounds.sync-R,
+  record {
+    is_frame = c.requires.frame;
+    are_attrs = c.requires.attrs;
+    inside = ready_covered c.args.frame c.args.there.attrs c.args.query.now c.in-Ok.ready c.in-Ok.ensures;
+    valid = ready_is_box c.args.frame c.args.there.attrs c.args.query.now c.in-Ok.ready c.requires.frame c.requires.bounds c.in-Ok.ensures;
+    few_cells = ready_few c.args.frame c.args.there.attrs c.args.query.now c.in-Ok.ready c.in-Ok.ensures;
+    fragments = c.requires.listed.fragments;
+    counting = c.requires.listed.counting;
+    deletes = c.requires.listed.deletes;
+  },
+)
 
 pub returns-in-Ok-clause-is : goal.returns-in-Ok-clause-is
 returns-in-Ok-clause-is g c =
