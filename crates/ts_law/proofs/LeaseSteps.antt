@@ -38,7 +38,6 @@ use Rattle.ts_model.specs.Codecs.{Codec, Spelled, Tracking}
 use Rattle.ts_model.specs.Deeds.{History}
 use Rattle.ts_model.specs.Driven.{MayAsk}
 use Rattle.ts_model.specs.Jobs.{frag_of_job, key_of}
-use Rattle.ts_base.specs.Keys.{frag_of}
 use Rattle.ts_law.proofs.Objects.{apart_from_lease}
 use Rattle.ts_law.proofs.VacLaws.{MarksNone, bare_stays, merged_beside, named_beside}
 use Rattle.ts_model.specs.States.{Exchange, asks, begun, goes, is_over, made_by}

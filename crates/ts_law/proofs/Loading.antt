@@ -2,15 +2,15 @@
 use Rattle.std.proofs.Common.{◌≡◌, ℕ, zero, suc, ◌+◌, ◌<◌, ◌≤◌, Bool, true, false, ◌&&◌, ◌||◌, not, List, [], ◌∷◌, refl, sym, ◌∙◌, ap, subst, arith}
 use Rattle.std.specs.Prelude.{Contains, map as list_map}
 use Rattle.std.specs.List.{list_any}
-use Rattle.std.proofs.lemmas.Bool.{and_parts, and_from}
+use Rattle.std.proofs.lemmas.Bool.{and_parts}
 use Rattle.ts_base.specs.declared.keys.Key.{Key}
 use Rattle.ts_base.specs.declared.keys.FragKey.{FragKey}
 use Rattle.ts_base.specs.declared.heads.Head.{Head}
 use Rattle.ts_base.specs.declared.heads.Piece.{Piece}
-use Rattle.ts_base.specs.Keys.{frag_eq, frag_of, is_within}
+use Rattle.ts_base.specs.Keys.{frag_eq, is_within}
 use Rattle.ts_base.specs.Held.{Held}
 use Rattle.ts_commit.specs.declared.vacs.VacOf.{VacOf}
-use Rattle.ts_commit.specs.Selections.{lies_in, has_origin, keeps_last, is_usable, usable, is_head_of, is_named, is_among, loaded, is_clipped, clips, clipped_names}
+use Rattle.ts_commit.specs.Selections.{has_origin, is_usable, usable, is_head_of, is_named, is_among, loaded, is_clipped, clips, clipped_names}
 use Rattle.ts_model.specs.declared.deeds.Written.{Written}
 use Rattle.ts_model.specs.Deeds.{History, writes}
 use Rattle.ts_model.specs.Codecs.{Spelled}

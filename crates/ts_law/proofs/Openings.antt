@@ -1,10 +1,9 @@
 -- What was held at the beginning and carries no job's identifier stays held: jobs remove their own leases alone.
-use Rattle.std.proofs.Common.{List, None, Option, Some, [], ap, append_assoc, inl, inr, length, refl, subst, sym, Bool, true, false, cond, ℕ, ◌++◌, ◌-◌, ◌^◌, ◌∙◌, ◌∷◌, ◌≡◌}
-use Rattle.std.specs.Prelude.{Contains, IsTrue, option_map, slice_get}
+use Rattle.std.proofs.Common.{List, Some, [], ap, append_assoc, inl, inr, length, refl, subst, sym, Bool, true, false, cond, ℕ, ◌++◌, ◌-◌, ◌^◌, ◌∙◌, ◌∷◌, ◌≡◌}
+use Rattle.std.specs.Prelude.{slice_get}
 use Rattle.std.specs.Option.{is_some}
 use Rattle.std.proofs.lemmas.Option.{none-some, same_Some}
 use Rattle.std.proofs.lemmas.List.{append-nil}
-use Rattle.std.specs.FinMap as map
 use Rattle.ts_model.proofs.ListLemmas.{slice_get_left}
 use Rattle.ts_base.specs.Held.{Held}
 use Rattle.ts_base.specs.declared.names.Name.{Name}
@@ -13,7 +12,6 @@ use Rattle.ts_base.specs.declared.names.CommitKind.TheVariants.{Del}
 use Rattle.ts_base.specs.declared.names.Prefix.TheVariants.{Commits, Leases, Schemas}
 use Rattle.ts_store.specs.declared.call.Call.{Call}
 use Rattle.ts_store.specs.declared.call.Call.TheVariants as call
-use Rattle.ts_store.specs.declared.fate.Fate.{Fate}
 use Rattle.ts_store.specs.Calls.{after, is_no_memory}
 use Rattle.ts_model.specs.declared.commands.Job.{Job}
 use Rattle.ts_model.specs.declared.states.State.{State}

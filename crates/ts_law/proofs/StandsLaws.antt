@@ -33,7 +33,7 @@ use Rattle.ts_model.specs.Deeds.{History, schema_in, deletion_in, frame_in, sche
 use Rattle.ts_model.specs.Pieces.{HoldsWrite}
 use Rattle.ts_model.specs.Codecs.{Spelled}
 use Rattle.ts_law.specs.Origins.{box_in}
-use Rattle.ts_law.specs.Stands.{IsBare, IsCommitted, IsReached, Spells, HoldsIn, WentInto, Stands}
+use Rattle.ts_law.specs.Stands.{IsBare, IsCommitted, IsReached, Spells, HoldsIn, Stands}
 use Rattle.ts_law.specs.Fresh.{id_in}
 use Rattle.ts_law.specs.Steps.{Keeps, Leads}
 use Rattle.ts_model.specs.declared.commands.Job.{Job}
