@@ -1,5 +1,5 @@
 -- The course of each job: the puts and listings that it makes, in order, what it may look at between them, and how it may end.
-use Rattle.std.specs.Prelude.{◌≡◌, ◌≢◌, ℕ, Bool, true, false, cond, List, [], ◌∷◌, ◌++◌, Option, Some, None, length, nat_lt, Result, Ok, Err, IsTrue, All, Contains, ⊤, ◌⊎◌, map as list_map}
+use Rattle.std.specs.Prelude.{◌≡◌, ◌≢◌, ℕ, Bool, true, false, cond, List, [], ◌∷◌, ◌++◌, Option, Some, None, filter, length, nat_lt, Result, Ok, Err, IsTrue, All, Contains, ⊤, ◌⊎◌, map as list_map}
 use Rattle.ts_base.specs.declared.keys.Key.{Key}
 use Rattle.ts_base.specs.declared.keys.FragKey.{FragKey}
 use Rattle.ts_base.specs.declared.names.Name.{Name}
@@ -24,9 +24,9 @@ use Rattle.ts_schema.specs.declared.wants.Want.{Want}
 use Rattle.ts_schema.specs.Evolutions.{evolved_attrs, evolution_fault, schema_at}
 use Rattle.ts_schema.specs.FrameTexts.{frame_of}
 use Rattle.ts_schema.specs.SchemaTexts.{schema_of}
-use Rattle.ts_model.specs.declared.commands.Command.TheVariants.{Create, Evolve, Write, Read, Delete}
+use Rattle.ts_model.specs.declared.commands.Command.TheVariants.{Create, Evolve, Write, Read, Delete, Consolidate}
 use Rattle.ts_model.specs.Stops.{cuts, Uncut}
-use Rattle.ts_model.specs.States.{schemas_in, place_of, get_all, put_of, made_by, frame_put, schema_object_of, write_objects, is_own_frame, get_frame, list_schemas, list_commits, get_schema, get_delete, get_vac, counting_in, committed_in, deletes_in, meets, delete_object_of, wanted, Exchange}
+use Rattle.ts_model.specs.States.{schemas_in, place_of, get_all, put_of, made_by, frame_put, schema_object_of, write_objects, is_own_frame, get_frame, list_schemas, list_commits, get_schema, get_delete, get_vac, counting_in, committed_in, deletes_in, meets, delete_object_of, wanted, all_of, merge_objects, Exchange}
 use Rattle.ts_model.specs.Stages.{lease_of, list_leases, put_lease, released}
 use Rattle.ts_lease.specs.Leases.{verdict_in}
 use Rattle.ts_lease.specs.declared.verdicts.Verdict.TheVariants.{Held}
@@ -40,6 +40,15 @@ use Rattle.ts_cond.specs.declared.query.Query.{Query}
 use Rattle.ts_law.specs.Refusals.{refusal_in}
 use Rattle.ts_base.specs.declared.names.CommitKind.TheVariants.{Del, Vac}
 use Rattle.ts_commit.specs.Vacs.{names_of}
+use Rattle.ts_commit.specs.declared.vacs.VacOf.{VacOf}
+use Rattle.ts_commit.specs.declared.vacs.Limits.{Limits}
+use Rattle.ts_commit.specs.declared.vacs.Planned.{Planned}
+use Rattle.ts_commit.specs.declared.vacs.Planned.TheVariants as planned
+use Rattle.ts_commit.specs.Plans.{is_inside, plan_of}
+use Rattle.ts_commit.specs.Selections.{is_among, names_merged}
+use Rattle.ts_model.specs.Merging.{all_got, merged_with}
+use Rattle.ts_base.specs.declared.heads.Piece.{Piece}
+use Rattle.ts_base.specs.declared.heads.Version.{Version}
 use Rattle.ts_base.specs.declared.names.Name.TheVariants as name
 use Rattle.ts_base.specs.declared.names.Place.TheVariants as place
 use Rattle.ts_store.specs.declared.call.Call.TheVariants as call
@@ -50,11 +59,18 @@ use Rattle.ts_model.specs.declared.answers.Driven.TheVariants as driven
 
 -- ---- courses
 
--- what a job found: whether the frame was there already, the schema that it works in, and the frame
+-- what a consolidation merged its sources into: a piece in a schema, and what the `.vac` of it is to name
+pub record Merge : Type 0 where
+  pub schema : Schema
+  pub piece : Piece
+  pub names : List FragKey
+
+-- what a job found: whether the frame was there already, the schema that it works in, the frame, and what a consolidation merged, if it came so far
 pub record Found : Type 0 where
   pub taken : Bool
   pub there : Schema
   pub frame : Frame
+  pub merged : Option Merge
 
 -- the put of an evolve, where no fault stands against its change
 abbrev pub evolve_puts : Job → Found → Evolution → Option SchemaFault → List Call
@@ -71,6 +87,11 @@ abbrev pub delete_puts : Job → Result Condition Refusal → List Call
 delete_puts job (Ok condition) = put_of (delete_object_of job condition) ∷ []
 delete_puts job (Err r) = []
 
+-- the puts of a consolidation, where it merged something
+abbrev pub merge_puts : {F : Type 0} → Codec F → Frame → Option Merge → List Call
+merge_puts codec frame None = []
+merge_puts codec frame (Some x) = list_map put_of (merge_objects codec frame x.schema x.piece x.names)
+
 -- before the course of a job that has a lease: the put of it, and the listing of the leases
 abbrev pub under_lease : Option Name → List Call → List Call
 under_lease None course = course
@@ -83,6 +104,7 @@ course_by codec job found (Evolve change) = list_schemas ∷ evolve_puts job fou
 course_by codec job found (Write w) = list_schemas ∷ cell_puts codec job found (laid found.frame (found.there).attrs w)
 course_by codec job found (Read from to query) = list_commits ∷ list_schemas ∷ []
 course_by codec job found (Delete text) = list_schemas ∷ delete_puts job (delete_condition found.frame (found.there).attrs text)
+course_by codec job found (Consolidate from to limits) = list_commits ∷ list_schemas ∷ merge_puts codec found.frame found.merged
 
 -- the course of a job that found this, up to the removal of its lease
 abbrev pub course_of : {F : Type 0} → Codec F → Job → Found → List Call
@@ -110,6 +132,7 @@ SaysThere found (Write w) (call.Get (name.Schema k) from len) (reply.Bytes bytes
 SaysThere found (Write w) (call.Get name.Domain from len) (reply.Bytes bytes) = IsFrameIn found.frame (frame_of bytes)
 SaysThere found (Delete text) (call.Get (name.Schema k) from len) (reply.Bytes bytes) = IsSchemaIn found.there k (schema_of bytes)
 SaysThere found (Delete text) (call.Get name.Domain from len) (reply.Bytes bytes) = IsFrameIn found.frame (frame_of bytes)
+SaysThere found (Consolidate from to limits) (call.Get name.Domain begin len) (reply.Bytes bytes) = IsFrameIn found.frame (frame_of bytes)
 SaysThere found command c r = ⊤
 
 -- a job was told bytes that spell a schema
@@ -122,6 +145,12 @@ pub record IsKeyThere (job : Job) (trace : List Exchange) (k : Key) : Type 0 whe
   pub listed : Contains trace (record { call = list_schemas; reply = reply.Names names })
   pub newest : schema_at (schemas_in names) (looked_at job) ≡ Some k
 
+-- a job was told bytes that spell the frame that it found
+pub record IsFramed (found : Found) (trace : List Exchange) : Type 0 where
+  pub frame_bytes : List ℕ
+  pub frame_got : Contains trace (record { call = get_frame; reply = reply.Bytes frame_bytes })
+  pub frame_is : frame_of frame_bytes ≡ Ok found.frame
+
 -- a job got what it found: the schema there is that of its listing of the schemas, and it and the frame are spelled by the bytes that the job was told
 pub record IsGot (job : Job) (found : Found) (trace : List Exchange) : Type 0 where
   pub key : IsKeyThere job trace (found.there).key
@@ -129,6 +158,15 @@ pub record IsGot (job : Job) (found : Found) (trace : List Exchange) : Type 0 wh
   pub frame_bytes : List ℕ
   pub frame_got : Contains trace (record { call = get_frame; reply = reply.Bytes frame_bytes })
   pub frame_is : frame_of frame_bytes ≡ Ok found.frame
+
+-- the command is a consolidation
+abbrev pub IsConsolidate : Command → Type 0
+IsConsolidate (Consolidate from to limits) = ⊤
+IsConsolidate _ = ⊥
+
+-- a job knows the frame: a consolidation got it alone, another job got the schema there too
+abbrev pub KnowsFrame : Job → Found → List Exchange → Type 0
+KnowsFrame job found trace = IsGot job found trace ⊎ (IsConsolidate job.command × IsFramed found trace)
 
 -- all replies to a job say what it found
 abbrev pub AreFound : Job → Found → List Exchange → Type 0
@@ -140,12 +178,14 @@ AreFound job found trace = All (λ x. SaysThere found job.command x.call x.reply
 abbrev pub wanted_in : Found → ℕ → ℕ → Query → Schema → Want
 wanted_in found from to query s = wanted (box_of query.sub (found.frame).domain) from to s.attrs
 
--- a read opened a fragment, whose head it got, in the schema that the head names and that it got too, and the fetch began so
+-- what a command wants of a fragment in a schema: a read what it asks for, a consolidation all
+abbrev pub wants_of : Found → Command → Schema → Option Want
+wants_of found (Read from to query) s = Some (wanted_in found from to query s)
+wants_of found (Consolidate from to limits) s = Some (all_of found.frame s.attrs)
+wants_of found _ s = None
+
+-- a job opened a fragment, whose head it got, in the schema that the head names and that it got too, and the fetch began so
 pub record IsOpened {F : Type 0} (codec : Codec F) (job : Job) (found : Found) (trace : List Exchange) (frag : FragKey) (opening : Result F ℕ) : Type 0 where
-  pub from : ℕ
-  pub to : ℕ
-  pub query : Query
-  pub is_read : job.command ≡ Read from to query
   pub object : List ℕ
   pub got : Contains trace (record { call = get_all (name.Part frag (codec.head_part found.frame)); reply = reply.Bytes object })
   pub head : Head
@@ -153,14 +193,16 @@ pub record IsOpened {F : Type 0} (codec : Codec F) (job : Job) (found : Found) (
   pub schema : Schema
   pub schema_got : GotSchema trace schema
   pub named : schema.key ≡ head.schema
-  pub opens : codec.opens found.frame schema frag object (wanted_in found from to query schema) ≡ opening
+  pub want : Want
+  pub wants : wants_of found job.command schema ≡ Some want
+  pub opens : codec.opens found.frame schema frag object want ≡ opening
 
 -- a fetch that waited for the reply to a call came by these replies, each to the call that it asked for, to wait for the reply to another
 abbrev pub IsFetched : {F : Type 0} → Codec F → List Exchange → F → Call → List Reply → F → Call → Type 0
 IsFetched codec trace f c [] g d = (f ≡ g) × (c ≡ d)
 IsFetched {F} codec trace f c (r ∷ rs) g d = Contains trace (record { call = c; reply = r }) × (h : F) × (b : Call) × (codec.steps f r ≡ Asks h b) × IsFetched codec trace h b rs g d
 
--- a fetch that a read began waits for the reply to a call
+-- a fetch that a job began waits for the reply to a call
 pub record IsUnderWay {F : Type 0} (codec : Codec F) (job : Job) (found : Found) (trace : List Exchange) (frag : FragKey) (fetch : F) (c : Call) : Type 0 where
   pub first : F
   pub opened : IsOpened codec job found trace frag (Ok first)
@@ -180,7 +222,11 @@ IsListedIn kind trace from to f = (names : List Name) × Contains trace (record 
 abbrev pub IsLookedInto : List Exchange → ℕ → ℕ → FragKey → Type 0
 IsLookedInto trace from to f = IsListedIn committed_in trace from to f
 
--- a read listed a fragment with the commits whose `.vac` counts
+-- a consolidation listed a fragment with the commits that lies in the interval
+abbrev pub IsListedInside : List Exchange → ℕ → ℕ → FragKey → Type 0
+IsListedInside trace from to f = (names : List Name) × Contains trace (record { call = list_commits; reply = reply.Names names }) × Contains (committed_in names) f × (is_inside from to f ≡ true)
+
+-- a job listed a fragment with the commits whose `.vac` counts
 abbrev pub IsCountingIn : List Exchange → FragKey → Type 0
 IsCountingIn trace f = (names : List Name) × Contains trace (record { call = list_commits; reply = reply.Names names }) × Contains (counting_in names) f
 
@@ -206,6 +252,19 @@ pub data LooksInside {F : Type 0} (codec : Codec F) (job : Job) (found : Found) 
   -- a get or a size for which the fetch of a near fragment asks, which the read began on what it got
   InFetch : (f : FragKey) (fetch : F) → IsLookedInto trace from to f → IsUnderWay codec job found trace f fetch c → IsTrue (is_look c) → LooksInside codec job found trace from to c
 
+-- what a consolidation looks at: each is a get of a whole object, but for the calls for which a fetch asks
+pub data LooksForSources {F : Type 0} (codec : Codec F) (job : Job) (found : Found) (trace : List Exchange) (from to : ℕ) (c : Call) : Type 0 where
+  -- the frame, once it listed the schemas, of which one holds at its stamp
+  AtFrame : (k : Key) → IsKeyThere job trace k → c ≡ get_frame → LooksForSources codec job found trace from to c
+  -- a `.vac` that counts
+  AtNames : (f : FragKey) → IsFramed found trace → IsCountingIn trace f → c ≡ get_vac f → LooksForSources codec job found trace from to c
+  -- the part that has the head of a fragment in the interval
+  AtOpened : (f : FragKey) → IsFramed found trace → IsListedInside trace from to f → c ≡ get_all (name.Part f (codec.head_part found.frame)) → LooksForSources codec job found trace from to c
+  -- a schema that is named by a head which it got
+  AtNamed : (f : FragKey) (head : Head) → IsFramed found trace → GotHead codec found trace f head → c ≡ get_schema head.schema → LooksForSources codec job found trace from to c
+  -- a get or a size for which the fetch of a fragment in the interval asks, which it began on what it got
+  InSource : (f : FragKey) (fetch : F) → IsFramed found trace → IsListedInside trace from to f → IsUnderWay codec job found trace f fetch c → IsTrue (is_look c) → LooksForSources codec job found trace from to c
+
 -- the call looks at an object that the job's command reads, by what the job was told before; but for the calls of fetches it gets the whole object
 abbrev pub IsLookBy : {F : Type 0} → Codec F → Job → Found → List Exchange → Command → Call → Type 0
 IsLookBy codec job found trace (Create f) c = Contains trace (record { call = frame_put f; reply = reply.Taken }) × (c ≡ get_frame)
@@ -213,6 +272,7 @@ IsLookBy codec job found trace (Evolve change) c = LooksThere job trace c
 IsLookBy codec job found trace (Write w) c = LooksThere job trace c
 IsLookBy codec job found trace (Read from to query) c = LooksThere job trace c ⊎ (IsGot job found trace × LooksInside codec job found trace from to c)
 IsLookBy codec job found trace (Delete text) c = LooksThere job trace c
+IsLookBy codec job found trace (Consolidate from to limits) c = LooksForSources codec job found trace from to c
 
 -- the call looks at an object that the job reads
 abbrev pub IsLookOf : {F : Type 0} → Codec F → Job → Found → List Exchange → Call → Type 0
@@ -259,21 +319,59 @@ pub record EndsAt (looks : Looks) (before : List Exchange) (course : List Call) 
 abbrev pub refused_in : Found → Command → Option Refusal
 refused_in found command = refusal_in found.frame (found.there).attrs command
 
--- a part of a fragment breaks its layout at an offset: where a read opens the fragment, where the fetch begins, or by the last reply, which the fetch waited for
+-- a consolidation was told names by the `.vac` of a fragment
+abbrev pub GotNames : List Exchange → FragKey → List FragKey → Type 0
+GotNames trace f names = (bytes : List ℕ) × Contains trace (record { call = get_vac f; reply = reply.Bytes bytes }) × (names_of bytes ≡ Ok names)
+
+-- a consolidation planned so, by what it was told: over the heads of all fragments in its interval that it listed with the commits, all `.vac` objects that count, and the schemas that the heads name
+pub record PlansBy {F : Type 0} (codec : Codec F) (job : Job) (found : Found) (trace : List Exchange) (plan : Planned) : Type 0 where
+  pub from : ℕ
+  pub to : ℕ
+  pub limits : Limits
+  pub merges : job.command ≡ Consolidate from to limits
+  pub framed : IsFramed found trace
+  pub names : List Name
+  pub listed : Contains trace (record { call = list_commits; reply = reply.Names names })
+  pub heads : List Head
+  pub all_heads : list_map (λ head. head.frag) heads ≡ filter (is_inside from to) (committed_in names)
+  pub each_head : (head : Head) → Contains heads head → GotHead codec found trace head.frag head
+  pub vacs : List VacOf
+  pub all_vacs : list_map (λ v. v.frag) vacs ≡ counting_in names
+  pub each_vac : (v : VacOf) → Contains vacs v → GotNames trace v.frag v.names
+  pub attributes : Key → ℕ
+  pub counted : (head : Head) → Contains heads head → (s : Schema) × (s.key ≡ head.schema) × GotSchema trace s × (attributes head.schema ≡ length s.attrs)
+  pub is : plan_of heads vacs attributes from to limits ≡ plan
+
+-- a consolidation merged so many fragments, those of its plan: into the piece of their heads and of the versions that it got, in the schema that they name
+pub record IsMergeBy {F : Type 0} (codec : Codec F) (job : Job) (found : Found) (trace : List Exchange) (merge : Merge) (count : ℕ) : Type 0 where
+  pub sources : List FragKey
+  pub by_plan : PlansBy codec job found trace (planned.Take sources)
+  pub counted : count ≡ length sources
+  pub schema_got : GotSchema trace merge.schema
+  pub first : Head
+  pub others : List Head
+  pub heads : first ∷ others ≡ filter (λ head. is_among head.frag sources) by_plan.heads
+  pub schema_named : (merge.schema).key ≡ first.schema
+  pub got : List (List Version)
+  pub one_each : length got ≡ length sources
+  pub piece : merge.piece ≡ merged_with found.frame job.id first others (all_got got)
+  pub names : merge.names ≡ names_merged by_plan.vacs sources
+
+-- a part of a fragment breaks its layout at an offset: where a job opens the fragment, where the fetch begins, or by the last reply, which the fetch waited for
 abbrev pub BreaksPart : {F : Type 0} → Codec F → Job → Found → List Exchange → Exchange → FragKey → Part → ℕ → Type 0
 BreaksPart {F} codec job found trace last f part at =
     ((part ≡ codec.head_part found.frame) × IsOpened codec job found trace f (Err at))
     ⊎ ((fetch : F) × ((IsOpened codec job found trace f (Ok fetch) × (codec.steps fetch reply.Start ≡ Breaks part at)) ⊎ (IsUnderWay codec job found trace f fetch last.call × (codec.steps fetch last.reply ≡ Breaks part at))))
 
--- a read in the frame that it got finds a part of a fragment broken at an offset
+-- a job in the frame that it got finds a part of a fragment broken at an offset
 abbrev pub BreaksFetch : {F : Type 0} → Codec F → Job → Found → List Exchange → Exchange → Name → ℕ → Type 0
-BreaksFetch codec job found trace last n at = (f : FragKey) × (part : Part) × (n ≡ name.Part f part) × IsGot job found trace × BreaksPart codec job found trace last f part at
+BreaksFetch codec job found trace last n at = (f : FragKey) × (part : Part) × (n ≡ name.Part f part) × KnowsFrame job found trace × BreaksPart codec job found trace last f part at
 
 -- the bytes of an object break its layout at an offset: a schema, the frame, a delete, a `.vac`, or the head of a fragment in an array of the frame that the job got
 abbrev pub BreaksAt : {F : Type 0} → Codec F → Job → Found → List Exchange → Name → List ℕ → ℕ → Type 0
 BreaksAt codec job found trace (name.Schema k) bytes at = schema_of bytes ≡ Err at
 BreaksAt codec job found trace name.Domain bytes at = frame_of bytes ≡ Err at
-BreaksAt codec job found trace (name.Part f part) bytes at = IsGot job found trace × (part ≡ codec.head_part found.frame) × (codec.head found.frame f bytes ≡ Err at)
+BreaksAt codec job found trace (name.Part f part) bytes at = KnowsFrame job found trace × (part ≡ codec.head_part found.frame) × (codec.head found.frame f bytes ≡ Err at)
 BreaksAt codec job found trace (name.Commit f Del) bytes at = cond_of bytes ≡ Err at
 BreaksAt codec job found trace (name.Commit f Vac) bytes at = names_of bytes ≡ Err at
 BreaksAt codec job found trace n bytes at = ⊥
@@ -294,6 +392,7 @@ abbrev pub IsCause : {F : Type 0} → Codec F → Job → Found → List Exchang
 IsCause codec job found trace last refusal.ArrayExists = (f : FrameIn) × (job.command ≡ Create f) × IsThere f last
 IsCause codec job found trace last (refusal.NoSchema at) =
     (made_by job.command ≡ None) × (names : List Name) × (last ≡ record { call = list_schemas; reply = reply.Names names }) × (at ≡ looked_at job) × (schema_at (schemas_in names) at ≡ None)
+IsCause codec job found trace last (refusal.NothingToDo count) = PlansBy codec job found trace (planned.Nothing count)
 IsCause codec job found trace last (refusal.Leased other) = IsHeldUp job last other
 IsCause codec job found trace last (refusal.Taken n) = (n ≡ name.Domain → ⊥) × (bytes : List ℕ) × (last ≡ record { call = call.Put n bytes; reply = reply.Taken })
 IsCause codec job found trace last (refusal.StoreFault p) = (p ≡ place_of last.call) × (last.reply ≡ reply.Failed)
@@ -313,6 +412,7 @@ EndsAlong codec job found course trace (outcome.Evolved k) = Along (IsLookOf cod
 EndsAlong codec job found course trace (outcome.Written f) = Along (IsLookOf codec job found) [] course trace [] × ((w : WriteIn) × (job.command ≡ Write w)) × (f ≡ frag_of_job job) × IsGot job found trace × (refused_in found job.command ≡ None)
 EndsAlong codec job found course trace (outcome.Deleted f) = Along (IsLookOf codec job found) [] course trace [] × ((text : List ℕ) × (job.command ≡ Delete text)) × (f ≡ frag_of_job job) × IsGot job found trace × (refused_in found job.command ≡ None)
 EndsAlong codec job found course trace (outcome.Read answer) = Along (IsLookOf codec job found) [] course trace [] × ((from : ℕ) × (to : ℕ) × (query : Query) × (job.command ≡ Read from to query)) × IsGot job found trace × (refused_in found job.command ≡ None)
+EndsAlong codec job found course trace (outcome.Consolidated f count) = Along (IsLookOf codec job found) [] course trace [] × ((merge : Merge) × (found.merged ≡ Some merge) × (f ≡ merge.piece.head.frag) × IsMergeBy codec job found trace merge count)
 
 -- the calls begin with the put of the lease, whose name was not taken
 abbrev pub HasPut : Name → List Exchange → Type 0

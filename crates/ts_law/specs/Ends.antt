@@ -1,6 +1,16 @@
 -- What the end of a job tells of the history.
-use Rattle.std.specs.Prelude.{◌≡◌, ℕ, List, ◌∷◌, ◌++◌, Some, Ok, Contains, filter, ⊤, ◌⊎◌, map as list_map}
+use Rattle.std.specs.Prelude.{◌≡◌, ℕ, Bool, length, List, [], ◌∷◌, ◌++◌, Some, Ok, Contains, filter, ⊤, ◌⊎◌, map as list_map}
+use Rattle.std.specs.List.{list_any}
+use Rattle.std.specs.Option.{option_map_or}
 use Rattle.ts_base.specs.declared.names.Prefix.{Prefix}
+use Rattle.ts_base.specs.declared.keys.Key.{Key}
+use Rattle.ts_base.specs.Names.{wrt_of}
+use Rattle.ts_store.specs.declared.call.Call.{Call}
+use Rattle.ts_commit.specs.declared.vacs.VacOf.{VacOf}
+use Rattle.ts_commit.specs.declared.vacs.Limits.{Limits}
+use Rattle.ts_commit.specs.declared.vacs.Planned.{Planned}
+use Rattle.ts_commit.specs.declared.vacs.Planned.TheVariants as planned
+use Rattle.ts_commit.specs.Plans.{is_inside, plan_of}
 use Rattle.ts_base.specs.declared.keys.FragKey.{FragKey}
 use Rattle.ts_base.specs.declared.heads.Cell.{Cell}
 use Rattle.ts_base.specs.declared.heads.Head.{Head}
@@ -18,16 +28,16 @@ use Rattle.ts_schema.specs.declared.schemas.Schema.{Schema}
 use Rattle.ts_schema.specs.declared.attrs.Attr.{Attr}
 use Rattle.ts_schema.specs.declared.evolution.Evolution.{Evolution}
 use Rattle.ts_schema.specs.Evolutions.{evolved_attrs}
-use Rattle.ts_model.specs.declared.commands.Command.TheVariants.{Create, Evolve, Write, Read, Delete}
+use Rattle.ts_model.specs.declared.commands.Command.TheVariants.{Create, Evolve, Write, Read, Delete, Consolidate}
 use Rattle.ts_base.specs.declared.names.CommitKind.{CommitKind}
 use Rattle.ts_base.specs.declared.names.CommitKind.TheVariants.{Wrt, Del}
 use Rattle.ts_base.specs.declared.names.Prefix.TheVariants.{Commits, Schemas}
 use Rattle.ts_store.specs.Calls.{names_under}
-use Rattle.ts_commit.specs.Selections.{clipped_names}
+use Rattle.ts_commit.specs.Selections.{clipped_names, has_origin, is_among, names_merged}
 use Rattle.ts_model.specs.Told.{Told, held_told, history_told}
-use Rattle.ts_model.specs.States.{committed_in, meets}
+use Rattle.ts_model.specs.States.{committed_in, counting_in, meets}
 use Rattle.ts_model.specs.Codecs.{Spelled}
-use Rattle.ts_law.specs.Stands.{HoldsIn}
+use Rattle.ts_law.specs.Stands.{HoldsIn, IsCommitted, Names}
 use Rattle.ts_cond.specs.declared.query.Query.{Query}
 use Rattle.ts_cond.specs.Tests.{Condition}
 use Rattle.ts_model.specs.Queries.{delete_condition}
@@ -111,29 +121,98 @@ pub record IsDeleted (jobs : List Job) (past : History) (told : List Told) (numb
   pub says : delete_condition frame there.attrs text ≡ Ok condition
   pub erased : Contains (deletions (history_told jobs past told)) (deletion_as job condition)
 
+-- ---- consolidations
+
+-- the heads of the fragments that are committed in a map and lie in [a, b]
+pub record AreInside (spelled : Spelled) (h : History) (m : Held) (a b : ℕ) (heads : List Head) : Type 0 where
+  pub frags : list_map (λ head. head.frag) heads ≡ filter (is_inside a b) (committed_in (names_under Commits m))
+  pub each : (head : Head) → Contains heads head → (p : Piece) × HoldsIn spelled h m head.frag p × (p.head ≡ head)
+
+-- what all `.vac` objects of committed fragments name
+pub record AreAllVacs (m : Held) (vacs : List VacOf) : Type 0 where
+  pub frags : list_map (λ v. v.frag) vacs ≡ counting_in (names_under Commits m)
+  pub each : (v : VacOf) → Contains vacs v → Names m v.frag v.names
+
+-- how many attributes the schema of a key has in a history
+abbrev pub attributes_with : History → Key → ℕ
+attributes_with h k = option_map_or (λ s. length s.attrs) (schema_with h k) 0
+
+-- the plan of a consolidation of [from, to], over the fragments that are committed in a map
+pub record IsPlanned (spelled : Spelled) (h : History) (m : Held) (from to : ℕ) (limits : Limits) (plan : Planned) : Type 0 where
+  pub heads : List Head
+  pub are_heads : AreInside spelled h m from to heads
+  pub vacs : List VacOf
+  pub are_vacs : AreAllVacs m vacs
+  pub is : plan_of heads vacs (attributes_with h) from to limits ≡ plan
+
+-- a job made a call at a place of what was told
+pub record MadeAt (told : List Told) (number : ℕ) (c : Call) : Type 0 where
+  pub before : List Told
+  pub made : Told
+  pub later : List Told
+  pub place : told ≡ before ++ made ∷ later
+  pub own : made.job ≡ Some number
+  pub makes : made.call ≡ c
+
+-- what was told up to a call, the call included
+abbrev pub up_to : List Told → Told → List Told
+up_to before made = before ++ made ∷ []
+
+-- a consolidation merged so many fragments into one: those that its plan takes over the commits that it listed. When it put the `.wrt`, the fragment was committed, all that went into a source and nothing else went into it, and its `.vac` named the sources, and what the `.vac` objects of these named
+pub record IsMerged (spelled : Spelled) (opening : Held) (jobs : List Job) (past : History) (told : List Told) (number : ℕ) (job : Job) (f : FragKey) (count : ℕ) : Type 0 where
+  pub from : ℕ
+  pub to : ℕ
+  pub limits : Limits
+  pub merges : job.command ≡ Consolidate from to limits
+  pub commits : ListedAt told number Commits
+  pub sources : List FragKey
+  pub by_plan : IsPlanned spelled (history_told jobs past commits.before) (held_told opening commits.before) from to limits (planned.Take sources)
+  pub counted : count ≡ length sources
+  pub put : MadeAt told number (call.Put (wrt_of f) [])
+  pub later : List Told
+  pub order : put.before ≡ commits.before ++ commits.listing ∷ later
+  pub committed : IsCommitted (held_told opening (up_to put.before put.made)) f
+  pub piece : Piece
+  pub holds : HoldsIn spelled (history_told jobs past (up_to put.before put.made)) (held_told opening (up_to put.before put.made)) f piece
+  pub origins : (k : Key) → has_origin k piece.head ≡ list_any (has_origin k) (filter (λ head. is_among head.frag sources) by_plan.heads)
+  pub merged : Names (held_told opening (up_to put.before put.made)) f (names_merged by_plan.vacs sources)
+
+-- a consolidation found so many fragments that may be merged, of the commits that it listed, and its plan takes none
+pub record FindsNothing (spelled : Spelled) (opening : Held) (jobs : List Job) (past : History) (told : List Told) (number : ℕ) (job : Job) (count : ℕ) : Type 0 where
+  pub from : ℕ
+  pub to : ℕ
+  pub limits : Limits
+  pub merges : job.command ≡ Consolidate from to limits
+  pub commits : ListedAt told number Commits
+  pub by_plan : IsPlanned spelled (history_told jobs past commits.before) (held_told opening commits.before) from to limits (planned.Nothing count)
+
+-- ---- all ends
+
 -- the kind of the commit by which a command's deed comes: a `.del` for a delete, else a `.wrt`
 abbrev pub kind_of : Command → CommitKind
 kind_of (Delete text) = Del
 kind_of _ = Wrt
 
--- what a refusal tells of the history: no object is missing, damaged or taken, and a refused job has no deed under its key, but perhaps where the put of its own `.wrt`, `.del` or schema failed
-abbrev pub IsTrueRefusal : History → Job → Refusal → Type 0
-IsTrueRefusal h job (refusal.Missing n) = ⊥
-IsTrueRefusal h job (refusal.Damaged n at) = ⊥
-IsTrueRefusal h job (refusal.Taken n) = ⊥
-IsTrueRefusal h job (refusal.StoreFault (place.Name (name.Commit f kind))) = (f ≡ frag_of_job job) × (kind ≡ kind_of job.command) ⊎ IsUndone h job
-IsTrueRefusal h job (refusal.StoreFault (place.Name (name.Schema k))) = (k ≡ key_of job) ⊎ IsUndone h job
-IsTrueRefusal h job r = IsUndone h job
+-- what a refusal tells, where a map was held at the beginning: no object is missing, damaged or taken, and a refused job has no deed under its key, but perhaps where the put of its own `.wrt`, `.del` or schema failed; a consolidation that has nothing to do found so many fragments that may be merged
+abbrev pub IsTrueRefusal : Spelled → Held → List Job → History → List Told → ℕ → Job → Refusal → Type 0
+IsTrueRefusal spelled opening jobs past told number job (refusal.Missing n) = ⊥
+IsTrueRefusal spelled opening jobs past told number job (refusal.Damaged n at) = ⊥
+IsTrueRefusal spelled opening jobs past told number job (refusal.Taken n) = ⊥
+IsTrueRefusal spelled opening jobs past told number job (refusal.StoreFault (place.Name (name.Commit f kind))) = (f ≡ frag_of_job job) × (kind ≡ kind_of job.command) ⊎ IsUndone (history_told jobs past told) job
+IsTrueRefusal spelled opening jobs past told number job (refusal.StoreFault (place.Name (name.Schema k))) = (k ≡ key_of job) ⊎ IsUndone (history_told jobs past told) job
+IsTrueRefusal spelled opening jobs past told number job (refusal.NothingToDo count) = IsUndone (history_told jobs past told) job × FindsNothing spelled opening jobs past told number job count
+IsTrueRefusal spelled opening jobs past told number job r = IsUndone (history_told jobs past told) job
 
--- what an end tells of the history
-abbrev pub IsTrueEnd : List Job → History → List Told → ℕ → Job → Outcome → Type 0
-IsTrueEnd jobs past told number job outcome.Created = IsCreated (history_told jobs past told) job
-IsTrueEnd jobs past told number job (outcome.Evolved k) = (k ≡ key_of job) × IsEvolved jobs past told number job
-IsTrueEnd jobs past told number job (outcome.Written f) = (f ≡ frag_of_job job) × IsWritten jobs past told number job
-IsTrueEnd jobs past told number job (outcome.Deleted f) = (f ≡ frag_of_job job) × IsDeleted jobs past told number job
-IsTrueEnd jobs past told number job (outcome.Read answer) = (from : ℕ) × (to : ℕ) × (query : Query) × (job.command ≡ Read from to query) × AnswersAt jobs past told number from to query answer
-IsTrueEnd jobs past told number job (outcome.Refused r) = IsTrueRefusal (history_told jobs past told) job r
-IsTrueEnd jobs past told number job outcome.OutOfMemory = ⊤
+-- what an end tells of the history, and that of a consolidation of the objects too
+abbrev pub IsTrueEnd : Spelled → Held → List Job → History → List Told → ℕ → Job → Outcome → Type 0
+IsTrueEnd spelled opening jobs past told number job outcome.Created = IsCreated (history_told jobs past told) job
+IsTrueEnd spelled opening jobs past told number job (outcome.Evolved k) = (k ≡ key_of job) × IsEvolved jobs past told number job
+IsTrueEnd spelled opening jobs past told number job (outcome.Written f) = (f ≡ frag_of_job job) × IsWritten jobs past told number job
+IsTrueEnd spelled opening jobs past told number job (outcome.Deleted f) = (f ≡ frag_of_job job) × IsDeleted jobs past told number job
+IsTrueEnd spelled opening jobs past told number job (outcome.Read answer) = (from : ℕ) × (to : ℕ) × (query : Query) × (job.command ≡ Read from to query) × AnswersAt jobs past told number from to query answer
+IsTrueEnd spelled opening jobs past told number job (outcome.Consolidated f count) = IsUndone (history_told jobs past told) job × IsMerged spelled opening jobs past told number job f count
+IsTrueEnd spelled opening jobs past told number job (outcome.Refused r) = IsTrueRefusal spelled opening jobs past told number job r
+IsTrueEnd spelled opening jobs past told number job outcome.OutOfMemory = ⊤
 
 -- ---- what an end tells of the objects
 
@@ -154,4 +233,4 @@ IsTrueOver spelled opening jobs past told number job (outcome.Read answer) =
     (from : ℕ) × (to : ℕ) × (query : Query) × (job.command ≡ Read from to query)
     × ((is : AnswersAt jobs past told number from to query answer) × AreClipped spelled (history_told jobs past (is.commits).before) (held_told opening (is.commits).before) from to answer.clipped)
 IsTrueOver spelled opening jobs past told number job outcome.OutOfMemory = IsUndone (history_told jobs past told) job
-IsTrueOver spelled opening jobs past told number job end = IsTrueEnd jobs past told number job end
+IsTrueOver spelled opening jobs past told number job end = IsTrueEnd spelled opening jobs past told number job end

@@ -3,7 +3,7 @@ use Rattle.std.specs.Prelude.{◌≡◌, ℕ, zero, suc, ◌+◌, ◌*◌, ◌/�
 use Rattle.ts_base.specs.declared.keys.Key.{Key}
 use Rattle.ts_base.specs.declared.names.Name.{Name}
 use Rattle.ts_model.specs.declared.commands.Command.{Command}
-use Rattle.ts_model.specs.declared.commands.Command.TheVariants.{Read}
+use Rattle.ts_model.specs.declared.commands.Command.TheVariants.{Read, Consolidate}
 use Rattle.ts_model.specs.declared.commands.Job.{Job}
 use Rattle.ts_model.specs.declared.commands.Line.{Line}
 use Rattle.ts_base.specs.Held.{Held}
@@ -69,9 +69,10 @@ lanes_of items number = lane_of (slice_get items number)
 
 -- ---- the jobs of the lines
 
--- a command whose interval ends at the stamp where that is asked for, as it can be of a read
+-- a command whose interval ends at the stamp where that is asked for, as it can be of a read and of a consolidation
 abbrev pub ends_at : Bool → ℕ → Command → Command
 ends_at true at (Read from to query) = Read from at query
+ends_at true at (Consolidate from to limits) = Consolidate from at limits
 ends_at _ at command = command
 
 -- the command of a line at its stamp

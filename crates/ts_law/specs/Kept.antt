@@ -21,6 +21,15 @@ use Rattle.ts_model.specs.declared.states.Stage.TheVariants as stages
 use Rattle.ts_model.specs.declared.states.Creating.{Creating}
 use Rattle.ts_model.specs.declared.states.Seeking.{Seeking}
 use Rattle.ts_model.specs.declared.states.Collecting.{Collecting}
+use Rattle.ts_model.specs.declared.states.Merging.{Merging}
+use Rattle.ts_model.specs.declared.states.Merging.TheVariants as merging
+use Rattle.ts_model.specs.declared.states.Candidates.{Candidates}
+use Rattle.ts_model.specs.declared.states.Survey.{Survey}
+use Rattle.ts_schema.specs.declared.attrs.Attr.{Attr}
+use Rattle.ts_schema.specs.Wants.{taken}
+use Rattle.ts_commit.specs.declared.vacs.Limits.{Limits}
+use Rattle.ts_commit.specs.declared.vacs.Planned.TheVariants as planned
+use Rattle.ts_commit.specs.Plans.{is_inside}
 use Rattle.ts_model.specs.declared.states.NewObject.{NewObject}
 use Rattle.ts_model.specs.declared.states.Opened.{Opened}
 use Rattle.ts_model.specs.declared.states.Reading.{Reading}
@@ -33,8 +42,9 @@ use Rattle.ts_base.specs.Keys.{frag_of, is_within}
 use Rattle.ts_base.specs.Held.{Held}
 use Rattle.ts_schema.specs.Evolutions.{evolved_attrs, evolution_fault, schema_at}
 use Rattle.ts_schema.specs.Parts.{IsShort}
-use Rattle.ts_model.specs.declared.commands.Command.TheVariants.{Create, Evolve, Write, Read, Delete}
+use Rattle.ts_model.specs.declared.commands.Command.TheVariants.{Create, Evolve, Write, Read, Delete, Consolidate}
 use Rattle.ts_model.specs.declared.states.State.TheVariants.{Creates, Seeks, Puts, Collects, Over}
+use Rattle.ts_model.specs.declared.states.State.TheVariants as states
 use Rattle.ts_model.specs.declared.states.Creating.TheVariants.{PutsFrame, ComparesFrame, ListsDeclared}
 use Rattle.ts_model.specs.declared.states.Seeking.TheVariants.{ListsCommits, ListsSchemas, GetsSchema, GetsFrame}
 use Rattle.ts_model.specs.declared.states.Collecting.TheVariants.{GetsVacs, GetsHeads, GetsSchemas, GetsDeletes, Fetches}
@@ -48,15 +58,15 @@ use Rattle.ts_domain.specs.declared.boxes.SubBox.{SubBox}
 use Rattle.ts_domain.specs.Boxes.{is_in_box}
 use Rattle.ts_model.specs.Queries.{ready_in, delete_condition}
 use Rattle.ts_model.specs.Driven.{MayAsk}
-use Rattle.ts_model.specs.States.{delete_object_of, schema_object_of, write_objects, keys_named, want_of, begun, committed_in, counting_in, deletes_in, heads_of, meets}
+use Rattle.ts_model.specs.States.{delete_object_of, schema_object_of, write_objects, keys_named, want_of, begun, committed_in, counting_in, deletes_in, heads_of, meets, vac_of, all_of, frags_of, schemas_named, piece_merged, can_be_named, merge_objects}
 use Rattle.ts_model.specs.Stages.{lease_of, stage_of}
 use Rattle.ts_model.specs.Codecs.{Codec, Spelled, Tracking}
 use Rattle.ts_model.specs.Jobs.{key_of, frag_of_job, AreFit, AreApart, looked_at, job_with}
-use Rattle.ts_law.specs.Stands.{HoldsIn, IsBare, IsCommitted, IsNoLease, Names, Stands}
+use Rattle.ts_law.specs.Stands.{HoldsIn, IsCommitted, IsNoLease, IsUnspent, Names, Stands}
 use Rattle.ts_law.specs.Origins.{last_version, newest_at, wrote_in}
-use Rattle.ts_commit.specs.Selections.{has_origin, is_usable}
+use Rattle.ts_commit.specs.Selections.{has_origin, is_among, is_usable, names_merged}
 use Rattle.ts_commit.specs.declared.vacs.VacOf.{VacOf}
-use Rattle.ts_law.specs.Ends.{ListedAt, IsUndone, IsTrueEnd}
+use Rattle.ts_law.specs.Ends.{ListedAt, IsPlanned, IsUndone, IsTrueEnd}
 use Rattle.ts_model.specs.Deeds.{History, frame_in, writes, deletions, schema_with, schema_there}
 use Rattle.ts_model.specs.Commands.{frame_made, create_refusal, laid}
 use Rattle.ts_store.specs.declared.call.Call.TheVariants as call
@@ -65,11 +75,11 @@ use Rattle.std.specs.FinMap as map
 
 -- ---- what a job found so far
 
--- no object that is held carries the identifier of a job, its own lease aside, no deed has its key, and its fragment is in no `.vac`
+-- no object that is held carries the identifier of a job, its own lease aside, no deed has its key, and its identifier is unspent
 pub record Clean (m : Held) (h : History) (job : Job) : Type 0 where
   pub free : (n : Name) → id_in n ≡ Some job.id → (lease_of job ≡ Some n → ⊥) → map.get m n ≡ None
   pub undone : IsUndone h job
-  pub bare : IsBare m (frag_of_job job)
+  pub unspent : IsUnspent m job.id
 
 -- the schema that a job works in: at its listing of the schemas it was the one that held where the job looks, and it is a deed; no deed of the job was there
 pub record Works (past : History) (jobs : List Job) (seen : List Told) (number : ℕ) (job : Job) (there : Schema) : Type 0 where
@@ -104,6 +114,7 @@ pub record LooksInto (spelled : Spelled) (opening : Held) (past : History) (jobs
 -- what a job listed before the schemas: a read the commits, another job nothing
 abbrev pub HasLooked : Spelled → Held → History → List Job → List Told → Held → ℕ → Command → Listed → Type 0
 HasLooked spelled opening past jobs seen m number (Create f) listed = ⊥
+HasLooked spelled opening past jobs seen m number (Consolidate from to limits) listed = ⊥
 HasLooked spelled opening past jobs seen m number (Read from to query) listed = LooksInto spelled opening past jobs seen m number from to listed.fragments listed.counting listed.delete_names
 HasLooked spelled opening past jobs seen m number _ listed = ⊤
 
@@ -117,6 +128,7 @@ pub record ReadsAt (spelled : Spelled) (opening : Held) (past : History) (jobs :
 -- what a job listed before it gets the schema there
 abbrev pub HasListed : Spelled → Held → History → List Job → List Told → Held → ℕ → Job → Command → Listed → Schema → Type 0
 HasListed spelled opening past jobs seen m number job (Create f) listed there = ⊥
+HasListed spelled opening past jobs seen m number job (Consolidate from to limits) listed there = ⊥
 HasListed spelled opening past jobs seen m number job (Read from to query) listed there = ReadsAt spelled opening past jobs seen m number job from to listed.fragments listed.counting listed.delete_names there
 HasListed spelled opening past jobs seen m number job _ listed there = Works past jobs seen number job there
 
@@ -141,10 +153,10 @@ pub record IsOpen {F : Type 0} (codec : Codec F) (spelled : Spelled) (g : Histor
   pub head : o.head ≡ piece.head
   pub object : (holds.spells).look (codec.head_part frame) ≡ Some o.object
 
--- the first fragments of a read are open
-pub record AreOpen {F : Type 0} (codec : Codec F) (spelled : Spelled) (g : History) (m : Held) (r : Reading) (opened : List Opened) : Type 0 where
-  pub frags : list_map (λ o. o.frag) opened ≡ take (length opened) r.fragments
-  pub each : (o : Opened) → Contains opened o → IsOpen codec spelled g m r.frame o
+-- the first of these fragments are open
+pub record AreOpen {F : Type 0} (codec : Codec F) (spelled : Spelled) (g : History) (m : Held) (frame : Frame) (fragments : List FragKey) (opened : List Opened) : Type 0 where
+  pub frags : list_map (λ o. o.frag) opened ≡ take (length opened) fragments
+  pub each : (o : Opened) → Contains opened o → IsOpen codec spelled g m frame o
 
 -- a read loads these fragments: each is open, and the read can use it; each write in the interval went into one of them, and no fragment is clipped
 pub record AreChosen {F : Type 0} (codec : Codec F) (spelled : Spelled) (g : History) (m : Held) (r : Reading) (chosen : List Opened) : Type 0 where
@@ -179,7 +191,7 @@ pub record GettingVacs (spelled : Spelled) (opening : Held) (past : History) (jo
 pub record Opening {F : Type 0} (codec : Codec F) (spelled : Spelled) (opening : Held) (past : History) (jobs : List Job) (seen : List Told) (m : Held) (number : ℕ) (job : Job) (r : Reading) (opened : List Opened) : Type 0 where
   pub reads : ReadsIn spelled opening past jobs seen m number job r
   pub are_vacs : AreVacs (held_told opening (((reads.at).listed).since.commits).before) r.counting r.vacs
-  pub are_open : AreOpen codec spelled (history_told jobs past (((reads.at).listed).since.commits).before) (held_told opening (((reads.at).listed).since.commits).before) r opened
+  pub are_open : AreOpen codec spelled (history_told jobs past (((reads.at).listed).since.commits).before) (held_told opening (((reads.at).listed).since.commits).before) r.frame r.fragments opened
 
 -- a read that knows what it loads, and has some of the schemas of these fragments
 pub record Gathering {F : Type 0} (codec : Codec F) (spelled : Spelled) (opening : Held) (past : History) (jobs : List Job) (seen : List Told) (m : Held) (number : ℕ) (job : Job) (r : Reading) (opened : List Opened) (schemas : List Schema) : Type 0 where
@@ -207,32 +219,126 @@ pub record OnWay {F : Type 0} (spelled : Spelled) (tracks : Tracking F) (g : His
   pub usable : is_usable r.from r.to piece.head ≡ true
   pub way : tracks r.frame holds.schema piece (holds.spells).look (want_of r (holds.schema).attrs) fetch c
 
+-- ---- what a consolidation found so far
+
+-- what a consolidation chooses from, of the commits that it listed
+pub record ChoosesFrom (spelled : Spelled) (opening : Held) (past : History) (jobs : List Job) (seen : List Told) (m : Held) (number from to : ℕ) (fragments counting : List FragKey) : Type 0 where
+  pub since : Since spelled opening past jobs seen m number
+  -- the fragments in the interval
+  pub fragments_are : fragments ≡ filter (is_inside from to) (committed_in (names_under Commits (held_told opening (since.commits).before)))
+  -- those that have a `.vac`
+  pub counting_are : counting ≡ counting_in (names_under Commits (held_told opening (since.commits).before))
+
+-- a consolidation that listed the commits
+pub record Chooses (spelled : Spelled) (opening : Held) (past : History) (jobs : List Job) (seen : List Told) (m : Held) (number : ℕ) (job : Job) (c : Candidates) : Type 0 where
+  pub from : ℕ
+  pub to : ℕ
+  pub limits : Limits
+  pub merges : job.command ≡ Consolidate from to limits
+  pub chooses : ChoosesFrom spelled opening past jobs seen m number from to c.fragments c.counting
+
+-- a consolidation that has the frame, and the first of the `.vac` objects
+pub record Surveys (spelled : Spelled) (opening : Held) (past : History) (jobs : List Job) (seen : List Told) (m : Held) (number : ℕ) (job : Job) (s : Survey) : Type 0 where
+  pub merges : job.command ≡ Consolidate s.from s.to s.limits
+  pub chooses : ChoosesFrom spelled opening past jobs seen m number s.from s.to s.fragments s.counting
+  pub framed : frame_in (history_told jobs past seen) ≡ Some s.frame
+  pub are_vacs : AreVacs (held_told opening ((chooses.since).commits).before) s.counting s.vacs
+
+-- a consolidation that has all `.vac` objects, and of which the first fragments are open
+pub record Opens {F : Type 0} (codec : Codec F) (spelled : Spelled) (opening : Held) (past : History) (jobs : List Job) (seen : List Told) (m : Held) (number : ℕ) (job : Job) (s : Survey) (opened : List Opened) : Type 0 where
+  pub surveys : Surveys spelled opening past jobs seen m number job s
+  pub all_vacs : length s.vacs ≡ length s.counting
+  pub are_open : AreOpen codec spelled (history_told jobs past (((surveys.chooses).since).commits).before) (held_told opening (((surveys.chooses).since).commits).before) s.frame s.fragments opened
+
+-- a consolidation of which all fragments are open, and that has some of the schemas that their heads name
+pub record Learns {F : Type 0} (codec : Codec F) (spelled : Spelled) (opening : Held) (past : History) (jobs : List Job) (seen : List Told) (m : Held) (number : ℕ) (job : Job) (s : Survey) (opened : List Opened) (schemas : List Schema) : Type 0 where
+  pub opens : Opens codec spelled opening past jobs seen m number job s opened
+  pub all_open : length opened ≡ length s.fragments
+  pub gathered : AreSchemas (history_told jobs past seen) (schemas_named opened) schemas
+
+-- the open fragment holds this piece, in this schema
+pub record IsSource {F : Type 0} (codec : Codec F) (spelled : Spelled) (g : History) (m : Held) (frame : Frame) (schema : Schema) (o : Opened) (p : Piece) : Type 0 where
+  pub committed : IsCommitted m o.frag
+  pub holds : HoldsIn spelled g m o.frag p
+  pub same_frame : holds.frame ≡ frame
+  pub same_schema : holds.schema ≡ schema
+  pub head : o.head ≡ p.head
+  pub object : (holds.spells).look (codec.head_part frame) ≡ Some o.object
+
+-- so does each of these, in turn
+abbrev pub AreSourcesIn : {F : Type 0} → Codec F → Spelled → History → Held → Frame → Schema → List Opened → List Piece → Type 0
+AreSourcesIn codec spelled g m frame schema [] [] = ⊤
+AreSourcesIn codec spelled g m frame schema (o ∷ sources) (p ∷ ps) = IsSource codec spelled g m frame schema o p × AreSourcesIn codec spelled g m frame schema sources ps
+AreSourcesIn codec spelled g m frame schema _ _ = ⊥
+
+-- a consolidation that knows its sources, which are those of its plan, all in one schema
+pub record HasSources {F : Type 0} (codec : Codec F) (spelled : Spelled) (opening : Held) (past : History) (jobs : List Job) (seen : List Told) (m : Held) (number : ℕ) (job : Job) (s : Survey) (sources : List Opened) (schema : Schema) : Type 0 where
+  pub surveys : Surveys spelled opening past jobs seen m number job s
+  pub by_plan : IsPlanned spelled (history_told jobs past (((surveys.chooses).since).commits).before) (held_told opening (((surveys.chooses).since).commits).before) s.from s.to s.limits (planned.Take (frags_of sources))
+  pub same_vacs : by_plan.vacs ≡ s.vacs
+  pub heads : heads_of sources ≡ filter (λ head. is_among head.frag (frags_of sources)) by_plan.heads
+  pub pieces : List Piece
+  pub are_sources : AreSourcesIn codec spelled (history_told jobs past (((surveys.chooses).since).commits).before) (held_told opening (((surveys.chooses).since).commits).before) s.frame schema sources pieces
+  pub declared : schema_with (history_told jobs past seen) schema.key ≡ Some schema
+
+-- what is got of each of these pieces, in turn: all of it
+abbrev pub all_taken_of : Frame → List Attr → List Piece → List (List Version)
+all_taken_of frame attrs ps = list_map (λ p. taken (all_of frame attrs) p.versions) ps
+
+-- a consolidation that has its sources, and got the versions of those before the next one
+pub record Merges {F : Type 0} (codec : Codec F) (spelled : Spelled) (opening : Held) (past : History) (jobs : List Job) (seen : List Told) (m : Held) (number : ℕ) (job : Job) (s : Survey) (sources : List Opened) (schema : Schema) (next : ℕ) (got : List (List Version)) : Type 0 where
+  pub has : HasSources codec spelled opening past jobs seen m number job s sources schema
+  pub got_are : got ≡ all_taken_of s.frame schema.attrs (take next has.pieces)
+
+-- the fetch of a source has come so far on its parts
+pub record IsFetched {F : Type 0} (codec : Codec F) (spelled : Spelled) (tracks : Tracking F) (g : History) (m : Held) (frame : Frame) (schema : Schema) (frag : FragKey) (pieces : List Piece) (next : ℕ) (fetch : F) (c : Call) : Type 0 where
+  pub source : Opened
+  pub piece : Piece
+  pub at : slice_get pieces next ≡ Some piece
+  pub is : IsSource codec spelled g m frame schema source piece
+  pub named : source.frag ≡ frag
+  pub way : tracks frame schema piece ((is.holds).spells).look (all_of frame schema.attrs) fetch c
+
+-- the objects that a consolidation puts are those of the piece that its sources are merged into, and of its `.vac`
+pub record AimsToMerge {F : Type 0} (codec : Codec F) (spelled : Spelled) (opening : Held) (past : History) (jobs : List Job) (seen : List Told) (m : Held) (number : ℕ) (job : Job) (objects : List NewObject) (f : FragKey) (count : ℕ) : Type 0 where
+  pub survey : Survey
+  pub first : Opened
+  pub others : List Opened
+  pub schema : Schema
+  pub got : List (List Version)
+  pub merges : Merges codec spelled opening past jobs seen m number job survey (first ∷ others) schema (length (first ∷ others)) got
+  pub named : f ≡ (piece_merged job survey.frame first others got).head.frag
+  pub counted : count ≡ length (first ∷ others)
+  pub can : can_be_named (piece_merged job survey.frame first others got) ≡ true
+  pub are : objects ≡ merge_objects codec survey.frame schema (piece_merged job survey.frame first others got) (names_merged survey.vacs (frags_of (first ∷ others)))
+
 -- ---- what a job puts
 
 -- what the job's last put makes of it: by its end
-abbrev pub Aims : {F : Type 0} → Codec F → History → List Job → List Told → ℕ → Job → List NewObject → Outcome → Type 0
-Aims codec past jobs seen number job objects outcome.Created =
+abbrev pub Aims : {F : Type 0} → Codec F → Spelled → Held → History → List Job → List Told → Held → ℕ → Job → List NewObject → Outcome → Type 0
+Aims codec spelled opening past jobs seen m number job objects outcome.Created =
     (f : FrameIn) × (job.command ≡ Create f) × (objects ≡ schema_object_of job f.attrs ∷ []) × (create_refusal f ≡ None) × (frame_in (history_told jobs past seen) ≡ Some (frame_made f))
-Aims codec past jobs seen number job objects (outcome.Evolved k) =
+Aims codec spelled opening past jobs seen m number job objects (outcome.Evolved k) =
     (change : Evolution) × (frame : Frame) × (there : Schema) × (job.command ≡ Evolve change) × (k ≡ key_of job) × (objects ≡ schema_object_of job (evolved_attrs there.attrs change) ∷ [])
     × (frame_in (history_told jobs past seen) ≡ Some frame) × (evolution_fault frame.domain there.attrs change ≡ None) × Works past jobs seen number job there
-Aims codec past jobs seen number job objects (outcome.Written f) =
-    (w : WriteIn) × (frame : Frame) × (there : Schema) × (cells : List Cell) × (job.command ≡ Write w) × (f ≡ frag_of_job job) × (objects ≡ write_objects codec frame there job cells)
+Aims codec spelled opening past jobs seen m number job objects (outcome.Written f) =
+    (w : WriteIn) × (frame : Frame) × (there : Schema) × (cells : List Cell) × (job.command ≡ Write w) × (f ≡ frag_of_job job) × (objects ≡ write_objects codec frame there job cells) × (map.get m (vac_of f) ≡ None)
     × (frame_in (history_told jobs past seen) ≡ Some frame) × (laid frame there.attrs w ≡ Ok cells) × Works past jobs seen number job there
-Aims codec past jobs seen number job objects (outcome.Deleted f) =
+Aims codec spelled opening past jobs seen m number job objects (outcome.Deleted f) =
     (text : List ℕ) × (frame : Frame) × (there : Schema) × (condition : Condition) × (job.command ≡ Delete text) × (f ≡ frag_of_job job) × (objects ≡ delete_object_of job condition ∷ [])
     × (frame_in (history_told jobs past seen) ≡ Some frame) × (delete_condition frame there.attrs text ≡ Ok condition) × Works past jobs seen number job there
-Aims codec past jobs seen number job objects _ = ⊥
+Aims codec spelled opening past jobs seen m number job objects (outcome.Consolidated f count) = AimsToMerge codec spelled opening past jobs seen m number job objects f count
+Aims codec spelled opening past jobs seen m number job objects _ = ⊥
 
--- a job that puts objects: it put those before a place, and none from there on is held; no deed has its key, and its fragment is in no `.vac`
-pub record Putting {F : Type 0} (codec : Codec F) (past : History) (jobs : List Job) (seen : List Told) (m : Held) (number : ℕ) (job : Job) (objects : List NewObject) (next : ℕ) (end : Outcome) : Type 0 where
+-- a job that puts objects: it put those before a place, and none from there on is held; no deed has its key, and its identifier is unspent
+pub record Putting {F : Type 0} (codec : Codec F) (spelled : Spelled) (opening : Held) (past : History) (jobs : List Job) (seen : List Told) (m : Held) (number : ℕ) (job : Job) (objects : List NewObject) (next : ℕ) (end : Outcome) : Type 0 where
   pub held : (i : ℕ) (o : NewObject) → i < next → slice_get objects i ≡ Some o → map.get m o.name ≡ Some o.bytes
   pub short : (i : ℕ) (o : NewObject) → i < next → slice_get objects i ≡ Some o → IsShort o.bytes
   pub free : (i : ℕ) (o : NewObject) → next ≤ i → slice_get objects i ≡ Some o → map.get m o.name ≡ None
   pub some : next < length objects
   pub undone : IsUndone (history_told jobs past seen) job
-  pub bare : IsBare m (frag_of_job job)
-  pub aims : Aims codec past jobs seen number job objects end
+  pub unspent : IsUnspent m job.id
+  pub aims : Aims codec spelled opening past jobs seen m number job objects end
 
 -- ---- claims
 
@@ -270,13 +376,30 @@ CollectClaims codec spelled tracks opening past jobs seen m number job (Fetches 
     × OnWay spelled tracks (history_told jobs past (((((((fetches.deletes_found).gathers)).reads).at).listed).since.commits).before)
     (held_told opening (((((((fetches.deletes_found).gathers)).reads).at).listed).since.commits).before) r frag fetch c)
 
+-- what the state of a consolidation that has not come to its puts says is true
+abbrev pub MergeClaims : {F : Type 0} → Codec F → Spelled → Tracking F → Held → History → List Job → List Told → Held → ℕ → Job → Merging F → Type 0
+MergeClaims codec spelled tracks opening past jobs seen m number job merging.ListsCommits = Clean m (history_told jobs past seen) job × ((from : ℕ) × (to : ℕ) × (limits : Limits) × (job.command ≡ Consolidate from to limits))
+MergeClaims codec spelled tracks opening past jobs seen m number job (merging.ListsSchemas c) = Clean m (history_told jobs past seen) job × Chooses spelled opening past jobs seen m number job c
+MergeClaims codec spelled tracks opening past jobs seen m number job (merging.GetsFrame c) =
+    Clean m (history_told jobs past seen) job × Chooses spelled opening past jobs seen m number job c × ((frame : Frame) × (frame_in (history_told jobs past seen) ≡ Some frame))
+MergeClaims codec spelled tracks opening past jobs seen m number job (merging.GetsVacs s) = Clean m (history_told jobs past seen) job × Surveys spelled opening past jobs seen m number job s
+MergeClaims codec spelled tracks opening past jobs seen m number job (merging.GetsHeads s opened) = Clean m (history_told jobs past seen) job × Opens codec spelled opening past jobs seen m number job s opened
+MergeClaims codec spelled tracks opening past jobs seen m number job (merging.GetsSchemas s opened keys schemas) =
+    Clean m (history_told jobs past seen) job × (keys ≡ schemas_named opened) × Learns codec spelled opening past jobs seen m number job s opened schemas
+MergeClaims codec spelled tracks opening past jobs seen m number job (merging.Fetches s sources schema next frag got fetch c) =
+    Clean m (history_told jobs past seen) job × (slice_get (frags_of sources) next ≡ Some frag)
+    × ((merges : Merges codec spelled opening past jobs seen m number job s sources schema next got)
+    × IsFetched codec spelled tracks (history_told jobs past (((((merges.has).surveys).chooses).since).commits).before) (held_told opening (((((merges.has).surveys).chooses).since).commits).before)
+    s.frame schema frag (merges.has).pieces next fetch c)
+
 -- what a job's state says is true
 abbrev pub Claims : {F : Type 0} → Codec F → Spelled → Tracking F → Held → History → List Job → List Told → Held → ℕ → Job → State F → Type 0
 Claims codec spelled tracks opening past jobs seen m number job (Creates s) = CreateClaims past jobs seen m job s
 Claims codec spelled tracks opening past jobs seen m number job (Seeks s) = SeekClaims spelled opening past jobs seen m number job s
-Claims codec spelled tracks opening past jobs seen m number job (Puts objects next end) = Putting codec past jobs seen m number job objects next end
+Claims codec spelled tracks opening past jobs seen m number job (Puts objects next end) = Putting codec spelled opening past jobs seen m number job objects next end
 Claims codec spelled tracks opening past jobs seen m number job (Collects s) = CollectClaims codec spelled tracks opening past jobs seen m number job s
-Claims codec spelled tracks opening past jobs seen m number job (Over end) = IsTrueEnd jobs past seen number job end
+Claims codec spelled tracks opening past jobs seen m number job (states.Merges s) = MergeClaims codec spelled tracks opening past jobs seen m number job s
+Claims codec spelled tracks opening past jobs seen m number job (Over end) = IsTrueEnd spelled opening jobs past seen number job end
 
 -- a job holds its lease, or is to put it, and its work has not begun
 abbrev pub IsBefore : {F : Type 0} → Codec F → Spelled → Tracking F → Held → History → List Job → List Told → Held → ℕ → Job → Name → Type 0
@@ -287,7 +410,7 @@ abbrev pub StageClaims : {F : Type 0} → Codec F → Spelled → Tracking F →
 StageClaims codec spelled tracks opening past jobs seen m number job (PutsLease lease) = IsBefore codec spelled tracks opening past jobs seen m number job lease × (map.get m lease ≡ None)
 StageClaims codec spelled tracks opening past jobs seen m number job (ListsLeases lease) = IsBefore codec spelled tracks opening past jobs seen m number job lease
 StageClaims codec spelled tracks opening past jobs seen m number job (stages.Works s) = Claims codec spelled tracks opening past jobs seen m number job s
-StageClaims codec spelled tracks opening past jobs seen m number job (Releases lease end) = (lease_of job ≡ Some lease) × IsTrueEnd jobs past seen number job end × IsUndone (history_told jobs past seen) job
+StageClaims codec spelled tracks opening past jobs seen m number job (Releases lease end) = (lease_of job ≡ Some lease) × IsTrueEnd spelled opening jobs past seen number job end × IsUndone (history_told jobs past seen) job
 
 -- ---- what is kept
 

@@ -25,7 +25,8 @@ use Rattle.ts_model.specs.Queries.{delete_condition, ready_in}
 use Rattle.ts_model.specs.Stages.{lease_of}
 use Rattle.ts_model.specs.States.{get_frame, made_by, place_of}
 use Rattle.ts_model.specs.Told.{Told, held_told, history_told, trace_of}
-use Rattle.ts_law.specs.Ends.{ListedAt}
+use Rattle.ts_model.specs.Codecs.{Spelled}
+pub use Rattle.ts_law.specs.Ends.{ListedAt, MadeAt, FindsNothing}
 use Rattle.ts_store.specs.declared.call.Reply.TheVariants as reply
 use Rattle.ts_store.specs.declared.fate.Fate.TheVariants as fate
 use Rattle.ts_model.specs.declared.answers.Refusal.TheVariants as refusal
@@ -37,15 +38,6 @@ refusal_in frame attrs (Write w) = result_err (laid frame attrs w)
 refusal_in frame attrs (Read from to query) = result_err (ready_in frame attrs query)
 refusal_in frame attrs (Delete text) = result_err (delete_condition frame attrs text)
 refusal_in frame attrs _ = None
-
--- a job made a call at a place of what was told
-pub record MadeAt (told : List Told) (number : ℕ) (c : Call) : Type 0 where
-  pub before : List Told
-  pub made : Told
-  pub later : List Told
-  pub place : told ≡ before ++ made ∷ later
-  pub own : made.job ≡ Some number
-  pub makes : made.call ≡ c
 
 -- a create found an array: as it got the frame, that was another one than its own; or as it listed the schemas, there was one
 abbrev pub FindsArray : List Job → History → List Told → ℕ → FrameIn → Type 0
@@ -90,12 +82,13 @@ IsRefusedAs jobs past told number job r (Create made) = (create_refusal made ≡
 IsRefusedAs jobs past told number job r _ = FindsFault jobs past told number job r
 
 -- a job is refused for this, where a map was held at the beginning: no object is missing, damaged or taken
-abbrev pub IsRefusedFor : Held → List Job → History → List Told → ℕ → Job → Refusal → Type 0
-IsRefusedFor opening jobs past told number job refusal.ArrayExists = (made : FrameIn) × (job.command ≡ Create made) × FindsArray jobs past told number made
-IsRefusedFor opening jobs past told number job (refusal.NoSchema at) = FindsNoSchema jobs past told number job at
-IsRefusedFor opening jobs past told number job (refusal.Leased other) = FindsLease opening told number job other
-IsRefusedFor opening jobs past told number job (refusal.StoreFault p) = HasFailed told number p
-IsRefusedFor opening jobs past told number job (refusal.Taken n) = ⊥
-IsRefusedFor opening jobs past told number job (refusal.Missing n) = ⊥
-IsRefusedFor opening jobs past told number job (refusal.Damaged n at) = ⊥
-IsRefusedFor opening jobs past told number job r = IsRefusedAs jobs past told number job r job.command
+abbrev pub IsRefusedFor : Spelled → Held → List Job → History → List Told → ℕ → Job → Refusal → Type 0
+IsRefusedFor spelled opening jobs past told number job refusal.ArrayExists = (made : FrameIn) × (job.command ≡ Create made) × FindsArray jobs past told number made
+IsRefusedFor spelled opening jobs past told number job (refusal.NoSchema at) = FindsNoSchema jobs past told number job at
+IsRefusedFor spelled opening jobs past told number job (refusal.Leased other) = FindsLease opening told number job other
+IsRefusedFor spelled opening jobs past told number job (refusal.StoreFault p) = HasFailed told number p
+IsRefusedFor spelled opening jobs past told number job (refusal.NothingToDo count) = FindsNothing spelled opening jobs past told number job count
+IsRefusedFor spelled opening jobs past told number job (refusal.Taken n) = ⊥
+IsRefusedFor spelled opening jobs past told number job (refusal.Missing n) = ⊥
+IsRefusedFor spelled opening jobs past told number job (refusal.Damaged n at) = ⊥
+IsRefusedFor spelled opening jobs past told number job r = IsRefusedAs jobs past told number job r job.command

@@ -41,7 +41,7 @@ pub record IsTrueRun (spelled : Spelled) (lanes : ℕ → ℕ) (jobs : List Job)
   pub stands : (front back : List Told) → told ≡ front ++ back → Stands spelled (held_after m (entries_of (lane_by lanes) front)) (history_told jobs h front)
   pub journal : (front back : List Entry) → entries_of (lane_by lanes) told ≡ front ++ back → Stands spelled (held_after m front) (history_of h m jobs front)
   pub answers : (number : ℕ) (job : Job) (end : Outcome) → slice_get jobs number ≡ Some job → slice_get results number ≡ Some (Done end) → IsTrueOver spelled m jobs h told number job end
-  pub causes : (number : ℕ) (job : Job) (r : Refusal) → slice_get jobs number ≡ Some job → slice_get results number ≡ Some (Done (outcome.Refused r)) → IsRefusedFor m jobs h told number job r
+  pub causes : (number : ℕ) (job : Job) (r : Refusal) → slice_get jobs number ≡ Some job → slice_get results number ≡ Some (Done (outcome.Refused r)) → IsRefusedFor spelled m jobs h told number job r
 
 -- what a run is over a store that held m
 pub record IsRunOver (spelled : Spelled) (seed : ℕ) (lanes : ℕ → ℕ) (jobs : List Job) (m : Held) (later : Option Held) (journal : List Entry) (told : List Told) (results : List (Driven Outcome)) : Type 0 where

@@ -102,10 +102,14 @@ pub record AreMerged (spelled : Spelled) (h : History) (m : Held) : Type 0 where
   pub below : (f : FragKey) → IsCommitted m f → rank f < top
   pub falls : (g f : FragKey) → IsCommitted m g → IsCommitted m f → DoesName m g f → rank f < rank g
 
--- a fragment has no `.vac`, and that of no committed fragment names it
-pub record IsBare (m : Held) (f : FragKey) : Type 0 where
-  pub none : map.get m (vac_of f) ≡ None
-  pub unnamed : (g : FragKey) → IsCommitted m g → DoesName m g f → ⊥
+-- the `.vac` of a committed fragment names it
+abbrev pub IsNamed : Held → FragKey → Type 0
+IsNamed m f = (g : FragKey) × IsCommitted m g × DoesName m g f
+
+-- an identifier is unspent: no fragment that carries it is committed, and the `.vac` of no committed fragment names one
+pub record IsUnspent (m : Held) (id : ℕ) : Type 0 where
+  pub uncommitted : (f : FragKey) → f.id ≡ id → IsCommitted m f → ⊥
+  pub unnamed : (f : FragKey) → f.id ≡ id → IsNamed m f → ⊥
 
 -- the write of the key went into a committed fragment that a read can use, wherever its interval has the write
 pub record IsReached (spelled : Spelled) (h : History) (m : Held) (k : Key) : Type 0 where

@@ -8,7 +8,7 @@ use Rattle.ts_base.specs.Held.{Held}
 use Rattle.ts_law.specs.Kept.{Claims, StageClaims}
 use Rattle.ts_model.specs.Told.{Told, after_told, IsShortCall, IsReplied, held_told, history_told}
 use Rattle.ts_law.specs.Fresh.{id_in}
-use Rattle.ts_law.specs.Stands.{DoesName, IsCommitted, Stands, IsNoLease}
+use Rattle.ts_law.specs.Stands.{DoesName, IsCommitted, IsNamed, Stands, IsNoLease}
 use Rattle.ts_base.specs.declared.keys.FragKey.{FragKey}
 use Rattle.ts_model.specs.States.{asks, goes}
 use Rattle.ts_model.specs.Stages.{goes_on}
@@ -28,8 +28,8 @@ Stays n = IsNoLease n
 pub record Keeps (m m' : Held) (h h' : History) (id : ℕ) : Type 0 where
   pub keeps : (n : Name) (bytes : List ℕ) → Stays n → map.get m n ≡ Some bytes → map.get m' n ≡ Some bytes
   pub adds : (n : Name) (bytes : List ℕ) → map.get m' n ≡ Some bytes → (map.get m n ≡ Some bytes) ⊎ ((id_in n ≡ Some id) ⊎ (n ≡ name.Domain))
-  -- no `.vac` of a committed fragment comes
-  pub names : (g f : FragKey) → IsCommitted m' g → DoesName m' g f → IsCommitted m g × DoesName m g f
+  -- what the `.vac` of a committed fragment names was committed before, or was named by one before
+  pub names : (g f : FragKey) → IsCommitted m' g → DoesName m' g f → IsCommitted m f ⊎ IsNamed m f
   pub more : History
   pub grows : h' ≡ h ++ more
   pub come : (k : Key) → Contains (keys more) k → k.id ≡ id

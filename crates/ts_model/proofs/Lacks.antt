@@ -7,7 +7,8 @@ use Rattle.std.proofs.lemmas.Option.{none-some}
 use Rattle.ts_store.specs.declared.call.Call.{Call}
 use Rattle.ts_model.specs.declared.commands.Job.{Job}
 use Rattle.ts_model.specs.declared.states.State.{State}
-use Rattle.ts_model.specs.declared.states.State.TheVariants.{Creates, Seeks, Puts, Collects, Over}
+use Rattle.ts_model.specs.declared.states.State.TheVariants.{Creates, Seeks, Puts, Collects, Merges, Over}
+use Rattle.ts_model.specs.declared.states.Merging.TheVariants as merging
 use Rattle.ts_model.specs.declared.states.Creating.TheVariants.{PutsFrame, ComparesFrame, ListsDeclared}
 use Rattle.ts_model.specs.declared.states.Seeking.TheVariants.{ListsCommits, ListsSchemas, GetsSchema, GetsFrame}
 use Rattle.ts_model.specs.declared.states.Collecting.TheVariants.{GetsVacs, GetsHeads, GetsSchemas, GetsDeletes, Fetches}
@@ -17,7 +18,7 @@ use Rattle.ts_model.specs.Driven.{lacks_after, lacks_from}
 use Rattle.ts_model.specs.Stages.{stage_goes, goes_on, stage_from, stage_takes_memory, is_done, is_release, lease_of, end_at, released, releases, settled}
 use Rattle.ts_model.proofs.Asked.{no_release}
 use Rattle.ts_model.specs.Codecs.{Codec}
-use Rattle.ts_model.specs.States.{get_vac, after_vac, Exchange, asks, goes, ended, on_bytes, on_made, with_item, putting, put_of, made_by, after_frame, after_head, after_schema, after_delete, frame_put, get_schema, get_delete, get_head}
+use Rattle.ts_model.specs.States.{get_vac, after_vac, Exchange, asks, goes, ended, on_bytes, on_made, with_item, putting, put_of, made_by, after_frame, after_head, after_schema, after_delete, frame_put, get_schema, get_delete, get_head, after_names, get_head_in, after_opened, after_surveyed}
 use Rattle.ts_store.specs.declared.call.Call.TheVariants as call
 use Rattle.ts_store.specs.declared.call.Reply.TheVariants as reply
 use Rattle.ts_model.specs.declared.answers.Outcome.TheVariants as outcome
@@ -119,4 +120,11 @@ module _ (F : Type 0) where
     no_memory_ends job (Collects (GetsSchemas q opened keys schemas)) c asked = item_short (λ k. on_bytes (get_schema k) (after_schema codec q opened keys schemas k) reply.NoMemory) (λ k. refl) (slice_get keys (length schemas))
     no_memory_ends job (Collects (GetsDeletes q opened schemas)) c asked = item_short (λ f. on_bytes (get_delete f) (after_delete codec q opened schemas f) reply.NoMemory) (λ f. refl) (slice_get q.delete_names (length q.deletions))
     no_memory_ends job (Collects (Fetches q opened schemas next frag got f c')) c asked = ended_short c'
+    no_memory_ends job (Merges merging.ListsCommits) c asked = refl
+    no_memory_ends job (Merges (merging.ListsSchemas candidates)) c asked = refl
+    no_memory_ends job (Merges (merging.GetsFrame candidates)) c asked = refl
+    no_memory_ends job (Merges (merging.GetsVacs s)) c asked = item_short (λ f. on_bytes (get_vac f) (after_names codec job s f) reply.NoMemory) (λ f. refl) (slice_get s.counting (length s.vacs))
+    no_memory_ends job (Merges (merging.GetsHeads s opened)) c asked = item_short (λ f. on_bytes (get_head_in codec s.frame f) (after_opened codec job s opened f) reply.NoMemory) (λ f. refl) (slice_get s.fragments (length opened))
+    no_memory_ends job (Merges (merging.GetsSchemas s opened keys schemas)) c asked = item_short (λ k. on_bytes (get_schema k) (after_surveyed codec job s opened keys schemas k) reply.NoMemory) (λ k. refl) (slice_get keys (length schemas))
+    no_memory_ends job (Merges (merging.Fetches s sources schema next frag got f c')) c asked = ended_short c'
     no_memory_ends job (Over end) c asked = absurd (none-some c asked)

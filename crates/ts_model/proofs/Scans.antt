@@ -166,6 +166,7 @@ referred seen later frame there a b query outcome.Created framed holds asked = a
 referred seen later frame there a b query (outcome.Evolved key) framed holds asked = absurd asked
 referred seen later frame there a b query (outcome.Written frag) framed holds asked = absurd asked
 referred seen later frame there a b query (outcome.Deleted frag) framed holds asked = absurd asked
+referred seen later frame there a b query (outcome.Consolidated frag count) framed holds asked = absurd asked
 referred seen later frame there a b query outcome.OutOfMemory framed holds asked = absurd asked
 
 -- so it is where there may be want of memory

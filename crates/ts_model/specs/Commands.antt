@@ -33,7 +33,8 @@ use Rattle.ts_schema.specs.Faults.{schema_fault}
 use Rattle.ts_schema.specs.FrameTexts.{is_capacity, is_bound}
 use Rattle.ts_cond.specs.declared.query.NamedBox.{NamedBox}
 use Rattle.ts_cond.specs.declared.query.Query.{Query}
-use Rattle.ts_model.specs.declared.commands.Command.TheVariants.{Create, Evolve, Write, Read, Delete}
+use Rattle.ts_commit.specs.declared.vacs.Limits.{Limits}
+use Rattle.ts_model.specs.declared.commands.Command.TheVariants.{Create, Evolve, Write, Read, Delete, Consolidate}
 use Rattle.ts_base.specs.declared.values.Val.TheVariants.{Int, Bytes, Null}
 use Rattle.ts_base.specs.declared.values.ValType.TheVariants.{Blob}
 use Rattle.ts_model.specs.Deeds.{row_at, are_apart, CellFits}
@@ -304,6 +305,10 @@ is_spelled_write w = list_all is_spelled_col w.cols && list_all is_spelled_box w
 abbrev pub is_spelled_query : Query → Bool
 is_spelled_query q = list_all is_spelled_box q.sub && (list_all is_label q.fields && option_map_or is_text q.filter true)
 
+-- a consolidation takes two fragments or more, and at most 4096
+abbrev pub are_limits : Limits → Bool
+are_limits limits = nat_le 2 limits.min && (nat_le limits.min limits.max && nat_le limits.max 4096)
+
 -- the command is one that there can be: its names are labels, its numbers lie in their ranges, and an array has a dimension and a capacity
 abbrev pub fits : Command → Bool
 fits (Create f) = nat_lt 0 (length f.dims) && (list_all is_spelled_dim f.dims && (is_capacity f.capacity && list_all is_spelled_attr f.attrs))
@@ -311,3 +316,4 @@ fits (Evolve change) = list_all is_spelled_attr change.add
 fits (Write w) = is_spelled_write w
 fits (Read from to query) = nat_lt from (2 ^ 64) && (nat_lt to (2 ^ 64) && is_spelled_query query)
 fits (Delete text) = is_text text
+fits (Consolidate from to limits) = nat_lt from (2 ^ 64) && (nat_lt to (2 ^ 64) && are_limits limits)

@@ -12,7 +12,7 @@ use Rattle.ts_lease.specs.Leases.{verdict_in}
 use Rattle.ts_store.specs.declared.call.Call.{Call}
 use Rattle.ts_store.specs.declared.call.Reply.{Reply}
 use Rattle.ts_model.specs.declared.commands.Command.{Command}
-use Rattle.ts_model.specs.declared.commands.Command.TheVariants.{Read}
+use Rattle.ts_model.specs.declared.commands.Command.TheVariants.{Read, Consolidate}
 use Rattle.ts_model.specs.declared.commands.Job.{Job}
 use Rattle.ts_model.specs.declared.answers.Outcome.{Outcome}
 use Rattle.ts_model.specs.declared.states.State.{State}
@@ -30,9 +30,10 @@ use Rattle.ts_model.specs.declared.answers.Refusal.TheVariants as refusal
 
 -- ---- leases
 
--- how the lease of a command lets other leases stand beside it, if the command has one: reads share the store with one another
+-- how the lease of a command lets other leases stand beside it, if the command has one: reads and consolidations share the store with one another
 abbrev pub mode_of : Command → Option LeaseMode
 mode_of (Read from to query) = Some Shr
+mode_of (Consolidate from to limits) = Some Shr
 mode_of command = None
 
 -- the lease of a job, if it has one

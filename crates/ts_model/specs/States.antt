@@ -7,6 +7,7 @@ use Rattle.ts_base.specs.declared.names.Place.{Place}
 use Rattle.ts_base.specs.declared.names.PartBytes.{PartBytes}
 use Rattle.ts_base.specs.declared.heads.Version.{Version}
 use Rattle.ts_base.specs.declared.heads.Head.{Head}
+use Rattle.ts_base.specs.declared.heads.Piece.{Piece}
 use Rattle.ts_base.specs.declared.heads.Cell.{Cell}
 use Rattle.ts_base.specs.declared.values.Val.{Val}
 use Rattle.ts_store.specs.declared.call.Call.{Call}
@@ -21,6 +22,9 @@ use Rattle.ts_model.specs.declared.states.State.{State}
 use Rattle.ts_model.specs.declared.states.Creating.{Creating}
 use Rattle.ts_model.specs.declared.states.Seeking.{Seeking}
 use Rattle.ts_model.specs.declared.states.Collecting.{Collecting}
+use Rattle.ts_model.specs.declared.states.Merging.{Merging}
+use Rattle.ts_model.specs.declared.states.Candidates.{Candidates}
+use Rattle.ts_model.specs.declared.states.Survey.{Survey}
 use Rattle.ts_model.specs.declared.states.NewObject.{NewObject}
 use Rattle.ts_model.specs.declared.states.Opened.{Opened}
 use Rattle.ts_model.specs.declared.states.Reading.{Reading}
@@ -38,8 +42,12 @@ use Rattle.ts_base.specs.Keys.{key_eq, key_cmp, key_lt}
 use Rattle.ts_base.specs.Names.{wrt_of, del_of}
 use Rattle.ts_domain.specs.declared.boxes.SubBox.{SubBox}
 use Rattle.ts_domain.specs.Boxes.{coords_of_box}
-use Rattle.ts_commit.specs.Selections.{is_among, loaded, clipped_names}
-use Rattle.ts_commit.specs.Vacs.{names_of}
+use Rattle.ts_domain.specs.Domains.{whole_domain}
+use Rattle.ts_commit.specs.declared.vacs.Limits.{Limits}
+use Rattle.ts_commit.specs.declared.vacs.Planned.{Planned}
+use Rattle.ts_commit.specs.Plans.{is_inside, plan_of}
+use Rattle.ts_commit.specs.Selections.{is_among, loaded, clipped_names, names_merged}
+use Rattle.ts_commit.specs.Vacs.{names_of, vac_object}
 use Rattle.ts_cond.specs.CondTexts.{cond_object, cond_of}
 use Rattle.ts_cond.specs.Picks.{matches}
 use Rattle.ts_cond.specs.Tests.{Condition}
@@ -47,14 +55,15 @@ use Rattle.ts_schema.specs.Attrs.{shown_row}
 use Rattle.ts_schema.specs.Evolutions.{evolved_attrs, evolution_fault, schema_at}
 use Rattle.ts_schema.specs.FrameTexts.{frame_object, frame_of}
 use Rattle.ts_schema.specs.SchemaTexts.{schema_object, schema_of}
-use Rattle.ts_model.specs.declared.commands.Command.TheVariants.{Create, Evolve, Write, Read, Delete}
-use Rattle.ts_model.specs.declared.states.State.TheVariants.{Creates, Seeks, Puts, Collects, Over}
+use Rattle.ts_model.specs.declared.commands.Command.TheVariants.{Create, Evolve, Write, Read, Delete, Consolidate}
+use Rattle.ts_model.specs.declared.states.State.TheVariants.{Creates, Seeks, Puts, Collects, Merges, Over}
 use Rattle.ts_model.specs.declared.states.Creating.TheVariants.{PutsFrame, ComparesFrame, ListsDeclared}
 use Rattle.ts_model.specs.declared.states.Seeking.TheVariants.{ListsCommits, ListsSchemas, GetsSchema, GetsFrame}
 use Rattle.ts_model.specs.declared.states.Collecting.TheVariants.{GetsVacs, GetsHeads, GetsSchemas, GetsDeletes, Fetches}
 use Rattle.ts_base.specs.declared.names.CommitKind.TheVariants.{Wrt, Del, Vac}
 use Rattle.ts_base.specs.declared.names.Prefix.TheVariants.{Commits, Schemas}
 use Rattle.ts_model.specs.Pieces.{newest_of}
+use Rattle.ts_model.specs.Merging.{merged_with, all_got}
 use Rattle.ts_model.specs.Codecs.{Stepped, Codec, Asks, Takes, Breaks}
 use Rattle.ts_model.specs.Jobs.{key_of, frag_of_job, written_as, refused_before, looked_at}
 use Rattle.ts_model.specs.Deeds.{schemas, keys}
@@ -67,6 +76,8 @@ use Rattle.ts_store.specs.declared.call.Call.TheVariants as call
 use Rattle.ts_store.specs.declared.call.Reply.TheVariants as reply
 use Rattle.ts_model.specs.declared.answers.Outcome.TheVariants as outcome
 use Rattle.ts_model.specs.declared.answers.Refusal.TheVariants as refusal
+use Rattle.ts_model.specs.declared.states.Merging.TheVariants as merging
+use Rattle.ts_commit.specs.declared.vacs.Planned.TheVariants as planned
 use Rattle.std.specs.FinMap as map
 
 -- ---- names
@@ -334,6 +345,123 @@ opening codec r opened =
 abbrev pub getting_vacs : {F : Type 0} → Codec F → Reading → State F
 getting_vacs codec r = cond (nat_lt (length r.vacs) (length r.counting)) (Collects (GetsVacs r)) (opening codec r [])
 
+-- ---- consolidations
+
+-- what a consolidation of [from, to] chooses from: of its listing the committed fragments in the interval, and those that have a `.vac`
+abbrev pub candidates_in : ℕ → ℕ → List Name → Candidates
+candidates_in from to names = record { fragments = filter (is_inside from to) (committed_in names); counting = counting_in names }
+
+-- what a command chooses from: nothing, unless it is a consolidation
+abbrev pub candidates_of : Command → List Name → Candidates
+candidates_of (Consolidate from to limits) names = candidates_in from to names
+candidates_of _ names = record { fragments = []; counting = [] }
+
+-- what a consolidation knows before it got any `.vac`
+abbrev pub survey_of : ℕ → ℕ → Limits → Candidates → Frame → Survey
+survey_of from to limits c frame = record { from = from; to = to; limits = limits; frame = frame; fragments = c.fragments; counting = c.counting; vacs = [] }
+
+-- with a `.vac` more
+abbrev pub survey_with : Survey → FragKey → List FragKey → Survey
+survey_with s f names = record { from = s.from; to = s.to; limits = s.limits; frame = s.frame; fragments = s.fragments; counting = s.counting; vacs = s.vacs ++ record { frag = f; names = names } ∷ [] }
+
+-- the keys of the schemas that these heads name, ascending and each once
+abbrev pub schemas_named : List Opened → List Key
+schemas_named opened = map.keys (map.from_entries {R = key_cmp} (list_map (λ o. (o.head.schema, o.head.schema)) opened))
+
+-- the schema of a key among these
+abbrev pub schema_among : List Schema → Key → Option Schema
+schema_among schemas k = find (λ s. key_eq s.key k) schemas
+
+-- how many attributes it has
+abbrev pub attributes_among : List Schema → Key → ℕ
+attributes_among schemas k = option_map_or (λ s. length s.attrs) (schema_among schemas k) 0
+
+-- the plan of a consolidation that opened all fragments and has their schemas
+abbrev pub plan_for : Survey → List Opened → List Schema → Planned
+plan_for s opened schemas = plan_of (heads_of opened) s.vacs (attributes_among schemas) s.from s.to s.limits
+
+-- all of a fragment is wanted: each cell of the domain, whenever it is stamped, with all its values
+abbrev pub all_of : Frame → List Attr → Want
+all_of frame attrs = wanted (whole_domain frame.domain) 0 (2 ^ 64 - 1) attrs
+
+-- the names of open fragments
+abbrev pub frags_of : List Opened → List FragKey
+frags_of opened = list_map (λ o. o.frag) opened
+
+-- the object of the `.vac` of a fragment
+abbrev pub vac_object_of : FragKey → List FragKey → NewObject
+vac_object_of f names = record { name = vac_of f; bytes = vac_object names }
+
+-- the objects that a consolidation puts: the parts of its fragment, the `.vac` that says what was merged into it, and then the empty `.wrt`
+abbrev pub merge_objects : {F : Type 0} → Codec F → Frame → Schema → Piece → List FragKey → List NewObject
+merge_objects codec frame s p names = part_objects p.head.frag (codec.parts frame s p) ++ vac_object_of p.head.frag names ∷ record { name = wrt_of p.head.frag; bytes = [] } ∷ []
+
+-- what a first source and others are merged into, of which these versions were got
+abbrev pub piece_merged : Job → Frame → Opened → List Opened → List (List Version) → Piece
+piece_merged job frame o others got = merged_with frame job.id o.head (heads_of others) (all_got got)
+
+-- the origins of a piece are so few that a fragment can name them, and so are its versions
+abbrev pub can_be_named : Piece → Bool
+can_be_named p = nat_lt (length p.head.origins) (2 ^ 32) && nat_lt (length p.versions) (2 ^ 64)
+
+-- a consolidation of so many fragments puts the piece, whose `.vac` is to have these names
+abbrev pub puts_piece : {F : Type 0} → Codec F → Frame → Schema → List FragKey → ℕ → Piece → State F
+puts_piece codec frame schema names count p = cond (can_be_named p) (putting (merge_objects codec frame schema p names) 0 (outcome.Consolidated p.head.frag count)) (Over outcome.OutOfMemory)
+
+-- a consolidation puts what its sources are merged into
+abbrev pub puts_merged : {F : Type 0} → Codec F → Job → Survey → Schema → List (List Version) → List Opened → State F
+puts_merged codec job s schema got [] = Over outcome.OutOfMemory
+puts_merged codec job s schema got (o ∷ others) = puts_piece codec s.frame schema (names_merged s.vacs (frags_of (o ∷ others))) (length (o ∷ others)) (piece_merged job s.frame o others got)
+
+-- where a step of a fetch of a source leads: to a call, on with the versions, or to an end
+abbrev pub source_leads : {F : Type 0} → Survey → List Opened → Schema → ℕ → FragKey → List (List Version) → (List Version → State F) → Stepped F → State F
+source_leads s sources schema next frag got on (Asks f c) = Merges (merging.Fetches s sources schema next frag got f c)
+source_leads s sources schema next frag got on (Takes vs) = on vs
+source_leads s sources schema next frag got on (Breaks part at) = damaged (name.Part frag part) at
+
+-- where the beginning of the fetch leads
+abbrev pub source_begins : {F : Type 0} → Codec F → Survey → List Opened → Schema → ℕ → FragKey → List (List Version) → (List Version → State F) → Result F ℕ → State F
+source_begins codec s sources schema next frag got on (Ok f) = source_leads s sources schema next frag got on (codec.steps f reply.Start)
+source_begins codec s sources schema next frag got on (Err at) = damaged (name.Part frag (codec.head_part s.frame)) at
+
+-- a consolidation fetches its sources from a place on, after those before; after the last it puts what they are merged into
+abbrev pub merging_from : {F : Type 0} → Codec F → Job → Survey → List Opened → Schema → ℕ → List Opened → List (List Version) → State F
+merging_from codec job s sources schema next [] got = puts_merged codec job s schema got sources
+merging_from codec job s sources schema next (o ∷ rest) got =
+    source_begins codec s sources schema next o.frag got (λ vs. merging_from codec job s sources schema (suc next) rest (got ++ vs ∷ [])) (codec.opens s.frame schema o.frag o.object (all_of s.frame schema.attrs))
+
+-- a consolidation fetches its sources in their schema, which it knows
+abbrev pub merges_in : {F : Type 0} → Codec F → Job → Survey → List Opened → Option Schema → State F
+merges_in codec job s sources None = Over outcome.OutOfMemory
+merges_in codec job s sources (Some schema) = merging_from codec job s sources schema 0 sources []
+
+-- a consolidation has its sources, whose schema is that of the first one
+abbrev pub merges_all : {F : Type 0} → Codec F → Job → Survey → List Schema → List Opened → State F
+merges_all codec job s schemas [] = Over outcome.OutOfMemory
+merges_all codec job s schemas (o ∷ others) = merges_in codec job s (o ∷ others) (schema_among schemas o.head.schema)
+
+-- where the plan leads
+abbrev pub on_plan : {F : Type 0} → Codec F → Job → Survey → List Opened → List Schema → Planned → State F
+on_plan codec job s opened schemas (planned.Take frags) = merges_all codec job s schemas (opened_among frags opened)
+on_plan codec job s opened schemas (planned.Nothing count) = refuse (refusal.NothingToDo count)
+
+-- a consolidation gets the next schema, or plans
+abbrev pub surveying : {F : Type 0} → Codec F → Job → Survey → List Opened → List Key → List Schema → State F
+surveying codec job s opened keys schemas = cond (nat_lt (length schemas) (length keys)) (Merges (merging.GetsSchemas s opened keys schemas)) (on_plan codec job s opened schemas (plan_for s opened schemas))
+
+-- a consolidation opens the next fragment, or goes on to the schemas
+abbrev pub opening_next : {F : Type 0} → Codec F → Job → Survey → List Opened → State F
+opening_next codec job s opened = cond (nat_lt (length opened) (length s.fragments)) (Merges (merging.GetsHeads s opened)) (surveying codec job s opened (schemas_named opened) [])
+
+-- a consolidation gets the next `.vac`, or opens its fragments
+abbrev pub getting_names : {F : Type 0} → Codec F → Job → Survey → State F
+getting_names codec job s = cond (nat_lt (length s.vacs) (length s.counting)) (Merges (merging.GetsVacs s)) (opening_next codec job s [])
+
+-- a consolidation that has the frame gets its first `.vac`
+abbrev pub surveys : {F : Type 0} → Codec F → Job → Command → Candidates → Frame → State F
+surveys codec job (Consolidate from to limits) c frame = getting_names codec job (survey_of from to limits c frame)
+surveys codec job _ c frame = Over outcome.OutOfMemory
+
 -- ---- the work of a job in the schema there
 
 -- a write puts its cells, or is refused
@@ -362,6 +490,7 @@ works codec job (Evolve change) listed frame s = unless_refused (puts_schema job
 works codec job (Write w) listed frame s = puts_cells codec job frame s (laid frame s.attrs w)
 works codec job (Read from to query) listed frame s = asks_for codec from to listed frame s (ready_in frame s.attrs query)
 works codec job (Delete text) listed frame s = puts_delete job (delete_condition frame s.attrs text)
+works codec job (Consolidate from to limits) listed frame s = Over outcome.OutOfMemory
 
 -- ---- where replies lead
 
@@ -453,14 +582,19 @@ begins (Evolve change) = Seeks (ListsSchemas nothing_listed)
 begins (Write w) = Seeks (ListsSchemas nothing_listed)
 begins (Read from to query) = Seeks ListsCommits
 begins (Delete text) = Seeks (ListsSchemas nothing_listed)
+begins (Consolidate from to limits) = Merges merging.ListsCommits
 
 -- the first state of a job, which is over where the job is refused before its first call
 abbrev pub begun : {F : Type 0} → Command → State F
 begun command = unless_refused (begins command) (refused_before command)
 
--- the get of the part that has the head
+-- the get of the part that has the head, in an array of a frame
+abbrev pub get_head_in : {F : Type 0} → Codec F → Frame → FragKey → Call
+get_head_in codec frame f = get_all (name.Part f (codec.head_part frame))
+
+-- the same of a read
 abbrev pub get_head : {F : Type 0} → Codec F → Reading → FragKey → Call
-get_head codec r f = get_all (name.Part f (codec.head_part r.frame))
+get_head codec r f = get_head_in codec r.frame f
 
 -- the get of a `.vac`
 abbrev pub get_vac : FragKey → Call
@@ -507,12 +641,23 @@ collect_asks codec (GetsSchemas r opened keys schemas) = option_map get_schema (
 collect_asks codec (GetsDeletes r opened schemas) = option_map get_delete (slice_get r.delete_names (length r.deletions))
 collect_asks codec (Fetches r opened schemas next frag got f c) = Some c
 
+-- the next call of a consolidation that has not come to its puts
+abbrev pub merge_asks : {F : Type 0} → Codec F → Merging F → Option Call
+merge_asks codec merging.ListsCommits = Some list_commits
+merge_asks codec (merging.ListsSchemas c) = Some list_schemas
+merge_asks codec (merging.GetsFrame c) = Some get_frame
+merge_asks codec (merging.GetsVacs s) = option_map get_vac (slice_get s.counting (length s.vacs))
+merge_asks codec (merging.GetsHeads s opened) = option_map (get_head_in codec s.frame) (slice_get s.fragments (length opened))
+merge_asks codec (merging.GetsSchemas s opened keys schemas) = option_map get_schema (slice_get keys (length schemas))
+merge_asks codec (merging.Fetches s sources schema next frag got f c) = Some c
+
 -- the next call of a job, if it is not over
 abbrev pub asks : {F : Type 0} → Codec F → Job → State F → Option Call
 asks codec job (Creates s) = create_asks job s
 asks codec job (Seeks s) = Some (seek_asks s)
 asks codec job (Puts objects next end) = option_map put_of (slice_get objects next)
 asks codec job (Collects s) = collect_asks codec s
+asks codec job (Merges s) = merge_asks codec s
 asks codec job (Over o) = None
 
 -- where a reply leads a create that has not come to its puts
@@ -536,12 +681,50 @@ collect_goes codec (GetsSchemas r opened keys schemas) r' = with_item (λ k. on_
 collect_goes codec (GetsDeletes r opened schemas) r' = with_item (λ f. on_bytes (get_delete f) (after_delete codec r opened schemas f) r') (slice_get r.delete_names (length r.deletions))
 collect_goes codec (Fetches r opened schemas next frag got f c) r' = after_fetched codec r opened schemas next frag got f c r'
 
+-- where the reply to a call of a source's fetch leads: bytes and lengths are for the fetch
+abbrev pub after_source : {F : Type 0} → Codec F → Job → Survey → List Opened → Schema → ℕ → FragKey → List (List Version) → F → Call → Reply → State F
+after_source codec job s sources schema next frag got f c (reply.Bytes bytes) =
+    source_leads s sources schema next frag got (λ vs. merging_from codec job s sources schema (suc next) (drop (suc next) sources) (got ++ vs ∷ [])) (codec.steps f (reply.Bytes bytes))
+after_source codec job s sources schema next frag got f c (reply.Length n) =
+    source_leads s sources schema next frag got (λ vs. merging_from codec job s sources schema (suc next) (drop (suc next) sources) (got ++ vs ∷ [])) (codec.steps f (reply.Length n))
+after_source codec job s sources schema next frag got f c r = ended c r
+
+-- a consolidation goes on where a schema holds at its stamp
+abbrev pub where_schema : {F : Type 0} → Candidates → ℕ → Option Key → State F
+where_schema c at None = refuse (refusal.NoSchema at)
+where_schema c at (Some k) = Merges (merging.GetsFrame c)
+
+-- where a `.vac` leads a consolidation
+abbrev pub after_names : {F : Type 0} → Codec F → Job → Survey → FragKey → List ℕ → State F
+after_names codec job s f bytes = on_read (vac_of f) (λ names. getting_names codec job (survey_with s f names)) (names_of bytes)
+
+-- where the head of a fragment leads it
+abbrev pub after_opened : {F : Type 0} → Codec F → Job → Survey → List Opened → FragKey → List ℕ → State F
+after_opened codec job s opened f bytes =
+    on_read (name.Part f (codec.head_part s.frame)) (λ head. opening_next codec job s (opened ++ record { frag = f; head = head; object = bytes } ∷ [])) (codec.head s.frame f bytes)
+
+-- where a schema leads it
+abbrev pub after_surveyed : {F : Type 0} → Codec F → Job → Survey → List Opened → List Key → List Schema → Key → List ℕ → State F
+after_surveyed codec job s opened keys schemas k bytes =
+    on_read (name.Schema k) (λ attrs. surveying codec job s opened keys (schemas ++ record { key = k; attrs = attrs } ∷ [])) (schema_of bytes)
+
+-- where a reply leads a consolidation that has not come to its puts
+abbrev pub merge_goes : {F : Type 0} → Codec F → Job → Merging F → Reply → State F
+merge_goes codec job merging.ListsCommits r = on_names list_commits (λ names. Merges (merging.ListsSchemas (candidates_of job.command names))) r
+merge_goes codec job (merging.ListsSchemas c) r = on_names list_schemas (λ names. where_schema c (looked_at job) (schema_at (schemas_in names) (looked_at job))) r
+merge_goes codec job (merging.GetsFrame c) r = on_bytes get_frame (λ bytes. on_read name.Domain (surveys codec job job.command c) (frame_of bytes)) r
+merge_goes codec job (merging.GetsVacs s) r = with_item (λ f. on_bytes (get_vac f) (after_names codec job s f) r) (slice_get s.counting (length s.vacs))
+merge_goes codec job (merging.GetsHeads s opened) r = with_item (λ f. on_bytes (get_head_in codec s.frame f) (after_opened codec job s opened f) r) (slice_get s.fragments (length opened))
+merge_goes codec job (merging.GetsSchemas s opened keys schemas) r = with_item (λ k. on_bytes (get_schema k) (after_surveyed codec job s opened keys schemas k) r) (slice_get keys (length schemas))
+merge_goes codec job (merging.Fetches s sources schema next frag got f c) r = after_source codec job s sources schema next frag got f c r
+
 -- where a reply leads a job
 abbrev pub goes : {F : Type 0} → Codec F → Job → State F → Reply → State F
 goes codec job (Creates s) r = create_goes job s r
 goes codec job (Seeks s) r = seek_goes codec job s r
 goes codec job (Puts objects next end) r = with_item (λ o. on_made (put_of o) (putting objects (suc next) end) r) (slice_get objects next)
 goes codec job (Collects s) r = collect_goes codec s r
+goes codec job (Merges s) r = merge_goes codec job s r
 goes codec job (Over o) r = Over o
 
 -- the job is over

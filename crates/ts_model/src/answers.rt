@@ -34,6 +34,8 @@ pub enum Outcome {
     Read(Answer),
     /// A delete is committed by the `.del` object of this key.
     Deleted(FragKey),
+    /// So many fragments were merged into the one of this key, which is committed.
+    Consolidated(FragKey, u32),
     /// The command was refused, and no deed has its key. But where the call that failed was the put
     /// of its own schema or of its own commit, that may have been done all the same.
     Refused(Refusal),
@@ -69,6 +71,10 @@ pub enum Refusal {
     UnknownField { field: Label },
     /// The text of a condition has this fault. The fault is never want of memory.
     Condition(CondFault),
+    /// There are no fragments to merge: too few of those that may be merged share a schema, or too few
+    /// of these can be merged together. So many may be merged: they lie in the interval, and no
+    /// consolidation has merged them yet.
+    NothingToDo { eligible: u64 },
     /// When the command listed the leases, this was the first that opposes its own one.
     Leased(Name),
     /// An object of this name was there already when the command put it.

@@ -2,6 +2,7 @@
 
 use std::alloc::Global;
 use ts_base::{ByteList, Duplicate, Label, OutOfMemory, Row, Sequence, Stop};
+use ts_commit::Limits;
 use ts_cond::{NamedBoxList, Query};
 use ts_domain::{DimList, Order};
 use ts_schema::{AttrList, Evolution};
@@ -87,6 +88,16 @@ pub enum Command {
     /// Deletes, at the stamp, each cell whose last write is older and matches the condition with this
     /// text, over the fields of the schema that holds at the stamp. Older writes do not come to light.
     Delete(ByteList),
+    /// Merges fragments whose timestamps lie in the interval from `from` to `to`, in milliseconds
+    /// since 1970-01-01, both ends included, into one new fragment. Readers then load that one alone.
+    Consolidate {
+        /// The least timestamp.
+        from: u64,
+        /// The greatest timestamp.
+        to: u64,
+        /// How many fragments it takes.
+        limits: Limits,
+    },
 }
 
 impl Duplicate for Command {
@@ -128,7 +139,7 @@ pub struct Line {
     /// The stamp, in milliseconds since 1970-01-01, or None: then it is the clock's number as the
     /// command starts.
     pub at: Option<u64>,
-    /// Whether the interval of a read ends at the command's own stamp.
+    /// Whether the interval of a read or of a consolidation ends at the command's own stamp.
     pub to_stamp: bool,
 }
 

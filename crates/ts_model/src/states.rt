@@ -6,9 +6,9 @@ use crate::queries::Ready;
 use std::alloc::Global;
 use ts_base::{
     Boxed, ByteList, Duplicate, FragKey, FragList, Head, Key, KeyList, Name, OutOfMemory, Sequence,
-    VersionList,
+    VersionList, VersionLists,
 };
-use ts_commit::VacList;
+use ts_commit::{Limits, VacList};
 use ts_schema::{Frame, Schema, SchemaList};
 use ts_store::Call;
 
@@ -88,6 +88,34 @@ pub struct Reading {
     pub delete_names: FragList,
     /// The deletes under the first of these names, as many as it got.
     pub deletions: DeletionList,
+}
+
+/// What a consolidation chooses from, of those fragments that it found in its listing of the commits.
+#[derive(Debug, Drop, PartialEq, Eq)]
+pub struct Candidates {
+    /// The committed fragments in the interval, ascending.
+    pub fragments: FragList,
+    /// The committed fragments that have a `.vac`, ascending.
+    pub counting: FragList,
+}
+
+/// What a consolidation knows of the array, and what it may merge.
+#[derive(Debug, Drop)]
+pub struct Survey {
+    /// The least timestamp of the interval, in milliseconds since 1970-01-01.
+    pub from: u64,
+    /// The greatest timestamp of the interval, in milliseconds since 1970-01-01.
+    pub to: u64,
+    /// How many fragments it takes.
+    pub limits: Limits,
+    /// The frame of the array.
+    pub frame: Frame,
+    /// The committed fragments in the interval, ascending.
+    pub fragments: FragList,
+    /// The committed fragments that have a `.vac`, ascending.
+    pub counting: FragList,
+    /// The `.vac` objects of the first of them, as many as it got.
+    pub vacs: VacList,
 }
 
 /// How far a create has come that does not know yet whether it puts its schema: which call it makes
@@ -189,6 +217,68 @@ pub enum Collecting<F> {
     },
 }
 
+/// How far a consolidation has come that has not come to its puts: which call it makes next, with
+/// what it found so far.
+///
+/// `F` is how far the fetch of a fragment has come.
+#[derive(Debug, Drop)]
+pub enum Merging<F> {
+    /// It lists the commits.
+    ListsCommits,
+    /// It lists the schemas: where none holds at its stamp, it is refused.
+    ListsSchemas {
+        /// What it chooses from.
+        candidates: Candidates,
+    },
+    /// It gets the frame.
+    GetsFrame {
+        /// What it chooses from.
+        candidates: Candidates,
+    },
+    /// It gets the `.vac` objects of committed fragments, one after the other.
+    GetsVacs {
+        /// What it knows, with the `.vac` objects before the next one.
+        survey: Survey,
+    },
+    /// It gets the part that has the head, of one fragment after the other.
+    GetsHeads {
+        /// What it knows.
+        survey: Survey,
+        /// The fragments before the next one.
+        opened: OpenedList,
+    },
+    /// It gets the schemas that the heads name, one after the other.
+    GetsSchemas {
+        /// What it knows.
+        survey: Survey,
+        /// All fragments in the interval.
+        opened: OpenedList,
+        /// The keys of the schemas, ascending.
+        keys: KeyList,
+        /// The schemas of the keys before the next one.
+        schemas: SchemaList,
+    },
+    /// It fetches one of its sources after the other.
+    Fetches {
+        /// What it knows.
+        survey: Survey,
+        /// The fragments that it merges.
+        sources: OpenedList,
+        /// Their schema.
+        schema: Schema,
+        /// The place of the fragment that is fetched.
+        next: u64,
+        /// The fragment.
+        frag: FragKey,
+        /// The versions of each fragment before it.
+        got: VersionLists,
+        /// How far the fetch has come.
+        fetch: F,
+        /// The call that it asks for.
+        asked: Call,
+    },
+}
+
 /// How far a job has come: which call it makes next, with what it found so far.
 ///
 /// `F` is how far the fetch of a fragment has come.
@@ -209,6 +299,8 @@ pub enum State<F> {
     },
     /// A read collects what it answers from. This is large, so it lies in a place of its own.
     Collects(Boxed<Collecting<F>>),
+    /// A consolidation seeks what it merges. This is large too.
+    Merges(Boxed<Merging<F>>),
     /// The job has ended.
     Over(Outcome),
 }
