@@ -1,16 +1,21 @@
 -- Where the steps of fetches lead a consolidation.
-use Rattle.std.proofs.Common.{◌≡◌, ℕ, suc, zero, List, [], ◌∷◌, ◌++◌, Some, Result, Ok, Err, drop, refl, sym, ap, ◌∙◌}
+use Rattle.std.proofs.Common.{◌≡◌, ℕ, suc, zero, true, false, cond, List, [], ◌∷◌, ◌++◌, length, Some, Result, Ok, Err, drop, refl, sym, ap, ◌∙◌}
 use Rattle.std.specs.Prelude.{slice_get}
 use Rattle.std.proofs.lemmas.Option.{same_Some, none-some}
 use Rattle.ts_base.specs.declared.keys.FragKey.{FragKey}
+use Rattle.ts_base.specs.declared.heads.Piece.{Piece}
 use Rattle.ts_base.specs.declared.heads.Version.{Version}
+use Rattle.ts_commit.specs.Selections.{names_merged}
+use Rattle.ts_schema.specs.declared.frames.Frame.{Frame}
 use Rattle.ts_schema.specs.declared.schemas.Schema.{Schema}
 use Rattle.ts_model.specs.declared.commands.Job.{Job}
 use Rattle.ts_model.specs.declared.states.Opened.{Opened}
+use Rattle.ts_model.specs.declared.answers.Outcome.TheVariants as outcome
 use Rattle.ts_model.specs.declared.states.State.{State}
+use Rattle.ts_model.specs.declared.states.State.TheVariants.{Over}
 use Rattle.ts_model.specs.declared.states.Survey.{Survey}
 use Rattle.ts_model.specs.Codecs.{Stepped, Codec, Asks, Takes, Breaks}
-use Rattle.ts_model.specs.States.{source_leads, source_begins, merging_from}
+use Rattle.ts_model.specs.States.{can_be_named, frags_of, merge_objects, merging_from, piece_merged, puts_merged, putting, source_begins, source_leads}
 use Rattle.ts_consolidate.specs.declared.fetching.SourceStep.{SourceStep}
 use Rattle.ts_consolidate.specs.Fetching.{step_by, first_step, step_of, state_after}
 
@@ -47,3 +52,20 @@ module _ {F : Type 0} (codec : Codec F) (job : Job) (s : Survey) (sources : List
   -- a fetch that is told something goes on as its step did
   pub told_leads : (frag : FragKey) (step : Stepped F) (l : SourceStep F) → l ≡ step_by frag step → source_leads s sources schema next frag got On step ≡ state_after s sources schema next frag got On l
   told_leads frag step l led = step_leads codec s sources schema next got On frag step ∙ ap (state_after s sources schema next frag got On) (sym led)
+
+-- ---- the puts
+
+-- a consolidation that can name the piece puts it
+pub puts_it : {F : Type 0} (codec : Codec F) (job : Job) (s : Survey) (schema : Schema) (got : List (List Version)) (o : Opened) (others : List Opened) (t : State F) (frame : Frame) (piece : Piece) (frags names : List FragKey) (count : ℕ)
+    → frame ≡ s.frame → piece ≡ piece_merged job s.frame o others got → can_be_named piece ≡ true → frags ≡ frags_of (o ∷ others) → names ≡ names_merged s.vacs frags → count ≡ length (o ∷ others)
+    → t ≡ putting (merge_objects codec frame schema piece names) 0 (outcome.Consolidated piece.head.frag count) → t ≡ puts_merged codec job s schema got (o ∷ others)
+puts_it codec job s schema got o others t frame piece frags names count frames is can frags_are names_are counts led =
+    let named : names ≡ names_merged s.vacs (frags_of (o ∷ others)) = names_are ∙ ap (names_merged s.vacs) frags_are in
+    led ∙ (λ i. putting (merge_objects codec (frames i) schema (is i) (named i)) 0 (outcome.Consolidated (is i).head.frag (counts i)))
+    ∙ sym (ap (λ b. cond b (putting (merge_objects codec s.frame schema (piece_merged job s.frame o others got) (names_merged s.vacs (frags_of (o ∷ others)))) 0 (outcome.Consolidated (piece_merged job s.frame o others got).head.frag (length (o ∷ others)))) (Over outcome.OutOfMemory))
+    (ap can_be_named (sym is) ∙ can))
+
+-- one that cannot is over
+pub puts_none : {F : Type 0} (codec : Codec F) (job : Job) (s : Survey) (schema : Schema) (got : List (List Version)) (o : Opened) (others : List Opened) → can_be_named (piece_merged job s.frame o others got) ≡ false → Over outcome.OutOfMemory ≡ puts_merged codec job s schema got (o ∷ others)
+puts_none codec job s schema got o others cannot =
+    sym (ap (λ b. cond b (putting (merge_objects codec s.frame schema (piece_merged job s.frame o others got) (names_merged s.vacs (frags_of (o ∷ others)))) 0 (outcome.Consolidated (piece_merged job s.frame o others got).head.frag (length (o ∷ others)))) (Over outcome.OutOfMemory)) cannot)

@@ -1,12 +1,14 @@
 -- What the fetches of sources take: pieces that can be written, and that can be merged.
-use Rattle.std.proofs.Common.{◌≡◌, ℕ, suc, zero, true, false, List, [], ◌∷◌, ◌++◌, length, take, Some, Ok, inl, inr, refl, sym, ap, subst, ◌∙◌}
+use Rattle.std.proofs.Common.{◌≡◌, ℕ, suc, zero, true, false, List, [], ◌∷◌, ◌++◌, length, take, Bool, not, Some, Result, Ok, Err, IfOk, inl, inr, refl, sym, ap, subst, ◌∙◌, arith}
 use Rattle.std.specs.Prelude.{slice_get, Contains, All, IsTrue}
+use Rattle.std.proofs.lemmas.Bool.{true≢false}
 use Rattle.std.proofs.lemmas.Option.{same_Some, none-some}
 use Rattle.std.proofs.lemmas.List.Elements.{All-nil, All-cons, All-head, All-tail, All-weaker}
 use Rattle.ts_base.specs.declared.keys.Key.{Key}
 use Rattle.ts_base.specs.declared.heads.Head.{Head}
 use Rattle.ts_base.specs.declared.heads.Piece.{Piece}
 use Rattle.ts_base.specs.declared.heads.Version.{Version}
+use Rattle.ts_base.specs.Names.{IsSpelledFrag}
 use Rattle.ts_domain.specs.Domains.{is_in_domain}
 use Rattle.ts_schema.specs.declared.attrs.Attr.{Attr}
 use Rattle.ts_schema.specs.declared.frames.Frame.{Frame}
@@ -17,9 +19,11 @@ use Rattle.ts_store.specs.declared.call.Call.{Call}
 use Rattle.ts_store.specs.declared.call.Reply.{Reply}
 use Rattle.ts_store.specs.declared.call.Reply.TheVariants as reply
 use Rattle.ts_model.specs.declared.states.Opened.{Opened}
+use Rattle.ts_model.specs.declared.states.Survey.{Survey}
 use Rattle.ts_model.specs.Codecs.{Stepped, Codec, Asks, Takes, Breaks}
-use Rattle.ts_model.specs.Consolidated.{IsStorable}
-use Rattle.ts_model.specs.Merging.{AreSources, EachAlike, HasBox}
+use Rattle.ts_model.specs.Consolidated.{IsConsolidated, IsMergedVersion, IsStorable}
+use Rattle.ts_model.specs.Pieces.{IsVersion}
+use Rattle.ts_model.specs.Merging.{AreSources, EachAlike, HasBox, merged_with}
 use Rattle.ts_model.specs.Merging as merges
 use Rattle.ts_model.specs.States.{all_of, heads_of}
 use Rattle.ts_model.proofs.ListLemmas.{Contains-nil, Contains-cons}
@@ -27,7 +31,8 @@ use Rattle.ts_model.proofs.MergedFits.{source_box}
 use Rattle.ts_actor.specs.PieceLaws.{AfterReply, AtOnce, First, MayReply, TakesStorable, Then, got_with, sized_with, whole_got}
 use Rattle.ts_consolidate.specs.declared.fetching.SourceStep.{SourceStep}
 use Rattle.ts_consolidate.specs.Fetching.{LeadsOn, step_by}
-use Rattle.ts_consolidate.specs.Merges.{AreGot, IsGoing, IsGot, IsSource}
+use Rattle.ts_consolidate.specs.Merges.{AreGot, HasSources, IsGoing, IsGot, IsSource}
+use Rattle.ts_consolidate.specs.Consolidations.{IsConsolidationOf}
 
 -- ---- fetches
 
@@ -122,8 +127,8 @@ module _ (frame : Frame) (attrs : List Attr) where
   Inside v = IsTrue (is_in_domain frame.domain v.coords)
 
   versions_inside : (p : Piece) → IsStorable frame attrs p → All Inside p.versions
-  versions_inside p (inl is) = All-weaker _ Inside (λ v of. of.inside) p.versions is.versions
-  versions_inside p (inr is) = All-weaker _ Inside (λ v of. of.inside) p.versions is.versions
+  versions_inside p (inl is) = All-weaker (IsVersion frame attrs p.head is.key) Inside (λ (v : Version) (of : IsVersion frame attrs p.head is.key v). of.inside) p.versions is.versions
+  versions_inside p (inr is) = All-weaker (IsMergedVersion frame attrs p.head) Inside (λ (v : Version) (of : IsMergedVersion frame attrs p.head v). of.inside) p.versions is.versions
 
   -- so does each that was got
   pub each_inside : (opened : List Opened) (got : List (List Version)) → AreGot frame attrs opened got → All (All Inside) got
@@ -131,3 +136,44 @@ module _ (frame : Frame) (attrs : List Attr) where
   each_inside [] (vs ∷ got) are = absurd are
   each_inside (o ∷ opened) [] are = absurd are
   each_inside (o ∷ opened) (vs ∷ got) are = All-cons (All Inside) vs got (versions_inside (record { head = o.head; versions = vs }) are.0) (each_inside opened got are.1)
+
+-- ---- the piece
+
+module _ {F : Type 0} (codec : Codec F) (s : Survey) (schema : Schema) (o : Opened) (others : List Opened) (got : List (List Version)) (has : HasSources codec s schema (o ∷ others)) (are : AreGot s.frame schema.attrs (o ∷ others) got) where
+  in_schema : All (λ (x : Opened). x.head.schema ≡ schema.key) (o ∷ others)
+  in_schema = All-weaker (IsSource codec s.frame schema) (λ (x : Opened). x.head.schema ≡ schema.key) (λ x is. is.in_schema) (o ∷ others) has.each
+
+  -- what is made of the sources can be written
+  pub fits_of : (id : ℕ) (f : Frame) (hs : List Head) (piece : Piece) → f ≡ s.frame → hs ≡ heads_of others
+      → ((attrs : List Attr) (p : Piece) (ps : List Piece) → AreSources f attrs (p ∷ ps) → p.head ≡ o.head → merges.heads_of ps ≡ hs → EachAlike (p ∷ ps) got → IsConsolidationOf f attrs id p ps piece)
+      → IsConsolidated s.frame schema.attrs piece
+  fits_of id f hs piece frames same of = by got are of
+    where
+      by : (got : List (List Version)) → AreGot s.frame schema.attrs (o ∷ others) got
+          → ((attrs : List Attr) (p : Piece) (ps : List Piece) → AreSources f attrs (p ∷ ps) → p.head ≡ o.head → merges.heads_of ps ≡ hs → EachAlike (p ∷ ps) got → IsConsolidationOf f attrs id p ps piece)
+          → IsConsolidated s.frame schema.attrs piece
+      by [] are of = absurd are
+      by (vs ∷ got) are of =
+          let p : Piece = record { head = o.head; versions = vs } in
+          let ps = pieces_of s.frame schema.attrs others got in
+          let sources = are_sources s.frame schema.attrs schema.key (o ∷ others) (vs ∷ got) (has.survey).is_frame has.attrs in_schema are in
+          subst (λ (f : Frame). IsConsolidated f schema.attrs piece) frames
+          (of schema.attrs p ps (subst (λ (f : Frame). AreSources f schema.attrs (p ∷ ps)) (sym frames) sources) refl (heads_same s.frame schema.attrs others got are.1 ∙ sym same) (each_alike s.frame schema.attrs (o ∷ others) (vs ∷ got) are)).writable
+
+-- a piece that a consolidation makes has a fragment that runs forward
+spelled_of : (frame : Frame) (attrs : List Attr) (p : Piece) → IsConsolidated frame attrs p → p.head.frag.v ≡ 1 → IsSpelledFrag p.head.frag
+spelled_of frame attrs p is one =
+    let first = (is.span).least in
+    let before = (is.span).up_to first.0 first.1 in
+    record { span = omega (arith, before, first.2); version = one }
+
+-- so does one that is made of heads
+pub each_spelled : {E : Type 0} (frame : Frame) (attrs : List Attr) (f : Frame) (id : ℕ) (first : Head) (hs : List Head) (vs : List Version) (r : Result Piece E) → IfOk r (IsConsolidated frame attrs) → IfOk r (λ (p : Piece). p ≡ merged_with f id first hs vs)
+    → IfOk r (λ (p : Piece). IsSpelledFrag p.head.frag)
+each_spelled frame attrs f id first hs vs (Ok p) is made = spelled_of frame attrs p is (ap (λ (q : Piece). q.head.frag.v) made)
+each_spelled frame attrs f id first hs vs (Err e) is made = tt
+
+-- what is not false is true
+pub true_of : (b : Bool) → not b ≡ false → b ≡ true
+true_of true e = refl
+true_of false e = absurd (true≢false e)

@@ -100,7 +100,7 @@ pub record IsGoing {F : Type 0} (codec : Codec F) (frame : Frame) (schema : Sche
 -- a consolidation fetches the source at a place, and has got those before
 pub record IsFetching {F : Type 0} (codec : Codec F) (s : Survey) (sources : List Opened) (schema : Schema) (next : ℕ) (frag : FragKey) (got : List (List Version)) (f : F) (c : Call) : Type 0 where
   pub has : HasSources codec s schema sources
-  pub got : AreGot s.frame schema.attrs (take next sources) got
+  pub taken : AreGot s.frame schema.attrs (take next sources) got
   pub within : next < length sources
   pub source : Opened
   pub at : slice_get sources next ≡ Some source

@@ -46,8 +46,20 @@ fn committed_inside(
     ensures spelled { IfOk result (All IsSpelledFrag) }
 {
     let committed = frags_in(alloc, CommitKind::Wrt, names)?;
+    inside_of(alloc, from, to, committed)
+}
+
+// Those of the fragments that are in the interval, in their order.
+fn inside_of(
+    alloc: Global,
+    from: u64,
+    to: u64,
+    frags: FragList,
+) -> Result<FragList, OutOfMemory>
+    ensures { IfOk result (λ inside. inside ≡ filter (is_inside from to) frags) }
+{
     let mut inside = FragList::new(alloc);
-    for frag in committed.into_vec() {
+    for frag in frags.into_vec() {
         if is_inside(from, to, &frag) {
             inside.push(frag)?;
         }

@@ -3,9 +3,10 @@ ghost use Rattle.std.specs.Prelude.{◌≡◌, IsTrue};
 ghost use Rattle.ts_model.specs.declared.commands.Command.TheVariants.{Consolidate};
 ghost use Rattle.ts_model.specs.Commands.{fits};
 ghost use Rattle.ts_model.specs.Driven.{EndsBy};
+ghost use Rattle.ts_model.specs.Jobs.{IsFit};
 ghost use Rattle.ts_actor.specs.Traces.{start};
 ghost use Rattle.ts_consolidate.specs.Consolidators.{Follows, calls_left};
-ghost use Rattle.ts_consolidate.specs.Merges.{IsMergeJob, merge_job};
+ghost use Rattle.ts_consolidate.specs.Merges.{IsConsolidate, merge_job};
 
 use crate::steps::Merges;
 use std::alloc::Global;
@@ -60,7 +61,8 @@ impl<P: Pieces> Consolidator<P> {
     /// A consolidator of a job whose command is a consolidation. It has made no call yet, and takes no
     /// memory.
     pub fn of(job: Job) -> Consolidator<P>
-        requires { IsMergeJob job }
+        requires fit { IsFit job }
+        requires kind { IsConsolidate job.command }
         ensures new { Follows P.codec result.machine.job result.machine.phase start }
         ensures task { result.machine.job ≡ job }
     {

@@ -1,5 +1,5 @@
 //! Fetching: all versions of one source after the other.
-ghost use Rattle.std.specs.Prelude.{◌≡◌, ◌≤◌, ◌<◌, ◌-◌, ◌+◌, ◌^◌, ◌++◌, ◌∷◌, [], suc, drop, take, length, IfOk, IsTrue};
+ghost use Rattle.std.specs.Prelude.{◌≡◌, ◌≤◌, ◌<◌, ◌-◌, ◌+◌, ◌^◌, ◌++◌, ◌∷◌, [], suc, drop, take, true, length, IfOk};
 ghost use Rattle.ts_schema.specs.FrameTexts.{IsFrame};
 ghost use Rattle.ts_schema.specs.SchemaTexts.{AreAttrs};
 ghost use Rattle.ts_model.specs.States.{after_source, all_of, merging_from, source_leads};
@@ -13,7 +13,9 @@ use std::alloc::Global;
 use std::thread::Threads;
 use ts_actor::{Fetched, Pieces, wanted};
 use ts_base::{FragKey, Name, OutOfMemory, VersionList, VersionLists};
-use ts_model::{Job, Merging, Opened, OpenedList, Outcome, Refusal, State, Survey};
+use ts_model::{
+    Job, Merging, Opened, OpenedList, Outcome, Refusal, State, Survey, box_of,
+};
 use ts_schema::{AttrList, Frame, Schema, Want};
 use ts_store::{Call, Reply};
 use ts_wire::ReadFault;
@@ -159,7 +161,8 @@ fn start<P: Pieces, R: Threads + Sync>(
 fn all_of(alloc: Global, frame: &Frame, attrs: &AttrList) -> Result<Want, OutOfMemory>
     ensures { IfOk result (λ want. want ≡ all_of frame.now attrs.now) }
 {
-    wanted(alloc, frame.domain.whole(), 0, u64::MAX, attrs)
+    let whole = box_of(&[], &frame.domain);
+    wanted(alloc, whole, 0, u64::MAX, attrs)
 }
 
 // Goes on with the fetch of a source.
@@ -186,8 +189,7 @@ fn go_on<P: Pieces, R: Threads + Sync>(
     }
 }
 
-/// Where the reply to a fetch's call leads. One that cannot come to the call, as more bytes than it
-/// asks for, leads nowhere.
+/// Where the reply to a fetch's call leads.
 pub(crate) fn after_source<P: Pieces, R: Threads + Sync>(
     rt: &R,
     alloc: Global,
@@ -202,24 +204,22 @@ pub(crate) fn after_source<P: Pieces, R: Threads + Sync>(
     ensures may { IfOk result (IsMergeState P.codec) }
     ensures fewer { IfOk result (λ next. merges_left P.left next < fetches_left (length merged.opened - suc ongoing.next) + suc (P.left ongoing.fetch)) }
 {
-    let may = may_reply(&asked, &reply);
     match reply {
-        Reply::Bytes(bytes) if may => {
+        Reply::Bytes(bytes) => {
             let reply = Reply::Bytes(bytes);
             after_told::<P, R>(rt, alloc, job, merged, ongoing, &asked, reply)
         }
-        Reply::Length(count) if may => {
+        Reply::Length(count) => {
             let reply = Reply::Length(count);
             after_told::<P, R>(rt, alloc, job, merged, ongoing, &asked, reply)
         }
-        Reply::Bytes(_) | Reply::Length(_) => Err(OutOfMemory),
         other => Ok(ended::<P>(&asked, &other)),
     }
 }
 
 // Whether bytes or a length can come to the call: a get has at most as many bytes as it asks for.
 fn may_reply(call: &Call, reply: &Reply) -> bool
-    ensures { IsTrue result → MayReply call.now reply.now }
+    ensures { result ≡ true → MayReply call.now reply.now }
 {
     match (call, reply) {
         (Call::Get(_, _, most), Reply::Bytes(bytes)) => bytes.len() <= *most,
@@ -228,7 +228,7 @@ fn may_reply(call: &Call, reply: &Reply) -> bool
     }
 }
 
-// Where bytes or a length lead a fetch.
+// Where bytes or a length lead a fetch. Those that cannot come to its call lead nowhere.
 fn after_told<P: Pieces, R: Threads + Sync>(
     rt: &R,
     alloc: Global,
@@ -238,12 +238,14 @@ fn after_told<P: Pieces, R: Threads + Sync>(
     asked: &Call,
     reply: Reply,
 ) -> Result<State<P::Fetch>, OutOfMemory>
-    requires fetching { IsFetching P.codec merged.survey merged.opened merged.schema ongoing.next ongoing.frag ongoing.got ongoing.fetch asked.now }
-    requires may_reply { MayReply asked.now reply }
+    requires { IsFetching P.codec merged.survey merged.opened merged.schema ongoing.next ongoing.frag ongoing.got ongoing.fetch asked.now }
     ensures is { IfOk result (λ next. next ≡ source_leads merged.survey merged.opened merged.schema ongoing.next ongoing.frag ongoing.got (λ vs. merging_from P.codec job.now merged.survey merged.opened merged.schema (suc ongoing.next) (drop (suc ongoing.next) merged.opened) (ongoing.got ++ vs ∷ [])) (P.codec.steps ongoing.fetch reply)) }
     ensures may { IfOk result (IsMergeState P.codec) }
     ensures fewer { IfOk result (λ next. merges_left P.left next < fetches_left (length merged.opened - suc ongoing.next) + suc (P.left ongoing.fetch)) }
 {
+    if !may_reply(asked, &reply) {
+        return Err(OutOfMemory);
+    }
     let SourceFetch {
         next,
         frag,

@@ -1,10 +1,10 @@
 //! What a consolidation puts: the parts of the fragment that its sources are merged into, its `.vac`,
 //! and the `.wrt` by which it is committed.
-ghost use Rattle.std.specs.Prelude.{◌≡◌, ◌<◌, ◌^◌, ◌++◌, ◌∷◌, [], All, IfOk, map as list_map};
+ghost use Rattle.std.specs.Prelude.{◌≡◌, ◌<◌, ◌^◌, ◌++◌, ◌∷◌, [], true, false, None, All, IfOk, IfSome, MatchResult};
 ghost use Rattle.ts_base.specs.Names.{IsSpelledFrag, IsSpelledPart, wrt_of};
 ghost use Rattle.ts_model.specs.declared.answers.Outcome.TheVariants as outcome;
 ghost use Rattle.ts_model.specs.Consolidated.{IsConsolidated};
-ghost use Rattle.ts_model.specs.States.{frags_of, merge_objects, part_objects, puts_merged, putting, vac_of};
+ghost use Rattle.ts_model.specs.States.{can_be_named, frags_of, merge_objects, part_objects, piece_merged, puts_merged, putting, vac_of};
 ghost use Rattle.ts_consolidate.specs.Merges.{AreGot, HasSources, HaveNames, IsMergeState, merges_left};
 
 use crate::fetching::Sources;
@@ -17,7 +17,7 @@ use ts_base::{
     VersionLists,
 };
 use ts_commit::{encode_vac, names_merged};
-use ts_model::{Job, NewObject, NewObjectList, Opened, Outcome, State};
+use ts_model::{Job, NewObject, NewObjectList, Opened, Outcome, State, Survey};
 use ts_schema::{Frame, Schema};
 
 /// A consolidation puts what its sources are merged into, of which it has got all versions. Sources
@@ -34,23 +34,78 @@ pub(crate) fn put_merged<P: Pieces>(
     ensures may { IfOk result (IsMergeState P.codec) }
     ensures few_calls { IfOk result (λ state. merges_left P.left state < 2 ^ 64) }
 {
-    let frame = merged.survey.frame.get();
-    let [first, others @ ..] = merged.opened.as_slice() else {
-        return Ok(State::Over(Outcome::OutOfMemory));
+    match first_and_others(merged.opened.as_slice()) {
+        Some((first, others)) => {
+            put_sources::<P>(alloc, job, &merged.survey, &merged.schema, first, others, got)
+        }
+        None => Ok(State::Over(Outcome::OutOfMemory)),
+    }
+}
+
+// The first source, and those behind it.
+fn first_and_others(opened: &[Opened]) -> Option<(&Opened, &[Opened])>
+    ensures some { IfSome result (λ parts. opened.now ≡ parts.0.now ∷ parts.1.now) }
+    ensures none { result ≡ None → opened.now ≡ [] }
+{
+    match opened {
+        [first, others @ ..] => Some((first, others)),
+        _ => None,
+    }
+}
+
+// A consolidation puts what a first source and others are merged into.
+fn put_sources<P: Pieces>(
+    alloc: Global,
+    job: &Job,
+    survey: &Survey,
+    schema: &Schema,
+    first: &Opened,
+    others: &[Opened],
+    got: VersionLists,
+) -> Result<State<P::Fetch>, OutOfMemory>
+    requires has { HasSources P.codec survey.now schema.now (first.now ∷ others.now) }
+    requires got { AreGot survey.now.frame schema.now.attrs (first.now ∷ others.now) got }
+    ensures is { IfOk result (λ state. state ≡ puts_merged P.codec job.now survey.now schema.now got (first.now ∷ others.now)) }
+    ensures may { IfOk result (IsMergeState P.codec) }
+    ensures few_calls { IfOk result (λ state. merges_left P.left state < 2 ^ 64) }
+{
+    let Ok(more) = u32::try_from(others.len()) else {
+        return Err(OutOfMemory);
     };
-    let frags = frags_of(alloc, merged.opened.as_slice())?;
-    let names = names_merged(alloc, &merged.survey.vacs, &frags)?;
-    let others = heads_of(alloc, others)?;
-    match merge_pieces(alloc, frame, job.id, &first.head, others.as_slice(), got) {
+    if more == u32::MAX {
+        return Err(OutOfMemory);
+    }
+    let frags = frags_of(alloc, first, others)?;
+    let names = names_merged(alloc, &survey.vacs, &frags)?;
+    match merge_sources::<P>(alloc, job, survey, schema, first, others, got) {
         Ok(piece) => {
-            let Ok(count) = u32::try_from(merged.opened.len()) else {
-                return Err(OutOfMemory);
-            };
-            put_piece::<P>(alloc, frame, &merged.schema, &names, count, &piece)
+            put_piece::<P>(alloc, survey.frame.get(), schema, &names, more + 1, &piece)
         }
         Err(Unmerged::TooManyOrigins) => Ok(State::Over(Outcome::OutOfMemory)),
         Err(Unmerged::OutOfMemory) => Err(OutOfMemory),
     }
+}
+
+// What a first source and others are merged into: a piece that can be written.
+fn merge_sources<P: Pieces>(
+    alloc: Global,
+    job: &Job,
+    survey: &Survey,
+    _schema: &Schema,
+    first: &Opened,
+    others: &[Opened],
+    got: VersionLists,
+) -> Result<Piece, Unmerged>
+    requires has { HasSources P.codec survey.now _schema.now (first.now ∷ others.now) }
+    requires got { AreGot survey.now.frame _schema.now.attrs (first.now ∷ others.now) got }
+    ensures is { IfOk result (λ piece. piece ≡ piece_merged job.now survey.now.frame first.now others.now got) }
+    ensures fits { IfOk result (IsConsolidated survey.now.frame _schema.now.attrs) }
+    ensures spelled { IfOk result (λ piece. IsSpelledFrag piece.head.frag) }
+    ensures named { MatchResult result (λ piece. can_be_named piece ≡ true) (λ cause. cause ≡ Unmerged.TooManyOrigins → can_be_named (piece_merged job.now survey.now.frame first.now others.now got) ≡ false) }
+{
+    let frame = survey.frame.get();
+    let heads = heads_of(alloc, others)?;
+    merge_pieces(alloc, frame, job.id, &first.head, heads.as_slice(), got)
 }
 
 // A consolidation of so many fragments puts the piece, whose `.vac` is to have these names.
@@ -126,12 +181,13 @@ fn part_object(frag: FragKey, part: PartBytes) -> NewObject
     }
 }
 
-// The names of open fragments.
-fn frags_of(alloc: Global, opened: &[Opened]) -> Result<FragList, OutOfMemory>
-    ensures { IfOk result (λ frags. frags ≡ frags_of opened.now) }
+// The names of a first source and others.
+fn frags_of(alloc: Global, first: &Opened, others: &[Opened]) -> Result<FragList, OutOfMemory>
+    ensures { IfOk result (λ frags. frags ≡ frags_of (first.now ∷ others.now)) }
 {
     let mut frags = FragList::new(alloc);
-    for one in opened {
+    frags.push(first.frag)?;
+    for one in others {
         frags.push(one.frag)?;
     }
     Ok(frags)
