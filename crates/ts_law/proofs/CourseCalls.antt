@@ -22,8 +22,8 @@ use Rattle.ts_model.specs.declared.commands.Command.TheVariants.{Create, Evolve,
 use Rattle.ts_model.specs.Codecs.{Codec, is_look}
 use Rattle.ts_model.specs.Jobs.{key_of, frag_of_job}
 use Rattle.ts_model.specs.States.{Exchange, asks, goes, ended, refuse, place_of, put_of, putting, on_made}
-use Rattle.ts_law.specs.Courses.{Found, SaysThere, IsGot, AreFound, IsLookOf, Looks, IsNext, lets_on, Along, EndsAt, refused_in, IsCause}
-use Rattle.ts_law.proofs.CourseGrows.{among_more, got_stays}
+use Rattle.ts_law.specs.Courses.{Found, Merge, SaysThere, IsGot, IsMergeBy, AreFound, IsLookOf, Looks, IsNext, lets_on, Along, EndsAt, refused_in, IsCause}
+use Rattle.ts_law.proofs.CourseGrows.{among_more, got_stays, merge_stays}
 use Rattle.ts_model.proofs.ListLemmas.{Contains-here, Contains-there}
 use Rattle.ts_cond.specs.declared.query.Query.{Query}
 use Rattle.ts_base.specs.declared.names.Name.TheVariants as name
@@ -162,6 +162,8 @@ module _ {F : Type 0} (codec : Codec F) (job : Job) where
       Along (IsLookOf codec job found) seen course xs [] × ((text : List ℕ) × (job.command ≡ Delete text)) × (f ≡ frag_of_job job) × IsGot job found whole × (refused_in found job.command ≡ None)
   EndsIn whole seen found course xs (outcome.Read answer) =
       Along (IsLookOf codec job found) seen course xs [] × ((from : ℕ) × (to : ℕ) × (query : Query) × (job.command ≡ Read from to query)) × IsGot job found whole × (refused_in found job.command ≡ None)
+  EndsIn whole seen found course xs (outcome.Consolidated f count) =
+      Along (IsLookOf codec job found) seen course xs [] × ((merge : Merge) × (found.merged ≡ Some merge) × (f ≡ merge.piece.head.frag) × IsMergeBy codec job found whole merge count)
 
   -- how the last calls may end along a course
   abbrev pub Ends : List Exchange → Found → List Call → List Exchange → Outcome → Type 0
@@ -174,6 +176,7 @@ module _ {F : Type 0} (codec : Codec F) (job : Job) where
   Well whole found (outcome.Written f) = ((w : WriteIn) × (job.command ≡ Write w)) × (f ≡ frag_of_job job) × IsGot job found whole × (refused_in found job.command ≡ None)
   Well whole found (outcome.Deleted f) = ((text : List ℕ) × (job.command ≡ Delete text)) × (f ≡ frag_of_job job) × IsGot job found whole × (refused_in found job.command ≡ None)
   Well whole found (outcome.Read answer) = ((from : ℕ) × (to : ℕ) × (query : Query) × (job.command ≡ Read from to query)) × IsGot job found whole × (refused_in found job.command ≡ None)
+  Well whole found (outcome.Consolidated f count) = (merge : Merge) × (found.merged ≡ Some merge) × (f ≡ merge.piece.head.frag) × IsMergeBy codec job found whole merge count
   Well whole found _ = ⊥
 
   -- a job that can end well can after a call more
@@ -183,6 +186,7 @@ module _ {F : Type 0} (codec : Codec F) (job : Job) where
   well_stays seen found x (outcome.Written f) is = (is.0, is.1, got_stays job found seen (seen ++ x ∷ []) (among_more seen x) is.2, is.3)
   well_stays seen found x (outcome.Deleted f) is = (is.0, is.1, got_stays job found seen (seen ++ x ∷ []) (among_more seen x) is.2, is.3)
   well_stays seen found x (outcome.Read answer) is = (is.0, got_stays job found seen (seen ++ x ∷ []) (among_more seen x) is.1, is.2)
+  well_stays seen found x (outcome.Consolidated f count) (merge, some, named, is) = (merge, some, named, merge_stays codec job found seen (seen ++ x ∷ []) merge count (among_more seen x) is)
   well_stays seen found x _ is = absurd is
 
   -- a job that ends well at the end of its course ends along it
@@ -192,6 +196,7 @@ module _ {F : Type 0} (codec : Codec F) (job : Job) where
   well_ended seen found course xs (outcome.Written f) is along = (along, is.0, is.1, is.2, is.3)
   well_ended seen found course xs (outcome.Deleted f) is along = (along, is.0, is.1, is.2, is.3)
   well_ended seen found course xs (outcome.Read answer) is along = (along, is.0, is.1, is.2)
+  well_ended seen found course xs (outcome.Consolidated f count) is along = (along, is)
   well_ended seen found course xs _ is along = absurd is
 
   -- a call that lets the job go on, before calls along the rest of the course
@@ -202,6 +207,7 @@ module _ {F : Type 0} (codec : Codec F) (job : Job) where
   ends_before whole seen found course rest x xs (outcome.Written f) on next h = ((on, (rest, next, h.0)), h.1, h.2, h.3, h.4)
   ends_before whole seen found course rest x xs (outcome.Deleted f) on next h = ((on, (rest, next, h.0)), h.1, h.2, h.3, h.4)
   ends_before whole seen found course rest x xs (outcome.Read answer) on next h = ((on, (rest, next, h.0)), h.1, h.2, h.3)
+  ends_before whole seen found course rest x xs (outcome.Consolidated f count) on next h = ((on, (rest, next, h.0)), h.1)
   ends_before whole seen found course rest x xs (outcome.Refused r) on next h = (h.0, at_cons (IsLookOf codec job found) seen course rest x xs h.0 on next h.1, h.2)
   ends_before whole seen found course rest x xs outcome.OutOfMemory on next (inl h) = inl (h.0, (on, (rest, next, h.1)))
   ends_before whole seen found course rest x xs outcome.OutOfMemory on next (inr h) = inr (h.0, at_cons (IsLookOf codec job found) seen course rest x xs h.0 on next h.1)

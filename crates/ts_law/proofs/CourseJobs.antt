@@ -279,7 +279,7 @@ module _ {F : Type 0} (codec : Codec F) (any : Job) where
 
     -- what a create found
     abbrev found_by : Bool → Found
-    found_by taken = record { taken = taken; there = no_schema; frame = no_frame }
+    found_by taken = record { taken = taken; there = no_schema; frame = no_frame; merged = None }
 
     -- after a call, the first schema is put
     first_follows : (taken : Bool) (seen : List Exchange) (course : List Call) (x : Exchange) (xs : List Exchange) (end : Outcome) → SaysThere (found_by taken) (Create f) x.call x.reply → IsTrue (lets_on x.call x.reply) → Next codec creating seen (found_by taken) course x.call (put_of first_object ∷ [])
@@ -347,6 +347,7 @@ module _ {F : Type 0} (codec : Codec F) (any : Job) where
   ends_along job found course whole (outcome.Written f) h = h
   ends_along job found course whole (outcome.Deleted f) h = h
   ends_along job found course whole (outcome.Read answer) h = h
+  ends_along job found course whole (outcome.Consolidated f count) h = h
   ends_along job found course whole (outcome.Refused r) h = h
   ends_along job found course whole outcome.OutOfMemory h = h
 
