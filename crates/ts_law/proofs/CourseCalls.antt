@@ -22,7 +22,7 @@ use Rattle.ts_model.specs.declared.commands.Command.TheVariants.{Create, Evolve,
 use Rattle.ts_model.specs.Codecs.{Codec, is_look}
 use Rattle.ts_model.specs.Jobs.{key_of, frag_of_job}
 use Rattle.ts_model.specs.States.{Exchange, asks, goes, ended, refuse, place_of, put_of, putting, on_made}
-use Rattle.ts_law.specs.Courses.{Found, Merge, SaysThere, IsGot, IsMergeBy, AreFound, IsLookOf, Looks, IsNext, lets_on, Along, EndsAt, refused_in, IsCause}
+use Rattle.ts_law.specs.Courses.{Found, Merge, SaysThere, IsGot, IsMergeBy, AreFound, IsLookOf, Looks, IsNext, lets_on, Along, EndsAlong, EndsAt, refused_in, IsCause}
 use Rattle.ts_law.proofs.CourseGrows.{among_more, got_stays, merge_stays}
 use Rattle.ts_model.proofs.ListLemmas.{Contains-here, Contains-there}
 use Rattle.ts_cond.specs.declared.query.Query.{Query}
@@ -168,6 +168,17 @@ module _ {F : Type 0} (codec : Codec F) (job : Job) where
   -- how the last calls may end along a course
   abbrev pub Ends : List Exchange → Found → List Call → List Exchange → Outcome → Type 0
   Ends seen found course xs end = EndsIn (seen ++ xs) seen found course xs end
+
+  -- the ends of a whole trace along the course of a job
+  pub ends_along : (found : Found) (course : List Call) (whole : List Exchange) (end : Outcome) → Ends [] found course whole end → EndsAlong codec job found course whole end
+  ends_along found course whole outcome.Created h = h
+  ends_along found course whole (outcome.Evolved k) h = h
+  ends_along found course whole (outcome.Written f) h = h
+  ends_along found course whole (outcome.Deleted f) h = h
+  ends_along found course whole (outcome.Read answer) h = h
+  ends_along found course whole (outcome.Consolidated f count) h = h
+  ends_along found course whole (outcome.Refused r) h = h
+  ends_along found course whole outcome.OutOfMemory h = h
 
   -- what a job that ends well must be
   abbrev pub Well : List Exchange → Found → Outcome → Type 0
