@@ -6,7 +6,9 @@ use Rattle.std.proofs.Math.ListN.{drop_of_length-le}
 use Rattle.std.proofs.lemmas.Option.{same_Some, none-some}
 use Rattle.std.proofs.lemmas.List.{append-nil}
 use Rattle.std.proofs.lemmas.List.Elements.{All-nil, All-cons}
+use Rattle.ts_base.specs.declared.keys.FragKey.{FragKey}
 use Rattle.ts_base.specs.declared.names.Name.{Name}
+use Rattle.ts_base.specs.declared.names.PartBytes.{PartBytes}
 use Rattle.ts_schema.specs.declared.evolution.Evolution.{Evolution}
 use Rattle.ts_store.specs.declared.call.Call.{Call}
 use Rattle.ts_store.specs.declared.call.Reply.{Reply}
@@ -21,10 +23,10 @@ use Rattle.ts_model.specs.declared.states.State.TheVariants.{Puts, Over}
 use Rattle.ts_model.specs.declared.commands.Command.TheVariants.{Create, Evolve, Write, Read, Delete}
 use Rattle.ts_model.specs.Codecs.{Codec, is_look}
 use Rattle.ts_model.specs.Jobs.{key_of, frag_of_job}
-use Rattle.ts_model.specs.States.{Exchange, asks, goes, ended, refuse, place_of, put_of, putting, on_made}
+use Rattle.ts_model.specs.States.{Exchange, asks, goes, ended, refuse, part_objects, place_of, put_of, putting, on_made}
 use Rattle.ts_law.specs.Courses.{Found, Merge, SaysThere, IsGot, IsMergeBy, AreFound, IsLookOf, Looks, IsNext, lets_on, Along, EndsAlong, EndsAt, refused_in, IsCause}
 use Rattle.ts_law.proofs.CourseGrows.{among_more, got_stays, merge_stays}
-use Rattle.ts_model.proofs.ListLemmas.{Contains-here, Contains-there}
+use Rattle.ts_model.proofs.ListLemmas.{Contains-cons, Contains-here, Contains-there}
 use Rattle.ts_cond.specs.declared.query.Query.{Query}
 use Rattle.ts_base.specs.declared.names.Name.TheVariants as name
 use Rattle.ts_store.specs.declared.call.Call.TheVariants as call
@@ -128,6 +130,18 @@ pub item_in : {X : Type 0} (xs : List X) (i : ℕ) (x : X) → slice_get xs i �
 item_in [] i x is = absurd (none-some x is)
 item_in (y ∷ xs) zero x is = subst (Contains (y ∷ xs)) (same_Some y x is) (Contains-here y xs)
 item_in (y ∷ xs) (suc i) x is = Contains-there y xs x (item_in xs i x is)
+
+-- ---- objects
+
+-- no part of a fragment is the frame, nor is one of more objects that are not
+pub parts_apart : (frag : FragKey) (parts : List PartBytes) (more : List NewObject) → ((ob : NewObject) → Contains more ob → ob.name ≡ name.Domain → ⊥) → (ob : NewObject) → Contains (part_objects frag parts ++ more) ob → ob.name ≡ name.Domain → ⊥
+parts_apart frag [] more apart ob at same = apart ob at same
+parts_apart frag (x ∷ parts) more apart ob at same =
+    let first : NewObject = record { name = name.Part frag x.part; bytes = x.bytes } in
+    elim (Contains-cons first (part_objects frag parts ++ more) ob at) [
+      | inl is ↦ cc
+      | inr there ↦ parts_apart frag parts more apart ob there same
+    ]
 
 -- ---- the calls of a job at its work
 

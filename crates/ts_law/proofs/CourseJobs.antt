@@ -56,7 +56,7 @@ use Rattle.ts_cond.specs.declared.query.Query.{Query}
 use Rattle.ts_cond.specs.Tests.{Condition}
 use Rattle.ts_model.specs.Queries.{ready_in, delete_condition}
 use Rattle.ts_law.proofs.QueryRefusals.{IsOfQuery, FailsByQuery, ready_fails, delete_condition_fails}
-use Rattle.ts_law.proofs.CourseCalls.{ends_along, Ends, WorkAsks, WorkEnds, Well, ends_cons, work_from, over_ends, Goes, Follows, follows_on, follows_refused, follows_ended, goes_none, goes_by, follows_putting, puts_go, Next}
+use Rattle.ts_law.proofs.CourseCalls.{ends_along, Ends, WorkAsks, WorkEnds, Well, ends_cons, work_from, over_ends, Goes, Follows, follows_on, follows_refused, follows_ended, goes_none, goes_by, follows_putting, parts_apart, puts_go, Next}
 use Rattle.ts_law.proofs.CourseReads.{follows_getting_vacs, reads_on}
 use Rattle.ts_law.proofs.CourseLeased.{leased_cut, leased_finds}
 use Rattle.ts_law.proofs.CutOff.{as_if, found_before, last_same, no_calls, unmade_of}
@@ -79,16 +79,6 @@ schema_apart k bytes ob at same = let is = Contains-only (record { name = name.S
 -- nor is that of a delete
 delete_apart : (job : Job) (condition : Condition) (ob : NewObject) → Contains (delete_object_of job condition ∷ []) ob → ob.name ≡ name.Domain → ⊥
 delete_apart job condition ob at same = let is = Contains-only (delete_object_of job condition) ob at in cc
-
--- nor is a part of a fragment
-parts_apart : (frag : FragKey) (parts : List PartBytes) (more : List NewObject) → ((ob : NewObject) → Contains more ob → ob.name ≡ name.Domain → ⊥) → (ob : NewObject) → Contains (part_objects frag parts ++ more) ob → ob.name ≡ name.Domain → ⊥
-parts_apart frag [] more apart ob at same = apart ob at same
-parts_apart frag (x ∷ parts) more apart ob at same =
-    let first : NewObject = record { name = name.Part frag x.part; bytes = x.bytes } in
-    elim (Contains-cons first (part_objects frag parts ++ more) ob at) [
-      | inl is ↦ cc
-      | inr there ↦ parts_apart frag parts more apart ob there same
-    ]
 
 -- nor an object of a write
 written_apart : {F : Type 0} (codec : Codec F) (job : Job) (frame : Frame) (there : Schema) (cells : List Cell) (ob : NewObject) → Contains (write_objects codec frame there job cells) ob → ob.name ≡ name.Domain → ⊥
