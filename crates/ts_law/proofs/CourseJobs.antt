@@ -58,6 +58,7 @@ use Rattle.ts_model.specs.Queries.{ready_in, delete_condition}
 use Rattle.ts_law.proofs.QueryRefusals.{IsOfQuery, FailsByQuery, ready_fails, delete_condition_fails}
 use Rattle.ts_law.proofs.CourseCalls.{ends_along, Ends, WorkAsks, WorkEnds, Well, ends_cons, work_from, over_ends, Goes, Follows, follows_on, follows_refused, follows_ended, goes_none, goes_by, follows_putting, parts_apart, puts_go, Next}
 use Rattle.ts_law.proofs.CourseReads.{follows_getting_vacs, reads_on}
+use Rattle.ts_law.proofs.CourseMerges.{merge_finds}
 use Rattle.ts_law.proofs.CourseLeased.{leased_cut, leased_finds}
 use Rattle.ts_law.proofs.CutOff.{as_if, found_before, last_same, no_calls, unmade_of}
 use Rattle.ts_law.proofs.CourseStages.{Closed, IsWas, Open, OpenAsks, Split, bare_asks, bare_from, open-push, open_from, releasing_asks, same_work, settled_leased, split, work_open, work_was}
@@ -372,6 +373,7 @@ module _ {F : Type 0} (codec : Codec F) (any : Job) where
   pub begun_finds : AsksLooks codec → (command : Command) (whole : List Exchange) (end : Outcome) → AskedFrom codec (with command) (first_stage (with command)) whole → EndsBy codec (with command) whole end
       → (found : Found) × AreFound (with command) found whole × MayEndAs codec (with command) found whole end (refused_before command)
   begun_finds looks (Read from to query) whole end asked ends = leased_finds codec (with (Read from to query)) Shr refl refl (λ found c r. tt) (found_as no_schema no_frame) (read_finds looks from to query) whole end asked ends
+  begun_finds looks (Consolidate from to limits) whole end asked ends = leased_finds codec (with (Consolidate from to limits)) Shr refl refl (λ found c r. tt) (found_as no_schema no_frame) (merge_finds codec any looks from to limits) whole end asked ends
   begun_finds looks (Create f) whole end asked ends = bare_finds (Create f) refl whole end asked (bare_by (Create f) whole end refl ends)
   begun_finds looks (Evolve change) whole end asked ends = bare_finds (Evolve change) refl whole end asked (bare_by (Evolve change) whole end refl ends)
   begun_finds looks (Write w) whole end asked ends = bare_finds (Write w) refl whole end asked (bare_by (Write w) whole end refl ends)
@@ -407,6 +409,7 @@ module _ {F : Type 0} (codec : Codec F) (any : Job) where
   pub begun_cut : AsksLooks codec → (command : Command) (whole : List Exchange) (c : Call) → AskedFrom codec (with command) (first_stage (with command)) whole → MayAsk codec (with command) (stage_of codec (with command) whole) c → cuts any.stop (length whole) c ≡ true
       → (found : Found) × AreFound (with command) found whole × IsCutOff codec (with command) found whole
   begun_cut looks (Read from to query) whole c asked may cut = leased_cut codec (with (Read from to query)) Shr refl refl (λ found c r. tt) (found_as no_schema no_frame) (read_finds looks from to query) whole c asked may cut
+  begun_cut looks (Consolidate from to limits) whole c asked may cut = leased_cut codec (with (Consolidate from to limits)) Shr refl refl (λ found c r. tt) (found_as no_schema no_frame) (merge_finds codec any looks from to limits) whole c asked may cut
   begun_cut looks (Create f) whole c asked may cut = bare_cut (Create f) refl refl whole c asked may cut
   begun_cut looks (Evolve change) whole c asked may cut = bare_cut (Evolve change) refl refl whole c asked may cut
   begun_cut looks (Write w) whole c asked may cut = bare_cut (Write w) refl refl whole c asked may cut

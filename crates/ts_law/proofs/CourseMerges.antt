@@ -44,8 +44,8 @@ use Rattle.ts_model.specs.Jobs.{looked_at}
 use Rattle.ts_model.specs.States.{Exchange, after_names, after_opened, after_source, after_surveyed, all_of, attributes_among, can_be_named, candidates_in, committed_in, counting_in, ended, frags_of, get_frame, get_head_in, get_schema, get_vac, getting_names, goes, heads_of, list_commits, list_schemas, merge_objects, merges_all, merges_in, merging_from, on_bytes, on_plan, on_read, opened_among, opening_next, piece_merged, plan_for, put_of, puts_piece, putting, refuse, schema_among, schemas_in, schemas_named, source_begins, source_leads, survey_with, surveying, vac_object_of, vac_of, where_schema}
 use Rattle.ts_model.proofs.KeyLemmas.{key_itself, key_same}
 use Rattle.ts_model.proofs.ListLemmas.{Contains-cons, Contains-here, Contains-nil, Contains-only, Contains-there, filter-Contains, find-Some, find_member}
-use Rattle.ts_law.specs.Courses.{AtFrame, AtNamed, AtNames, AtOpened, BreaksPart, EachTaken, Found, GotNames, GotSchema, HasOpened, HasTaken, InSource, IsCause, IsConsolidate, IsFramed, IsKeyThere, IsListedInside, IsLookBy, IsLookOf, IsMergeBy, IsNamedFor, IsOpened, IsUnderWay, LooksForSources, Merge, PlansBy, SaysThere, lets_on, merge_puts, wants_of}
-use Rattle.ts_law.proofs.CourseCalls.{Ends, Follows, Goes, WorkAsks, WorkEnds, follows_ended, follows_none, follows_on, follows_putting, follows_refused, goes_by, goes_none, item_in, lets_bytes, lets_length, look_leaves, parts_apart, puts_go}
+use Rattle.ts_law.specs.Courses.{AreFound, AtFrame, AtNamed, AtNames, AtOpened, BreaksPart, EachTaken, Found, GotNames, GotSchema, HasOpened, HasTaken, InSource, IsCause, IsConsolidate, IsFramed, IsKeyThere, IsListedInside, IsLookBy, IsLookOf, IsMergeBy, IsNamedFor, IsOpened, IsUnderWay, LooksForSources, Merge, PlansBy, SaysThere, lets_on, merge_puts, wants_of}
+use Rattle.ts_law.proofs.CourseCalls.{Ends, Follows, Goes, Well, WorkAsks, WorkEnds, follows_ended, follows_none, follows_on, follows_putting, follows_refused, goes_by, goes_none, item_in, lets_bytes, lets_length, look_leaves, parts_apart, puts_go}
 use Rattle.ts_law.proofs.CourseGrows.{AreAmong, among_more, each_stays, inside_stays, key_stays, names_stay, schema_stays, way_stays}
 use Rattle.ts_law.proofs.CourseReads.{fetched_on}
 use Rattle.ts_law.proofs.CourseThere.{no_frame, no_schema}
@@ -330,7 +330,7 @@ module _ {F : Type 0} (codec : Codec F) (job : Job) (looks : AsksLooks codec) (f
           by_bound false = over_short
           by_bound true =
               let o = outcome.Consolidated piece.head.frag (length (first ∷ others)) in
-              let well = (merge, refl, refl, merges_so) in (
+              let well : Well codec job now (found (Some merge)) o = (merge, refl, refl, merges_so) in (
                 Some merge,
                 follows_putting codec job seen (found (Some merge)) (list_map put_of objects) x xs end objects 0 o well (silent (found (Some merge)) x.call x.reply) on (inl (look (Some merge), refl))
                     (puts_go codec job now (found (Some merge)) objects o well (parts_apart piece.head.frag (codec.parts frame schema piece) (vac_object_of piece.head.frag merge.names ∷ record { name = wrt_of piece.head.frag; bytes = [] } ∷ []) commit_apart)
@@ -630,3 +630,105 @@ module _ {F : Type 0} (codec : Codec F) (job : Job) (looks : AsksLooks codec) (f
           schemas_go = schemas_from seen x xs end later;
           fetches_go = fetches_from seen x xs end later;
         }
+
+-- ---- from its first call on
+
+module _ {F : Type 0} (codec : Codec F) (any : Job) (looks : AsksLooks codec) (from to : ℕ) (limits : Limits) where
+  -- a job that consolidates
+  abbrev merging_job : Job
+  merging_job = record any { command = Consolidate from to limits }
+
+  -- what it found
+  abbrev found_so : Frame → Option Merge → Found
+  found_so frame merged = record { taken = false; there = no_schema; frame = frame; merged = merged }
+
+  -- the get of the frame
+  frame_from : (names : List Name) (k : Key) (seen xs : List Exchange) (end : Outcome) → Contains seen (record { call = list_commits; reply = reply.Names names }) → IsKeyThere merging_job seen k
+      → (frame : Frame) × (merged : Option Merge) × Goes codec merging_job seen (found_so frame merged) (merge_puts codec frame merged) xs end (Merges (merging.GetsFrame (candidates_in from to names)))
+  frame_from names k seen [] end listed there = (no_frame, None, goes_none codec merging_job seen (found_so no_frame None) [] end (Merges (merging.GetsFrame (candidates_in from to names))) (λ o q. cc))
+  frame_from names k seen (x ∷ xs) end listed there =
+      let (frame, merged, follows) = by_reply x.reply in
+      (frame, merged, goes_by codec merging_job seen (found_so frame merged) (merge_puts codec frame merged) x xs end (Merges (merging.GetsFrame (candidates_in from to names))) get_frame refl (λ same. follows))
+    where
+      look : (frame : Frame) (merged : Option Merge) → IsLookOf codec merging_job (found_so frame merged) seen get_frame
+      look frame merged = AtFrame k there refl
+
+      FrameFor : Reply → Type 0
+      FrameFor r = (frame : Frame) × (merged : Option Merge)
+          × Follows codec merging_job seen (found_so frame merged) (merge_puts codec frame merged) (record { call = get_frame; reply = r }) xs end (goes codec merging_job (Merges (merging.GetsFrame (candidates_in from to names))) r)
+
+      by_frame : (bytes : List ℕ) (f : Result Frame ℕ) → frame_of bytes ≡ f → FrameFor (reply.Bytes bytes)
+      by_frame bytes (Ok frame) reads =
+          let y : Exchange = record { call = get_frame; reply = reply.Bytes bytes } in
+          let (merged, follows) =
+          follows_getting codec merging_job looks from to limits refl names frame seen y xs end refl (look frame) (merges_on codec merging_job looks from to limits refl names frame (seen ++ y ∷ []) xs end) [] (record {
+            listed = among_more seen y _ listed;
+            frame_bytes = bytes;
+            frame_got = Contains-push seen y;
+            frame_is = reads;
+            vacs_are = refl;
+            each_vac = λ v at. absurd (Contains-nil v at);
+            opened_are = refl;
+            each_opened = λ o at. absurd (Contains-nil o at);
+            each_schema = λ s at. absurd (Contains-nil s at);
+          }) in
+          (frame, merged, rw reads follows)
+      by_frame bytes (Err at) reads =
+          let y : Exchange = record { call = get_frame; reply = reply.Bytes bytes } in
+          (no_frame, None, rw reads (follows_refused codec merging_job seen (found_so no_frame None) [] [] y xs end (refusal.Damaged name.Domain at) tt (inl (look no_frame None, refl)) (inl (bytes, Contains-push seen y, reads))))
+
+      by_reply : (r : Reply) → FrameFor r
+      by_reply (reply.Bytes bytes) = by_frame bytes (frame_of bytes) refl
+      by_reply r = (no_frame, None, follows_ended codec merging_job seen (found_so no_frame None) [] [] get_frame r xs end tt tt (inl (look no_frame None, refl)))
+
+  -- the listing of the schemas
+  listed_from : (names : List Name) (seen xs : List Exchange) (end : Outcome) → Contains seen (record { call = list_commits; reply = reply.Names names })
+      → (frame : Frame) × (merged : Option Merge) × Goes codec merging_job seen (found_so frame merged) (list_schemas ∷ merge_puts codec frame merged) xs end (Merges (merging.ListsSchemas (candidates_in from to names)))
+  listed_from names seen [] end listed = (no_frame, None, goes_none codec merging_job seen (found_so no_frame None) (list_schemas ∷ []) end (Merges (merging.ListsSchemas (candidates_in from to names))) (λ o q. cc))
+  listed_from names seen (x ∷ xs) end listed =
+      let (frame, merged, follows) = by_reply x.reply in
+      (frame, merged, goes_by codec merging_job seen (found_so frame merged) (list_schemas ∷ merge_puts codec frame merged) x xs end (Merges (merging.ListsSchemas (candidates_in from to names))) list_schemas refl (λ same. follows))
+    where
+      SchemasFor : Reply → Type 0
+      SchemasFor r = (frame : Frame) × (merged : Option Merge)
+          × Follows codec merging_job seen (found_so frame merged) (list_schemas ∷ merge_puts codec frame merged) (record { call = list_schemas; reply = r }) xs end (goes codec merging_job (Merges (merging.ListsSchemas (candidates_in from to names))) r)
+
+      by_key : (declared : List Name) (k : Option Key) → schema_at (schemas_in declared) (looked_at merging_job) ≡ k → SchemasFor (reply.Names declared)
+      by_key declared (Some k) holds =
+          let y : Exchange = record { call = list_schemas; reply = reply.Names declared } in
+          let (frame, merged, later) = frame_from names k (seen ++ y ∷ []) xs end (among_more seen y _ listed) (record { names = declared; listed = Contains-push seen y; newest = holds }) in (
+            frame,
+            merged,
+            rw holds (follows_on codec merging_job seen (found_so frame merged) (list_schemas ∷ merge_puts codec frame merged) (merge_puts codec frame merged) y xs end (Merges (merging.GetsFrame (candidates_in from to names))) tt refl (inr refl) later),
+          )
+      by_key declared None holds = (
+        no_frame,
+        None,
+        rw holds (follows_refused codec merging_job seen (found_so no_frame None) (list_schemas ∷ []) [] (record { call = list_schemas; reply = reply.Names declared }) xs end (refusal.NoSchema (looked_at merging_job)) tt (inr refl) (refl, declared, refl, refl, holds)),
+      )
+
+      by_reply : (r : Reply) → SchemasFor r
+      by_reply (reply.Names declared) = by_key declared (schema_at (schemas_in declared) (looked_at merging_job)) refl
+      by_reply r = (no_frame, None, follows_ended codec merging_job seen (found_so no_frame None) (list_schemas ∷ []) [] list_schemas r xs end tt tt (inr refl))
+
+  -- a consolidation goes along its course, and ends by it
+  pub merge_finds : (before xs : List Exchange) (end : Outcome) → WorkAsks codec merging_job (Merges merging.ListsCommits) xs → WorkEnds codec merging_job (Merges merging.ListsCommits) xs end
+      → (found : Found) × (AreFound merging_job found xs × Ends codec merging_job before found (list_commits ∷ list_schemas ∷ merge_puts codec found.frame found.merged) xs end)
+  merge_finds before [] end a e = (found_so no_frame None, goes_none codec merging_job before (found_so no_frame None) (list_commits ∷ list_schemas ∷ []) end (Merges merging.ListsCommits) (λ o q. cc) a e)
+  merge_finds before (x ∷ xs) end a e =
+      let (frame, merged, follows) = by_reply x.reply in
+      (found_so frame merged, goes_by codec merging_job before (found_so frame merged) (list_commits ∷ list_schemas ∷ merge_puts codec frame merged) x xs end (Merges merging.ListsCommits) list_commits refl (λ same. follows) a e)
+    where
+      CommitsFor : Reply → Type 0
+      CommitsFor r = (frame : Frame) × (merged : Option Merge)
+          × Follows codec merging_job before (found_so frame merged) (list_commits ∷ list_schemas ∷ merge_puts codec frame merged) (record { call = list_commits; reply = r }) xs end (goes codec merging_job (Merges merging.ListsCommits) r)
+
+      by_reply : (r : Reply) → CommitsFor r
+      by_reply (reply.Names names) =
+          let y : Exchange = record { call = list_commits; reply = reply.Names names } in
+          let (frame, merged, later) = listed_from names (before ++ y ∷ []) xs end (Contains-push before y) in (
+            frame,
+            merged,
+            follows_on codec merging_job before (found_so frame merged) (list_commits ∷ list_schemas ∷ merge_puts codec frame merged) (list_schemas ∷ merge_puts codec frame merged) y xs end (Merges (merging.ListsSchemas (candidates_in from to names))) tt refl (inr refl) later,
+          )
+      by_reply r = (no_frame, None, follows_ended codec merging_job before (found_so no_frame None) (list_commits ∷ list_schemas ∷ []) (list_schemas ∷ []) list_commits r xs end tt tt (inr refl))

@@ -49,7 +49,7 @@ use Rattle.ts_model.specs.declared.answers.Outcome.TheVariants as outcome
 use Rattle.ts_model.specs.declared.answers.Refusal.TheVariants as refusal
 
 -- a fetch that came to wait for a call comes by the reply to it to wait for another
-fetched_on : {F : Type 0} (codec : Codec F) (trace : List Exchange) (f : F) (c : Call) (replies : List Reply) (g : F) (d : Call) (r : Reply) (h : F) (b : Call)
+pub fetched_on : {F : Type 0} (codec : Codec F) (trace : List Exchange) (f : F) (c : Call) (replies : List Reply) (g : F) (d : Call) (r : Reply) (h : F) (b : Call)
     → IsFetched codec trace f c replies g d → Contains trace (record { call = d; reply = r }) → codec.steps g r ≡ Asks h b → IsFetched codec trace f c (replies ++ r ∷ []) h b
 fetched_on codec trace f c [] g d r h b (same_f, same_c) told steps =
     (subst (λ k. Contains trace (record { call = k; reply = r })) (sym same_c) told, h, b, ap (λ k. codec.steps k r) same_f ∙ steps, (refl, refl))
