@@ -1,14 +1,18 @@
--- What a consolidation found stays true: what a call leaves of it.
-use Rattle.std.proofs.Common.{List, [], length, ℕ, ◌++◌, ◌∷◌}
+-- What a consolidation found stays true: what a call leaves of it, and what it puts.
+use Rattle.std.proofs.Common.{List, Some, [], length, refl, subst, suc, zero, ℕ, ◌++◌, ◌∷◌, ◌≡◌}
+use Rattle.std.proofs.lemmas.Option.{none-some, same_Some}
 use Rattle.ts_base.specs.Held.{Held}
 use Rattle.ts_base.specs.declared.heads.Version.{Version}
+use Rattle.ts_base.specs.Names.{wrt_of}
 use Rattle.ts_base.specs.declared.keys.FragKey.{FragKey}
+use Rattle.ts_base.specs.declared.names.PartBytes.{PartBytes}
+use Rattle.ts_law.proofs.Objects.{CarryAll, Carries, part_object}
 use Rattle.ts_law.proofs.Stays.{are_schemas_stays, frame_stays, schema_stays, since_stays}
 use Rattle.ts_law.specs.Kept.{AimsToMerge, ChoosesFrom, Chooses, Clean, HasSources, Learns, MergeClaims, Merges, Opens, Surveys}
 use Rattle.ts_law.specs.Steps.{Keeps}
 use Rattle.ts_model.specs.Codecs.{Codec, Spelled, Tracking}
 use Rattle.ts_model.specs.Deeds.{History}
-use Rattle.ts_model.specs.States.{schemas_named}
+use Rattle.ts_model.specs.States.{part_objects, schemas_named, vac_object_of}
 use Rattle.ts_model.specs.Told.{Told, history_told}
 use Rattle.ts_model.specs.declared.commands.Job.{Job}
 use Rattle.ts_model.specs.declared.states.Candidates.{Candidates}
@@ -18,6 +22,14 @@ use Rattle.ts_model.specs.declared.states.NewObject.{NewObject}
 use Rattle.ts_model.specs.declared.states.Opened.{Opened}
 use Rattle.ts_model.specs.declared.states.Survey.{Survey}
 use Rattle.ts_schema.specs.declared.schemas.Schema.{Schema}
+
+-- the objects of a consolidation carry the identifier of its fragment
+pub merge_carries : (frag : FragKey) (parts : List PartBytes) (names : List FragKey) → CarryAll frag.id (part_objects frag parts ++ vac_object_of frag names ∷ record { name = wrt_of frag; bytes = [] } ∷ [])
+merge_carries frag [] names zero o at = subst (λ x. Carries frag.id x.name) (same_Some (vac_object_of frag names) o at) (refl, tt)
+merge_carries frag [] names (suc zero) o at = subst (λ x. Carries frag.id x.name) (same_Some (record { name = wrt_of frag; bytes = [] }) o at) (refl, tt)
+merge_carries frag [] names (suc (suc i)) o at = absurd (none-some o at)
+merge_carries frag (x ∷ parts) names zero o at = subst (λ y. Carries frag.id y.name) (same_Some (part_object frag x) o at) (refl, tt)
+merge_carries frag (x ∷ parts) names (suc i) o at = merge_carries frag parts names i o at
 
 module _ (spelled : Spelled) (opening : Held) (past : History) (jobs : List Job) (seen : List Told) (e : Told) (m m' : Held) (id : ℕ)
     (keeps : Keeps m m' (history_told jobs past seen) (history_told jobs past (seen ++ e ∷ [])) id) (number : ℕ) where
