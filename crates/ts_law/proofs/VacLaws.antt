@@ -296,6 +296,11 @@ unspent_kept m m' h h' id own keeps none is = record {
   ];
 }
 
+-- so it stays by a put that commits nothing
+pub unspent_put : (m : Held) (n : Name) (bytes : List ℕ) (h h' : History) (id own : ℕ) → Keeps m (map.insert m n bytes) h h' id → ((f : FragKey) → wrt_of f ≡ n → ⊥) → IsUnspent m own → IsUnspent (map.insert m n bytes) own
+unspent_put m n bytes h h' id own keeps apart is = unspent_kept m (map.insert m n bytes) h h' id own keeps
+    (λ f carries committed. elim (held_before m n bytes (wrt_of f) committed) [ inl before ↦ is.uncommitted f carries before | inr same ↦ apart f same ]) is
+
 -- so it stays by a call of another job
 pub unspent_stays : (m m' : Held) (h h' : History) (id own : ℕ) → Keeps m m' h h' id → (own ≡ id → ⊥) → IsUnspent m own → IsUnspent m' own
 unspent_stays m m' h h' id own keeps other is = unspent_kept m m' h h' id own keeps uncommitted is
