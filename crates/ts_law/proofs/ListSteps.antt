@@ -56,7 +56,7 @@ use Rattle.ts_law.proofs.Stays.{clean_look, listed_now, near_stays}
 -- ---- what a listing of the commits finds
 
 -- a name that commits a fragment is its `.wrt`
-wrt_in-some : (n : Name) (f : FragKey) → wrt_in n ≡ Some f → n ≡ wrt_of f
+pub wrt_in-some : (n : Name) (f : FragKey) → wrt_in n ≡ Some f → n ≡ wrt_of f
 wrt_in-some name.Domain f e = absurd (none-some f e)
 wrt_in-some (name.Schema k) f e = absurd (none-some f e)
 wrt_in-some (name.Commit g kind.Wrt) f e = ap wrt_of (same_Some g f e)
