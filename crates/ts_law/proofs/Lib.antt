@@ -8,6 +8,7 @@ pub mod TakenWhole
 pub mod Grows
 pub mod VacLaws
 pub mod Stays
+pub mod MergeStays
 pub mod Frames
 pub mod Spawns
 pub mod StandsLaws
