@@ -7,6 +7,7 @@ pub mod MergingLaw
 pub mod TakenWhole
 pub mod Grows
 pub mod VacLaws
+pub mod VacTexts
 pub mod Stays
 pub mod MergeStays
 pub mod Frames
