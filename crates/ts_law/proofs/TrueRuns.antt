@@ -119,12 +119,12 @@ module _ {F : Type 0} (codec : Codec F) (spelled : Spelled) (tracks : Tracking F
       (front_history codec spelled tracks laws jobs h m told (lane_by lanes) begins may replied (lanes_turn lanes told owned in_turn) a b whole) (prefix_stands a b whole))
 
   -- what each end tells of the history is true
-  true_end : (number : ℕ) (job : Job) (end : Outcome) → slice_get jobs number ≡ Some job → slice_get results number ≡ Some (Done end) → IsTrueEnd jobs h told number job end
+  true_end : (number : ℕ) (job : Job) (end : Outcome) → slice_get jobs number ≡ Some job → slice_get results number ≡ Some (Done end) → IsTrueEnd spelled m jobs h told number job end
   true_end number job end at end_at =
       let kept = all_kept codec spelled tracks laws m h jobs [] [] m told begins may replied in
       elim (driven.driven number job (Done end) at end_at).ends [
         | inl over ↦ end_is_true codec spelled tracks m h jobs [] told (held_told m told) kept number job end at (Contains-nil number) over
-        | inr none ↦ subst (IsTrueEnd jobs h told number job) (sym none.0) tt
+        | inr none ↦ subst (IsTrueEnd spelled m jobs h told number job) (sym none.0) tt
       ]
 
   -- a job that puts an object and is no create works in the schema that it uses
