@@ -263,8 +263,8 @@ module _ {F : Type 0} (codec : Codec F) (spelled : Spelled) (tracks : Tracking F
 
     -- a call on a part that fails ends the read, which has no deed
     failed_claims : (c : Call) (f : FragKey) (part : Part) → SpeaksOf c (name.Part f part) → Holds (ended c reply.Failed)
-    failed_claims (call.Get q from len) f part speaks = subst (λ n. IsTrueRefusal h job (refusal.StoreFault (place.Name n))) (sym speaks) clean.undone
-    failed_claims (call.Size q) f part speaks = subst (λ n. IsTrueRefusal h job (refusal.StoreFault (place.Name n))) (sym speaks) clean.undone
+    failed_claims (call.Get q from len) f part speaks = subst (λ n. IsTrueRefusal spelled opening jobs past seen number job (refusal.StoreFault (place.Name n))) (sym speaks) clean.undone
+    failed_claims (call.Size q) f part speaks = subst (λ n. IsTrueRefusal spelled opening jobs past seen number job (refusal.StoreFault (place.Name n))) (sym speaks) clean.undone
     failed_claims (call.Put q bytes) f part speaks = absurd speaks
     failed_claims (call.Remove q) f part speaks = absurd speaks
     failed_claims (call.List p) f part speaks = absurd speaks

@@ -28,6 +28,7 @@ pub mod Loading
 pub mod FetchSteps
 pub mod ListSteps
 pub mod ReadSteps
+pub mod MergePlans
 pub mod DeleteSteps
 pub mod KeptLaws
 pub mod Lanes
