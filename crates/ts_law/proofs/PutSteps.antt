@@ -34,7 +34,7 @@ use Rattle.ts_model.specs.Jobs.{AreApart, IsFit, deletion_as, frag_of_job, key_o
 use Rattle.ts_law.specs.Kept.{Claims, Clean, Putting, Works}
 use Rattle.ts_model.specs.Pieces.{HoldsWrite, IsOrdinary}
 use Rattle.ts_model.specs.Queries.{delete_condition}
-use Rattle.ts_law.specs.Stands.{Spells, Stands}
+use Rattle.ts_law.specs.Stands.{IsUnspent, Spells, Stands}
 use Rattle.ts_model.specs.States.{vac_of}
 use Rattle.ts_law.specs.Origins.{box_in}
 use Rattle.ts_domain.specs.Boxes.{is_in_box}
@@ -64,7 +64,7 @@ use Rattle.ts_model.proofs.LaidLaws.{written_held, written_ordinary}
 use Rattle.ts_law.proofs.LaidRefusals.{FailsByColumns, columns_true, laid_fails}
 use Rattle.ts_model.proofs.Laying.{laid_follows}
 use Rattle.ts_model.proofs.ListLemmas.{Contains-here, Contains-nil, Contains-only}
-use Rattle.ts_law.proofs.Objects.{ACommit, APart, begins_putting, delete_carries, last_at, look_finds, object_count, objects_apart, objects_of, part_count, part_here, part_object, put_at, schema_carries, write_carries}
+use Rattle.ts_law.proofs.Objects.{ACommit, APart, apart_from_lease, begins_putting, delete_carries, last_at, look_finds, object_count, objects_apart, objects_of, part_count, part_here, part_object, put_at, schema_carries, write_carries}
 use Rattle.ts_law.proofs.QueryRefusals.{FailsByQuery, delete_condition_fails, query_true}
 use Rattle.ts_law.proofs.StandsLaws.{declared_last, free_from_get, keeps_put, leads_at, marks_delete, marks_part, marks_schema, marks_wrt, stands_commit, stands_delete, stands_put, stands_schema}
 use Rattle.ts_law.proofs.VacLaws.{IsBare, MarksNone, unspent_put}
