@@ -10,6 +10,7 @@ pub mod VacLaws
 pub mod Stays
 pub mod MergeStays
 pub mod Frames
+pub mod DeedKeys
 pub mod Spawns
 pub mod StandsLaws
 pub mod Declaring

@@ -50,7 +50,7 @@ use Rattle.ts_model.proofs.ListLemmas.{Contains-filter_map, Contains-here, Conta
 use Rattle.ts_model.proofs.Traces.{deed_told_own, exchange_of_other, exchange_of_own, history_told-push, stage_from-append, stage_of-own, trace_of-append}
 use Rattle.ts_law.proofs.Effects.{Added, PutWent, Still, put_went}
 use Rattle.ts_law.proofs.KeptLaws.{asked_by, every_prefix, no_get, no_listing, one_name, speaks_no_put}
-use Rattle.ts_law.proofs.Spawns.{deed_in_key, frame_has_no_key}
+use Rattle.ts_law.proofs.DeedKeys.{deed_in_key, frame_has_no_key}
 use Rattle.std.specs.List.{cons_option}
 use Rattle.ts_base.specs.declared.names.Name.TheVariants as name
 use Rattle.ts_store.specs.declared.call.Call.TheVariants as call
