@@ -195,7 +195,6 @@ module _ {F : Type 0} (codec : Codec F) (spelled : Spelled) (tracks : Tracking F
       let way = is.2.1 in
       let held = laws.asks r.frame (way.holds).schema way.piece ((way.holds).spells).look (want_of r ((way.holds).schema).attrs) fetch c way.way in
       absurd (speaks_no_put c (name.Part ((way.piece).head).frag held.part) n bytes held.named (same_Some c (call.Put n bytes) asked))
-
   asks_frame (Merges merging.ListsCommits) n bytes takes is asked = absurd (no_listing Commits n bytes (same_Some _ _ asked))
   asks_frame (Merges (merging.ListsSchemas c)) n bytes takes is asked = absurd (no_listing Schemas n bytes (same_Some _ _ asked))
   asks_frame (Merges (merging.GetsFrame c)) n bytes takes is asked = absurd (no_get name.Domain 0 _ n bytes (same_Some _ _ asked))
