@@ -11,6 +11,7 @@ pub mod VacTexts
 pub mod Stays
 pub mod MergeStays
 pub mod Frames
+pub mod DeedKeys
 pub mod Spawns
 pub mod StandsLaws
 pub mod Declaring
