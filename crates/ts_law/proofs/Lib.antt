@@ -29,6 +29,7 @@ pub mod FetchSteps
 pub mod ListSteps
 pub mod ReadSteps
 pub mod MergePlans
+pub mod MergeFetches
 pub mod DeleteSteps
 pub mod KeptLaws
 pub mod Lanes
