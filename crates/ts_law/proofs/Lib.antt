@@ -30,6 +30,8 @@ pub mod ListSteps
 pub mod ReadSteps
 pub mod MergePlans
 pub mod MergeFetches
+pub mod MergeKnows
+pub mod MergeSteps
 pub mod DeleteSteps
 pub mod KeptLaws
 pub mod Lanes
