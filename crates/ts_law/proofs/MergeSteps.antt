@@ -34,7 +34,7 @@ use Rattle.ts_model.specs.declared.states.Survey.{Survey}
 use Rattle.ts_model.specs.Codecs.{Codec, CodecLaws, Spelled, Tracking}
 use Rattle.ts_model.specs.Deeds.{History, frame_in, schema_there, schema_with}
 use Rattle.ts_model.specs.Jobs.{looked_at}
-use Rattle.ts_model.specs.States.{after_names, after_opened, after_surveyed, candidates_of, committed_in, counting_in, get_frame, get_head_in, get_schema, get_vac, getting_names, list_commits, list_schemas, on_bytes, on_read, opening_next, schemas_in, schemas_named, survey_with, surveying, surveys, vac_of, where_schema, with_item}
+use Rattle.ts_model.specs.States.{after_names, after_opened, after_surveyed, candidates_of, committed_in, counting_in, get_frame, get_head_in, get_schema, get_vac, getting_names, list_commits, list_schemas, on_bytes, on_read, opening_next, schemas_in, schemas_named, survey_of, survey_with, surveying, surveys, vac_of, where_schema, with_item}
 use Rattle.ts_model.specs.Told.{Told, after_told, IsReplied, held_told, history_told}
 use Rattle.ts_model.proofs.HistoryLaws.{frame_facts, framed_by_schema, schema_with-is, there_is_with}
 use Rattle.ts_model.proofs.ListLemmas.{Contains-nil, Contains-slice_get}
@@ -153,7 +153,7 @@ module _ {F : Type 0} (codec : Codec F) (spelled : Spelled) (tracks : Tracking F
         own = whole_lead codec spelled tracks opening past jobs seen e m number job name.Domain (frame_object frame) (λ bytes. on_read name.Domain on (frame_of bytes)) is comes.replied held short look.clean.undone
             (read_lead codec spelled tracks opening past jobs seen e m number job name.Domain on frame (frame_of (frame_object frame)) (frame_again frame (frame_facts h frame comes.stands.history framed) short)
             (subst (λ command. ClaimedAfter (surveys codec job command c frame)) (sym chooses.merges)
-            (getting_names_claims codec spelled tracks laws opening past jobs (seen ++ e ∷ []) m' number job look.clean _ (record {
+            (getting_names_claims codec spelled tracks laws opening past jobs (seen ++ e ∷ []) m' number job look.clean (survey_of chooses.from chooses.to chooses.limits c frame) (record {
               merges = chooses.merges;
               chooses = chooses.chooses;
               framed = ap frame_in look.same_history ∙ framed;
