@@ -31,6 +31,9 @@ pub mod FetchSteps
 pub mod ListSteps
 pub mod ReadSteps
 pub mod MergePlans
+pub mod MergeFetches
+pub mod MergeKnows
+pub mod MergeSteps
 pub mod DeleteSteps
 pub mod KeptLaws
 pub mod Lanes

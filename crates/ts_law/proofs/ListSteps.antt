@@ -264,7 +264,7 @@ module _ {F : Type 0} (codec : Codec F) (spelled : Spelled) (tracks : Tracking F
   AdvancesHere s = Advances codec spelled tracks opening past jobs seen e m number job s
 
   -- how a reply to a listing leads on
-  names_lead : (p : Prefix) (on : List Name → State F) (r : Reply) → ((names : List Name) → r ≡ reply.Names names → ClaimedAfter (on names)) → IsUndone h' job → ClaimedAfter (on_names (call.List p) on r)
+  pub names_lead : (p : Prefix) (on : List Name → State F) (r : Reply) → ((names : List Name) → r ≡ reply.Names names → ClaimedAfter (on names)) → IsUndone h' job → ClaimedAfter (on_names (call.List p) on r)
   names_lead p on (reply.Names names) found un = found names refl
   names_lead p on reply.Failed found un = un
   names_lead p on _ found un = tt

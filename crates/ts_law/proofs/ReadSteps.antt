@@ -76,7 +76,7 @@ use Rattle.ts_law.proofs.Stays.{getting_vacs_stays, has_listed_stays, opening_st
 -- ---- the keys that heads name
 
 -- a schema that a look-up finds among heads is that of one of them
-named_from_found : (k : Key) (os : List Opened) → is_some (map.find key_cmp k (list_map (λ o. (o.head.schema, o.head.schema)) os)) ≡ true
+pub named_from_found : (k : Key) (os : List Opened) → is_some (map.find key_cmp k (list_map (λ o. (o.head.schema, o.head.schema)) os)) ≡ true
     → (o : Opened) × Contains os o × (o.head.schema ≡ k)
 named_from_found k [] found = absurd (true≢false (sym found))
 named_from_found k (o ∷ os) found = cond_both (key_eq k o.head.schema) (Some o.head.schema) (map.find key_cmp k (list_map (λ x. (x.head.schema, x.head.schema)) os))
@@ -102,7 +102,7 @@ named_by r opened k at = let named = named_apart r opened k at in (named.0, name
 -- ---- what a read knows leads on
 
 -- as many as all, where the first so many of all are they
-as_many : {X Y : Type 0} (f : X → Y) (xs : List X) (ys : List Y) → list_map f xs ≡ take (length xs) ys → length ys ≤ length xs → length xs ≡ length ys
+pub as_many : {X Y : Type 0} (f : X → Y) (xs : List X) (ys : List Y) → list_map f xs ≡ take (length xs) ys → length ys ≤ length xs → length xs ≡ length ys
 as_many f xs ys are enough = sym (length-map xs f) ∙ ap length (are ∙ take_all (length xs) ys enough)
 
 -- one item more where the first so many of all are they
@@ -130,15 +130,15 @@ module _ {F : Type 0} (codec : Codec F) (spelled : Spelled) (tracks : Tracking F
   front_at at = let grown = history_told_grows jobs past at.before (at.listing ∷ at.later) in (grown.0, ap (history_told jobs past) at.place ∙ grown.1)
 
   -- the deeds at a listing are a history
-  history_at : {p : Prefix} (at : ListedAt seen number p) → IsHistory now → IsHistory (history_told jobs past at.before)
+  pub history_at : {p : Prefix} (at : ListedAt seen number p) → IsHistory now → IsHistory (history_told jobs past at.before)
   history_at at is = let front = front_at at in IsHistory-front (history_told jobs past at.before) front.0 (subst IsHistory front.1 is)
 
   -- the frame at a listing is the frame now
-  frame_at : {p : Prefix} (at : ListedAt seen number p) (frame : Frame) → frame_in (history_told jobs past at.before) ≡ Some frame → frame_in now ≡ Some frame
+  pub frame_at : {p : Prefix} (at : ListedAt seen number p) (frame : Frame) → frame_in (history_told jobs past at.before) ≡ Some frame → frame_in now ≡ Some frame
   frame_at at frame framed = let front = front_at at in ap frame_in front.1 ∙ frame_in-append (history_told jobs past at.before) front.0 frame framed
 
   -- a schema that was there at a listing is there now
-  schema_at_listing : {p : Prefix} (at : ListedAt seen number p) (k : Key) (s : Schema) → schema_with (history_told jobs past at.before) k ≡ Some s → schema_with now k ≡ Some s
+  pub schema_at_listing : {p : Prefix} (at : ListedAt seen number p) (k : Key) (s : Schema) → schema_with (history_told jobs past at.before) k ≡ Some s → schema_with now k ≡ Some s
   schema_at_listing at k s with = let front = front_at at in ap (λ g. schema_with g k) front.1 ∙ schema_with-append (history_told jobs past at.before) front.0 k s with
 
   -- the history in which a job found its schema has a frame
@@ -352,7 +352,7 @@ module _ {F : Type 0} (codec : Codec F) (spelled : Spelled) (tracks : Tracking F
   -- ---- schemas
 
   -- the object of a schema that is a deed leads on with its attributes
-  schema_lead : Stands spelled m h → (k : Key) (s : Schema) (on : List Attr → State F) → schema_with h k ≡ Some s → e.call ≡ get_schema k → IsReplied m e
+  pub schema_lead : Stands spelled m h → (k : Key) (s : Schema) (on : List Attr → State F) → schema_with h k ≡ Some s → e.call ≡ get_schema k → IsReplied m e
       → IsUndone h' job → ClaimedAfter (on s.attrs) → ClaimedAfter (on_bytes (get_schema k) (λ bytes. on_read (name.Schema k) on (schema_of bytes)) e.reply)
   schema_lead stands k s on declared is replied undone goes_on =
       let held : map.get m (name.Schema k) ≡ Some (schema_object s.attrs) = stands.schemas k ∙ ap (option_map (λ x. schema_object x.attrs)) declared in
