@@ -34,6 +34,7 @@ use Rattle.ts_model.specs.Pieces.{HoldsWrite}
 use Rattle.ts_model.specs.Codecs.{Spelled}
 use Rattle.ts_law.specs.Origins.{box_in}
 use Rattle.ts_model.specs.States.{vac_of}
+use Rattle.ts_commit.specs.Vacs.{AreNames}
 use Rattle.ts_law.specs.Stands.{AreMerged, IsNamed, Names, Within, IsCommitted, IsReached, Spells, HoldsIn, Stands}
 use Rattle.ts_law.specs.Fresh.{id_in}
 use Rattle.ts_law.specs.Steps.{Keeps, Leads}
@@ -376,6 +377,10 @@ module _ (spelled : Spelled) (m : Held) (h : History) (w : Written) (frame : Fra
       named = spells.named;
     };
     holds = ordinary_holds (h ++ come) is_history w written p holds box;
+    name = (
+      record { span = omega arith; version = refl },
+      record { t1 = (follows.key).t; t2 = (follows.key).t; id = (follows.key).id; v = omega arith },
+    );
   }
 
   -- it is in its fragment
@@ -433,7 +438,7 @@ stands_vac spelled m h f bytes free none short stands = subst (Stands spelled (m
 -- ---- the `.wrt` of a consolidation
 
 module _ (spelled : Spelled) (m : Held) (h : History) (f : FragKey) (free : Holds m (wrt_of f) → ⊥) (unnamed : IsNamed m f → ⊥) (names : List FragKey) (vac : Names m f names)
-    (old : (x : FragKey) → Contains names x → IsCommitted m x ⊎ IsNamed m x) (short : IsShort vac.bytes) (p : Piece) (holds : HoldsIn spelled h m f p) (stands : Stands spelled m h)
+    (old : (x : FragKey) → Contains names x → IsCommitted m x ⊎ IsNamed m x) (short : IsShort vac.bytes) (are_names : AreNames names) (p : Piece) (holds : HoldsIn spelled h m f p) (stands : Stands spelled m h)
     (joins : (x : FragKey) → Contains names x → IsCommitted m x → Within spelled h m x f) where
   -- what is held after the put
   abbrev merged_held : Held
@@ -464,7 +469,7 @@ module _ (spelled : Spelled) (m : Held) (h : History) (f : FragKey) (free : Hold
     whole = λ g committed. whole_grows spelled m h (wrt_of f) [] [] free stands (λ v at. absurd (Contains-nil v at)) g committed
         (λ same. subst (λ k. IsWhole spelled k merged_held g) (sym (append-nil h)) (subst (IsWhole spelled h merged_held) (sym (merged_one g same)) (p, merged_holds)));
     merged = subst (λ k. AreMerged spelled k merged_held) (sym (append-nil h))
-        (merged_joins m f free unnamed names vac old spelled h short stands.merged (λ x named committed. within_on spelled h m merged_held x f (merged_parts x) (merged_parts f) (joins x named committed)));
+        (merged_joins m f free unnamed names vac old spelled h short are_names stands.merged (λ x named committed. within_on spelled h m merged_held x f (merged_parts x) (merged_parts f) (joins x named committed)));
     covered = λ w at. covered_grows spelled m h (wrt_of f) [] [] free stands (λ v none. absurd (Contains-nil v none)) w at (λ none. absurd (Contains-nil w none));
   })
 

@@ -15,7 +15,7 @@ use Rattle.ts_model.specs.Deeds.{History, IsNewKey, keys, writes}
 use Rattle.ts_model.specs.Codecs.{Spelled}
 use Rattle.ts_model.proofs.HistoryLaws.{keys-append}
 use Rattle.ts_law.specs.Stands.{AreMerged, DoesName, IsCommitted, IsKnown, IsNamed, IsNoLease, IsUnspent, Names, Within}
-use Rattle.ts_commit.specs.Vacs.{names_of}
+use Rattle.ts_commit.specs.Vacs.{names_of, AreNames}
 use Rattle.ts_schema.specs.Parts.{IsShort}
 use Rattle.std.proofs.lemmas.Option.{same_Some}
 use Rattle.ts_model.specs.States.{vac_of}
@@ -172,7 +172,7 @@ module _ (m : Held) (f : FragKey) (free : Holds m (wrt_of f) → ⊥) (unnamed :
     | inr same ↦ absurd (elim (joined_names g x by named) [ inl was ↦ free (subst (IsCommitted m) same was) | inr was ↦ unnamed (subst (IsNamed m) same was) ])
   ]
 
-  module _ (spelled : Spelled) (h : History) (short : IsShort vac.bytes) (are : AreMerged spelled h m) (joins : (x : FragKey) → Contains names x → IsCommitted m x → Within spelled h joined x f) where
+  module _ (spelled : Spelled) (h : History) (short : IsShort vac.bytes) (are_names : AreNames names) (are : AreMerged spelled h m) (joins : (x : FragKey) → Contains names x → IsCommitted m x → Within spelled h joined x f) where
     -- parts that are held stay held
     joined_parts : (g : FragKey) → PartsStay m joined g
     joined_parts g part kept e = stays_held m (wrt_of f) [] (name.Part g part) kept free e
@@ -214,7 +214,7 @@ module _ (m : Held) (f : FragKey) (free : Holds m (wrt_of f) → ⊥) (unnamed :
         | inl before ↦ are.reads g kept before (sym (vac_same g) ∙ e)
         | inr same ↦
             let is : vac.bytes ≡ kept = same_Some vac.bytes kept (sym vac.held ∙ ap (λ y. map.get m (vac_of y)) (sym same) ∙ sym (vac_same g) ∙ e) in
-            (subst IsShort is short, (names, ap names_of (sym is) ∙ vac.reads))
+            (subst IsShort is short, (names, ap names_of (sym is) ∙ vac.reads, are_names))
       ];
       within = λ g x by committed named.
           let was = named_old g x by named committed in
@@ -295,6 +295,11 @@ unspent_kept m m' h h' id own keeps none is = record {
     | inr before ↦ is.unnamed f carries before
   ];
 }
+
+-- so it stays by a put that commits nothing
+pub unspent_put : (m : Held) (n : Name) (bytes : List ℕ) (h h' : History) (id own : ℕ) → Keeps m (map.insert m n bytes) h h' id → ((f : FragKey) → wrt_of f ≡ n → ⊥) → IsUnspent m own → IsUnspent (map.insert m n bytes) own
+unspent_put m n bytes h h' id own keeps apart is = unspent_kept m (map.insert m n bytes) h h' id own keeps
+    (λ f carries committed. elim (held_before m n bytes (wrt_of f) committed) [ inl before ↦ is.uncommitted f carries before | inr same ↦ apart f same ]) is
 
 -- so it stays by a call of another job
 pub unspent_stays : (m m' : Held) (h h' : History) (id own : ℕ) → Keeps m m' h h' id → (own ≡ id → ⊥) → IsUnspent m own → IsUnspent m' own
