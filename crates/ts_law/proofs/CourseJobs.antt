@@ -1,14 +1,12 @@
 -- A job of each command makes the calls of its course, and ends by it.
-use Rattle.std.proofs.Common.{length, ◌∙◌, ◌⊎◌, ◌≡◌, ℕ, suc, Bool, true, false, cond, not, ◌||◌, List, [], ◌∷◌, ◌++◌, Option, Some, None, Result, Ok, Err, IsTrue, arith, refl, sym, ap, inl, inr, subst}
+use Rattle.std.proofs.Common.{length, ◌∙◌, ◌⊎◌, ◌≡◌, ℕ, suc, Bool, true, false, cond, List, [], ◌∷◌, ◌++◌, Option, Some, None, Result, Ok, Err, IsTrue, arith, refl, sym, ap, inl, inr, subst}
 use Rattle.std.specs.Prelude.{Contains, option_map, nat_eq, map as list_map}
 use Rattle.std.specs.Result.{result_err}
-use Rattle.std.proofs.lemmas.Bool.{lt-ltb, ne_eqb, true≢false}
-use Rattle.std.proofs.lemmas.Option.{none-some, same_Some}
-use Rattle.std.proofs.lemmas.List.Elements.{All-cons, All-nil, All-push, Contains-push}
+use Rattle.std.proofs.lemmas.Bool.{lt-ltb, ne_eqb}
+use Rattle.std.proofs.lemmas.Option.{none-some}
+use Rattle.std.proofs.lemmas.List.Elements.{All-nil, Contains-push}
 use Rattle.ts_base.specs.declared.keys.Key.{Key}
-use Rattle.ts_base.specs.declared.keys.FragKey.{FragKey}
 use Rattle.ts_base.specs.declared.names.Name.{Name}
-use Rattle.ts_base.specs.declared.names.PartBytes.{PartBytes}
 use Rattle.ts_base.specs.declared.heads.Cell.{Cell}
 use Rattle.ts_schema.specs.declared.frames.Frame.{Frame}
 use Rattle.ts_schema.specs.declared.schemas.Schema.{Schema}
@@ -28,27 +26,22 @@ use Rattle.ts_model.specs.declared.answers.Refusal.{Refusal}
 use Rattle.ts_model.specs.declared.states.State.{State}
 use Rattle.ts_model.specs.declared.states.NewObject.{NewObject}
 use Rattle.ts_model.specs.declared.states.State.TheVariants.{Creates, Seeks, Over}
-use Rattle.ts_model.specs.declared.states.Stage.{Stage}
-use Rattle.ts_model.specs.declared.states.Stage.TheVariants.{PutsLease, Releases, Works}
+use Rattle.ts_model.specs.declared.states.Stage.TheVariants.{Works}
 use Rattle.ts_base.specs.declared.names.LeaseMode.TheVariants.{Shr}
-use Rattle.ts_lease.specs.Leases.{verdict_in}
-use Rattle.ts_lease.specs.declared.verdicts.Verdict.{Verdict}
-use Rattle.ts_lease.specs.declared.verdicts.Verdict.TheVariants as verdict
 use Rattle.ts_model.proofs.Asked.{asked-push, next_call}
-use Rattle.ts_model.proofs.Lacks.{lacks-push, no_memory_ends}
-use Rattle.ts_base.specs.Exact.{name_decides}
+use Rattle.ts_model.proofs.Lacks.{no_memory_ends}
 use Rattle.ts_model.specs.declared.states.Creating.TheVariants.{PutsFrame, ComparesFrame, ListsDeclared}
 use Rattle.ts_model.specs.declared.states.Seeking.TheVariants.{ListsCommits, ListsSchemas}
 use Rattle.ts_model.specs.declared.commands.Command.TheVariants.{Create, Evolve, Write, Read, Delete, Consolidate}
 use Rattle.ts_model.specs.Codecs.{Codec, AsksLooks}
 use Rattle.ts_model.specs.Commands.{laid, piece_of}
 use Rattle.ts_model.specs.Jobs.{key_of, frag_of_job, written_as, refused_before}
-use Rattle.ts_model.specs.Stages.{after_lease, after_leases, end_at, first_stage, goes_on, is_done, is_leased, is_release, lease_of, list_leases, on_verdict, put_lease, released, settled, stage_asks, stage_from, stage_of, stage_takes_memory}
+use Rattle.ts_model.specs.Stages.{first_stage, goes_on, lease_of, stage_from, stage_of}
 use Rattle.ts_model.specs.Stops.{cuts}
-use Rattle.ts_model.specs.States.{Exchange, end_by, goes, begins, begun, refuse, unless_refused, get_schema, get_frame, list_schemas, list_commits, looked_into, committed_in, deletes_in, meets, commit_of, part_objects, put_of, putting, puts_cells, schema_object_of, write_objects, frame_put, is_own_frame, nothing_listed, asks_for, reading_of, puts_delete, delete_object_of}
-use Rattle.ts_model.specs.Driven.{AskedFrom, EndsBy, MayAsk, lacks_from}
-use Rattle.ts_law.specs.Courses.{EndsUnder, FindsOpposed, HasPut, HeedsLeases, IsCutAlong, IsCutOff, NotBegun, NotOwn, Removed, removal, Found, cell_puts, evolve_puts, course_of, IsSchemaIn, IsFrameIn, SaysThere, IsGot, AreFound, LooksThere, IsLookOf, lets_on, refused_in, IsCause, EndsAlong, MayEndAs, delete_puts}
-use Rattle.ts_model.proofs.ListLemmas.{Contains-nil, Contains-here, Contains-cons, Contains-only, filter-Contains}
+use Rattle.ts_model.specs.States.{Exchange, goes, begins, begun, refuse, unless_refused, get_schema, get_frame, list_schemas, list_commits, looked_into, committed_in, deletes_in, meets, commit_of, put_of, putting, puts_cells, schema_object_of, write_objects, frame_put, is_own_frame, nothing_listed, asks_for, reading_of, puts_delete, delete_object_of}
+use Rattle.ts_model.specs.Driven.{AskedFrom, EndsBy, MayAsk}
+use Rattle.ts_law.specs.Courses.{EndsUnder, IsCutAlong, IsCutOff, Found, cell_puts, evolve_puts, course_of, IsSchemaIn, IsFrameIn, SaysThere, IsGot, AreFound, LooksThere, IsLookOf, lets_on, refused_in, IsCause, EndsAlong, MayEndAs, delete_puts}
+use Rattle.ts_model.proofs.ListLemmas.{Contains-nil, Contains-here, Contains-only, filter-Contains}
 use Rattle.ts_law.proofs.CourseGrows.{among_more}
 use Rattle.ts_law.proofs.LaidRefusals.{IsOfColumns, FailsByColumns, laid_fails}
 use Rattle.ts_model.specs.declared.queries.Ready.{Ready}
@@ -56,18 +49,15 @@ use Rattle.ts_cond.specs.declared.query.Query.{Query}
 use Rattle.ts_cond.specs.Tests.{Condition}
 use Rattle.ts_model.specs.Queries.{ready_in, delete_condition}
 use Rattle.ts_law.proofs.QueryRefusals.{IsOfQuery, FailsByQuery, ready_fails, delete_condition_fails}
-use Rattle.ts_law.proofs.CourseCalls.{ends_along, Ends, WorkAsks, WorkEnds, Well, ends_cons, work_from, over_ends, Goes, Follows, follows_on, follows_refused, follows_ended, goes_none, goes_by, follows_putting, parts_apart, puts_go, Next}
+use Rattle.ts_law.proofs.CourseCalls.{ends_along, Ends, WorkAsks, WorkEnds, Well, work_from, over_ends, Goes, Follows, follows_on, follows_refused, follows_ended, goes_none, goes_by, follows_putting, parts_apart, puts_go, Next}
 use Rattle.ts_law.proofs.CourseReads.{follows_getting_vacs, reads_on}
 use Rattle.ts_law.proofs.CourseMerges.{merge_finds}
 use Rattle.ts_law.proofs.CourseLeased.{leased_cut, leased_finds}
-use Rattle.ts_law.proofs.CutOff.{as_if, found_before, last_same, no_calls, unmade_of}
-use Rattle.ts_law.proofs.CourseStages.{Closed, IsWas, Open, OpenAsks, Split, bare_asks, bare_from, open-push, open_from, releasing_asks, same_work, settled_leased, split, work_open, work_was}
-use Rattle.ts_law.proofs.KeptLaws.{no_removal}
-use Rattle.ts_law.proofs.LeaseSteps.{release_is}
+use Rattle.ts_law.proofs.CutOff.{as_if, found_before, no_calls, unmade_of}
+use Rattle.ts_law.proofs.CourseStages.{bare_asks, bare_from, same_work}
 use Rattle.ts_law.proofs.CourseThere.{no_schema, no_frame, found_as, OfBytes, schemas_found}
 use Rattle.ts_base.specs.declared.names.Name.TheVariants as name
 use Rattle.ts_store.specs.declared.call.Reply.TheVariants as reply
-use Rattle.ts_store.specs.declared.call.Call.TheVariants as call
 use Rattle.ts_model.specs.declared.answers.Outcome.TheVariants as outcome
 use Rattle.ts_model.specs.declared.answers.Refusal.TheVariants as refusal
 

@@ -1,6 +1,6 @@
 -- The calls of a consolidation at its work: it looks for its sources, and puts what they are merged into.
-use Rattle.std.proofs.Common.{length, ◌≡◌, ℕ, suc, Bool, true, false, cond, ◌⊎◌, List, [], ◌∷◌, ◌++◌, drop, take, Option, Some, None, Result, Ok, Err, IsTrue, refl, sym, ◌∙◌, ap, inl, inr, subst, slice_get, append_assoc}
-use Rattle.std.specs.Prelude.{Contains, ⊤, filter, option_map, nat_lt, map as list_map}
+use Rattle.std.proofs.Common.{length, ◌≡◌, ℕ, suc, Bool, true, false, cond, List, [], ◌∷◌, ◌++◌, drop, take, Option, Some, None, Result, Ok, Err, IsTrue, refl, sym, ◌∙◌, ap, inl, inr, subst, slice_get, append_assoc}
+use Rattle.std.specs.Prelude.{Contains, filter, option_map, nat_lt, map as list_map}
 use Rattle.std.specs.Option.{option_map_or}
 use Rattle.std.proofs.lemmas.Bool.{ltb-false}
 use Rattle.std.proofs.lemmas.List.{append-nil, take_all}
@@ -33,7 +33,6 @@ use Rattle.ts_model.specs.declared.answers.Outcome.{Outcome}
 use Rattle.ts_model.specs.declared.answers.Refusal.{Refusal}
 use Rattle.ts_model.specs.declared.commands.Command.TheVariants.{Consolidate}
 use Rattle.ts_model.specs.declared.commands.Job.{Job}
-use Rattle.ts_model.specs.declared.states.Candidates.{Candidates}
 use Rattle.ts_model.specs.declared.states.NewObject.{NewObject}
 use Rattle.ts_model.specs.declared.states.Opened.{Opened}
 use Rattle.ts_model.specs.declared.states.State.{State}
@@ -41,12 +40,12 @@ use Rattle.ts_model.specs.declared.states.State.TheVariants.{Merges, Over}
 use Rattle.ts_model.specs.declared.states.Survey.{Survey}
 use Rattle.ts_model.specs.Codecs.{Codec, Stepped, Asks, Takes, Breaks, is_look, AsksLooks}
 use Rattle.ts_model.specs.Jobs.{looked_at}
-use Rattle.ts_model.specs.States.{Exchange, after_names, after_opened, after_source, after_surveyed, all_of, attributes_among, can_be_named, candidates_in, committed_in, counting_in, ended, frags_of, get_frame, get_head_in, get_schema, get_vac, getting_names, goes, heads_of, list_commits, list_schemas, merge_objects, merges_all, merges_in, merging_from, on_bytes, on_plan, on_read, opened_among, opening_next, piece_merged, plan_for, put_of, puts_piece, putting, refuse, schema_among, schemas_in, schemas_named, source_begins, source_leads, survey_with, surveying, vac_object_of, vac_of, where_schema}
+use Rattle.ts_model.specs.States.{Exchange, after_names, after_opened, after_source, after_surveyed, all_of, attributes_among, can_be_named, candidates_in, committed_in, counting_in, ended, frags_of, get_frame, get_head_in, get_schema, get_vac, getting_names, goes, heads_of, list_commits, list_schemas, merge_objects, merges_all, merges_in, merging_from, on_bytes, on_plan, on_read, opened_among, opening_next, piece_merged, plan_for, put_of, puts_piece, putting, refuse, schema_among, schemas_in, schemas_named, source_begins, source_leads, survey_with, surveying, vac_object_of, vac_of}
 use Rattle.ts_model.proofs.KeyLemmas.{key_itself, key_same}
 use Rattle.ts_model.proofs.ListLemmas.{Contains-cons, Contains-here, Contains-nil, Contains-only, Contains-there, filter-Contains, find-Some, find_member}
 use Rattle.ts_law.specs.Courses.{AreFound, AtFrame, AtNamed, AtNames, AtOpened, BreaksPart, EachTaken, Found, GotNames, GotSchema, HasOpened, HasTaken, InSource, IsCause, IsConsolidate, IsFramed, IsKeyThere, IsListedInside, IsLookBy, IsLookOf, IsMergeBy, IsNamedFor, IsOpened, IsUnderWay, LooksForSources, Merge, PlansBy, SaysThere, lets_on, merge_puts, wants_of}
 use Rattle.ts_law.proofs.CourseCalls.{Ends, Follows, Goes, Well, WorkAsks, WorkEnds, follows_ended, follows_none, follows_on, follows_putting, follows_refused, goes_by, goes_none, item_in, lets_bytes, lets_length, look_leaves, parts_apart, puts_go}
-use Rattle.ts_law.proofs.CourseGrows.{AreAmong, among_more, each_stays, inside_stays, key_stays, names_stay, schema_stays, way_stays}
+use Rattle.ts_law.proofs.CourseGrows.{AreAmong, among_more, each_stays, names_stay, schema_stays, way_stays}
 use Rattle.ts_law.proofs.CourseReads.{fetched_on}
 use Rattle.ts_law.proofs.CourseThere.{no_frame, no_schema}
 use Rattle.ts_law.proofs.Fetches.{Contains-map, map-Contains}
@@ -54,7 +53,6 @@ use Rattle.ts_law.proofs.HeadSchemas.{schemas_named_by, schemas_named_has}
 use Rattle.ts_law.proofs.ReadSteps.{push_next}
 use Rattle.ts_base.specs.declared.names.Name.TheVariants as name
 use Rattle.ts_commit.specs.declared.vacs.Planned.TheVariants as planned
-use Rattle.ts_store.specs.declared.call.Call.TheVariants as call
 use Rattle.ts_store.specs.declared.call.Reply.TheVariants as reply
 use Rattle.ts_model.specs.declared.answers.Outcome.TheVariants as outcome
 use Rattle.ts_model.specs.declared.answers.Refusal.TheVariants as refusal

@@ -1,5 +1,5 @@
 -- The keys of the schemas that the heads of open fragments name.
-use Rattle.std.proofs.Common.{◌≡◌, true, false, List, [], ◌∷◌, Some, refl, sym, ◌∙◌, ap}
+use Rattle.std.proofs.Common.{◌≡◌, true, false, List, [], ◌∷◌, Some, sym, ◌∙◌, ap}
 use Rattle.std.specs.Prelude.{Contains, map as list_map}
 use Rattle.std.specs.FinMap as map
 use Rattle.std.specs.Option.{is_some}
