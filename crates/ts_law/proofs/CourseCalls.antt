@@ -1,5 +1,5 @@
 -- Calls of a job along its course, and what follows where a state leads.
-use Rattle.std.proofs.Common.{length, ◌≡◌, ℕ, suc, zero, Bool, true, false, cond, ◌⊎◌, List, [], ◌∷◌, ◌++◌, drop, Option, Some, None, IsTrue, refl, sym, ◌∙◌, ap, inl, inr, subst, slice_get, append_assoc}
+use Rattle.std.proofs.Common.{length, ◌≡◌, ◌≢◌, ℕ, suc, zero, Bool, true, false, cond, ◌⊎◌, List, [], ◌∷◌, ◌++◌, drop, Option, Some, None, IsTrue, refl, sym, ◌∙◌, ap, inl, inr, subst, slice_get, append_assoc}
 use Rattle.std.specs.Prelude.{Contains, ⊤, option_map, nat_lt, map as list_map}
 use Rattle.std.proofs.lemmas.Bool.{ltb-false}
 use Rattle.std.proofs.Math.ListN.{drop_of_length-le}
@@ -79,6 +79,18 @@ lets_length (call.Size n) size look = refl
 lets_length (call.Put n b) size look = cc
 lets_length (call.Remove n) size look = cc
 lets_length (call.List p) size look = cc
+
+-- a reply that lets a job go on is not want of memory
+pub lets_memory : (c : Call) (r : Reply) → IsTrue (lets_on c r) → r ≢ reply.NoMemory
+lets_memory c r on none = no_memory c (subst (λ q. IsTrue (lets_on c q)) none on)
+  where
+    no_memory : (d : Call) → IsTrue (lets_on d reply.NoMemory) → ⊥
+    no_memory (call.Put name.Domain bytes) is = cc
+    no_memory (call.Put n bytes) is = cc
+    no_memory (call.Remove n) is = cc
+    no_memory (call.List p) is = cc
+    no_memory (call.Get n from len) is = cc
+    no_memory (call.Size n) is = cc
 
 -- the call that is asked is this one
 call_is : (c d : Call) → Some c ≡ Some d → d ≡ c

@@ -1,7 +1,8 @@
 -- What a job was told before some calls it was told before more of them too.
-use Rattle.std.proofs.Common.{ℕ, List, [], ◌∷◌, ◌++◌, Result, Ok, inl, inr}
+use Rattle.std.proofs.Common.{◌≡◌, ℕ, List, [], ◌∷◌, ◌++◌, None, Result, Ok, inl, inr, sym, ◌∙◌, ap, append_assoc}
 use Rattle.std.specs.Prelude.{Contains}
 use Rattle.std.proofs.lemmas.List.Elements.{Contains-append_left}
+use Rattle.std.proofs.lemmas.Option.{none-some}
 use Rattle.ts_base.specs.declared.keys.Key.{Key}
 use Rattle.ts_base.specs.declared.keys.FragKey.{FragKey}
 use Rattle.ts_base.specs.declared.names.Name.{Name}
@@ -18,7 +19,7 @@ use Rattle.ts_commit.specs.declared.vacs.Planned.TheVariants as planned
 use Rattle.ts_model.specs.declared.commands.Command.{Command}
 use Rattle.ts_model.specs.declared.commands.Command.TheVariants.{Create, Evolve, Write, Read, Delete, Consolidate}
 use Rattle.ts_model.specs.declared.states.Opened.{Opened}
-use Rattle.ts_law.specs.Courses.{Found, Merge, GotHead, GotNames, GotSchema, HasOpened, HasTaken, EachTaken, IsFramed, IsKeyThere, IsGot, IsNamedFor, IsOpened, IsFetched, IsUnderWay, IsListedIn, IsListedInside, IsCountingIn, IsMergeBy, PlansBy}
+use Rattle.ts_law.specs.Courses.{Found, Merge, MergesFound, GotHead, GotNames, GotSchema, HasOpened, HasTaken, EachTaken, IsFramed, IsKeyThere, IsGot, IsNamedFor, IsOpened, IsFetched, IsUnderWay, IsListedIn, IsListedInside, IsCountingIn, IsMergeBy, PlansBy}
 
 -- the calls of the first list are calls of the second
 abbrev pub AreAmong : List Exchange → List Exchange → Type 0
@@ -165,3 +166,21 @@ module _ {F : Type 0} (codec : Codec F) where
     piece = is.piece;
     names = is.names;
   }
+
+  -- what was merged
+  pub merged_stays : (job : Job) (found : Found) (trace more : List Exchange) → MergesFound codec job found trace → MergesFound codec job found (trace ++ more)
+  merged_stays job found trace more merges merge some =
+      let has = merges merge some in
+      record {
+        front = has.front;
+        last = has.last;
+        later = has.later ++ more;
+        parts = ap (λ t. t ++ more) has.parts ∙ append_assoc has.front (has.last ∷ has.later) more;
+        was_told = has.was_told;
+        count = has.count;
+        by_told = has.by_told;
+      }
+
+  -- a job that merged nothing is not said to have merged anything
+  pub merged_nothing : (job : Job) (found : Found) (trace : List Exchange) → found.merged ≡ None → MergesFound codec job found trace
+  merged_nothing job found trace none merge some = absurd (none-some merge (sym none ∙ some))

@@ -40,9 +40,9 @@ use Rattle.ts_model.specs.Stages.{first_stage, goes_on, lease_of, stage_from, st
 use Rattle.ts_model.specs.Stops.{cuts}
 use Rattle.ts_model.specs.States.{Exchange, goes, begins, begun, refuse, unless_refused, get_schema, get_frame, list_schemas, list_commits, looked_into, committed_in, deletes_in, meets, commit_of, put_of, putting, puts_cells, schema_object_of, write_objects, frame_put, is_own_frame, nothing_listed, asks_for, reading_of, puts_delete, delete_object_of}
 use Rattle.ts_model.specs.Driven.{AskedFrom, EndsBy, MayAsk}
-use Rattle.ts_law.specs.Courses.{EndsUnder, IsCutAlong, IsCutOff, Found, cell_puts, evolve_puts, course_of, IsSchemaIn, IsFrameIn, SaysThere, IsGot, AreFound, LooksThere, IsLookOf, lets_on, refused_in, IsCause, EndsAlong, MayEndAs, delete_puts}
+use Rattle.ts_law.specs.Courses.{EndsUnder, IsCutAlong, IsCutOff, Found, cell_puts, evolve_puts, course_of, IsSchemaIn, IsFrameIn, SaysThere, IsGot, AreFound, LooksThere, IsLookOf, lets_on, refused_in, IsCause, EndsAlong, MayEndAs, MergesFound, delete_puts}
 use Rattle.ts_model.proofs.ListLemmas.{Contains-nil, Contains-here, Contains-only, filter-Contains}
-use Rattle.ts_law.proofs.CourseGrows.{among_more}
+use Rattle.ts_law.proofs.CourseGrows.{among_more, merged_nothing}
 use Rattle.ts_law.proofs.LaidRefusals.{IsOfColumns, FailsByColumns, laid_fails}
 use Rattle.ts_model.specs.declared.queries.Ready.{Ready}
 use Rattle.ts_cond.specs.declared.query.Query.{Query}
@@ -53,7 +53,7 @@ use Rattle.ts_law.proofs.CourseCalls.{ends_along, Ends, WorkAsks, WorkEnds, Well
 use Rattle.ts_law.proofs.CourseReads.{follows_getting_vacs, reads_on}
 use Rattle.ts_law.proofs.CourseMerges.{merge_finds}
 use Rattle.ts_law.proofs.CourseLeased.{leased_cut, leased_finds}
-use Rattle.ts_law.proofs.CutOff.{as_if, found_before, no_calls, unmade_of}
+use Rattle.ts_law.proofs.CutOff.{as_if, found_before, merged_before, no_calls, unmade_of}
 use Rattle.ts_law.proofs.CourseStages.{bare_asks, bare_from, same_work}
 use Rattle.ts_law.proofs.CourseThere.{no_schema, no_frame, found_as, OfBytes, schemas_found}
 use Rattle.ts_base.specs.declared.names.Name.TheVariants as name
@@ -84,7 +84,7 @@ module _ {F : Type 0} (codec : Codec F) (any : Job) where
 
   -- a job found something, and its calls from a state on say so and end along its course
   abbrev Finds : Job → List Exchange → Outcome → State F → Type 0
-  Finds job xs end s = WorkAsks codec job s xs → WorkEnds codec job s xs end → (found : Found) × AreTold job found xs end
+  Finds job xs end s = WorkAsks codec job s xs → WorkEnds codec job s xs end → (found : Found) × AreTold job found xs end × (found.merged ≡ None)
 
   -- a job with another command
   abbrev pub with : Command → Job
@@ -202,7 +202,7 @@ module _ {F : Type 0} (codec : Codec F) (any : Job) where
       let (there, frame, goes_on) =
       schemas_found codec (with (Evolve change)) refl (λ found seen c look. look) (λ found r. tt) (evolve_schema change) (evolve_frame change) (λ found. evolve_puts (with (Evolve change)) found change (evolution_fault (found.frame).domain (found.there).attrs change)) [] nothing_listed
       (λ there frame seen x xs end since got says on look. evolve_works change there frame seen x xs end got says on look (evolution_fault frame.domain there.attrs change) refl) [] xs end (λ x at. at) in
-      (found_as there frame, goes_on a e)
+      (found_as there frame, goes_on a e, refl)
 
   -- a write
   write_finds : (w : WriteIn) (xs : List Exchange) (end : Outcome) → Finds (with (Write w)) xs end (Seeks (ListsSchemas nothing_listed))
@@ -210,7 +210,7 @@ module _ {F : Type 0} (codec : Codec F) (any : Job) where
       let (there, frame, goes_on) =
       schemas_found codec (with (Write w)) refl (λ found seen c look. look) (λ found r. tt) (write_schema w) (write_frame w) (λ found. cell_puts codec (with (Write w)) found (laid found.frame (found.there).attrs w)) [] nothing_listed
       (λ there frame seen x xs end since got says on look. write_works w there frame seen x xs end got says on look (laid frame there.attrs w) refl (laid_fails frame there.attrs w)) [] xs end (λ x at. at) in
-      (found_as there frame, goes_on a e)
+      (found_as there frame, goes_on a e, refl)
 
   -- a delete
   delete_finds : (text : List ℕ) (xs : List Exchange) (end : Outcome) → Finds (with (Delete text)) xs end (Seeks (ListsSchemas nothing_listed))
@@ -218,7 +218,7 @@ module _ {F : Type 0} (codec : Codec F) (any : Job) where
       let (there, frame, goes_on) =
       schemas_found codec (with (Delete text)) refl (λ found seen c look. look) (λ found r. tt) (delete_schema text) (delete_frame text) (λ found. delete_puts (with (Delete text)) (delete_condition found.frame (found.there).attrs text)) [] nothing_listed
       (λ there frame seen x xs end since got says on look. delete_works text there frame seen x xs end got says on look (delete_condition frame there.attrs text) refl (delete_condition_fails frame there.attrs text)) [] xs end (λ x at. at) in
-      (found_as there frame, goes_on a e)
+      (found_as there frame, goes_on a e, refl)
 
   -- the calls after those before say what a job found, and end along a course
   abbrev AreAlong : Job → List Exchange → Found → List Call → List Exchange → Outcome → Type 0
@@ -226,17 +226,17 @@ module _ {F : Type 0} (codec : Codec F) (any : Job) where
 
   -- a read
   read_finds : AsksLooks codec → (from to : ℕ) (query : Query) (before xs : List Exchange) (end : Outcome) → WorkAsks codec (with (Read from to query)) (Seeks ListsCommits) xs → WorkEnds codec (with (Read from to query)) (Seeks ListsCommits) xs end
-      → (found : Found) × AreAlong (with (Read from to query)) before found (list_commits ∷ list_schemas ∷ []) xs end
-  read_finds looks from to query before [] end a e = (found_as no_schema no_frame, goes_none codec (with (Read from to query)) before (found_as no_schema no_frame) (list_commits ∷ list_schemas ∷ []) end (Seeks ListsCommits) (λ o q. cc) a e)
+      → (found : Found) × AreAlong (with (Read from to query)) before found (list_commits ∷ list_schemas ∷ []) xs end × MergesFound codec (with (Read from to query)) found (before ++ xs)
+  read_finds looks from to query before [] end a e = (found_as no_schema no_frame, goes_none codec (with (Read from to query)) before (found_as no_schema no_frame) (list_commits ∷ list_schemas ∷ []) end (Seeks ListsCommits) (λ o q. cc) a e, merged_nothing codec (with (Read from to query)) (found_as no_schema no_frame) (before ++ []) refl)
   read_finds looks from to query before (x ∷ xs) end a e =
-      let (found, follows) = by_reply x.reply in
-      (found, goes_by codec (with (Read from to query)) before found (list_commits ∷ list_schemas ∷ []) x xs end (Seeks ListsCommits) list_commits refl (λ same. follows) a e)
+      let (there, frame, follows) = by_reply x.reply in
+      (found_as there frame, goes_by codec (with (Read from to query)) before (found_as there frame) (list_commits ∷ list_schemas ∷ []) x xs end (Seeks ListsCommits) list_commits refl (λ same. follows) a e, merged_nothing codec job (found_as there frame) (before ++ x ∷ xs) refl)
     where
       job : Job
       job = with (Read from to query)
 
       CommitsFor : Reply → Type 0
-      CommitsFor r = (found : Found) × Follows codec job before found (list_commits ∷ list_schemas ∷ []) (record { call = list_commits; reply = r }) xs end (goes codec job (Seeks ListsCommits) r)
+      CommitsFor r = (there : Schema) × (frame : Frame) × Follows codec job before (found_as there frame) (list_commits ∷ list_schemas ∷ []) (record { call = list_commits; reply = r }) xs end (goes codec job (Seeks ListsCommits) r)
 
       by_reply : (r : Reply) → CommitsFor r
       by_reply (reply.Names names) =
@@ -245,8 +245,8 @@ module _ {F : Type 0} (codec : Codec F) (any : Job) where
           schemas_found codec job refl (λ found seen c look. inl look) (λ found r. tt) (λ found k r is. tt) (λ found r is. tt) (λ found. []) (before ++ y ∷ []) (looked_into (Read from to query) names)
           (λ there frame seen z zs end' since got says on look. read_works looks from to query names there frame seen z zs end' (since y (Contains-push before y)) got on look (ready_in frame there.attrs query) refl (ready_fails frame there.attrs query))
           (before ++ y ∷ []) xs end (λ z at. at) in
-          (found_as there frame, follows_on codec job before (found_as there frame) (list_commits ∷ list_schemas ∷ []) (list_schemas ∷ []) y xs end (Seeks (ListsSchemas (looked_into (Read from to query) names))) tt refl (inr refl) later)
-      by_reply r = (found_as no_schema no_frame, follows_ended codec job before (found_as no_schema no_frame) (list_commits ∷ list_schemas ∷ []) (list_schemas ∷ []) list_commits r xs end tt tt (inr refl))
+          (there, frame, follows_on codec job before (found_as there frame) (list_commits ∷ list_schemas ∷ []) (list_schemas ∷ []) y xs end (Seeks (ListsSchemas (looked_into (Read from to query) names))) tt refl (inr refl) later)
+      by_reply r = (no_schema, no_frame, follows_ended codec job before (found_as no_schema no_frame) (list_commits ∷ list_schemas ∷ []) (list_schemas ∷ []) list_commits r xs end tt tt (inr refl))
 
   -- ---- a create
 
@@ -307,10 +307,10 @@ module _ {F : Type 0} (codec : Codec F) (any : Job) where
 
     -- a create
     create_finds : (xs : List Exchange) (end : Outcome) → Finds creating xs end (Creates PutsFrame)
-    create_finds [] end a e = (found_by false, goes_none codec creating [] (found_by false) (course_of codec creating (found_by false)) end (Creates PutsFrame) (λ o q. cc) a e)
+    create_finds [] end a e = (found_by false, goes_none codec creating [] (found_by false) (course_of codec creating (found_by false)) end (Creates PutsFrame) (λ o q. cc) a e, refl)
     create_finds (x ∷ xs) end a e =
         let (taken, follows) = by_reply x.reply in
-        (found_by taken, goes_by codec creating [] (found_by taken) (course_of codec creating (found_by taken)) x xs end (Creates PutsFrame) (frame_put f) refl (λ same. follows) a e)
+        (found_by taken, goes_by codec creating [] (found_by taken) (course_of codec creating (found_by taken)) x xs end (Creates PutsFrame) (frame_put f) refl (λ same. follows) a e, refl)
       where
         FrameFor : Reply → Type 0
         FrameFor r = (taken : Bool) × Follows codec creating [] (found_by taken) (course_of codec creating (found_by taken)) (record { call = frame_put f; reply = r }) xs end (goes codec creating (Creates PutsFrame) r)
@@ -338,20 +338,20 @@ module _ {F : Type 0} (codec : Codec F) (any : Job) where
 
   -- a job without a lease
   pub bare_finds : (command : Command) → lease_of (with command) ≡ None → (whole : List Exchange) (end : Outcome) → AskedFrom codec (with command) (Works (begun command)) whole
-      → (stage_from codec (with command) (Works (begun command)) whole ≡ Works (Over end)) ⊎ (end ≡ outcome.OutOfMemory) → (found : Found) × AreFound (with command) found whole × MayEndAs codec (with command) found whole end (refused_before command)
+      → (stage_from codec (with command) (Works (begun command)) whole ≡ Works (Over end)) ⊎ (end ≡ outcome.OutOfMemory) → (found : Found) × AreFound (with command) found whole × MergesFound codec (with command) found whole × MayEndAs codec (with command) found whole end (refused_before command)
   bare_finds command none whole end asked ends = by_refusal (refused_before command) (bare_asks codec (with command) none (begun command) whole asked) (bare_ends command none whole end ends)
     where
       under : (found : Found) → EndsAlong codec (with command) found (course_of codec (with command) found) whole end → EndsUnder codec (with command) found (lease_of (with command)) whole end
       under found h = subst (λ o. EndsUnder codec (with command) found o whole end) (sym none) h
 
       by_refusal : (r : Option Refusal) → WorkAsks codec (with command) (unless_refused (begins command) r) whole → WorkEnds codec (with command) (unless_refused (begins command) r) whole end
-          → (found : Found) × AreFound (with command) found whole × MayEndAs codec (with command) found whole end r
+          → (found : Found) × AreFound (with command) found whole × MergesFound codec (with command) found whole × MayEndAs codec (with command) found whole end r
       by_refusal None a e =
-          let (found, told) = begins_finds command none whole end a e in
-          (found, told.0, under found (ends_along codec (with command) found (course_of codec (with command) found) whole end told.1))
+          let (found, told, merged) = begins_finds command none whole end a e in
+          (found, told.0, merged_nothing codec (with command) found whole merged, under found (ends_along codec (with command) found (course_of codec (with command) found) whole end told.1))
       by_refusal (Some r) a e =
           let over = over_ends codec (with command) (outcome.Refused r) whole end a e in
-          (found_as no_schema no_frame, subst (AreFound (with command) (found_as no_schema no_frame)) (sym over.0) (All-nil (λ x. SaysThere (found_as no_schema no_frame) command x.call x.reply)), over)
+          (found_as no_schema no_frame, subst (AreFound (with command) (found_as no_schema no_frame)) (sym over.0) (All-nil (λ x. SaysThere (found_as no_schema no_frame) command x.call x.reply)), merged_nothing codec (with command) (found_as no_schema no_frame) whole refl, over)
 
   -- how a job without a lease ended
   bare_by : (command : Command) (whole : List Exchange) (end : Outcome) → first_stage {F = F} (with command) ≡ Works (begun command) → EndsBy codec (with command) whole end
@@ -361,9 +361,9 @@ module _ {F : Type 0} (codec : Codec F) (any : Job) where
 
   -- a job of any command
   pub begun_finds : AsksLooks codec → (command : Command) (whole : List Exchange) (end : Outcome) → AskedFrom codec (with command) (first_stage (with command)) whole → EndsBy codec (with command) whole end
-      → (found : Found) × AreFound (with command) found whole × MayEndAs codec (with command) found whole end (refused_before command)
-  begun_finds looks (Read from to query) whole end asked ends = leased_finds codec (with (Read from to query)) Shr refl refl (λ found c r. tt) (found_as no_schema no_frame) (read_finds looks from to query) whole end asked ends
-  begun_finds looks (Consolidate from to limits) whole end asked ends = leased_finds codec (with (Consolidate from to limits)) Shr refl refl (λ found c r. tt) (found_as no_schema no_frame) (merge_finds codec any looks from to limits) whole end asked ends
+      → (found : Found) × AreFound (with command) found whole × MergesFound codec (with command) found whole × MayEndAs codec (with command) found whole end (refused_before command)
+  begun_finds looks (Read from to query) whole end asked ends = leased_finds codec (with (Read from to query)) Shr refl refl (λ found c r. tt) (found_as no_schema no_frame) refl (read_finds looks from to query) whole end asked ends
+  begun_finds looks (Consolidate from to limits) whole end asked ends = leased_finds codec (with (Consolidate from to limits)) Shr refl refl (λ found c r. tt) (found_as no_schema no_frame) refl (merge_finds codec any looks from to limits) whole end asked ends
   begun_finds looks (Create f) whole end asked ends = bare_finds (Create f) refl whole end asked (bare_by (Create f) whole end refl ends)
   begun_finds looks (Evolve change) whole end asked ends = bare_finds (Evolve change) refl whole end asked (bare_by (Evolve change) whole end refl ends)
   begun_finds looks (Write w) whole end asked ends = bare_finds (Write w) refl whole end asked (bare_by (Write w) whole end refl ends)
@@ -371,7 +371,7 @@ module _ {F : Type 0} (codec : Codec F) (any : Job) where
 
   -- a job without a lease that its stop cuts off
   bare_cut : (command : Command) → lease_of (with command) ≡ None → first_stage {F = F} (with command) ≡ Works (begun command) → (whole : List Exchange) (c : Call) → AskedFrom codec (with command) (first_stage (with command)) whole
-      → MayAsk codec (with command) (stage_of codec (with command) whole) c → cuts any.stop (length whole) c ≡ true → (found : Found) × AreFound (with command) found whole × IsCutOff codec (with command) found whole
+      → MayAsk codec (with command) (stage_of codec (with command) whole) c → cuts any.stop (length whole) c ≡ true → (found : Found) × AreFound (with command) found whole × MergesFound codec (with command) found whole × IsCutOff codec (with command) found whole
   bare_cut command none first whole c asked may cut =
       let begins : AskedFrom codec (with command) (Works (begun command)) whole = subst (λ g. AskedFrom codec (with command) g whole) first asked in
       let at : stage_of codec (with command) whole ≡ Works (work_from codec (with command) (begun command) whole) = ap (λ g. stage_from codec (with command) g whole) first ∙ bare_from codec (with command) none (begun command) whole in
@@ -381,8 +381,8 @@ module _ {F : Type 0} (codec : Codec F) (any : Job) where
       let ends : stage_from codec (with command) (Works (begun command)) (whole ++ as_if c ∷ []) ≡ Works (Over outcome.OutOfMemory) =
       bare_from codec (with command) none (begun command) (whole ++ as_if c ∷ [])
       ∙ ap Works (work_from-push (begun command) whole (as_if c) ∙ no_memory_ends F codec (with command) (work_from codec (with command) (begun command) whole) c asks_it) in
-      let (found, told, ended) = bare_finds command none (whole ++ as_if c ∷ []) outcome.OutOfMemory more (inl ends) in
-      (found, found_before (with command) found whole (as_if c) told, inl (by_refusal found (refused_before command) refl ended))
+      let (found, told, merged, ended) = bare_finds command none (whole ++ as_if c ∷ []) outcome.OutOfMemory more (inl ends) in
+      (found, found_before (with command) found whole (as_if c) told, merged_before codec (with command) found whole c merged, inl (by_refusal found (refused_before command) refl ended))
     where
       work_from-push : (s : State F) (xs : List Exchange) (x : Exchange) → work_from codec (with command) s (xs ++ x ∷ []) ≡ goes codec (with command) (work_from codec (with command) s xs) x.reply
       work_from-push s [] x = refl
@@ -397,9 +397,9 @@ module _ {F : Type 0} (codec : Codec F) (any : Job) where
 
   -- a job of any command that its stop cuts off
   pub begun_cut : AsksLooks codec → (command : Command) (whole : List Exchange) (c : Call) → AskedFrom codec (with command) (first_stage (with command)) whole → MayAsk codec (with command) (stage_of codec (with command) whole) c → cuts any.stop (length whole) c ≡ true
-      → (found : Found) × AreFound (with command) found whole × IsCutOff codec (with command) found whole
-  begun_cut looks (Read from to query) whole c asked may cut = leased_cut codec (with (Read from to query)) Shr refl refl (λ found c r. tt) (found_as no_schema no_frame) (read_finds looks from to query) whole c asked may cut
-  begun_cut looks (Consolidate from to limits) whole c asked may cut = leased_cut codec (with (Consolidate from to limits)) Shr refl refl (λ found c r. tt) (found_as no_schema no_frame) (merge_finds codec any looks from to limits) whole c asked may cut
+      → (found : Found) × AreFound (with command) found whole × MergesFound codec (with command) found whole × IsCutOff codec (with command) found whole
+  begun_cut looks (Read from to query) whole c asked may cut = leased_cut codec (with (Read from to query)) Shr refl refl (λ found c r. tt) (found_as no_schema no_frame) refl (read_finds looks from to query) whole c asked may cut
+  begun_cut looks (Consolidate from to limits) whole c asked may cut = leased_cut codec (with (Consolidate from to limits)) Shr refl refl (λ found c r. tt) (found_as no_schema no_frame) refl (merge_finds codec any looks from to limits) whole c asked may cut
   begun_cut looks (Create f) whole c asked may cut = bare_cut (Create f) refl refl whole c asked may cut
   begun_cut looks (Evolve change) whole c asked may cut = bare_cut (Evolve change) refl refl whole c asked may cut
   begun_cut looks (Write w) whole c asked may cut = bare_cut (Write w) refl refl whole c asked may cut

@@ -26,10 +26,11 @@ use Rattle.ts_model.specs.Stages.{after_lease, after_leases, begins_at, end_at, 
 use Rattle.ts_model.specs.States.{Exchange, begun, end_by, refuse}
 use Rattle.ts_model.specs.Stops.{cuts}
 use Rattle.ts_model.proofs.Lacks.{lacks-push, other_goes}
-use Rattle.ts_law.specs.Courses.{Along, AreFound, EndsAlong, EndsUnder, FindsOpposed, Found, HasPut, HeedsLeases, IsCutOff, IsLookOf, LeaseEnds, MayEndAs, NotBegun, NotOwn, Removed, SaysThere, course_by, course_of, removal, under_lease}
+use Rattle.ts_law.specs.Courses.{Along, AreFound, EndsAlong, EndsUnder, FindsOpposed, Found, HasPut, HeedsLeases, IsCutOff, IsLookOf, LeaseEnds, MayEndAs, MergesFound, NotBegun, NotOwn, Removed, SaysThere, course_by, course_of, removal, under_lease}
 use Rattle.ts_law.proofs.CourseCalls.{Ends, WorkAsks, WorkEnds, ends_along, ends_cons, follows_ended, follows_refused, work_from}
+use Rattle.ts_law.proofs.CourseGrows.{merged_nothing, merged_stays}
 use Rattle.ts_law.proofs.CourseStages.{Closed, IsWas, Open, OpenAsks, Split, open-push, open_from, releasing_asks, settled_leased, split, work_open, work_was}
-use Rattle.ts_law.proofs.CutOff.{as_if, found_before, last_same, no_calls, unmade_of}
+use Rattle.ts_law.proofs.CutOff.{as_if, found_before, last_same, merged_before, no_calls, Unmade, unmade_of}
 use Rattle.ts_law.proofs.KeptLaws.{no_removal}
 use Rattle.ts_law.proofs.LeaseSteps.{release_is}
 use Rattle.ts_base.specs.declared.names.Name.TheVariants as name
@@ -38,9 +39,13 @@ use Rattle.ts_store.specs.declared.call.Reply.TheVariants as reply
 use Rattle.ts_model.specs.declared.answers.Outcome.TheVariants as outcome
 use Rattle.ts_model.specs.declared.answers.Refusal.TheVariants as refusal
 
+-- a reply for want of memory does not say that a name was taken
+not_taken : reply.NoMemory ≡ reply.Taken → ⊥
+not_taken e = cc
+
 -- a job that has a lease, says nothing of what it finds where it makes calls, and whose calls at its work go along its course
-module _ {F : Type 0} (codec : Codec F) (job : Job) (mode : LeaseMode) (leased : mode_of job.command ≡ Some mode) (unrefused : refused_before job.command ≡ None) (silent : (found : Found) (c : Call) (r : Reply) → SaysThere found job.command c r) (none_found : Found)
-    (work_finds : (before xs : List Exchange) (end : Outcome) → WorkAsks codec job (begun job.command) xs → WorkEnds codec job (begun job.command) xs end → (found : Found) × (AreFound job found xs × Ends codec job before found (course_by codec job found job.command) xs end)) where
+module _ {F : Type 0} (codec : Codec F) (job : Job) (mode : LeaseMode) (leased : mode_of job.command ≡ Some mode) (unrefused : refused_before job.command ≡ None) (silent : (found : Found) (c : Call) (r : Reply) → SaysThere found job.command c r) (none_found : Found) (none_merged : none_found.merged ≡ None)
+    (work_finds : (before xs : List Exchange) (end : Outcome) → WorkAsks codec job (begun job.command) xs → WorkEnds codec job (begun job.command) xs end → (found : Found) × (AreFound job found xs × Ends codec job before found (course_by codec job found job.command) xs end) × MergesFound codec job found (before ++ xs)) where
   -- its lease
   abbrev own_lease : Name
   own_lease = name.Lease (key_of job) mode
@@ -92,11 +97,11 @@ module _ {F : Type 0} (codec : Codec F) (job : Job) (mode : LeaseMode) (leased :
 
   -- something was found, and the calls up to the removal of the lease may come to this end
   abbrev ComesTo : List Exchange → Outcome → Type 0
-  ComesTo front was = (found : Found) × AreFound job found front × EndsAlong codec job found (leased_course found) front was
+  ComesTo front was = (found : Found) × AreFound job found front × EndsAlong codec job found (leased_course found) front was × MergesFound codec job found front
 
   -- an end along the course is one
-  comes_to : (found : Found) (front : List Exchange) (was : Outcome) → AreFound job found front × Ends codec job [] found (leased_course found) front was → ComesTo front was
-  comes_to found front was h = (found, h.0, ends_along codec job found (leased_course found) front was h.1)
+  comes_to : (found : Found) (front : List Exchange) (was : Outcome) → AreFound job found front × Ends codec job [] found (leased_course found) front was → MergesFound codec job found front → ComesTo front was
+  comes_to found front was h merged = (found, h.0, ends_along codec job found (leased_course found) front was h.1, merged)
 
   -- where a listing of the leases showed one that opposes its own, it was the last call, the lease is removed next, and no memory was wanting
   abbrev Heeds : List Exchange → Type 0
@@ -152,12 +157,12 @@ module _ {F : Type 0} (codec : Codec F) (job : Job) (mode : LeaseMode) (leased :
           HeldLease (refl, λ e. cc) (ap is_leased leads ∙ settled_leased codec job own_lease some (work_from codec job (begun job.command) ys))
           (λ was is_was.
           let ends = work_was codec job own_lease some (begun job.command) ys was (subst (λ g. IsWas codec job own_lease some g was) leads is_was) in
-          let (found, (said, ended)) = work_finds (lease_put reply.Made ∷ y ∷ []) ys was work ends in
+          let (found, (said, ended), merged) = work_finds (lease_put reply.Made ∷ y ∷ []) ys was work ends in
           comes_to found (lease_put reply.Made ∷ y ∷ ys) was (
             All-cons (λ z. SaysThere found job.command z.call z.reply) (lease_put reply.Made) (y ∷ ys) (silent found (put_lease own_lease) reply.Made) (All-cons (λ z. SaysThere found job.command z.call z.reply) y ys (silent found list_leases (reply.Names names)) said),
             ends_cons codec job [] found (leased_course found) (list_leases ∷ works_course found) (lease_put reply.Made) (y ∷ ys) was refl (inr refl)
                 (ends_cons codec job (lease_put reply.Made ∷ []) found (list_leases ∷ works_course found) (works_course found) y ys was refl (inr refl) ended),
-          ))
+          ) merged)
           (λ more other (put, others, same, opposes).
           let same_names : others ≡ names = listed_same put others more same in
           let granted : verdict.Granted ≡ verdict.Held other = sym is ∙ ap (λ ns. verdict_in ns own_lease) (sym same_names) ∙ opposes in
@@ -174,7 +179,7 @@ module _ {F : Type 0} (codec : Codec F) (job : Job) (mode : LeaseMode) (leased :
           comes_to found (lease_put reply.Made ∷ y ∷ []) was (
             All-cons (λ z. SaysThere found job.command z.call z.reply) (lease_put reply.Made) (y ∷ []) (silent found (put_lease own_lease) reply.Made) told.0,
             ends_cons codec job [] found (leased_course found) (list_leases ∷ works_course found) (lease_put reply.Made) (y ∷ []) was refl (inr refl) told.1,
-          ))
+          ) (merged_nothing codec job found (lease_put reply.Made ∷ y ∷ []) none_merged))
           (λ more another (put, others, same, opposes).
           let same_names : others ≡ names = one_names (lease_put reply.Made) put others more [] same in
           let held : verdict.Held other ≡ verdict.Held another = sym is ∙ ap (λ ns. verdict_in ns own_lease) (sym same_names) ∙ opposes in
@@ -191,7 +196,7 @@ module _ {F : Type 0} (codec : Codec F) (job : Job) (mode : LeaseMode) (leased :
       comes_to found (lease_put reply.Made ∷ leases_listed r ∷ []) was (
         All-cons (λ z. SaysThere found job.command z.call z.reply) (lease_put reply.Made) (leases_listed r ∷ []) (silent found (put_lease own_lease) reply.Made) told.0,
         ends_cons codec job [] found (leased_course found) (list_leases ∷ works_course found) (lease_put reply.Made) (leases_listed r ∷ []) was refl (inr refl) told.1,
-      ))
+      ) (merged_nothing codec job found (lease_put reply.Made ∷ leases_listed r ∷ []) none_merged))
       (none_listed (lease_put reply.Made ∷ leases_listed r ∷ [])
       (λ put names more same.
       let one : leases_listed r ≡ leases_listed (reply.Names names) = cc in
@@ -208,7 +213,7 @@ module _ {F : Type 0} (codec : Codec F) (job : Job) (mode : LeaseMode) (leased :
       comes_to found (lease_put reply.Made ∷ []) was (
         All-cons (λ z. SaysThere found job.command z.call z.reply) (lease_put reply.Made) [] (silent found (put_lease own_lease) reply.Made) (All-nil (λ z. SaysThere found job.command z.call z.reply)),
         subst (Ends codec job [] found (leased_course found) (lease_put reply.Made ∷ [])) (sym none) (inl (list_leases ∷ works_course found, (refl, (list_leases ∷ works_course found, inr refl, refl)))),
-      ))
+      ) (merged_nothing codec job found (lease_put reply.Made ∷ []) none_merged))
       (none_listed (lease_put reply.Made ∷ []) (λ put names more same. cc))
   after_put reply.Made (y ∷ ys) (asked, other, rest) =
       subst (λ c. Began (lease_put reply.Made ∷ record { call = c; reply = y.reply } ∷ ys)) (same_Some list_leases y.call asked) (after_list y.reply ys rest)
@@ -221,7 +226,7 @@ module _ {F : Type 0} (codec : Codec F) (job : Job) (mode : LeaseMode) (leased :
       (λ was is_was.
       let found = none_found in
       comes_to found (lease_put r ∷ []) was
-      (follows_ended codec job [] found (leased_course found) (list_leases ∷ works_course found) (put_lease own_lease) r [] was tt (silent found (put_lease own_lease) r) (inr refl) tt (of_was (end_by (put_lease own_lease) r) was is_was)))
+      (follows_ended codec job [] found (leased_course found) (list_leases ∷ works_course found) (put_lease own_lease) r [] was tt (silent found (put_lease own_lease) r) (inr refl) tt (of_was (end_by (put_lease own_lease) r) was is_was)) (merged_nothing codec job found (lease_put r ∷ []) none_merged))
       (none_listed (lease_put r ∷ []) (λ put names more same. cc)))
 
   -- the calls before the removal of the lease
@@ -241,10 +246,11 @@ module _ {F : Type 0} (codec : Codec F) (job : Job) (mode : LeaseMode) (leased :
 
   -- where its lease is removed at the end of its calls, the job may end so
   removed_ends : (front : List Exchange) (r : Reply) (was end : Outcome) → HasPut own_lease front → HeedsLeases own_lease front was → ComesTo front was → end ≡ released own_lease was r
-      → (found : Found) × AreFound job found (front ++ removal own_lease r ∷ []) × LeaseEnds codec job found own_lease (front ++ removal own_lease r ∷ []) end
-  removed_ends front r was end put heeds (found, told, ended) is = (
+      → (found : Found) × AreFound job found (front ++ removal own_lease r ∷ []) × MergesFound codec job found (front ++ removal own_lease r ∷ []) × LeaseEnds codec job found own_lease (front ++ removal own_lease r ∷ []) end
+  removed_ends front r was end put heeds (found, told, ended, merged) is = (
     found,
     All-push (λ z. SaysThere found job.command z.call z.reply) front (removal own_lease r) told (silent found (call.Remove own_lease) r),
+    merged_stays codec job found front (removal own_lease r ∷ []) merged,
     Removed front r was refl put heeds (subst (λ course. EndsAlong codec job found course front was) (sym (course_is found)) ended) is,
   )
 
@@ -270,10 +276,10 @@ module _ {F : Type 0} (codec : Codec F) (job : Job) (mode : LeaseMode) (leased :
 
   -- the job ends as one may that has a lease
   pub leased_finds : (whole : List Exchange) (end : Outcome) → AskedFrom codec job (first_stage job) whole → EndsBy codec job whole end
-      → (found : Found) × AreFound job found whole × MayEndAs codec job found whole end (refused_before job.command)
+      → (found : Found) × AreFound job found whole × MergesFound codec job found whole × MayEndAs codec job found whole end (refused_before job.command)
   leased_finds whole end asked ends =
-      let (found, told, ended) = by_split (split codec job own_lease some (PutsLease own_lease) whole (subst (λ g. AskedFrom codec job g whole) first_is asked)) in
-      (found, told, subst (MayEndAs codec job found whole end) (sym unrefused) (subst (λ o. EndsUnder codec job found o whole end) (sym some) ended))
+      let (found, told, merged, ended) = by_split (split codec job own_lease some (PutsLease own_lease) whole (subst (λ g. AskedFrom codec job g whole) first_is asked)) in
+      (found, told, merged, subst (MayEndAs codec job found whole end) (sym unrefused) (subst (λ o. EndsUnder codec job found o whole end) (sym some) ended))
     where
       g_of : List Exchange → Stage F
       g_of front = open_from codec job own_lease some (PutsLease own_lease) front
@@ -289,7 +295,7 @@ module _ {F : Type 0} (codec : Codec F) (job : Job) (mode : LeaseMode) (leased :
       not_held g held over = true≢false (sym held ∙ ap is_leased over)
 
       Comes : List Exchange → Type 0
-      Comes front = (found : Found) × AreFound job found front × LeaseEnds codec job found own_lease front end
+      Comes front = (found : Found) × AreFound job found front × MergesFound codec job found front × LeaseEnds codec job found own_lease front end
 
       taken_ends : (front : List Exchange) → front ≡ lease_put reply.Taken ∷ [] → led_to front ≡ g_of front → EndsLed front end → end ≡ outcome.Refused (refusal.Taken own_lease)
       taken_ends front is same (inl over) = one_end (outcome.Refused (refusal.Taken own_lease)) end (sym (ap g_of is) ∙ sym same ∙ over)
@@ -303,8 +309,8 @@ module _ {F : Type 0} (codec : Codec F) (job : Job) (mode : LeaseMode) (leased :
       at_first front is (inr short) = short.0
 
       by_open : (front : List Exchange) → led_to front ≡ g_of front → EndsLed front end → Began front → Comes front
-      by_open front same e (NoCall none) = (none_found, quiet front, NotBegun none (at_first front none e))
-      by_open front same e (WasTaken is) = (none_found, quiet front, NotOwn is (taken_ends front is same e))
+      by_open front same e (NoCall none) = (none_found, quiet front, merged_nothing codec job none_found front none_merged, NotBegun none (at_first front none e))
+      by_open front same e (WasTaken is) = (none_found, quiet front, merged_nothing codec job none_found front none_merged, NotOwn is (taken_ends front is same e))
       by_open front same (inl over) (HeldLease put held comes heeds) = absurd (not_held (g_of front) held (sym same ∙ over))
       by_open front same (inr short) (HeldLease put held comes heeds) = absurd (true≢false (sym (ap is_leased same ∙ held) ∙ short.1))
 
@@ -331,7 +337,7 @@ module _ {F : Type 0} (codec : Codec F) (job : Job) (mode : LeaseMode) (leased :
 
   -- the job is cut off by its stop
   pub leased_cut : (whole : List Exchange) (c : Call) → AskedFrom codec job (first_stage job) whole → MayAsk codec job (stage_of codec job whole) c → cuts job.stop (length whole) c ≡ true
-      → (found : Found) × AreFound job found whole × IsCutOff codec job found whole
+      → (found : Found) × AreFound job found whole × MergesFound codec job found whole × IsCutOff codec job found whole
   leased_cut whole c asked asks_it cut = by_split (split codec job own_lease some (PutsLease own_lease) whole (subst (λ g. AskedFrom codec job g whole) first_is asked))
     where
       may : MayAsk codec job (led_to whole) c
@@ -341,7 +347,7 @@ module _ {F : Type 0} (codec : Codec F) (job : Job) (mode : LeaseMode) (leased :
       g_of front = open_from codec job own_lease some (PutsLease own_lease) front
 
       Cut : Type 0
-      Cut = (found : Found) × AreFound job found whole × IsCutOff codec job found whole
+      Cut = (found : Found) × AreFound job found whole × MergesFound codec job found whole × IsCutOff codec job found whole
 
       along_course : (found : Found) (course : List Call) → course_of codec job found ≡ course → (left : List Call) → Along (IsLookOf codec job found) [] course whole left → Along (IsLookOf codec job found) [] (course_of codec job found) whole left
       along_course found course is left h = subst (λ k. Along (IsLookOf codec job found) [] k whole left) (sym is) h
@@ -350,9 +356,10 @@ module _ {F : Type 0} (codec : Codec F) (job : Job) (mode : LeaseMode) (leased :
       at_removal m k (NoCall none) = absurd (none_before (subst (λ t. MayAsk codec job (g_of t) (call.Remove own_lease)) none m))
       at_removal m k (WasTaken is) = absurd (none_over (outcome.Refused (refusal.Taken own_lease)) (call.Remove own_lease) (subst (λ t. MayAsk codec job (g_of t) (call.Remove own_lease)) is m))
       at_removal m k (HeldLease put held comes heeds) =
-          let (found, told, ended) = comes (end_at (g_of whole)) (inl refl) in (
+          let (found, told, ended, merged) = comes (end_at (g_of whole)) (inl refl) in (
             found,
             told,
+            merged,
             inr (record {
               lease = own_lease;
               own = some;
@@ -364,14 +371,12 @@ module _ {F : Type 0} (codec : Codec F) (job : Job) (mode : LeaseMode) (leased :
             }),
           )
 
-      along : (x : Exchange) → x ≡ as_if c → Began (whole ++ x ∷ []) → Cut
-      along x is (NoCall none) = absurd (no_calls whole x none)
-      along x is (WasTaken taken) = let last = last_same whole [] x (lease_put reply.Taken) taken in let none : reply.NoMemory ≡ reply.Taken = ap (λ y. y.reply) (sym is ∙ last.1) in cc
-      along x is (HeldLease put held comes heeds) =
-          let (found, told, ended) = comes outcome.OutOfMemory (inr refl) in
-          let u = unmade_of (IsLookOf codec job found) (leased_course found) whole c (subst (λ y. EndsAlong codec job found (leased_course found) (whole ++ y ∷ []) outcome.OutOfMemory) is ended) in (
+      cut_along : (x : Exchange) → x ≡ as_if c → (found : Found) → AreFound job found (whole ++ x ∷ []) → EndsAlong codec job found (leased_course found) (whole ++ x ∷ []) outcome.OutOfMemory → MergesFound codec job found (whole ++ x ∷ []) → Heeds (whole ++ x ∷ []) → Cut
+      cut_along x is found told ended merged heeds =
+          let u : Unmade (IsLookOf codec job found) (leased_course found) whole c = unmade_of (IsLookOf codec job found) (leased_course found) whole c (subst (λ y. EndsAlong codec job found (leased_course found) (whole ++ y ∷ []) outcome.OutOfMemory) is ended) in (
             found,
             found_before job found whole x told,
+            merged_before codec job found whole c (subst (λ y. MergesFound codec job found (whole ++ y ∷ [])) is merged),
             inl (record {
               begins = unrefused;
               left = u.0;
@@ -385,6 +390,11 @@ module _ {F : Type 0} (codec : Codec F) (job : Job) (mode : LeaseMode) (leased :
                   no_calls more x (heeds (more ++ x ∷ []) other (put_it, names, ap (λ t. t ++ x ∷ []) same, ap (verdict_in names) own ∙ opposes)).0;
             }),
           )
+
+      along : (x : Exchange) → x ≡ as_if c → Began (whole ++ x ∷ []) → Cut
+      along x is (NoCall none) = absurd (no_calls whole x none)
+      along x is (WasTaken taken) = let last = last_same whole [] x (lease_put reply.Taken) taken in absurd (not_taken (ap (λ y. y.reply) (sym is ∙ last.1)))
+      along x is (HeldLease put held comes heeds) = let (found, told, ended, merged) = comes outcome.OutOfMemory (inr refl) in cut_along x is found told ended merged heeds
 
       by_kind : (b : Bool) → is_release job c ≡ b → OpenAsks codec job own_lease some (PutsLease own_lease) whole → led_to whole ≡ g_of whole → Cut
       by_kind true is opened same =

@@ -5,7 +5,7 @@ use Rattle.std.specs.Option.{option_map_or}
 use Rattle.std.proofs.lemmas.Bool.{ltb-false}
 use Rattle.std.proofs.lemmas.List.{append-nil, take_all}
 use Rattle.std.proofs.lemmas.List.Elements.{Contains-push, Contains-push_cases}
-use Rattle.std.proofs.lemmas.Option.{none-some}
+use Rattle.std.proofs.lemmas.Option.{none-some, same_Some}
 use Rattle.ts_base.specs.declared.heads.Head.{Head}
 use Rattle.ts_base.specs.declared.heads.Piece.{Piece}
 use Rattle.ts_base.specs.declared.heads.Version.{Version}
@@ -40,12 +40,12 @@ use Rattle.ts_model.specs.declared.states.State.TheVariants.{Merges, Over}
 use Rattle.ts_model.specs.declared.states.Survey.{Survey}
 use Rattle.ts_model.specs.Codecs.{Codec, Stepped, Asks, Takes, Breaks, is_look, AsksLooks}
 use Rattle.ts_model.specs.Jobs.{looked_at}
-use Rattle.ts_model.specs.States.{Exchange, after_names, after_opened, after_source, after_surveyed, all_of, attributes_among, can_be_named, candidates_in, committed_in, counting_in, ended, frags_of, get_frame, get_head_in, get_schema, get_vac, getting_names, goes, heads_of, list_commits, list_schemas, merge_objects, merges_all, merges_in, merging_from, on_bytes, on_plan, on_read, opened_among, opening_next, piece_merged, plan_for, put_of, puts_piece, putting, refuse, schema_among, schemas_in, schemas_named, source_begins, source_leads, survey_with, surveying, vac_object_of, vac_of}
+use Rattle.ts_model.specs.States.{Exchange, asks, after_names, after_opened, after_source, after_surveyed, all_of, attributes_among, can_be_named, candidates_in, committed_in, counting_in, ended, frags_of, get_frame, get_head_in, get_schema, get_vac, getting_names, goes, heads_of, list_commits, list_schemas, merge_objects, merges_all, merges_in, merging_from, on_bytes, on_plan, on_read, opened_among, opening_next, piece_merged, plan_for, put_of, puts_piece, putting, refuse, schema_among, schemas_in, schemas_named, source_begins, source_leads, survey_with, surveying, vac_object_of, vac_of}
 use Rattle.ts_model.proofs.KeyLemmas.{key_itself, key_same}
 use Rattle.ts_model.proofs.ListLemmas.{Contains-cons, Contains-here, Contains-nil, Contains-only, Contains-there, filter-Contains, find-Some, find_member}
-use Rattle.ts_law.specs.Courses.{AreFound, AtFrame, AtNamed, AtNames, AtOpened, BreaksPart, EachTaken, Found, GotNames, GotSchema, HasOpened, HasTaken, InSource, IsCause, IsConsolidate, IsFramed, IsKeyThere, IsListedInside, IsLookBy, IsLookOf, IsMergeBy, IsNamedFor, IsOpened, IsUnderWay, LooksForSources, Merge, PlansBy, SaysThere, lets_on, merge_puts, wants_of}
-use Rattle.ts_law.proofs.CourseCalls.{Ends, Follows, Goes, Well, WorkAsks, WorkEnds, follows_ended, follows_none, follows_on, follows_putting, follows_refused, goes_by, goes_none, item_in, lets_bytes, lets_length, look_leaves, parts_apart, puts_go}
-use Rattle.ts_law.proofs.CourseGrows.{AreAmong, among_more, each_stays, names_stay, schema_stays, way_stays}
+use Rattle.ts_law.specs.Courses.{AreFound, AtFrame, AtNamed, AtNames, AtOpened, BreaksPart, EachTaken, Found, GotNames, GotSchema, HasOpened, HasTaken, InSource, IsCause, IsConsolidate, IsFramed, IsKeyThere, IsListedInside, IsLookBy, IsLookOf, IsMergeBy, IsNamedFor, IsOpened, IsUnderWay, LooksForSources, Merge, MergesFound, PlansBy, SaysThere, lets_on, merge_puts, wants_of}
+use Rattle.ts_law.proofs.CourseCalls.{Ends, Follows, Goes, Well, WorkAsks, WorkEnds, follows_ended, follows_none, follows_on, follows_putting, follows_refused, goes_by, goes_none, item_in, lets_bytes, lets_length, lets_memory, look_leaves, parts_apart, puts_go}
+use Rattle.ts_law.proofs.CourseGrows.{AreAmong, among_more, each_stays, merged_nothing, names_stay, schema_stays, way_stays}
 use Rattle.ts_law.proofs.CourseReads.{fetched_on}
 use Rattle.ts_law.proofs.CourseThere.{no_frame, no_schema}
 use Rattle.ts_law.proofs.Fetches.{Contains-map, map-Contains}
@@ -78,6 +78,12 @@ one_longer (y ∷ xs) x = ap suc (one_longer xs x)
 between : {X : Type 0} (before : List X) (x : X) (rest : List X) → Contains (before ++ x ∷ rest) x
 between [] x rest = Contains-here x rest
 between (y ∷ before) x rest = Contains-there y (before ++ x ∷ rest) x (between before x rest)
+
+-- what was merged where a state asks for a call
+merged_by : {F : Type 0} (codec : Codec F) (job : Job) (found : Found) (seen : List Exchange) (x : Exchange) (xs : List Exchange) (s : State F) (c : Call) → asks codec job s ≡ Some c
+    → (WorkAsks codec job (goes codec job s x.reply) xs → MergesFound codec job found (seen ++ record { call = c; reply = x.reply } ∷ xs)) → WorkAsks codec job s (x ∷ xs) → MergesFound codec job found (seen ++ x ∷ xs)
+merged_by codec job found seen x xs s c asked merges a =
+    subst (λ k. MergesFound codec job found (seen ++ record { call = k; reply = x.reply } ∷ xs)) (same_Some c x.call (sym asked ∙ a.0)) (merges a.1)
 
 module _ {F : Type 0} (codec : Codec F) (job : Job) (looks : AsksLooks codec) (from to : ℕ) (limits : Limits) (is : job.command ≡ Consolidate from to limits) where
   -- no reply to a consolidation says what it found
@@ -247,11 +253,20 @@ module _ {F : Type 0} (codec : Codec F) (job : Job) (looks : AsksLooks codec) (f
 
     -- the calls from a state on go along the course to what it merges
     abbrev pub GoesOn : List Exchange → List Exchange → Outcome → State F → Type 0
-    GoesOn seen xs end s = (merged : Option Merge) × Goes codec job seen (found merged) (merge_puts codec frame merged) xs end s
+    GoesOn seen xs end s = (merged : Option Merge) × Goes codec job seen (found merged) (merge_puts codec frame merged) xs end s × (WorkAsks codec job s xs → MergesFound codec job (found merged) (seen ++ xs))
 
     -- so do the calls after one more
     abbrev pub FollowsOn : List Exchange → Exchange → List Exchange → Outcome → State F → Type 0
-    FollowsOn seen x xs end s = (merged : Option Merge) × Follows codec job seen (found merged) (merge_puts codec frame merged) x xs end s
+    FollowsOn seen x xs end s = (merged : Option Merge) × Follows codec job seen (found merged) (merge_puts codec frame merged) x xs end s × (WorkAsks codec job s xs → MergesFound codec job (found merged) (seen ++ x ∷ xs))
+
+    -- a call that a state asks, and where it leads
+    asks_on : (seen : List Exchange) (x : Exchange) (xs : List Exchange) (end : Outcome) (s : State F) (c : Call) → asks codec job s ≡ Some c → FollowsOn seen (record { call = c; reply = x.reply }) xs end (goes codec job s x.reply) → GoesOn seen (x ∷ xs) end s
+    asks_on seen x xs end s c asked (merged, follows, merges) =
+        (merged, goes_by codec job seen (found merged) (merge_puts codec frame merged) x xs end s c asked (λ same. follows), merged_by codec job (found merged) seen x xs s c asked merges)
+
+    -- where it came to no puts it merged nothing
+    nothing_merged : (trace : List Exchange) → MergesFound codec job (found None) trace
+    nothing_merged trace = merged_nothing codec job (found None) trace refl
 
     -- the calls of a consolidation, from any of its states on, go along the course
     pub record MergesOn (seen xs : List Exchange) (end : Outcome) : Type 0 where
@@ -271,15 +286,15 @@ module _ {F : Type 0} (codec : Codec F) (job : Job) (looks : AsksLooks codec) (f
 
       -- it goes on in a state
       on_to : (s : State F) → GoesOn now xs end s → FollowsOn seen x xs end s
-      on_to s (merged, goes_so) = (merged, follows_on codec job seen (found merged) (merge_puts codec frame merged) (merge_puts codec frame merged) x xs end s (silent (found merged) x.call x.reply) on (inl (look merged, refl)) goes_so)
+      on_to s (merged, goes_so, merges) = (merged, follows_on codec job seen (found merged) (merge_puts codec frame merged) (merge_puts codec frame merged) x xs end s (silent (found merged) x.call x.reply) on (inl (look merged, refl)) goes_so, λ a. subst (MergesFound codec job (found merged)) (append_assoc seen (x ∷ []) xs) (merges a))
 
       -- it is refused
       over_by : (r : Refusal) → IsCause codec job (found None) now x r → FollowsOn seen x xs end (refuse r)
-      over_by r cause = (None, follows_refused codec job seen (found None) [] [] x xs end r (silent (found None) x.call x.reply) (inl (look None, refl)) cause)
+      over_by r cause = (None, follows_refused codec job seen (found None) [] [] x xs end r (silent (found None) x.call x.reply) (inl (look None, refl)) cause, λ a. nothing_merged (seen ++ x ∷ xs))
 
       -- it ends for want of memory
       over_short : FollowsOn seen x xs end (Over outcome.OutOfMemory)
-      over_short = (None, follows_none codec job seen (found None) [] [] x xs end (silent (found None) x.call x.reply) (inl (look None, refl)))
+      over_short = (None, follows_none codec job seen (found None) [] [] x xs end (silent (found None) x.call x.reply) (inl (look None, refl)), λ a. nothing_merged (seen ++ x ∷ xs))
 
       -- it puts what its sources are merged into
       follows_puts : (vacs : List VacOf) (opened : List Opened) (schemas : List Schema) (chosen : List FragKey) (first : Opened) (others : List Opened) (schema : Schema) (got : List (List Version))
@@ -324,6 +339,17 @@ module _ {F : Type 0} (codec : Codec F) (job : Job) (looks : AsksLooks codec) (f
               not_wrt : wrt_of piece.head.frag ≡ name.Domain → ⊥
               not_wrt e = cc
 
+          merged_so : MergesFound codec job (found (Some merge)) (seen ++ x ∷ xs)
+          merged_so other same = record {
+            front = seen;
+            last = x;
+            later = xs;
+            parts = refl;
+            was_told = lets_memory x.call x.reply on;
+            count = length (first ∷ others);
+            by_told = subst (λ m. IsMergeBy codec job (found (Some merge)) now m (length (first ∷ others))) (same_Some merge other same) merges_so;
+          }
+
           by_bound : (b : Bool) → FollowsOn seen x xs end (cond b (putting objects 0 (outcome.Consolidated piece.head.frag (length (first ∷ others)))) (Over outcome.OutOfMemory))
           by_bound false = over_short
           by_bound true =
@@ -333,6 +359,7 @@ module _ {F : Type 0} (codec : Codec F) (job : Job) (looks : AsksLooks codec) (f
                 follows_putting codec job seen (found (Some merge)) (list_map put_of objects) x xs end objects 0 o well (silent (found (Some merge)) x.call x.reply) on (inl (look (Some merge), refl))
                     (puts_go codec job now (found (Some merge)) objects o well (parts_apart piece.head.frag (codec.parts frame schema piece) (vac_object_of piece.head.frag merge.names ∷ record { name = wrt_of piece.head.frag; bytes = [] } ∷ []) commit_apart)
                     (λ ob at r. silent (found (Some merge)) (put_of ob) r) xs end 0),
+                λ a. merged_so,
               )
 
       -- a step of the fetch of a source
@@ -428,17 +455,15 @@ module _ {F : Type 0} (codec : Codec F) (job : Job) (looks : AsksLooks codec) (f
 
     -- a get that is not told bytes ends the job
     get_ended : (seen xs : List Exchange) (end : Outcome) (c : Call) (r : Reply) → IsTrue (is_look c) → IsLookOf codec job (found None) seen c → FollowsOn seen (record { call = c; reply = r }) xs end (ended c r)
-    get_ended seen xs end c r looking look = (None, follows_ended codec job seen (found None) [] [] c r xs end (look_leaves c r looking) (silent (found None) c r) (inl (look, refl)))
+    get_ended seen xs end c r looking look = (None, follows_ended codec job seen (found None) [] [] c r xs end (look_leaves c r looking) (silent (found None) c r) (inl (look, refl)), λ a. nothing_merged (seen ++ record { call = c; reply = r } ∷ xs))
 
     -- a `.vac`
     vacs_from : (seen : List Exchange) (x : Exchange) (xs : List Exchange) (end : Outcome) → ((y : Exchange) → MergesOn (seen ++ y ∷ []) xs end) → (vacs : List VacOf) → HasSurveyed seen vacs [] [] → GoesOn seen (x ∷ xs) end (Merges (merging.GetsVacs (survey vacs)))
     vacs_from seen x xs end later vacs has = by_item (slice_get (counting_in names) (length vacs)) refl
       where
         by_item : (i : Option FragKey) → slice_get (counting_in names) (length vacs) ≡ i → GoesOn seen (x ∷ xs) end (Merges (merging.GetsVacs (survey vacs)))
-        by_item None none = (None, λ a e. absurd (none-some x.call (sym (ap (option_map get_vac) none) ∙ a.0)))
-        by_item (Some f) there =
-            let (merged, follows) = by_reply x.reply in
-            (merged, goes_by codec job seen (found merged) (merge_puts codec frame merged) x xs end (Merges (merging.GetsVacs (survey vacs))) (get_vac f) (ap (option_map get_vac) there) (λ same. rw there follows))
+        by_item None none = (None, λ a e. absurd (none-some x.call (sym (ap (option_map get_vac) none) ∙ a.0)), λ a. nothing_merged (seen ++ x ∷ xs))
+        by_item (Some f) there = asks_on seen x xs end (Merges (merging.GetsVacs (survey vacs))) (get_vac f) (ap (option_map get_vac) there) (rw there (by_reply x.reply))
           where
             look : (merged : Option Merge) → IsLookOf codec job (found merged) seen (get_vac f)
             look merged = for_sources (found merged) seen (get_vac f) (AtNames f (framed seen vacs [] [] merged has) (names, has.listed, item_in (counting_in names) (length vacs) f there) refl)
@@ -477,10 +502,8 @@ module _ {F : Type 0} (codec : Codec F) (job : Job) (looks : AsksLooks codec) (f
     heads_from seen x xs end later vacs opened all_vacs has = by_item (slice_get fragments (length opened)) refl
       where
         by_item : (i : Option FragKey) → slice_get fragments (length opened) ≡ i → GoesOn seen (x ∷ xs) end (Merges (merging.GetsHeads (survey vacs) opened))
-        by_item None none = (None, λ a e. absurd (none-some x.call (sym (ap (option_map (get_head_in codec frame)) none) ∙ a.0)))
-        by_item (Some f) there =
-            let (merged, follows) = by_reply x.reply in
-            (merged, goes_by codec job seen (found merged) (merge_puts codec frame merged) x xs end (Merges (merging.GetsHeads (survey vacs) opened)) (get_head_in codec frame f) (ap (option_map (get_head_in codec frame)) there) (λ same. rw there follows))
+        by_item None none = (None, λ a e. absurd (none-some x.call (sym (ap (option_map (get_head_in codec frame)) none) ∙ a.0)), λ a. nothing_merged (seen ++ x ∷ xs))
+        by_item (Some f) there = asks_on seen x xs end (Merges (merging.GetsHeads (survey vacs) opened)) (get_head_in codec frame f) (ap (option_map (get_head_in codec frame)) there) (rw there (by_reply x.reply))
           where
             look : (merged : Option Merge) → IsLookOf codec job (found merged) seen (get_head_in codec frame f)
             look merged =
@@ -522,10 +545,8 @@ module _ {F : Type 0} (codec : Codec F) (job : Job) (looks : AsksLooks codec) (f
     schemas_from seen x xs end later vacs opened schemas all_vacs all_opened keys has = by_item (slice_get (schemas_named opened) (length schemas)) refl
       where
         by_item : (i : Option Key) → slice_get (schemas_named opened) (length schemas) ≡ i → GoesOn seen (x ∷ xs) end (Merges (merging.GetsSchemas (survey vacs) opened (schemas_named opened) schemas))
-        by_item None none = (None, λ a e. absurd (none-some x.call (sym (ap (option_map get_schema) none) ∙ a.0)))
-        by_item (Some k) there =
-            let (merged, follows) = by_reply x.reply in
-            (merged, goes_by codec job seen (found merged) (merge_puts codec frame merged) x xs end (Merges (merging.GetsSchemas (survey vacs) opened (schemas_named opened) schemas)) (get_schema k) (ap (option_map get_schema) there) (λ same. rw there follows))
+        by_item None none = (None, λ a e. absurd (none-some x.call (sym (ap (option_map get_schema) none) ∙ a.0)), λ a. nothing_merged (seen ++ x ∷ xs))
+        by_item (Some k) there = asks_on seen x xs end (Merges (merging.GetsSchemas (survey vacs) opened (schemas_named opened) schemas)) (get_schema k) (ap (option_map get_schema) there) (rw there (by_reply x.reply))
           where
             look : (merged : Option Merge) → IsLookOf codec job (found merged) seen (get_schema k)
             look merged =
@@ -567,8 +588,7 @@ module _ {F : Type 0} (codec : Codec F) (job : Job) (looks : AsksLooks codec) (f
         → HasSources seen vacs opened schemas chosen first others schema → first ∷ others ≡ before ++ o ∷ rest → next ≡ length before → HaveTaken seen before got → IsOnWay seen o.frag f c → IsTrue (is_look c)
         → GoesOn seen (x ∷ xs) end (Merges (merging.Fetches (survey vacs) (first ∷ others) schema next o.frag got f c))
     fetches_from seen x xs end later vacs opened schemas chosen first others schema next before o rest got f c has parts count each way looking =
-        let (merged, follows) = by_reply x.reply in
-        (merged, goes_by codec job seen (found merged) (merge_puts codec frame merged) x xs end (Merges (merging.Fetches (survey vacs) (first ∷ others) schema next o.frag got f c)) c refl (λ same. follows))
+        asks_on seen x xs end (Merges (merging.Fetches (survey vacs) (first ∷ others) schema next o.frag got f c)) c refl (by_reply x.reply)
       where
         among : Contains (first ∷ others) o
         among = subst (λ os. Contains os o) (sym parts) (between before o rest)
@@ -619,7 +639,7 @@ module _ {F : Type 0} (codec : Codec F) (job : Job) (looks : AsksLooks codec) (f
     }
       where
         none_left : (s : State F) → ((o : Outcome) → s ≡ Over o → ⊥) → GoesOn seen [] end s
-        none_left s not_over = (None, goes_none codec job seen (found None) [] end s not_over)
+        none_left s not_over = (None, goes_none codec job seen (found None) [] end s not_over, λ a. nothing_merged (seen ++ []))
     merges_on seen (x ∷ xs) end =
         let later : (y : Exchange) → MergesOn (seen ++ y ∷ []) xs end = λ y. merges_on (seen ++ y ∷ []) xs end in
         record {
@@ -640,13 +660,17 @@ module _ {F : Type 0} (codec : Codec F) (any : Job) (looks : AsksLooks codec) (f
   abbrev found_so : Frame → Option Merge → Found
   found_so frame merged = record { taken = false; there = no_schema; frame = frame; merged = merged }
 
+  -- where it came to no puts it merged nothing
+  nothing_so : (trace : List Exchange) → MergesFound codec merging_job (found_so no_frame None) trace
+  nothing_so trace = merged_nothing codec merging_job (found_so no_frame None) trace refl
+
   -- the get of the frame
   frame_from : (names : List Name) (k : Key) (seen xs : List Exchange) (end : Outcome) → Contains seen (record { call = list_commits; reply = reply.Names names }) → IsKeyThere merging_job seen k
-      → (frame : Frame) × (merged : Option Merge) × Goes codec merging_job seen (found_so frame merged) (merge_puts codec frame merged) xs end (Merges (merging.GetsFrame (candidates_in from to names)))
-  frame_from names k seen [] end listed there = (no_frame, None, goes_none codec merging_job seen (found_so no_frame None) [] end (Merges (merging.GetsFrame (candidates_in from to names))) (λ o q. cc))
+      → (frame : Frame) × (merged : Option Merge) × Goes codec merging_job seen (found_so frame merged) (merge_puts codec frame merged) xs end (Merges (merging.GetsFrame (candidates_in from to names))) × (WorkAsks codec merging_job (Merges (merging.GetsFrame (candidates_in from to names))) xs → MergesFound codec merging_job (found_so frame merged) (seen ++ xs))
+  frame_from names k seen [] end listed there = (no_frame, None, goes_none codec merging_job seen (found_so no_frame None) [] end (Merges (merging.GetsFrame (candidates_in from to names))) (λ o q. cc), λ a. nothing_so (seen ++ []))
   frame_from names k seen (x ∷ xs) end listed there =
-      let (frame, merged, follows) = by_reply x.reply in
-      (frame, merged, goes_by codec merging_job seen (found_so frame merged) (merge_puts codec frame merged) x xs end (Merges (merging.GetsFrame (candidates_in from to names))) get_frame refl (λ same. follows))
+      let (frame, merged, follows, merges) = by_reply x.reply in
+      (frame, merged, goes_by codec merging_job seen (found_so frame merged) (merge_puts codec frame merged) x xs end (Merges (merging.GetsFrame (candidates_in from to names))) get_frame refl (λ same. follows), merged_by codec merging_job (found_so frame merged) seen x xs (Merges (merging.GetsFrame (candidates_in from to names))) get_frame refl merges)
     where
       look : (frame : Frame) (merged : Option Merge) → IsLookOf codec merging_job (found_so frame merged) seen get_frame
       look frame merged = AtFrame k there refl
@@ -654,11 +678,12 @@ module _ {F : Type 0} (codec : Codec F) (any : Job) (looks : AsksLooks codec) (f
       FrameFor : Reply → Type 0
       FrameFor r = (frame : Frame) × (merged : Option Merge)
           × Follows codec merging_job seen (found_so frame merged) (merge_puts codec frame merged) (record { call = get_frame; reply = r }) xs end (goes codec merging_job (Merges (merging.GetsFrame (candidates_in from to names))) r)
+          × (WorkAsks codec merging_job (goes codec merging_job (Merges (merging.GetsFrame (candidates_in from to names))) r) xs → MergesFound codec merging_job (found_so frame merged) (seen ++ record { call = get_frame; reply = r } ∷ xs))
 
       by_frame : (bytes : List ℕ) (f : Result Frame ℕ) → frame_of bytes ≡ f → FrameFor (reply.Bytes bytes)
       by_frame bytes (Ok frame) reads =
           let y : Exchange = record { call = get_frame; reply = reply.Bytes bytes } in
-          let (merged, follows) =
+          let (merged, follows, merges) =
           follows_getting codec merging_job looks from to limits refl names frame seen y xs end refl (look frame) (merges_on codec merging_job looks from to limits refl names frame (seen ++ y ∷ []) xs end) [] (record {
             listed = among_more seen y _ listed;
             frame_bytes = bytes;
@@ -670,63 +695,68 @@ module _ {F : Type 0} (codec : Codec F) (any : Job) (looks : AsksLooks codec) (f
             each_opened = λ o at. absurd (Contains-nil o at);
             each_schema = λ s at. absurd (Contains-nil s at);
           }) in
-          (frame, merged, rw reads follows)
+          (frame, merged, rw reads follows, rw reads merges)
       by_frame bytes (Err at) reads =
           let y : Exchange = record { call = get_frame; reply = reply.Bytes bytes } in
-          (no_frame, None, rw reads (follows_refused codec merging_job seen (found_so no_frame None) [] [] y xs end (refusal.Damaged name.Domain at) tt (inl (look no_frame None, refl)) (inl (bytes, Contains-push seen y, reads))))
+          (no_frame, None, rw reads (follows_refused codec merging_job seen (found_so no_frame None) [] [] y xs end (refusal.Damaged name.Domain at) tt (inl (look no_frame None, refl)) (inl (bytes, Contains-push seen y, reads))), rw reads (λ a. nothing_so (seen ++ y ∷ xs)))
 
       by_reply : (r : Reply) → FrameFor r
       by_reply (reply.Bytes bytes) = by_frame bytes (frame_of bytes) refl
-      by_reply r = (no_frame, None, follows_ended codec merging_job seen (found_so no_frame None) [] [] get_frame r xs end tt tt (inl (look no_frame None, refl)))
+      by_reply r = (no_frame, None, follows_ended codec merging_job seen (found_so no_frame None) [] [] get_frame r xs end tt tt (inl (look no_frame None, refl)), λ a. nothing_so (seen ++ record { call = get_frame; reply = r } ∷ xs))
 
   -- the listing of the schemas
   listed_from : (names : List Name) (seen xs : List Exchange) (end : Outcome) → Contains seen (record { call = list_commits; reply = reply.Names names })
-      → (frame : Frame) × (merged : Option Merge) × Goes codec merging_job seen (found_so frame merged) (list_schemas ∷ merge_puts codec frame merged) xs end (Merges (merging.ListsSchemas (candidates_in from to names)))
-  listed_from names seen [] end listed = (no_frame, None, goes_none codec merging_job seen (found_so no_frame None) (list_schemas ∷ []) end (Merges (merging.ListsSchemas (candidates_in from to names))) (λ o q. cc))
+      → (frame : Frame) × (merged : Option Merge) × Goes codec merging_job seen (found_so frame merged) (list_schemas ∷ merge_puts codec frame merged) xs end (Merges (merging.ListsSchemas (candidates_in from to names))) × (WorkAsks codec merging_job (Merges (merging.ListsSchemas (candidates_in from to names))) xs → MergesFound codec merging_job (found_so frame merged) (seen ++ xs))
+  listed_from names seen [] end listed = (no_frame, None, goes_none codec merging_job seen (found_so no_frame None) (list_schemas ∷ []) end (Merges (merging.ListsSchemas (candidates_in from to names))) (λ o q. cc), λ a. nothing_so (seen ++ []))
   listed_from names seen (x ∷ xs) end listed =
-      let (frame, merged, follows) = by_reply x.reply in
-      (frame, merged, goes_by codec merging_job seen (found_so frame merged) (list_schemas ∷ merge_puts codec frame merged) x xs end (Merges (merging.ListsSchemas (candidates_in from to names))) list_schemas refl (λ same. follows))
+      let (frame, merged, follows, merges) = by_reply x.reply in
+      (frame, merged, goes_by codec merging_job seen (found_so frame merged) (list_schemas ∷ merge_puts codec frame merged) x xs end (Merges (merging.ListsSchemas (candidates_in from to names))) list_schemas refl (λ same. follows), merged_by codec merging_job (found_so frame merged) seen x xs (Merges (merging.ListsSchemas (candidates_in from to names))) list_schemas refl merges)
     where
       SchemasFor : Reply → Type 0
       SchemasFor r = (frame : Frame) × (merged : Option Merge)
           × Follows codec merging_job seen (found_so frame merged) (list_schemas ∷ merge_puts codec frame merged) (record { call = list_schemas; reply = r }) xs end (goes codec merging_job (Merges (merging.ListsSchemas (candidates_in from to names))) r)
+          × (WorkAsks codec merging_job (goes codec merging_job (Merges (merging.ListsSchemas (candidates_in from to names))) r) xs → MergesFound codec merging_job (found_so frame merged) (seen ++ record { call = list_schemas; reply = r } ∷ xs))
 
       by_key : (declared : List Name) (k : Option Key) → schema_at (schemas_in declared) (looked_at merging_job) ≡ k → SchemasFor (reply.Names declared)
       by_key declared (Some k) holds =
           let y : Exchange = record { call = list_schemas; reply = reply.Names declared } in
-          let (frame, merged, later) = frame_from names k (seen ++ y ∷ []) xs end (among_more seen y _ listed) (record { names = declared; listed = Contains-push seen y; newest = holds }) in (
+          let (frame, merged, later, merges) = frame_from names k (seen ++ y ∷ []) xs end (among_more seen y _ listed) (record { names = declared; listed = Contains-push seen y; newest = holds }) in (
             frame,
             merged,
             rw holds (follows_on codec merging_job seen (found_so frame merged) (list_schemas ∷ merge_puts codec frame merged) (merge_puts codec frame merged) y xs end (Merges (merging.GetsFrame (candidates_in from to names))) tt refl (inr refl) later),
+            rw holds (λ a. subst (MergesFound codec merging_job (found_so frame merged)) (append_assoc seen (y ∷ []) xs) (merges a)),
           )
       by_key declared None holds = (
         no_frame,
         None,
         rw holds (follows_refused codec merging_job seen (found_so no_frame None) (list_schemas ∷ []) [] (record { call = list_schemas; reply = reply.Names declared }) xs end (refusal.NoSchema (looked_at merging_job)) tt (inr refl) (refl, declared, refl, refl, holds)),
+        rw holds (λ a. nothing_so (seen ++ record { call = list_schemas; reply = reply.Names declared } ∷ xs)),
       )
 
       by_reply : (r : Reply) → SchemasFor r
       by_reply (reply.Names declared) = by_key declared (schema_at (schemas_in declared) (looked_at merging_job)) refl
-      by_reply r = (no_frame, None, follows_ended codec merging_job seen (found_so no_frame None) (list_schemas ∷ []) [] list_schemas r xs end tt tt (inr refl))
+      by_reply r = (no_frame, None, follows_ended codec merging_job seen (found_so no_frame None) (list_schemas ∷ []) [] list_schemas r xs end tt tt (inr refl), λ a. nothing_so (seen ++ record { call = list_schemas; reply = r } ∷ xs))
 
   -- a consolidation goes along its course, and ends by it
   pub merge_finds : (before xs : List Exchange) (end : Outcome) → WorkAsks codec merging_job (Merges merging.ListsCommits) xs → WorkEnds codec merging_job (Merges merging.ListsCommits) xs end
-      → (found : Found) × (AreFound merging_job found xs × Ends codec merging_job before found (list_commits ∷ list_schemas ∷ merge_puts codec found.frame found.merged) xs end)
-  merge_finds before [] end a e = (found_so no_frame None, goes_none codec merging_job before (found_so no_frame None) (list_commits ∷ list_schemas ∷ []) end (Merges merging.ListsCommits) (λ o q. cc) a e)
+      → (found : Found) × (AreFound merging_job found xs × Ends codec merging_job before found (list_commits ∷ list_schemas ∷ merge_puts codec found.frame found.merged) xs end) × MergesFound codec merging_job found (before ++ xs)
+  merge_finds before [] end a e = (found_so no_frame None, goes_none codec merging_job before (found_so no_frame None) (list_commits ∷ list_schemas ∷ []) end (Merges merging.ListsCommits) (λ o q. cc) a e, nothing_so (before ++ []))
   merge_finds before (x ∷ xs) end a e =
-      let (frame, merged, follows) = by_reply x.reply in
-      (found_so frame merged, goes_by codec merging_job before (found_so frame merged) (list_commits ∷ list_schemas ∷ merge_puts codec frame merged) x xs end (Merges merging.ListsCommits) list_commits refl (λ same. follows) a e)
+      let (frame, merged, follows, merges) = by_reply x.reply in
+      (found_so frame merged, goes_by codec merging_job before (found_so frame merged) (list_commits ∷ list_schemas ∷ merge_puts codec frame merged) x xs end (Merges merging.ListsCommits) list_commits refl (λ same. follows) a e, merged_by codec merging_job (found_so frame merged) before x xs (Merges merging.ListsCommits) list_commits refl merges a)
     where
       CommitsFor : Reply → Type 0
       CommitsFor r = (frame : Frame) × (merged : Option Merge)
           × Follows codec merging_job before (found_so frame merged) (list_commits ∷ list_schemas ∷ merge_puts codec frame merged) (record { call = list_commits; reply = r }) xs end (goes codec merging_job (Merges merging.ListsCommits) r)
+          × (WorkAsks codec merging_job (goes codec merging_job (Merges merging.ListsCommits) r) xs → MergesFound codec merging_job (found_so frame merged) (before ++ record { call = list_commits; reply = r } ∷ xs))
 
       by_reply : (r : Reply) → CommitsFor r
       by_reply (reply.Names names) =
           let y : Exchange = record { call = list_commits; reply = reply.Names names } in
-          let (frame, merged, later) = listed_from names (before ++ y ∷ []) xs end (Contains-push before y) in (
+          let (frame, merged, later, merges) = listed_from names (before ++ y ∷ []) xs end (Contains-push before y) in (
             frame,
             merged,
             follows_on codec merging_job before (found_so frame merged) (list_commits ∷ list_schemas ∷ merge_puts codec frame merged) (list_schemas ∷ merge_puts codec frame merged) y xs end (Merges (merging.ListsSchemas (candidates_in from to names))) tt refl (inr refl) later,
+            λ a. subst (MergesFound codec merging_job (found_so frame merged)) (append_assoc before (y ∷ []) xs) (merges a),
           )
-      by_reply r = (no_frame, None, follows_ended codec merging_job before (found_so no_frame None) (list_commits ∷ list_schemas ∷ []) (list_schemas ∷ []) list_commits r xs end tt tt (inr refl))
+      by_reply r = (no_frame, None, follows_ended codec merging_job before (found_so no_frame None) (list_commits ∷ list_schemas ∷ []) (list_schemas ∷ []) list_commits r xs end tt tt (inr refl), λ a. nothing_so (before ++ record { call = list_commits; reply = r } ∷ xs))

@@ -106,10 +106,10 @@ module _ {F : Type 0} (codec : Codec F) (spelled : Spelled) (tracks : Tracking F
         leads = look.leads;
         own = names_lead codec spelled tracks opening past jobs seen e m number job Commits (λ names. states.Merges (merging.ListsSchemas (candidates_of job.command names))) e.reply
             (λ names said. (
-            look.clean,
-            subst (λ c. Chooses spelled opening past jobs (seen ++ e ∷ []) m' number job (candidates_of c names)) (sym merges.3)
-                (subst (λ ns. Chooses spelled opening past jobs (seen ++ e ∷ []) m' number job (candidates_of (Consolidate merges.0 merges.1 merges.2) ns)) (sym (listed m e Commits names is comes.replied said))
-                (chooses_listed comes.stands comes.is_held comes.own is look.same_held merges.0 merges.1 merges.2 merges.3)),
+              look.clean,
+              subst (λ c. Chooses spelled opening past jobs (seen ++ e ∷ []) m' number job (candidates_of c names)) (sym merges.3)
+                  (subst (λ ns. Chooses spelled opening past jobs (seen ++ e ∷ []) m' number job (candidates_of (Consolidate merges.0 merges.1 merges.2) ns)) (sym (listed m e Commits names is comes.replied said))
+                  (chooses_listed comes.stands comes.is_held comes.own is look.same_held merges.0 merges.1 merges.2 merges.3)),
             ))
             look.clean.undone;
       }

@@ -172,7 +172,7 @@ KnowsFrame job found trace = IsGot job found trace ⊎ (IsConsolidate job.comman
 abbrev pub AreFound : Job → Found → List Exchange → Type 0
 AreFound job found trace = All (λ x. SaysThere found job.command x.call x.reply) trace
 
--- ---- the fetches of a read
+-- ---- the fetches of a job
 
 -- what a read wants of a fragment whose attributes are those of a schema, in the array that it found
 abbrev pub wanted_in : Found → ℕ → ℕ → Query → Schema → Want
@@ -379,6 +379,20 @@ pub record IsMergeBy {F : Type 0} (codec : Codec F) (job : Job) (found : Found) 
   pub piece : merge.piece ≡ merged_with found.frame job.id first.head (heads_of others) (all_got got)
   pub names : merge.names ≡ names_merged by_plan.vacs (frags_of (first ∷ others))
 
+-- a consolidation merged something by what it was told up to a call, before the calls after that
+pub record HasMerged {F : Type 0} (codec : Codec F) (job : Job) (found : Found) (trace : List Exchange) (merge : Merge) : Type 0 where
+  pub front : List Exchange
+  pub last : Exchange
+  pub later : List Exchange
+  pub parts : trace ≡ front ++ last ∷ later
+  pub was_told : last.reply ≢ reply.NoMemory
+  pub count : ℕ
+  pub by_told : IsMergeBy codec job found (front ++ last ∷ []) merge count
+
+-- what a job is said to have merged, it has merged
+abbrev pub MergesFound : {F : Type 0} → Codec F → Job → Found → List Exchange → Type 0
+MergesFound codec job found trace = (merge : Merge) → found.merged ≡ Some merge → HasMerged codec job found trace merge
+
 -- a part of a fragment breaks its layout at an offset: where a job opens the fragment, where the fetch begins, or by the last reply, which the fetch waited for
 abbrev pub BreaksPart : {F : Type 0} → Codec F → Job → Found → List Exchange → Exchange → FragKey → Part → ℕ → Type 0
 BreaksPart {F} codec job found trace last f part at =
@@ -510,4 +524,5 @@ pub record IsSegment {F : Type 0} (codec : Codec F) (job : Job) (trace : List Ex
   pub uncut : Uncut job.stop 0 trace
   pub found : Found
   pub are_found : AreFound job found trace
+  pub merges_found : MergesFound codec job found trace
   pub ends : MayComeOut codec job found trace result
