@@ -7,9 +7,11 @@ pub mod MergingLaw
 pub mod TakenWhole
 pub mod Grows
 pub mod VacLaws
+pub mod VacTexts
 pub mod Stays
 pub mod MergeStays
 pub mod Frames
+pub mod DeedKeys
 pub mod Spawns
 pub mod StandsLaws
 pub mod Declaring

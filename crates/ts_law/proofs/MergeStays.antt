@@ -1,5 +1,5 @@
 -- What a consolidation found stays true: what a call leaves of it, and what it puts.
-use Rattle.std.proofs.Common.{List, Some, [], length, refl, subst, suc, zero, ℕ, ◌++◌, ◌∷◌, ◌≡◌}
+use Rattle.std.proofs.Common.{List, [], length, refl, subst, suc, zero, ℕ, ◌++◌, ◌∷◌}
 use Rattle.std.proofs.lemmas.Option.{none-some, same_Some}
 use Rattle.ts_base.specs.Held.{Held}
 use Rattle.ts_base.specs.declared.heads.Version.{Version}
