@@ -1,5 +1,5 @@
 -- The listings and the gets of a consolidation: each leads to the next one, to its first fetch, or to its end.
-use Rattle.std.proofs.Common.{◌≡◌, ℕ, inl, inr, List, [], ◌∷◌, ◌++◌, Option, Some, None, Ok, refl, sym, ◌∙◌, ap, subst, length}
+use Rattle.std.proofs.Common.{◌≡◌, ℕ, inl, inr, List, [], ◌∷◌, ◌++◌, Some, None, Ok, refl, sym, ◌∙◌, ap, subst, length}
 use Rattle.std.specs.Prelude.{Contains, filter, option_map, slice_get}
 use Rattle.std.specs.FinMap as map
 use Rattle.std.proofs.lemmas.Option.{same_Some}
@@ -8,7 +8,6 @@ use Rattle.ts_base.specs.declared.keys.Key.{Key}
 use Rattle.ts_base.specs.declared.keys.FragKey.{FragKey}
 use Rattle.ts_base.specs.declared.heads.Head.{Head}
 use Rattle.ts_base.specs.declared.heads.Piece.{Piece}
-use Rattle.ts_base.specs.declared.names.Name.{Name}
 use Rattle.ts_base.specs.declared.names.Name.TheVariants as name
 use Rattle.ts_base.specs.declared.names.Prefix.TheVariants.{Commits, Schemas}
 use Rattle.ts_base.specs.Held.{Held}
@@ -21,7 +20,6 @@ use Rattle.ts_commit.specs.declared.vacs.Limits.{Limits}
 use Rattle.ts_commit.specs.declared.vacs.VacOf.{VacOf}
 use Rattle.ts_commit.specs.Plans.{is_inside}
 use Rattle.ts_commit.specs.Vacs.{names_of}
-use Rattle.ts_model.specs.declared.commands.Command.{Command}
 use Rattle.ts_model.specs.declared.commands.Command.TheVariants.{Consolidate}
 use Rattle.ts_model.specs.declared.commands.Job.{Job}
 use Rattle.ts_model.specs.declared.states.Candidates.{Candidates}
@@ -106,10 +104,10 @@ module _ {F : Type 0} (codec : Codec F) (spelled : Spelled) (tracks : Tracking F
         leads = look.leads;
         own = names_lead codec spelled tracks opening past jobs seen e m number job Commits (λ names. states.Merges (merging.ListsSchemas (candidates_of job.command names))) e.reply
             (λ names said. (
-            look.clean,
-            subst (λ c. Chooses spelled opening past jobs (seen ++ e ∷ []) m' number job (candidates_of c names)) (sym merges.3)
-                (subst (λ ns. Chooses spelled opening past jobs (seen ++ e ∷ []) m' number job (candidates_of (Consolidate merges.0 merges.1 merges.2) ns)) (sym (listed m e Commits names is comes.replied said))
-                (chooses_listed comes.stands comes.is_held comes.own is look.same_held merges.0 merges.1 merges.2 merges.3)),
+              look.clean,
+              subst (λ c. Chooses spelled opening past jobs (seen ++ e ∷ []) m' number job (candidates_of c names)) (sym merges.3)
+                  (subst (λ ns. Chooses spelled opening past jobs (seen ++ e ∷ []) m' number job (candidates_of (Consolidate merges.0 merges.1 merges.2) ns)) (sym (listed m e Commits names is comes.replied said))
+                  (chooses_listed comes.stands comes.is_held comes.own is look.same_held merges.0 merges.1 merges.2 merges.3)),
             ))
             look.clean.undone;
       }
