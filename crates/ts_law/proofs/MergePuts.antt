@@ -13,6 +13,7 @@ use Rattle.ts_base.specs.declared.names.Name.{Name}
 use Rattle.ts_base.specs.declared.names.Name.TheVariants as name
 use Rattle.ts_base.specs.declared.names.PartBytes.{PartBytes}
 use Rattle.ts_base.specs.declared.names.Prefix.TheVariants.{Commits}
+use Rattle.ts_base.specs.declared.heads.Piece.{Piece}
 use Rattle.ts_base.specs.declared.heads.Version.{Version}
 use Rattle.ts_base.specs.Held.{Held}
 use Rattle.ts_base.specs.Names.{wrt_of}
@@ -43,12 +44,12 @@ use Rattle.ts_model.proofs.ListLemmas.{Contains-nil}
 use Rattle.ts_model.proofs.Traces.{held_told-append}
 use Rattle.ts_law.specs.Ends.{IsMerged, IsUndone, ListedAt}
 use Rattle.ts_law.specs.Kept.{AimsToMerge, Claims, HasSources, Merges, Putting, all_taken_of}
-use Rattle.ts_law.specs.Stands.{HoldsIn, IsCommitted, IsNoLease, IsUnspent, Names, Spells, Stands}
+use Rattle.ts_law.specs.Stands.{HoldsIn, IsCommitted, IsNamed, IsNoLease, IsUnspent, Names, Spells, Stands}
 use Rattle.ts_law.specs.Steps.{Advances, Comes, Keeps, Leads}
 use Rattle.ts_law.specs.Fresh.{id_in}
 use Rattle.ts_law.proofs.HeldLemmas.{Holds, Holds-from_get, get_apart, get_put}
 use Rattle.ts_law.proofs.LeaseSteps.{leased_history}
-use Rattle.ts_law.proofs.MergeSources.{fits, frag, merges_to, names_are, names_within, old_names, own_in, own_origins, own_piece}
+use Rattle.ts_law.proofs.MergeSources.{fits, names_are, names_within, old_names, own_in, own_origins}
 use Rattle.ts_law.proofs.MergeStays.{aims_to_merge_stays, merge_carries}
 use Rattle.ts_law.proofs.Objects.{IsOnce, look_finds, part_count, part_object}
 use Rattle.ts_law.proofs.PutSteps.{Came, fault_is_true, put_asked, puts_on}
@@ -163,7 +164,7 @@ module _ {F : Type 0} (codec : Codec F) (spelled : Spelled) (tracks : Tracking F
   abbrev vac_names : List FragKey
   vac_names = names_merged s.vacs sources
 
-  abbrev piece : _
+  abbrev piece : Piece
   piece = piece_merged job s.frame o others got
 
   abbrev own : FragKey
@@ -308,7 +309,7 @@ module _ {F : Type 0} (codec : Codec F) (spelled : Spelled) (tracks : Tracking F
     vac_short : IsShort (vac_object vac_names)
     vac_short = (c.claims).short (length own_parts) (vac_object_of own vac_names) (omega arith) (vac_there own own_parts vac_names)
 
-    own_vac : Names m own vac_names
+    abbrev own_vac : Names m own vac_names
     own_vac = record {
       bytes = vac_object vac_names;
       held = (c.claims).held (length own_parts) (vac_object_of own vac_names) (omega arith) (vac_there own own_parts vac_names);
@@ -322,10 +323,10 @@ module _ {F : Type 0} (codec : Codec F) (spelled : Spelled) (tracks : Tracking F
       unchanged : h' ≡ h
       unchanged = same_history c.own c.is_job
 
-      unnamed : _
+      unnamed : IsNamed m own → ⊥
       unnamed = ((c.claims).unspent).unnamed own refl
 
-      old : _
+      old : (f : FragKey) → Contains vac_names f → IsCommitted m f ⊎ IsNamed m f
       old = old_names codec spelled tracks laws opening past jobs seen m number job s o others schema merges.has c.stands
 
       leads : Leads spelled past jobs seen e m job.id
