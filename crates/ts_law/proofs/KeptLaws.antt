@@ -16,7 +16,10 @@ use Rattle.ts_law.proofs.Frames.{aims-carry, stage_stays}
 use Rattle.ts_model.proofs.HistoryLaws.{job_of_id}
 use Rattle.ts_model.proofs.ListLemmas.{Contains-slice_get}
 use Rattle.ts_law.proofs.ListSteps.{commits_steps, schemas_steps}
-use Rattle.ts_law.proofs.PutSteps.{compare_steps, declared_steps, frame_steps, puts_steps}
+use Rattle.ts_law.proofs.PutSteps.{compare_steps, declared_steps, frame_steps, deed_steps}
+use Rattle.ts_law.proofs.MergePuts.{merge_puts_steps}
+use Rattle.ts_law.proofs.MergeSteps.{merge_commits_steps, merge_schemas_steps, merge_frame_steps, merge_vacs_steps, merge_heads_steps, merge_learn_steps}
+use Rattle.ts_law.proofs.MergeFetches.{merge_fetch_steps}
 use Rattle.ts_law.proofs.ReadSteps.{vacs_steps, framed_steps, further_steps, heads_steps, schema_steps}
 use Rattle.ts_model.proofs.Traces.{held_told-append, stage_of-other, stage_of-own}
 use Rattle.ts_model.specs.Commands.{frame_made}
@@ -200,7 +203,8 @@ module _ {F : Type 0} (codec : Codec F) (spelled : Spelled) (tracks : Tracking F
   own_step opening past jobs seen e m number job (Creates PutsFrame) comes = frame_steps codec spelled tracks opening past jobs seen e m number job laws comes
   own_step opening past jobs seen e m number job (Creates ComparesFrame) comes = compare_steps codec spelled tracks opening past jobs seen e m number job laws comes
   own_step opening past jobs seen e m number job (Creates ListsDeclared) comes = declared_steps codec spelled tracks opening past jobs seen e m number job laws comes
-  own_step opening past jobs seen e m number job (Puts objects next end) comes = puts_steps codec spelled tracks opening past jobs seen e m number job objects next end laws comes
+  own_step opening past jobs seen e m number job (Puts objects next end) comes =
+      deed_steps codec spelled tracks opening past jobs seen e m number job (merge_puts_steps codec spelled tracks laws opening past jobs seen e m number job) objects next end laws comes
   own_step opening past jobs seen e m number job (Seeks ListsCommits) comes = commits_steps codec spelled tracks opening past jobs seen e m number job laws comes
   own_step opening past jobs seen e m number job (Seeks (ListsSchemas listing)) comes = schemas_steps codec spelled tracks opening past jobs seen e m number job laws listing comes
   own_step opening past jobs seen e m number job (Seeks (GetsSchema listing there)) comes = schema_steps codec spelled tracks opening past jobs seen e m number job laws listing there comes
@@ -211,6 +215,14 @@ module _ {F : Type 0} (codec : Codec F) (spelled : Spelled) (tracks : Tracking F
   own_step opening past jobs seen e m number job (Collects (GetsDeletes r opened schemas)) comes = deletes_steps codec spelled tracks opening past jobs seen e m number job laws r opened schemas comes
   own_step opening past jobs seen e m number job (Collects (Fetches r opened schemas next frag got fetch c)) comes =
       fetch_steps codec spelled tracks opening past jobs seen e m number job r opened schemas next frag got fetch c laws comes
+  own_step opening past jobs seen e m number job (Merges merging.ListsCommits) comes = merge_commits_steps codec spelled tracks opening past jobs seen e m number job laws comes
+  own_step opening past jobs seen e m number job (Merges (merging.ListsSchemas c)) comes = merge_schemas_steps codec spelled tracks opening past jobs seen e m number job laws c comes
+  own_step opening past jobs seen e m number job (Merges (merging.GetsFrame c)) comes = merge_frame_steps codec spelled tracks opening past jobs seen e m number job laws c comes
+  own_step opening past jobs seen e m number job (Merges (merging.GetsVacs s)) comes = merge_vacs_steps codec spelled tracks opening past jobs seen e m number job laws s comes
+  own_step opening past jobs seen e m number job (Merges (merging.GetsHeads s opened)) comes = merge_heads_steps codec spelled tracks opening past jobs seen e m number job laws s opened comes
+  own_step opening past jobs seen e m number job (Merges (merging.GetsSchemas s opened named schemas)) comes = merge_learn_steps codec spelled tracks opening past jobs seen e m number job laws s opened named schemas comes
+  own_step opening past jobs seen e m number job (Merges (merging.Fetches s sources schema next frag got fetch c)) comes =
+      merge_fetch_steps codec spelled tracks opening past jobs seen e m number job s sources schema next frag got fetch c laws comes
   own_step opening past jobs seen e m number job (Over end) comes = absurd (none-some e.call comes.asked)
 
   -- what is kept stays by a call that may come

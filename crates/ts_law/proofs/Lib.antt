@@ -31,6 +31,8 @@ pub mod FetchSteps
 pub mod ListSteps
 pub mod ReadSteps
 pub mod MergePlans
+pub mod MergeSources
+pub mod MergePuts
 pub mod MergeFetches
 pub mod MergeKnows
 pub mod MergeSteps

@@ -1,6 +1,6 @@
 -- The calls of the fetches of a consolidation: each leads to another call, to the next source, or to the puts of what the sources are merged into.
-use Rattle.std.proofs.Common.{◌≡◌, ℕ, suc, zero, ◌+◌, ◌<◌, ◌≤◌, Bool, true, false, cond, ◌⊎◌, inl, inr, List, [], ◌∷◌, ◌++◌, Option, Some, None, Ok, length, length-append, take, drop, arith, refl, sym, ◌∙◌, ap, subst}
-use Rattle.std.specs.Prelude.{Contains, nat_lt, slice_get, option_map, map as list_map}
+use Rattle.std.proofs.Common.{◌≡◌, ℕ, suc, zero, ◌+◌, ◌<◌, Bool, true, false, cond, ◌⊎◌, inl, inr, List, [], ◌∷◌, ◌++◌, Some, Ok, length, length-append, take, drop, arith, refl, sym, ◌∙◌, ap, subst}
+use Rattle.std.specs.Prelude.{slice_get, option_map}
 use Rattle.std.specs.FinMap as map
 use Rattle.std.proofs.lemmas.Bool.{cond-true, lt-ltb}
 use Rattle.std.proofs.lemmas.Option.{none-some, same_Some, slice_get-map}
@@ -17,7 +17,6 @@ use Rattle.ts_commit.specs.Selections.{names_merged}
 use Rattle.ts_schema.specs.declared.schemas.Schema.{Schema}
 use Rattle.ts_schema.specs.declared.frames.Frame.{Frame}
 use Rattle.ts_schema.specs.declared.wants.Want.{Want}
-use Rattle.ts_schema.specs.Parts.{Look}
 use Rattle.ts_schema.specs.Wants.{taken}
 use Rattle.ts_store.specs.declared.call.Call.{Call}
 use Rattle.ts_store.specs.declared.call.Call.TheVariants as call
@@ -31,20 +30,18 @@ use Rattle.ts_model.specs.declared.states.Merging.TheVariants as merging
 use Rattle.ts_model.specs.declared.states.NewObject.{NewObject}
 use Rattle.ts_model.specs.declared.states.Opened.{Opened}
 use Rattle.ts_model.specs.declared.states.State.{State}
-use Rattle.ts_model.specs.declared.states.State.TheVariants.{Puts, Over}
+use Rattle.ts_model.specs.declared.states.State.TheVariants.{Over}
 use Rattle.ts_model.specs.declared.states.State.TheVariants as states
 use Rattle.ts_model.specs.declared.states.Survey.{Survey}
 use Rattle.ts_model.specs.Deeds.{History}
 use Rattle.ts_model.specs.Codecs.{Codec, Spelled, Tracking, CodecLaws, OpensWell, GoesWell, Stepped, IsToldOf, SpeaksOf}
 use Rattle.ts_model.specs.Codecs.Stepped.{Asks, Takes, Breaks}
-use Rattle.ts_model.specs.States.{after_source, all_of, can_be_named, ended, frags_of, merge_objects, merging_from, part_objects, piece_merged, puts_merged, putting, source_begins, source_leads, vac_object_of}
-use Rattle.ts_model.specs.Told.{Told, IsReplied, after_told, held_told, history_told}
+use Rattle.ts_model.specs.States.{after_source, all_of, can_be_named, ended, frags_of, merge_objects, merging_from, part_objects, piece_merged, puts_merged, putting, source_begins, source_leads}
+use Rattle.ts_model.specs.Told.{Told, after_told, held_told, history_told}
 use Rattle.ts_model.proofs.ListLemmas.{take_next}
-use Rattle.ts_law.specs.Stands.{HoldsIn}
 use Rattle.ts_law.specs.Ends.{IsTrueRefusal}
-use Rattle.ts_law.specs.Kept.{all_taken_of, AimsToMerge, AreSourcesIn, Claims, Clean, HasSources, IsFetched, IsSource, Merges}
+use Rattle.ts_law.specs.Kept.{all_taken_of, AreSourcesIn, Claims, Clean, HasSources, IsSource, Merges}
 use Rattle.ts_law.specs.Steps.{Advances, Comes}
-use Rattle.ts_law.proofs.Effects.{IsLook}
 use Rattle.ts_law.proofs.FetchSteps.{drop_first, drop_none, speaks_look, tells_of}
 use Rattle.ts_law.proofs.ListSteps.{looked}
 use Rattle.ts_law.proofs.MergeStays.{merge_carries, merges_stays}

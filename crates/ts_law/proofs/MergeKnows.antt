@@ -1,6 +1,6 @@
 -- What a consolidation knows of the array leads it on: to the next look, to its plan, and to its sources.
-use Rattle.std.proofs.Common.{◌≡◌, ℕ, ◌≤◌, Bool, true, false, cond, inl, inr, List, [], ◌∷◌, ◌++◌, Option, Some, None, length, take, refl, sym, ◌∙◌, ap, subst, arith}
-use Rattle.std.specs.Prelude.{Contains, filter, nat_lt, option_map, find, map as list_map}
+use Rattle.std.proofs.Common.{◌≡◌, ℕ, Bool, true, false, cond, List, [], ◌∷◌, Some, length, take, refl, sym, ◌∙◌, ap, subst, arith}
+use Rattle.std.specs.Prelude.{Contains, filter, nat_lt, map as list_map}
 use Rattle.std.specs.FinMap as map
 use Rattle.std.specs.FinMap.Entries.{is_some-find}
 use Rattle.std.specs.Option.{is_some, option_map_or}
@@ -32,13 +32,13 @@ use Rattle.ts_model.specs.declared.states.State.TheVariants as states
 use Rattle.ts_model.specs.declared.states.Survey.{Survey}
 use Rattle.ts_model.specs.Codecs.{Codec, CodecLaws, Spelled, Tracking}
 use Rattle.ts_model.specs.Deeds.{History, schema_with}
-use Rattle.ts_model.specs.States.{attributes_among, committed_in, counting_in, frags_of, getting_names, heads_of, merges_all, merges_in, on_plan, opened_among, opening_next, plan_for, schema_among, schemas_named, surveying, wrt_in}
+use Rattle.ts_model.specs.States.{attributes_among, committed_in, frags_of, getting_names, heads_of, merges_all, merges_in, on_plan, opened_among, opening_next, plan_for, schema_among, schemas_named, surveying, wrt_in}
 use Rattle.ts_model.specs.Told.{Told, held_told, history_told}
 use Rattle.ts_model.proofs.HistoryLaws.{schema_with-is}
 use Rattle.ts_model.proofs.KeyLemmas.{key_itself, key_same}
 use Rattle.ts_model.proofs.ListLemmas.{Contains-here, Contains-nil, Contains-there, filter-Contains, filter_map-Contains, find-Some, find_member}
 use Rattle.ts_law.specs.Ends.{AreAllVacs, AreInside, attributes_with, IsPlanned}
-use Rattle.ts_law.specs.Kept.{AreSchemas, AreSourcesIn, Claims, Clean, HasSources, IsOpen, IsSource, Learns, Opens, Surveys}
+use Rattle.ts_law.specs.Kept.{AreSourcesIn, Claims, Clean, HasSources, IsOpen, IsSource, Learns, Opens, Surveys}
 use Rattle.ts_law.specs.Stands.{HoldsIn, IsCommitted}
 use Rattle.ts_law.proofs.Fetches.{Contains-map, map-Contains}
 use Rattle.ts_law.proofs.HeldLemmas.{Holds, Holds-from_listed}

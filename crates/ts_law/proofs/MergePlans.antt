@@ -1,7 +1,7 @@
 -- What a plan takes of the fragments that a consolidation opened, and on which attributes it depends.
 use Rattle.std.proofs.Common.{◌≡◌, ℕ, Bool, true, false, cond, ◌&&◌, ◌||◌, ◌⊎◌, inl, inr, List, [], ◌∷◌, ◌++◌, Option, Some, None, length, T, refl, sym, ◌∙◌, ap, subst}
 use Rattle.std.specs.Prelude.{Contains, filter, filter_map, find, nat_le, option_map, ⊤, map as list_map}
-use Rattle.std.specs.List.{cons_option, list_any}
+use Rattle.std.specs.List.{cons_option}
 use Rattle.std.specs.Ordering.{is_lt}
 use Rattle.std.specs.Cmp.{IsTotalOrder, tied_itself}
 use Rattle.std.specs.declared.cmp.Ordering.{Ordering}
@@ -12,16 +12,14 @@ use Rattle.std.proofs.lemmas.List.{append-nil, append_assoc}
 use Rattle.ts_base.specs.declared.keys.Key.{Key}
 use Rattle.ts_base.specs.declared.keys.FragKey.{FragKey}
 use Rattle.ts_base.specs.declared.heads.Head.{Head}
-use Rattle.ts_base.specs.declared.names.Name.{Name}
 use Rattle.ts_base.specs.declared.names.Prefix.TheVariants.{Commits}
 use Rattle.ts_base.specs.Exact.{name_total}
 use Rattle.ts_base.specs.Held.{Held}
 use Rattle.ts_base.specs.Keys.{frag_eq, key_eq}
-use Rattle.ts_base.specs.Names.{is_under, wrt_of}
+use Rattle.ts_base.specs.Names.{is_under}
 use Rattle.ts_store.specs.Calls.{names_under}
 use Rattle.ts_commit.specs.declared.vacs.VacOf.{VacOf}
 use Rattle.ts_commit.specs.declared.vacs.Limits.{Limits}
-use Rattle.ts_commit.specs.declared.vacs.Planned.{Planned}
 use Rattle.ts_commit.specs.declared.vacs.Planned.TheVariants as planned
 use Rattle.ts_commit.specs.Plans.{eligible, is_eligible, is_in_bounds, is_shared, of_schema, plan_by, plan_in, plan_of, shared_schema, taken_from}
 use Rattle.ts_commit.specs.Selections.{is_among}

@@ -1,5 +1,5 @@
 -- What a consolidation knows of its sources as it puts what they are merged into: they are committed still, and hold what they held.
-use Rattle.std.proofs.Common.{◌≡◌, ℕ, ◌<◌, ◌≤◌, ◌^◌, true, ◌&&◌, inl, inr, ◌⊎◌, List, [], ◌∷◌, ◌++◌, length, Some, Ok, refl, sym, ◌∙◌, ap, subst, arith}
+use Rattle.std.proofs.Common.{◌≡◌, ℕ, ◌<◌, ◌≤◌, ◌^◌, true, ◌&&◌, ◌||◌, inl, inr, ◌⊎◌, List, [], ◌∷◌, ◌++◌, length, Some, Result, Ok, suc, refl, sym, ◌∙◌, ap, subst, arith}
 use Rattle.std.specs.Prelude.{Contains, IsTrue, All, nat_lt, take, filter, map as list_map}
 use Rattle.std.specs.List.{list_any}
 use Rattle.std.specs.FinMap as map
@@ -22,7 +22,8 @@ use Rattle.ts_schema.specs.FrameTexts.{IsFrame}
 use Rattle.ts_schema.specs.SchemaTexts.{AreAttrs}
 use Rattle.ts_commit.specs.declared.vacs.VacOf.{VacOf}
 use Rattle.ts_commit.specs.Selections.{has_origin, names_merged}
-use Rattle.ts_commit.specs.Vacs.{AreNames, names_of}
+use Rattle.ts_wire.specs.Exact.{InTurn}
+use Rattle.ts_commit.specs.Vacs.{AreNames, FitsName, names_of}
 use Rattle.ts_model.specs.declared.commands.Job.{Job}
 use Rattle.ts_model.specs.declared.deeds.Deed.TheVariants.{Framed, Declared, Wrote, Erased}
 use Rattle.ts_model.specs.declared.deeds.Written.{Written}
@@ -32,7 +33,7 @@ use Rattle.ts_model.specs.Codecs.{Codec, CodecLaws, Spelled, Tracking}
 use Rattle.ts_model.specs.Consolidated.{IsConsolidated, IsSpan, IsStorable}
 use Rattle.ts_model.specs.Deeds.{Follow, History, IsHistory, IsKey, IsNewKey, writes, schema_with}
 use Rattle.ts_model.specs.Jobs.{IsFit}
-use Rattle.ts_model.specs.Merging.{AreSources, MergesTo, merged_piece, heads_of as piece_heads}
+use Rattle.ts_model.specs.Merging.{AreSources, MergesTo, all_got, merged_piece, merged_with, heads_of as piece_heads}
 use Rattle.ts_model.specs.States.{can_be_named, frags_of, heads_of, piece_merged, vac_of}
 use Rattle.ts_model.specs.Told.{Told, held_told, history_told}
 use Rattle.ts_model.proofs.HistoryLaws.{frame_facts, new_to_fewer, schema_facts, schema_with-is}
@@ -67,6 +68,11 @@ new_in before (Wrote v ∷ ds) w is at = elim (Contains-cons v (writes ds) w at)
   | inl same ↦ subst (λ (u : Written). IsNewKey before u.key) same (is.0).new
   | inr later ↦ new_to_fewer before (Wrote v ∷ []) w.key (new_in (before ++ Wrote v ∷ []) ds w is.1 later)
 ]
+
+-- each of the names that are read in turn has a spelling
+in_turn_names : (front fs : List FragKey) → InTurn FitsName front fs → (x : FragKey) → Contains fs x → HasName x
+in_turn_names front [] each x at = absurd (Contains-nil x at)
+in_turn_names front (f ∷ fs) each x at = elim (Contains-cons f fs x at) [ inl same ↦ subst HasName same ((each.0).spelled, (each.0).fits) | inr later ↦ in_turn_names (front ++ f ∷ []) fs each.1 x later ]
 
 -- ---- sources and their pieces
 
@@ -230,7 +236,7 @@ module _ {F : Type 0} (codec : Codec F) (spelled : Spelled) (tracks : Tracking F
       let reads = (stands.merged).reads f is.bytes committed is.held in
       name_in reads.1.0 reads.1.2 x (subst (λ l. Contains l x) (one_read (names_of is.bytes) found reads.1.0 is.reads reads.1.1) at)
     where
-      one_read : (r : _) (a b : List FragKey) → r ≡ Ok a → r ≡ Ok b → a ≡ b
+      one_read : (r : Result (List FragKey) ℕ) (a b : List FragKey) → r ≡ Ok a → r ≡ Ok b → a ≡ b
       one_read r a b e d = cc
 
       name_in : (fs : List FragKey) → AreNames fs → (x : FragKey) → Contains fs x → HasName x
@@ -245,8 +251,7 @@ module _ {F : Type 0} (codec : Codec F) (spelled : Spelled) (tracks : Tracking F
 
   -- ---- the piece that they are merged into
 
-  module _ (got : List (List Version)) (merges : Merges codec spelled opening past jobs seen m number job s (o ∷ others) schema (length (o ∷ others)) got) (same : merges.has ≡ has)
-      (can : can_be_named (piece_merged job s.frame o others got) ≡ true) where
+  module _ (got : List (List Version)) (got_are : got ≡ all_taken_of s.frame schema.attrs (take (length (o ∷ others)) has.pieces)) (can : can_be_named (piece_merged job s.frame o others got) ≡ true) where
     abbrev pub own_piece : Piece
     own_piece = piece_merged job s.frame o others got
 
@@ -256,5 +261,107 @@ module _ {F : Type 0} (codec : Codec F) (spelled : Spelled) (tracks : Tracking F
     -- what was got is all of the sources' versions
     got_is : got ≡ all_taken_of s.frame schema.attrs ps
     got_is =
-        merges.got_are ∙ ap (λ x. all_taken_of s.frame schema.attrs (take (length (o ∷ others)) (HasSources.pieces x))) same
+        got_are
         ∙ ap (all_taken_of s.frame schema.attrs) (take_all (length (o ∷ others)) has.pieces (let count = one_each codec spelled g then s.frame schema (o ∷ others) has.pieces has.are_sources in omega (arith, count)) ∙ parted.2)
+
+    -- so the piece is what the sources' pieces are merged into
+    piece_is : own_piece ≡ merged_piece s.frame job.id first rest
+    piece_is =
+        ap (λ l. merged_with s.frame job.id o.head (heads_of others) (all_got l)) got_is
+        ∙ ap (λ x. merged_with s.frame job.id x (heads_of others) (all_got (all_taken_of s.frame schema.attrs ps))) (are_in.0).head
+        ∙ ap (λ x. merged_with s.frame job.id first.head x (all_got (all_taken_of s.frame schema.attrs ps))) (same_heads codec spelled g then s.frame schema others rest are_in.1)
+        ∙ merged_taken s.frame schema.attrs job.id first rest are
+
+    -- it has few origins and versions
+    counts : (nat_lt (length (merged_piece s.frame job.id first rest).head.origins) (2 ^ 32) ≡ true) × (nat_lt (length (merged_piece s.frame job.id first rest).versions) (2 ^ 64) ≡ true)
+    counts = and_parts _ _ (ap can_be_named (sym piece_is) ∙ can)
+
+    few : length (merged_piece s.frame job.id first rest).versions < 2 ^ 64
+    few = ltb-true _ _ counts.1
+
+    few_origins : length (merged_piece s.frame job.id first rest).head.origins < 2 ^ 32
+    few_origins = ltb-true _ _ counts.0
+
+    pub merges_to : MergesTo ps own_piece
+    merges_to = subst (MergesTo ps) (sym piece_is) (sources_merge s.frame schema.attrs job.id first rest are few few_origins)
+
+    pub fits : IsConsolidated s.frame schema.attrs own_piece
+    fits = subst (IsConsolidated s.frame schema.attrs) (sym piece_is) (sources_fit s.frame schema.attrs job.id first rest are few few_origins)
+
+    -- it holds what its origins wrote
+    own_holds : HoldsWrites h own_piece
+    own_holds = merged_holds h stands.history ps hold own_piece merges_to
+
+    -- it is in the schema of the sources
+    own_schema : own_piece.head.schema ≡ schema.key
+    own_schema = ap (λ (x : Piece). x.head.schema) piece_is ∙ keyed o first are_in.0
+
+    -- its name has a spelling
+    own_name : IsFit job → HasName frag
+    own_name fit =
+        let span = fits.span in
+        let low = span.least in
+        let high = span.greatest_is in
+        let low_key = All-contains IsKey own_piece.head.origins low.0 fits.are_keys low.1 in
+        let high_key = All-contains IsKey own_piece.head.origins high.0 fits.are_keys high.1 in
+        let up = span.up_to low.0 low.1 in
+        let low_is = low.2 in
+        let high_is = high.2 in
+        let low_t = low_key.t in
+        let high_t = high_key.t in (
+          record { span = omega (arith, up, low_is); version = refl },
+          record { t1 = omega (arith, low_is, low_t); t2 = omega (arith, high_is, high_t); id = fit.id; v = omega arith },
+        )
+
+    -- where its parts spell it, it is in its fragment
+    pub own_in : IsFit job → Spells spelled m s.frame schema frag own_piece → HoldsIn spelled h m frag own_piece
+    own_in fit spells = record {
+      frame = s.frame;
+      framed = (has.surveys).framed;
+      dense = fits.dense;
+      schema = schema;
+      declared = ap (schema_with h) own_schema ∙ has.declared;
+      spells = spells;
+      holds = own_holds;
+      name = own_name fit;
+    }
+
+    -- all that went into a source went into it
+    abbrev source_within : (is : HoldsIn spelled h m frag own_piece) (f : FragKey) → Contains sources f → Within spelled h m f frag
+    source_within is f at =
+        let x = source_piece f at in
+        record {
+          piece = x.1;
+          holds = subst (λ k. HoldsIn spelled h m k x.1) x.4 (now_holds (x.0).frag x.1 ((x.3).holds));
+          other = own_piece;
+          other_holds = is;
+          within = λ k origin. to_merged ps own_piece merges_to x.1 k x.2 origin;
+        }
+
+    -- and so did all that went into what the `.vac` of a source names
+    named_within : (is : HoldsIn spelled h m frag own_piece) (f v : FragKey) → Contains sources v → IsCommitted m v → DoesName m v f → IsCommitted m f → Within spelled h m f frag
+    named_within is f v source by named committed =
+        let below = (stands.merged).within v f by committed named in
+        let above = source_within is v source in
+        let same = one_head codec spelled tracks laws h m v below.other above.piece below.other_holds above.holds in
+        record {
+          piece = below.piece;
+          holds = below.holds;
+          other = own_piece;
+          other_holds = is;
+          within = λ k origin. above.within k (subst (λ x. has_origin k x ≡ true) same (below.within k origin));
+        }
+
+    pub names_within : HoldsIn spelled h m frag own_piece → (f : FragKey) → Contains names f → IsCommitted m f → Within spelled h m f frag
+    names_within is f at committed = elim (named_cases s.vacs sources f at) [
+      | inl own ↦ source_within is f own
+      | inr (v, there, source, named) ↦ let by = vac_names v f there named in named_within is f v.frag source by.0 by.1 committed
+    ]
+
+    -- its origins are those of the sources
+    pub own_origins : (k : Key) → has_origin k own_piece.head ≡ list_any (has_origin k) (heads_of (o ∷ others))
+    own_origins k = merges_to.origins k ∙ any_heads k ps ∙ ap (list_any (has_origin k)) (sym (same_heads codec spelled g then s.frame schema (o ∷ others) ps are_in))
+      where
+        any_heads : (k : Key) (qs : List Piece) → list_any (λ q. has_origin k q.head) qs ≡ list_any (has_origin k) (piece_heads qs)
+        any_heads k [] = refl
+        any_heads k (q ∷ qs) = ap (λ b. has_origin k q.head || b) (any_heads k qs)

@@ -7,7 +7,7 @@ use Rattle.std.specs.List.Sorted.{IsStrictlySortedBy}
 use Rattle.std.specs.Ordering.{is_lt}
 use Rattle.std.specs.declared.cmp.Ordering.TheVariants.{Less}
 use Rattle.std.proofs.lemmas.List.{length-append}
-use Rattle.std.proofs.lemmas.Bool.{and_parts, true≢false}
+use Rattle.std.proofs.lemmas.Bool.{and_parts, cond-false, ne_eqb}
 use Rattle.ts_base.specs.declared.keys.FragKey.{FragKey}
 use Rattle.ts_base.specs.Keys.{frag_cmp, frag_eq}
 use Rattle.ts_base.specs.Exact.{frag_total}
@@ -42,13 +42,13 @@ last_or (x ∷ front) f d = last_or front f d
 
 -- a name that is above another may stand behind it
 follows_last : (front : List FragKey) (f g : FragKey) → frag_cmp f g ≡ Less → follows (front ++ f ∷ []) g ≡ true
-follows_last front f g less = by (length (front ++ f ∷ [])) (length-append front (f ∷ []))
+follows_last front f g less =
+    ap (λ k. cond (nat_eq k 0) true (is_lt (frag_cmp (slice_index_or (front ++ f ∷ []) (k - 1) g) g))) (length-append front (f ∷ []))
+    ∙ cond-false (nat_eq (length front + 1) 0) true (is_lt (frag_cmp (slice_index_or (front ++ f ∷ []) (length front + 1 - 1) g) g)) (ne_eqb (length front + 1) 0 (λ none. omega (arith, none)))
+    ∙ ap (λ k. is_lt (frag_cmp (slice_index_or (front ++ f ∷ []) k g) g)) at_last ∙ ap (λ x. is_lt (frag_cmp x g)) (last_or front f g) ∙ ap is_lt less
   where
-    by : (n : ℕ) → n ≡ length front + 1 → cond (nat_eq n 0) true (is_lt (frag_cmp (slice_index_or (front ++ f ∷ []) (n - 1) g) g)) ≡ true
-    by zero none = absurd (omega (arith, none))
-    by (suc n) more =
-        let same : n ≡ length front = omega (arith, more) in
-        ap (λ k. is_lt (frag_cmp (slice_index_or (front ++ f ∷ []) k g) g)) same ∙ ap (λ x. is_lt (frag_cmp x g)) (last_or front f g) ∙ ap is_lt less
+    at_last : length front + 1 - 1 ≡ length front
+    at_last = omega arith
 
 -- names that ascend behind another are read in turn
 in_turn_from : (front : List FragKey) (f : FragKey) (fs : List FragKey) → AllByRecursion (λ g. frag_cmp f g ≡ Less) fs → IsStrictlySortedBy frag_cmp fs → ((g : FragKey) → Contains fs g → HasName g) → InTurn FitsName (front ++ f ∷ []) fs
@@ -107,7 +107,7 @@ module _ (vacs : List VacOf) (sources : List FragKey) where
   -- where the sources and what their `.vac` objects name have names with a spelling, these are names that a `.vac` may have
   pub merged_names : (f : FragKey) → Contains sources f → ((x : FragKey) → Contains sources x → HasName x) → ((v : VacOf) (x : FragKey) → Contains vacs v → Contains v.names x → HasName x) → AreNames (names_merged vacs sources)
   merged_names f first named others =
-      are_names (names_merged vacs sources) (some (names_merged vacs sources) (source_named f first)) (order_ascends _)
+      are_names (names_merged vacs sources) (some (names_merged vacs sources) (source_named f first)) (order_ascends (sources ++ flat_map (λ v. v.names) (filter (λ v. is_among v.frag sources) vacs)))
       (λ x at. elim (named_cases x at) [ inl own ↦ named x own | inr (v, there, source, names) ↦ others v x there names ])
     where
       some : (fs : List FragKey) → Contains fs f → 1 ≤ length fs
