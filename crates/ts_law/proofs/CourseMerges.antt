@@ -49,7 +49,7 @@ use Rattle.ts_law.proofs.CourseGrows.{AreAmong, among_more, each_stays, merged_n
 use Rattle.ts_law.proofs.CourseReads.{fetched_on}
 use Rattle.ts_law.proofs.CourseThere.{no_frame, no_schema}
 use Rattle.ts_law.proofs.Fetches.{Contains-map, map-Contains}
-use Rattle.ts_law.proofs.HeadSchemas.{schemas_named_by, schemas_named_has}
+use Rattle.ts_law.proofs.MergeKnows.{schema_named_by, schemas_named_has}
 use Rattle.ts_law.proofs.ReadSteps.{push_next}
 use Rattle.ts_base.specs.declared.names.Name.TheVariants as name
 use Rattle.ts_commit.specs.declared.vacs.Planned.TheVariants as planned
@@ -550,7 +550,7 @@ module _ {F : Type 0} (codec : Codec F) (job : Job) (looks : AsksLooks codec) (f
           where
             look : (merged : Option Merge) → IsLookOf codec job (found merged) seen (get_schema k)
             look merged =
-                let (o, among, names_it) = schemas_named_by opened k (item_in (schemas_named opened) (length schemas) k there) in
+                let (o, among, names_it) = schema_named_by opened k (item_in (schemas_named opened) (length schemas) k there) in
                 let was = has.each_opened o among in
                 for_sources (found merged) seen (get_schema k) (AtNamed o.frag o.head (framed seen vacs opened schemas merged has) (o.object, was.0, was.1) (ap get_schema (sym names_it)))
 

@@ -48,7 +48,6 @@ pub mod CourseCalls
 pub mod CourseReads
 pub mod CourseThere
 pub mod CourseLeased
-pub mod HeadSchemas
 pub mod CourseMerges
 pub mod CourseJobs
 pub mod CutOff

@@ -189,7 +189,7 @@ abbrev pub GotHead : {F : Type 0} → Codec F → Found → List Exchange → Fr
 GotHead codec found trace f head =
     (object : List ℕ) × Contains trace (record { call = get_all (name.Part f (codec.head_part found.frame)); reply = reply.Bytes object }) × (codec.head found.frame f object ≡ Ok head)
 
--- the schema in which a command opens a fragment with this head: a read in that which the head names, a consolidation in that which the head of its first source names
+-- the schema in which a fragment with this head is opened: by a read the one that the head names, by a consolidation one that a head names which it got
 abbrev pub IsNamedFor : {F : Type 0} → Codec F → Found → List Exchange → Command → Head → Schema → Type 0
 IsNamedFor codec found trace (Consolidate from to limits) head s = (f : FragKey) × (first : Head) × GotHead codec found trace f first × (s.key ≡ first.schema)
 IsNamedFor codec found trace _ head s = s.key ≡ head.schema
