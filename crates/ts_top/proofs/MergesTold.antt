@@ -1,5 +1,5 @@
 -- What a consolidation tells: its plan, and what it merged.
-use Rattle.std.proofs.Common.{◌≡◌, ℕ, List, [], ◌∷◌, ◌++◌, Option, append_assoc, sym, ◌∙◌, ap, subst}
+use Rattle.std.proofs.Common.{◌≡◌, ℕ, List, [], ◌∷◌, ◌++◌, Option, Some, append_assoc, refl, sym, ◌∙◌, ap, subst}
 use Rattle.std.proofs.lemmas.List.Elements.{filter_map-append}
 use Rattle.ts_base.specs.Held.{Held}
 use Rattle.ts_base.specs.declared.keys.FragKey.{FragKey}
@@ -93,7 +93,7 @@ module _ (m : Held) (jobs : List Job) (past : History) (lane : Option ℕ → �
       divides = cancelled listed ((is.commits).listing ∷ (is.commits).later) (ahead ++ rest) (sym (is.commits).place ∙ told_is ∙ ap (λ l. l ++ rest) seen_is ∙ append_assoc listed ahead rest)
 
       -- these are calls of the command
-      own : seen ≡ a ++ at.0 ++ ahead
+      own : seen ≡ a ++ (at.0 ++ ahead)
       own = seen_is ∙ ap (λ l. l ++ ahead) at.1 ∙ append_assoc a at.0 ahead
 
       -- what was held after the put
