@@ -15,7 +15,7 @@ use Rattle.ts_base.specs.Exact.{key_exact}
 use Rattle.ts_schema.specs.declared.schemas.Schema.{Schema}
 use Rattle.ts_model.proofs.KeyLemmas.{not_below_back, not_below_on}
 use Rattle.ts_model.proofs.ListLemmas.{take_next}
-use Rattle.ts_reader.specs.Reading.{AreRising, AreFirst}
+use Rattle.ts_actor.specs.Known.{AreRising, AreFirst}
 
 -- ---- comparisons with one key
 

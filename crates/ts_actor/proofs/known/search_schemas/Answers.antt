@@ -1,8 +1,8 @@
 -- The comparisons with the key rise along the schemas.
 use Rattle.std.proofs.Common.{rules}
 use Rattle.std.proofs.lemmas.List.Sorted.{answers_always}
-use Rattle.ts_reader.proofs.Rising.{searched}
-use Rattle.ts_reader.proofs.known.search.Goals as goal
+use Rattle.ts_actor.proofs.Rising.{searched}
+use Rattle.ts_actor.proofs.known.search_schemas.Goals as goal
 
 pub returns : goal.returns
 returns c =

@@ -1,6 +1,6 @@
 use Rattle.std.proofs.Common.{◌≡◌}
 use Rattle.ts_model.specs.Queries.{places_from}
-use Rattle.ts_reader.proofs.known.first_places.Given as goal
+use Rattle.ts_actor.proofs.known.first_places.Given as goal
 
 -- the places so far
 abbrev pub invariant-loop-place : goal.invariant-loop-place

@@ -1,6 +1,6 @@
 use Rattle.std.proofs.Common.{◌≡◌, take}
 use Rattle.ts_model.specs.States.{heads_of}
-use Rattle.ts_reader.proofs.loading.heads_of.Given as goal
+use Rattle.ts_actor.proofs.opened.heads_of.Given as goal
 
 -- the heads of the fragments so far
 abbrev pub invariant-loop-one : goal.invariant-loop-one
