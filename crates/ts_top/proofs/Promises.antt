@@ -13,6 +13,7 @@ use Rattle.ts_base.specs.declared.names.CommitKind.TheVariants.{Wrt, Del}
 use Rattle.ts_base.specs.declared.names.Name.{Name}
 use Rattle.ts_base.specs.declared.names.Name.TheVariants as name
 use Rattle.std.specs.Io.KnownBytes.{Appends}
+use Rattle.ts_commit.specs.declared.vacs.Limits.{Limits}
 use Rattle.ts_schema.specs.declared.frames.Frame.{Frame}
 use Rattle.ts_schema.specs.declared.schemas.Schema.{Schema}
 use Rattle.ts_schema.specs.Evolutions.{evolved_attrs}
@@ -198,6 +199,14 @@ no_create (Write columns) works f is = cc
 no_create (Read from to query) works f is = works
 no_create (Delete text) works f is = cc
 no_create (Consolidate from to limits) works f is = works
+
+no_merge : (c : Command) → WorksIn c → (from to : ℕ) (limits : Limits) → c ≡ Consolidate from to limits → ⊥
+no_merge (Create f) works from to limits is = works
+no_merge (Evolve change) works from to limits is = cc
+no_merge (Write columns) works from to limits is = cc
+no_merge (Read a b query) works from to limits is = works
+no_merge (Delete text) works from to limits is = cc
+no_merge (Consolidate a b l) works from to limits is = works
 
 looks_here : (job : Job) (c : Command) → WorksIn c → looks_at job c ≡ job.at
 looks_here job (Create f) works = absurd works
@@ -585,7 +594,7 @@ module _ (gives : ℕ → Bool) (seed : ℕ) (items : List Numbered) (jobs : Lis
       let uses : schema_used (history_told jobs past seen) job (schemas_found (trace_of i seen)) ≡ Some there = ap (λ h. schema_used h job (schemas_found (trace_of i seen))) now ∙ used in
       let begins = kept_first run_codec run_spelled NeverWaits gives seed items jobs past m are order stands fresh seed_fits in
       let found = works_where_used run_codec run_spelled NeverWaits plain_laws one_lane jobs past m told results begins replied suit owned within in_turn driven
-      seen (is.late ++ b) e place i job mine is_job (no_create job.command works) looks n bytes puts
+      seen (is.late ++ b) e place i job mine is_job (no_create job.command works) (no_merge job.command works) looks n bytes puts
       (deed_no_lease (history_told jobs past a ++ front) job (schemas_found (trace_of i seen)) n d (subst (λ x. deed_in (history_told jobs past a ++ front) job (schemas_found (trace_of i seen)) x ≡ Some d) puts deed)) there uses in
       subst (λ h. HeldOnce (history_told jobs past a) h (key_of job) there) now
       (held_once jobs past a is.early seen refl i early found.schemas (key_of job) there found.undone (ap (schema_there (history_told jobs past (found.schemas).before)) (sym looks) ∙ found.holds)))
