@@ -54,7 +54,7 @@ use Rattle.ts_law.proofs.MergeStays.{aims_to_merge_stays, merge_carries}
 use Rattle.ts_law.proofs.Objects.{IsOnce, look_finds, part_count, part_object}
 use Rattle.ts_law.proofs.PutSteps.{Came, fault_is_true, put_asked, puts_on}
 use Rattle.ts_law.proofs.StandsLaws.{keeps_merge, keeps_put, leads_at, marks_part, marks_vac, merged_holds, stands_merge, stands_put, stands_vac}
-use Rattle.ts_law.proofs.Stays.{listed_stays}
+use Rattle.ts_law.proofs.Stays.{finds_schema_stays, listed_stays}
 use Rattle.ts_law.proofs.VacLaws.{MarksNone, unspent_put}
 use Rattle.ts_law.proofs.VacTexts.{names_again}
 
@@ -356,6 +356,8 @@ module _ {F : Type 0} (codec : Codec F) (spelled : Spelled) (tracks : Tracking F
         commits = listed_stays seen e number Commits ((((merges.has).surveys).chooses).since).commits;
         sources = sources;
         by_plan = (merges.has).by_plan;
+        found = finds_schema_stays past jobs seen e number job ((merges.has).surveys).found;
+        own = refl;
         counted = ap suc (sym (length-map others (λ (x : Opened). x.frag)));
         put = record { before = seen; made = e; later = []; place = refl; own = c.own; makes = is };
         later = (((((merges.has).surveys).chooses).since).commits).later;
