@@ -48,12 +48,7 @@ fn stamped_near(
 }
 
 // Those fragments whose span meets the interval, in their order.
-fn near(
-    alloc: Global,
-    from: u64,
-    to: u64,
-    frags: FragList,
-) -> Result<FragList, OutOfMemory>
+fn near(alloc: Global, from: u64, to: u64, frags: FragList) -> Result<FragList, OutOfMemory>
     ensures { IfOk result (λ chosen. chosen ≡ filter (meets from to) frags) }
 {
     let mut chosen = FragList::new(alloc);
