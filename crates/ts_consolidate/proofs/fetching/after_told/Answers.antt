@@ -20,7 +20,7 @@ merge_from-requires-clause-got g c κs within =
     let next : suc w.next ≡ w.next + 1 = omega arith in
     let is = All-contains (IsSource codec m.survey.frame m.schema) m.opened o c.requires.has.each (Contains-slice_get m.opened w.next o c.requires.at) in
     let led = c.in_ok-fetch.ensures.is ∙ ap (λ f. step_by f (codec.steps w.fetch c.args.reply)) (sym c.requires.named) in
-    let may = c.may_reply.ensures (true_of c.may_reply.result c.if-not-may_reply.false) in
+    let may = c.may_reply.ensures c.if-not-may_reply.false in
     let leads = leads_told codec g.met.P.Pieces.stores m.survey.frame m.schema o c.requires.has.survey.is_frame c.requires.has.attrs is w.fetch c.args.asked.now c.args.reply c.in_ok-fetch.field-0 c.requires.going may led in
     subst (AreGot m.survey.frame m.schema.attrs (take (w.next + 1) m.opened)) (sym c.in_ok-push-in-Takes.ensures.ok)
     (subst (λ n. AreGot m.survey.frame m.schema.attrs (take n m.opened) (w.got ++ c.in-Takes.versions ∷ [])) next
@@ -34,7 +34,7 @@ returns-in-Asks-clause-may g c =
     let o = c.requires.source in
     let is = All-contains (IsSource codec m.survey.frame m.schema) m.opened o c.requires.has.each (Contains-slice_get m.opened w.next o c.requires.at) in
     let led = c.in_ok-fetch.ensures.is ∙ ap (λ f. step_by f (codec.steps w.fetch c.args.reply)) (sym c.requires.named) in
-    let may = c.may_reply.ensures (true_of c.may_reply.result c.if-not-may_reply.false) in
+    let may = c.may_reply.ensures c.if-not-may_reply.false in
     let leads = leads_told codec g.met.P.Pieces.stores m.survey.frame m.schema o c.requires.has.survey.is_frame c.requires.has.attrs is w.fetch c.args.asked.now c.args.reply c.in_ok-fetch.field-0 c.requires.going may led in
     subst (IsMerging codec) (sym c.fetches.ensures) (
       record {
