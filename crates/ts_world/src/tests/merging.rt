@@ -1,0 +1,371 @@
+//! Worlds of two consolidators: what readers find beside them and after them.
+
+ghost use Rattle.std.specs.Prelude.{◌≡◌, ◌<◌, ◌≤◌, ◌+◌, [], IfOk, IsTrue, length};
+ghost use Rattle.ts_model.specs.Deeds.{IsHistory};
+ghost use Rattle.ts_world.specs.Clauses.{MayCome};
+ghost use Rattle.ts_world.specs.Views.{WorldView};
+
+use super::{
+    attr, create, dim, everything, finish, first_world, has_read, label, read, spawn, write,
+};
+use crate::{Event, World, WorldFault};
+use std::alloc::Global;
+use std::test::Fail;
+use std::thread::Threads;
+use ts_actor::PlainPieces;
+use ts_base::{
+    Cell, CellList, CommitKind, Coords, FragKey, Key, Name, OutOfMemory, Prefix, Row, Val, ValType,
+};
+use ts_commit::Limits;
+use ts_domain::{Domain, Order};
+use ts_model::{Command, Deed, History, Outcome, Refusal, Written, reference};
+use ts_schema::{Attr, AttrList, Frame, Schema};
+use ts_store::{Call, Entry, Fate};
+
+// ---- worlds
+
+// Adds a consolidator of the fragments that are stamped up to 3.
+fn consolidate<R: Threads + Sync>(
+    rt: &R,
+    alloc: Global,
+    world: &mut World<PlainPieces>,
+    id: u128,
+) -> Result<(), WorldFault>
+    requires past { world.old.past ≡ [] }
+    requires few { length world.old.jobs < 9 }
+    ensures past { world.new.past ≡ [] }
+    ensures few { length world.new.jobs ≤ length world.old.jobs + 1 }
+{
+    let command = Command::Consolidate {
+        from: 0,
+        to: 3,
+        limits: Limits { min: 2, max: 64 },
+    };
+    spawn(rt, alloc, world, command, 3, id)
+}
+
+// A world with its array, made by the actor 0, writes of 1 at 1 and of 2 at 2 by the actors 1 and 2,
+// stamped so, and two consolidators, the actors 3 and 4. Each has its number and 1 as identifier.
+fn merged_twice<R: Threads + Sync>(rt: &R, alloc: Global) -> Result<World<PlainPieces>, Fail>
+    ensures past { IfOk result (λ world. world.past ≡ []) }
+    ensures few { IfOk result (λ world. length world.jobs ≤ 5) }
+{
+    let mut world = first_world(alloc);
+    spawn(rt, alloc, &mut world, create(alloc)?, 0, 1)?;
+    spawn(rt, alloc, &mut world, write(alloc, 1, 1)?, 1, 2)?;
+    spawn(rt, alloc, &mut world, write(alloc, 2, 2)?, 2, 3)?;
+    consolidate(rt, alloc, &mut world, 4)?;
+    consolidate(rt, alloc, &mut world, 5)?;
+    Ok(world)
+}
+
+// Lets the two consolidators make calls in turn.
+fn take_turns<R: Threads + Sync>(
+    rt: &R,
+    alloc: Global,
+    world: &mut World<PlainPieces>,
+) -> Result<(), WorldFault> {
+    for _ in 0..99_u64 {
+        for actor in [3, 4] {
+            if world.answer_of(actor).is_none() {
+                world.step(rt, alloc, Event::Step(actor, Fate::Done))?;
+            }
+        }
+    }
+    Ok(())
+}
+
+#[test]
+fn what_two_consolidations_merged_shows_once(rt: HostRuntime) -> Result<(), Fail> {
+    let alloc = rt.alloc();
+    let mut world = merged_twice(&rt, alloc)?;
+    read(&rt, alloc, &mut world, 6)?;
+    for actor in 0..3 {
+        finish(&rt, alloc, &mut world, actor)?;
+    }
+    take_turns(&rt, alloc, &mut world)?;
+    finish(&rt, alloc, &mut world, 5)?;
+    for (actor, id) in [(3, 4), (4, 5)] {
+        let merged = FragKey {
+            t1: 1,
+            t2: 2,
+            id,
+            v: 1,
+        };
+        assert_eq!(rt;
+            world.answer_of(actor),
+            Some(&Outcome::Consolidated(merged, 2))
+        );
+    }
+    assert!(rt; has_read(alloc, &world, 5, &[[1, 1], [2, 2]])?);
+    Ok(())
+}
+
+// ---- random schedules
+
+/// How many schedules are tried.
+const SCHEDULES: u64 = 100;
+
+/// The number of the reader that runs beside the others.
+const BESIDE: u32 = 7;
+
+/// The number of the reader that runs after the others.
+const AFTER: u32 = 8;
+
+/// The identifier of the write that runs beside the others.
+const FURTHER: u128 = 7;
+
+// Numbers that look random: a linear congruential generator.
+#[derive(Drop)]
+struct Dice {
+    state: u64,
+}
+
+impl Dice {
+    // A number below this one.
+    fn roll(&mut self, sides: u64) -> u64
+        requires { 0 < sides }
+        ensures { result < sides }
+    {
+        self.state = self
+            .state
+            .wrapping_mul(6_364_136_223_846_793_005)
+            .wrapping_add(1_442_695_040_888_963_407);
+        (self.state >> 33) % sides
+    }
+}
+
+// A world of nine actors: its create; writes of 1 at 1, 2 at 2 and 3 at 1, stamped 1, 2 and 3; two
+// consolidators; a write of 4 at 5, stamped 3; and two readers.
+fn crowd<R: Threads + Sync>(rt: &R, alloc: Global) -> Result<World<PlainPieces>, Fail> {
+    let mut world = first_world(alloc);
+    spawn(rt, alloc, &mut world, create(alloc)?, 0, 1)?;
+    spawn(rt, alloc, &mut world, write(alloc, 1, 1)?, 1, 2)?;
+    spawn(rt, alloc, &mut world, write(alloc, 2, 2)?, 2, 3)?;
+    spawn(rt, alloc, &mut world, write(alloc, 1, 3)?, 3, 4)?;
+    consolidate(rt, alloc, &mut world, 5)?;
+    consolidate(rt, alloc, &mut world, 6)?;
+    spawn(rt, alloc, &mut world, write(alloc, 5, 4)?, 3, FURTHER)?;
+    read(rt, alloc, &mut world, 8)?;
+    read(rt, alloc, &mut world, 9)?;
+    Ok(world)
+}
+
+// The next call of the actor, which fails at times, and at times is its last.
+fn some_call(dice: &mut Dice, actor: u32) -> Event
+    ensures { (w : WorldView) → MayCome w result }
+{
+    match dice.roll(200) {
+        0 => Event::Step(actor, Fate::FailedDone),
+        1 => Event::Step(actor, Fate::FailedSkipped),
+        2 => Event::Stop(actor, Fate::Done),
+        3 => Event::Stop(actor, Fate::FailedSkipped),
+        _ => Event::Step(actor, Fate::Done),
+    }
+}
+
+// Lets the actors from the first consolidator to the first reader make calls, in a random order and
+// with random fates, until none runs. In some schedules one actor makes many calls before another
+// has its turn.
+fn shuffle<R: Threads + Sync>(
+    rt: &R,
+    alloc: Global,
+    world: &mut World<PlainPieces>,
+    dice: &mut Dice,
+) -> Result<(), Fail> {
+    let mut running = Vec::from_array(alloc, [4, 5, 6, BESIDE])?;
+    let patience = dice.roll(32) + 1;
+    let mut turn = 0;
+    for _ in 0..9_999_u64 {
+        let count = running.len();
+        if count == 0 {
+            return Ok(());
+        }
+        if dice.roll(patience) == 0 {
+            turn = dice.roll(count as u64) as usize;
+        }
+        let place = turn % count;
+        match world.step(rt, alloc, some_call(dice, running[place])) {
+            Ok(()) => {}
+            Err(WorldFault::NoActor(_)) => {
+                running.swap_remove(place);
+            }
+            Err(_) => return Err(Fail::from("an event")),
+        }
+    }
+    Err(Fail::from("an end"))
+}
+
+// A random schedule: first the create and the writes, and last a read, with no fault.
+fn play<R: Threads + Sync>(rt: &R, alloc: Global, seed: u64) -> Result<World<PlainPieces>, Fail> {
+    let mut dice = Dice { state: seed };
+    let mut world = crowd(rt, alloc)?;
+    for actor in 0..4 {
+        finish(rt, alloc, &mut world, actor)?;
+    }
+    shuffle(rt, alloc, &mut world, &mut dice)?;
+    finish(rt, alloc, &mut world, AFTER)?;
+    Ok(world)
+}
+
+// ---- what readers must find
+
+/// The histories that a reader can see: without the further write, and with it.
+#[derive(Drop)]
+struct Histories {
+    without: History,
+    with: History,
+}
+
+fn frame(alloc: Global) -> Result<Frame, Fail> {
+    let made = Frame {
+        dense: false,
+        domain: Domain::new(&[dim(label("x")?)])?,
+        cell: Order::Row,
+        tile: Order::Row,
+        capacity: 4,
+    };
+    Ok(Frame::decode(made.encode(alloc)?.as_slice())?)
+}
+
+/// The key of the create.
+const FIRST: Key = Key { t: 0, id: 1 };
+
+fn schema(alloc: Global) -> Result<Schema, Fail> {
+    let mut attrs = AttrList::new(alloc);
+    attrs.push(attr(label("v")?))?;
+    let made = Schema { key: FIRST, attrs };
+    Ok(Schema::decode(alloc, FIRST, made.encode(alloc)?.as_slice())?)
+}
+
+// A write of v at x.
+fn wrote(alloc: Global, t: u64, id: u128, x: i128, v: i128) -> Result<Deed, OutOfMemory> {
+    let mut row = Row::new(alloc);
+    row.push(Val::Int(v))?;
+    let mut cells = CellList::new(alloc);
+    cells.push(Cell {
+        coords: Coords::new(&[x]),
+        row,
+    })?;
+    Ok(Deed::Wrote(Written {
+        key: Key { t, id },
+        schema: FIRST,
+        cells,
+    }))
+}
+
+// The history of the array.
+fn written(alloc: Global, frame: &Frame, schema: Schema) -> Result<History, Fail> {
+    let mut deeds = History::new(alloc);
+    deeds.push(Deed::Framed(*frame))?;
+    deeds.push(Deed::Declared(schema))?;
+    deeds.push(wrote(alloc, 1, 2, 1, 1)?)?;
+    deeds.push(wrote(alloc, 2, 3, 2, 2)?)?;
+    deeds.push(wrote(alloc, 3, 4, 1, 3)?)?;
+    deeds.push(wrote(alloc, 3, FURTHER, 5, 4)?)?;
+    Ok(deeds)
+}
+
+// The history of the array with all writes.
+fn history(alloc: Global) -> Result<History, Fail> {
+    let (frame, schema) = (frame(alloc)?, schema(alloc)?);
+    written(alloc, &frame, schema)
+}
+
+// The histories that a reader can see.
+fn both_histories(alloc: Global) -> Result<Histories, Fail> {
+    let with = history(alloc)?;
+    let mut without = history(alloc)?;
+    drop(without.pop());
+    Ok(Histories { without, with })
+}
+
+// Whether the further write was committed before the reader listed the commits.
+fn sees_further(journal: &[Entry], reader: u32) -> bool {
+    for entry in journal {
+        match &entry.call {
+            Call::Put(Name::Commit(frag, CommitKind::Wrt), _) => {
+                if frag.id == FURTHER && entry.fate.took_effect() {
+                    return true;
+                }
+            }
+            Call::List(Prefix::Commits) => {
+                if entry.lane == reader {
+                    return false;
+                }
+            }
+            _ => {}
+        }
+    }
+    false
+}
+
+// Whether a call of the actor failed.
+fn has_failed(journal: &[Entry], actor: u32) -> bool {
+    journal
+        .iter()
+        .any(|entry| entry.lane == actor && entry.fate != Fate::Done)
+}
+
+// Whether the reader ended as a plain look through the history has it that it saw.
+fn found_all(
+    alloc: Global,
+    world: &World<PlainPieces>,
+    reader: u32,
+    histories: &Histories,
+) -> Result<bool, Fail> {
+    let seen = if sees_further(world.journal().as_slice(), reader) {
+        &histories.with
+    } else {
+        &histories.without
+    };
+    let wanted = reference(alloc, seen, &histories.with, 0, 9, &everything(alloc))?;
+    Ok(world.answer_of(reader) == Some(&wanted))
+}
+
+// Whether the reader ended as it may: it found all that it saw, a call of its own failed, or it was
+// dropped.
+fn ends_well(
+    alloc: Global,
+    world: &World<PlainPieces>,
+    reader: u32,
+    histories: &Histories,
+) -> Result<bool, Fail> {
+    match world.answer_of(reader) {
+        None => Ok(true),
+        Some(Outcome::Refused(Refusal::StoreFault(_))) => {
+            Ok(has_failed(world.journal().as_slice(), reader))
+        }
+        Some(_) => found_all(alloc, world, reader, histories),
+    }
+}
+
+// Whether the actor ended with an answer.
+fn is_answered(world: &World<PlainPieces>, actor: u32) -> bool {
+    matches!(
+        world.answer_of(actor),
+        Some(Outcome::Read(_) | Outcome::Consolidated(_, _))
+    )
+}
+
+#[test]
+fn readers_find_what_was_written_whatever_consolidations_do(rt: HostRuntime) -> Result<(), Fail> {
+    let alloc = rt.alloc();
+    let histories = both_histories(alloc)?;
+    let mut answers = 0_u64;
+    for seed in 0..SCHEDULES {
+        let world = play(&rt, alloc, seed)?;
+        for reader in [BESIDE, AFTER] {
+            assert!(rt;
+                ends_well(alloc, &world, reader, &histories)?,
+                "reader {reader} with the seed {seed}"
+            );
+        }
+        assert!(rt; is_answered(&world, AFTER), "the seed {seed}");
+        if is_answered(&world, BESIDE) && is_answered(&world, 4) {
+            answers = answers.saturating_add(1);
+        }
+    }
+    assert!(rt; answers > SCHEDULES / 10);
+    Ok(())
+}
