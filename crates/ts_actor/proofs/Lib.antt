@@ -4,3 +4,4 @@ pub mod JobRuns
 pub mod Below
 pub mod Collected
 pub mod Newer
+pub mod Rising

@@ -1,33 +1,30 @@
 -- Where a machine's calls have led its job, and what it ends with.
-use Rattle.std.proofs.Common.{◌≡◌, ◌≢◌, Bool, true, false, cond, not, ◌&&◌, ◌||◌, ◌<◌, ◌≤◌, ◌+◌, ℕ, arith, inl, inr, List, [], ◌∷◌, ◌++◌, Option, Some, None, Result, Ok, Err, refl, sym, ◌∙◌, ap, subst, IfOk}
-use Rattle.std.specs.Prelude.{IfSome, OnErr}
+use Rattle.std.proofs.Common.{◌≡◌, Bool, true, false, cond, not, ◌&&◌, ◌||◌, ◌<◌, ◌+◌, ℕ, arith, inl, inr, List, [], ◌∷◌, ◌++◌, Option, Some, None, refl, sym, ◌∙◌, ap, subst}
+use Rattle.std.specs.Prelude.{IfSome}
 use Rattle.std.specs.Option.{is_some, option_map_or}
 use Rattle.std.proofs.lemmas.Bool.{true≢false}
 use Rattle.std.proofs.lemmas.Option.{none-some, same_Some}
 use Rattle.ts_base.specs.Exact.{name_decides}
-use Rattle.ts_base.specs.declared.lists.OutOfMemory.{OutOfMemory}
 use Rattle.ts_base.specs.declared.names.Name.{Name}
 use Rattle.ts_store.specs.declared.call.Call.{Call}
 use Rattle.ts_store.specs.declared.call.Call.TheVariants as call
 use Rattle.ts_store.specs.declared.call.Reply.{Reply}
 use Rattle.ts_model.specs.Codecs.{Codec}
 use Rattle.ts_model.specs.declared.commands.Job.{Job}
-use Rattle.ts_model.specs.declared.answers.Outcome.{Outcome}
 use Rattle.ts_model.specs.declared.answers.Outcome.TheVariants as outcome
 use Rattle.ts_model.specs.declared.states.State.{State}
 use Rattle.ts_model.specs.declared.states.State.TheVariants.{Over}
 use Rattle.ts_model.specs.declared.states.Stage.{Stage}
 use Rattle.ts_model.specs.declared.states.Stage.TheVariants.{ListsLeases, PutsLease, Releases, Works}
-use Rattle.ts_model.specs.States.{Exchange, asks, begun, goes, is_over, takes_memory}
-use Rattle.ts_model.specs.Stages.{end_at, first_stage, goes_on, holds_lease, is_done, is_leased, is_release, is_removal, lease_of, list_leases, after_lease, after_leases, on_verdict, released, releases, settled, stage_asks, stage_from, stage_goes, stage_of, stage_takes_memory}
-use Rattle.ts_model.specs.Driven.{EndsBy, MayAsk, MayLack, lacks_after, lacks_from}
-use Rattle.ts_model.proofs.Asked.{no_release}
+use Rattle.ts_model.specs.States.{Exchange, begun, goes, is_over}
+use Rattle.ts_model.specs.Stages.{end_at, first_stage, goes_on, holds_lease, is_done, is_leased, is_release, is_removal, lease_of, list_leases, after_lease, after_leases, on_verdict, released, settled, stage_asks, stage_from, stage_goes, stage_of, stage_takes_memory}
+use Rattle.ts_model.specs.Driven.{EndsBy, MayAsk, lacks_from}
 use Rattle.ts_model.proofs.Lacks.{going_lacks, lacks-push, other_goes, release_ends, reply_lacks}
 use Rattle.ts_model.proofs.Traces.{stage_from-append}
 use Rattle.ts_actor.specs.declared.machine.Phase.{Phase}
 use Rattle.ts_actor.specs.declared.machine.Phase.TheVariants.{New, Going, GivesUp, Ended}
 use Rattle.ts_actor.specs.Fetches.{RemovesNothing}
-use Rattle.ts_actor.specs.Traces.{Trace, asking, exchange, filled, start, CanCome}
+use Rattle.ts_actor.specs.Traces.{Trace, asking, exchange, filled}
 use Rattle.ts_actor.specs.Machines.{Advances, AsksNoRemoval, CanLack, Follows, GivesUpSo, IsAt, IsGivingUp, IsStageOf, IsWorking, KnowsEnds, Next, stage_left}
 use Rattle.ts_lease.specs.Leases.{verdict_in}
 use Rattle.ts_lease.specs.declared.verdicts.Verdict.{Verdict}

@@ -10,4 +10,7 @@ pub mod PlainMerges
 pub mod PlainSources
 pub mod PlainLaws
 pub mod PlainHeads
+pub mod PlainStores
 pub mod Newest
+pub mod Listings
+pub mod Known

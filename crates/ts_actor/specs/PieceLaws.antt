@@ -23,8 +23,12 @@ use Rattle.ts_schema.specs.Parts.{Look, Got, Sized, look_in, IsShort}
 use Rattle.ts_schema.specs.Wants.{taken}
 use Rattle.ts_plain.specs.Merges.{IsOrdered}
 use Rattle.ts_model.specs.Codecs.{Codec, Spelled, Stepped, Asks, Takes, Breaks, SpeaksOf}
+use Rattle.ts_base.specs.Names.{IsSpelledFrag}
+use Rattle.ts_schema.specs.FrameTexts.{IsFrame}
+use Rattle.ts_schema.specs.SchemaTexts.{AreAttrs}
 use Rattle.ts_model.specs.Pieces.{IsOrdinary}
-use Rattle.ts_model.specs.Consolidated.{IsConsolidated}
+use Rattle.ts_model.specs.Consolidated.{IsConsolidated, IsStorable}
+use Rattle.ts_model.specs.States.{all_of}
 
 -- what was got of the parts, and the sizes that were told, break the grammar first in a part at an offset
 abbrev pub Off : Type 1
@@ -111,6 +115,12 @@ AsksOwn {F} codec = (frame : Frame) (s : Schema) (frag : FragKey) (object : List
 abbrev pub TakesOrdered : {F : Type 0} → Codec F → Type 0
 TakesOrdered {F} codec = (frame : Frame) (s : Schema) (frag : FragKey) (object : List ℕ) (want : Want) (gots : List Got) (sizes : List Sized) (versions : List Version)
     → IsBytes object → IsShort object → EndsWith codec frame s frag object want (Takes versions) gots sizes → IsOrdered frame versions
+
+-- whatever replies come, the head of a fragment with all versions that a fetch of all of it takes is a piece that can be written
+abbrev pub TakesStorable : {F : Type 0} → Codec F → Type 0
+TakesStorable {F} codec = (frame : Frame) (s : Schema) (frag : FragKey) (object : List ℕ) (head : Head) (gots : List Got) (sizes : List Sized) (versions : List Version)
+    → IsFrame frame → AreAttrs s.attrs → IsSpelledFrag frag → IsBytes object → IsShort object → codec.head frame frag object ≡ Ok head → head.schema ≡ s.key
+    → EndsWith codec frame s frag object (all_of frame s.attrs) (Takes versions) gots sizes → IsStorable frame s.attrs (record { head = head; versions = versions })
 
 -- where a fetch takes versions at once, the object of the head's part spells a piece of the fragment by itself, and what it takes is what is wanted of that piece; where it takes none at once, it need not have looked at the other parts
 abbrev pub TakesSpelled : {F : Type 0} → Codec F → Spelled → Type 0

@@ -158,7 +158,7 @@ plain_inside sub f r versions (Begun frame s frag object want g same opens) take
 plain_inside sub f r versions (Went g r' h c is asked) takes = absurd (takes_all g h c asked)
 
 -- a fetch makes no call, so it waits for none
-waits_never : (frame : Frame) (s : Schema) (frag : FragKey) (object : List ℕ) (want : Want) (gots : List Got) (sizes : List Sized) (f : List Version) (c : Call) → IsFetchOf plain_codec frame s frag object want gots sizes f c → ⊥
+pub waits_never : (frame : Frame) (s : Schema) (frag : FragKey) (object : List ℕ) (want : Want) (gots : List Got) (sizes : List Sized) (f : List Version) (c : Call) → IsFetchOf plain_codec frame s frag object want gots sizes f c → ⊥
 waits_never frame s frag object want gots sizes f c (First g h d is asked) = takes_all g h d asked
 waits_never frame s frag object want gots sizes f c (Then gs ss g h d e r before may asked) = takes_all g h e asked
 

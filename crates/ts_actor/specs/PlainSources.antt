@@ -1,6 +1,6 @@
 -- The piece that a plain object holds can be written once more: one write made it, or a consolidation.
 use Rattle.std.proofs.Common.{◌≡◌, ℕ, zero, suc, ◌*◌, ℤ, Bool, true, false, ◌&&◌, nat_lt, List, [], ◌∷◌, ◌++◌, length, map, get_or, Some, inl, inr, refl, sym, ap, ◌∙◌, subst, arith}
-use Rattle.std.specs.Prelude.{IsTrue, Contains, int_le, nat_eq, not, ◌||◌, ◌<◌, ◌≤◌, ◌+◌, ◌⊎◌}
+use Rattle.std.specs.Prelude.{IsTrue, Contains, int_le, nat_eq, not, ◌||◌, ◌<◌, ◌≤◌, ◌+◌}
 use Rattle.std.specs.List.{All, AllByRecursion}
 use Rattle.std.specs.List.Sorted.{IsStrictlySortedBy}
 use Rattle.std.specs.Bool.{beq}
@@ -23,7 +23,7 @@ use Rattle.ts_base.specs.declared.values.Val.{Val}
 use Rattle.ts_base.specs.declared.heads.Head.{Head}
 use Rattle.ts_base.specs.declared.heads.Piece.{Piece}
 use Rattle.ts_base.specs.declared.heads.Version.{Version}
-use Rattle.ts_base.specs.Keys.{key_cmp, key_lt, frag_of}
+use Rattle.ts_base.specs.Keys.{key_cmp, frag_of}
 use Rattle.ts_base.specs.Coords.{coords_eq}
 use Rattle.ts_base.specs.Exact.{key_total}
 use Rattle.ts_domain.specs.declared.dims.Dim.{Dim}

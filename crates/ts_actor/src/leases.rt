@@ -12,16 +12,12 @@ use ts_lease::{Verdict, decide};
 use ts_model::{Command, Job, Outcome, Refusal, Stage, State};
 use ts_store::{Call, Reply};
 
-/// The lease of a job, if it has one: a read shares the store with other reads.
+/// The lease of a job, if it has one: reads and consolidations share the store with one another.
 pub(crate) fn lease_of(job: &Job) -> Option<Name>
     ensures { result ≡ lease_of job.now }
 {
     match &job.command {
-        Command::Read {
-            from: _,
-            to: _,
-            query: _,
-        } => Some(Name::Lease(
+        Command::Read { .. } | Command::Consolidate { .. } => Some(Name::Lease(
             Key {
                 t: job.at,
                 id: job.id,

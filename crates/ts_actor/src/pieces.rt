@@ -13,7 +13,7 @@ ghost use Rattle.ts_plain.specs.Merges.{global_order, LiesInside, VersionsAscend
 ghost use Rattle.ts_store.specs.declared.call.Call.{Call as AnyCall};
 ghost use Rattle.ts_model.specs.Codecs.{Codec, CodecLaws};
 ghost use Rattle.ts_actor.specs.Fetches.{IsStep, FallsAtAsk, AsksSpelled};
-ghost use Rattle.ts_actor.specs.PieceLaws.{SpellsOne, RefusesBroken, OpensUnbroken, TakesInside, TakesOrdered, TakesSpelled, JudgesRight, AsksBounded, AsksOwn, NamesHead, SettlesHeads, WritesOrdinary, WritesConsolidated, WritesWell};
+ghost use Rattle.ts_actor.specs.PieceLaws.{SpellsOne, RefusesBroken, OpensUnbroken, TakesInside, TakesOrdered, TakesSpelled, TakesStorable, JudgesRight, AsksBounded, AsksOwn, NamesHead, SettlesHeads, WritesOrdinary, WritesConsolidated, WritesWell};
 
 use std::alloc::Global;
 use std::thread::Threads;
@@ -168,4 +168,8 @@ pub trait Pieces: Spelling {
     /// Whatever replies come, the versions that a fetch takes lie in the domain and stand in global
     /// order, those of one place by ascending key, so that they can be merged.
     ghost ordered: { TakesOrdered codec };
+
+    /// Whatever replies come, a fragment of which a fetch took all can be written again: its head and
+    /// these versions are a piece that can be written.
+    ghost stores: { TakesStorable codec };
 }

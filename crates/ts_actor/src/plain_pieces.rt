@@ -5,6 +5,7 @@ ghost use Rattle.ts_actor.specs.PlainWrites.{IsPlainStorable, ordinary_storable}
 ghost use Rattle.ts_actor.specs.PlainMerges.{consolidated_storable};
 ghost use Rattle.ts_actor.specs.PlainLaws.{plain_laws, plain_writes, plain_one, plain_broken, plain_whole, plain_judges, plain_own, plain_bounded, plain_inside, plain_ordered, plain_found};
 ghost use Rattle.ts_actor.specs.PlainHeads.{plain_names, plain_settles};
+ghost use Rattle.ts_actor.specs.PlainStores.{plain_stores};
 
 use crate::pieces::{Fetched, Pieces};
 use std::alloc::Global;
@@ -75,6 +76,8 @@ impl Pieces for PlainPieces {
     ghost inside = { plain_inside };
 
     ghost ordered = { plain_ordered };
+
+    ghost stores = { plain_stores };
 
     fn parts(
         alloc: Global,

@@ -183,8 +183,8 @@ fn after_schemas<W: Works>(
     }
 }
 
-// The keys of the schemas of a listing, in its order.
-fn schemas_in(alloc: Global, names: &[Name]) -> Result<KeyList, OutOfMemory>
+/// The keys of the schemas of a listing, in its order.
+pub fn schemas_in(alloc: Global, names: &[Name]) -> Result<KeyList, OutOfMemory>
     ensures { IfOk result (λ keys. keys ≡ schemas_in names.now) }
 {
     let mut keys = KeyList::new(alloc);

@@ -47,6 +47,8 @@ pub mod CourseGrows
 pub mod CourseCalls
 pub mod CourseReads
 pub mod CourseThere
+pub mod CourseLeased
+pub mod CourseMerges
 pub mod CourseJobs
 pub mod CutOff
 pub mod CourseStages

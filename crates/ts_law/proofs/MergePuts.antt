@@ -217,9 +217,11 @@ module _ {F : Type 0} (codec : Codec F) (spelled : Spelled) (tracks : Tracking F
 
     -- an object that commits nothing was put, and the job goes on with the next one
     quiet_came : MarksNone m x.name → ((f : FragKey) → wrt_of f ≡ x.name → ⊥) → suc next < length own_objects → Stands spelled (map.insert m x.name x.bytes) h → CameWith next x
-    quiet_came marks no_commit more stands =
-        (leads, subst (λ b. Claims codec spelled tracks opening past jobs (seen ++ e ∷ []) m' number job (cond b (Puts own_objects (suc next) own_end) (Over own_end))) (sym (lt-ltb (suc next) (length own_objects) more)) putting_on,
-        fault_is_true spelled opening jobs past (seen ++ e ∷ []) number job x.name undone)
+    quiet_came marks no_commit more stands = (
+      leads,
+      subst (λ b. Claims codec spelled tracks opening past jobs (seen ++ e ∷ []) m' number job (cond b (Puts own_objects (suc next) own_end) (Over own_end))) (sym (lt-ltb (suc next) (length own_objects) more)) putting_on,
+      fault_is_true spelled opening jobs past (seen ++ e ∷ []) number job x.name undone,
+    )
       where
         keeps : Keeps m (map.insert m x.name x.bytes) h h job.id
         keeps = subst (λ g. Keeps m (map.insert m x.name x.bytes) h g job.id) (append-nil h)

@@ -1,9 +1,7 @@
 pub mod BoxSlots
-pub mod Collected
 pub mod Erased
 pub mod Inside
 pub mod Leads
 pub mod Merged
 pub mod Newer
-pub mod Rising
 pub mod QueryLaws

@@ -7,7 +7,7 @@ use Rattle.ts_base.specs.declared.names.Name.{Name}
 use Rattle.ts_commit.specs.Selections.{is_among}
 use Rattle.ts_model.specs.declared.states.Opened.{Opened}
 use Rattle.ts_model.specs.States.{committed_in, counting_in, opened_among}
-use Rattle.ts_reader.specs.Deletes.{frag_in}
+use Rattle.ts_actor.specs.Listings.{frag_in}
 
 -- two tests that agree pass the same
 filter_alike : {X : Type 0} (p q : X → Bool) (xs : List X) → ((x : X) → p x ≡ q x) → filter p xs ≡ filter q xs

@@ -1,11 +1,7 @@
 -- Deletes over the rows of known schemas: where each finds its fields, and what is left.
-use Rattle.std.specs.Prelude.{ℤ, Bool, ◌&&◌, cond, not, List, [], ◌∷◌, Option, None, filter, map as list_map}
+use Rattle.std.specs.Prelude.{ℤ, Bool, ◌&&◌, cond, not, List, [], ◌∷◌, filter, map as list_map}
 use Rattle.std.specs.List.{list_any}
-use Rattle.ts_base.specs.declared.keys.FragKey.{FragKey}
 use Rattle.ts_base.specs.declared.heads.Version.{Version}
-use Rattle.ts_base.specs.declared.names.CommitKind.{CommitKind}
-use Rattle.ts_base.specs.declared.names.CommitKind.TheVariants.{Wrt, Del, Vac}
-use Rattle.ts_base.specs.declared.names.Name.{Name}
 use Rattle.ts_base.specs.declared.values.Val.{Val}
 use Rattle.ts_base.specs.Keys.{key_lt}
 use Rattle.ts_schema.specs.declared.attrs.Attr.{Attr}
@@ -16,15 +12,9 @@ use Rattle.ts_cond.specs.Picks.{matches, picks_of}
 use Rattle.ts_model.specs.declared.deeds.Deletion.{Deletion}
 use Rattle.ts_model.specs.declared.states.Reading.{Reading}
 use Rattle.ts_model.specs.Queries.{attr_fields}
-use Rattle.ts_model.specs.States.{cell_shown, del_in, is_erased_by, vac_in, wrt_in}
+use Rattle.ts_model.specs.States.{cell_shown, is_erased_by}
 use Rattle.ts_reader.specs.declared.bindings.Binding.{Binding}
 use Rattle.ts_reader.specs.declared.bindings.Bindings.{Bindings}
-
--- the fragment or the delete that an object of this kind names
-abbrev pub frag_in : CommitKind → Name → Option FragKey
-frag_in Wrt name = wrt_in name
-frag_in Del name = del_in name
-frag_in Vac name = vac_in name
 
 -- where each delete finds its fields in rows of these attributes
 abbrev pub picks_under : List Attr → List Deletion → List (List Pick)

@@ -1,13 +1,6 @@
 -- Reads: the states in which a read can be.
-use Rattle.std.specs.Prelude.{◌≡◌, ℕ, ◌+◌, ◌*◌, ◌-◌, ◌^◌, ◌<◌, ◌≤◌, true, List, length, take, suc, All, ⊤, map as list_map}
-use Rattle.std.specs.List.Sorted.{IsStrictlySortedBy}
-use Rattle.ts_base.specs.declared.keys.FragKey.{FragKey}
-use Rattle.ts_base.specs.declared.keys.Key.{Key}
-use Rattle.ts_base.specs.Keys.{key_cmp}
-use Rattle.ts_base.specs.declared.names.CommitKind.{CommitKind}
-use Rattle.ts_base.specs.declared.names.CommitKind.TheVariants.{Del, Vac}
-use Rattle.ts_base.specs.declared.names.Name.TheVariants as name
-use Rattle.ts_base.specs.Names.{IsSpelled, IsSpelledFrag}
+use Rattle.std.specs.Prelude.{◌≡◌, ℕ, ◌+◌, ◌*◌, ◌-◌, ◌^◌, ◌<◌, ◌≤◌, true, List, length, suc, All, ⊤}
+use Rattle.ts_base.specs.Names.{IsSpelledFrag}
 use Rattle.ts_base.specs.declared.heads.Stop.TheVariants.{Never}
 use Rattle.ts_base.specs.declared.heads.Version.{Version}
 use Rattle.ts_domain.specs.Boxes.{IsBox, Covers, cells_of}
@@ -32,6 +25,8 @@ use Rattle.ts_model.specs.Jobs.{IsFit}
 use Rattle.ts_model.specs.Queries.{most_cells}
 use Rattle.ts_actor.specs.PieceLaws.{AreInBox, IsFetchIn}
 use Rattle.ts_actor.specs.Seeks.{MaySeek, state_left}
+use Rattle.ts_actor.specs.Listings.{IsSpelledDelete, IsSpelledVac, AreSpelled}
+use Rattle.ts_actor.specs.Known.{AreRising, AreFirst}
 
 -- the command is a read
 abbrev pub IsRead : Command → Type 0
@@ -41,18 +36,6 @@ IsRead _ = ⊥
 -- the job is one that there can be, and its command is a read
 abbrev pub IsReadJob : Job → Type 0
 IsReadJob job = IsFit job × IsRead job.command
-
--- the object of this kind has a spelling
-abbrev pub IsSpelledAs : CommitKind → FragKey → Type 0
-IsSpelledAs kind f = IsSpelled (name.Commit f kind)
-
--- the object of a delete has a spelling
-abbrev pub IsSpelledDelete : FragKey → Type 0
-IsSpelledDelete f = IsSpelledAs Del f
-
--- the `.vac` of a fragment has a spelling
-abbrev pub IsSpelledVac : FragKey → Type 0
-IsSpelledVac f = IsSpelledAs Vac f
 
 -- what a read looks into has spellings
 pub record AreListed (listed : Listed) : Type 0 where
@@ -71,19 +54,6 @@ pub record IsReading (r : Reading) : Type 0 where
   pub fragments : All IsSpelledFrag r.fragments
   pub counting : All IsSpelledVac r.counting
   pub deletes : All IsSpelledDelete r.delete_names
-
--- the fragments have spellings
-abbrev pub AreSpelled : List Opened → Type 0
-AreSpelled opened = All (λ o. IsSpelledFrag o.frag) opened
-
--- the keys of the schemas strictly rise
-abbrev pub AreRising : List Schema → Type 0
-AreRising schemas = IsStrictlySortedBy key_cmp (list_map (λ s. s.key) schemas)
-
--- the schemas are those of the first keys, and the keys strictly rise
-pub record AreFirst (keys : List Key) (schemas : List Schema) : Type 0 where
-  pub rise : IsStrictlySortedBy key_cmp keys
-  pub first : list_map (λ s. s.key) schemas ≡ take (length schemas) keys
 
 -- a read that is at the fragments has opened them, and knows the further schemas
 pub record IsKnown (r : Reading) (opened : List Opened) (schemas : List Schema) : Type 0 where

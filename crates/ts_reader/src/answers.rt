@@ -5,7 +5,8 @@ ghost use Rattle.ts_actor.specs.PieceLaws.{AreInBox};
 ghost use Rattle.ts_model.specs.Selections.{placed};
 ghost use Rattle.ts_model.specs.States.{answer_of, cells_filled, cells_left, cells_shown, row_or_fill};
 ghost use Rattle.ts_reader.specs.Deletes.{one_shown, picks_under, bindings_of};
-ghost use Rattle.ts_reader.specs.Reading.{AreRising, IsReading};
+ghost use Rattle.ts_reader.specs.Reading.{IsReading};
+ghost use Rattle.ts_actor.specs.Known.{AreRising};
 
 use crate::bindings::{Binding, Bindings, binding_at, bindings_of, is_erased};
 use crate::slots::slots_of;

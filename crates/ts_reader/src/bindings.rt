@@ -3,13 +3,13 @@ ghost use Rattle.std.specs.Prelude.{◌≡◌, ◌<◌, ◌^◌, List, length, m
 ghost use Rattle.ts_model.specs.Queries.{attr_fields};
 ghost use Rattle.ts_model.specs.States.{known_attrs};
 ghost use Rattle.ts_reader.specs.Deletes.{erases, picks_under, binding_of, bindings_of};
-ghost use Rattle.ts_reader.specs.Reading.{AreRising};
+ghost use Rattle.ts_actor.specs.Known.{AreRising};
 ghost use Rattle.std.specs.List.{list_any};
 ghost use Rattle.ts_cond.specs.Picks.{picks_of};
 ghost use Rattle.ts_schema.specs.declared.attrs.Attr.{Attr as AnyAttr};
 
-use crate::known::search;
 use std::alloc::Global;
+use ts_actor::search_schemas;
 use ts_base::{Duplicate, Key, OutOfMemory, Sequence, Version};
 use ts_cond::{CondFieldList, PickList};
 use ts_model::{Deletion, DeletionList, Reading, attr_fields};
@@ -128,7 +128,7 @@ pub(crate) fn binding_at<'a>(
     if key == reading.there.key {
         return &bindings.there;
     }
-    match search(schemas.as_slice(), key) {
+    match search_schemas(schemas.as_slice(), key) {
         Ok(place) => bindings.further.at(place as u64),
         Err(_) => &bindings.unknown,
     }

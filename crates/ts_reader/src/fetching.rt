@@ -5,7 +5,8 @@ ghost use Rattle.ts_actor.specs.Fetches.{IsWorkCall};
 ghost use Rattle.ts_model.specs.States.{after_fetched, fetch_leads, fetching, known_schema};
 ghost use Rattle.ts_domain.specs.declared.boxes.SubBox.{SubBox as AnyBox};
 ghost use Rattle.ts_actor.specs.PieceLaws.{AreInBox, IsFetchIn};
-ghost use Rattle.ts_reader.specs.Reading.{AreRising, IsFetching, IsKnown, IsReadState, fetches_left, reads_left};
+ghost use Rattle.ts_reader.specs.Reading.{IsFetching, IsKnown, IsReadState, fetches_left, reads_left};
+ghost use Rattle.ts_actor.specs.Known.{AreRising};
 ghost use Rattle.ts_reader.specs.Fetching.{AsksSpelled, HasFewer, LeadsInside, step_by, step_in};
 
 use crate::answers::answer_of;

@@ -2,12 +2,13 @@
 ghost use Rattle.std.specs.Prelude.{◌≡◌, IfOk, All};
 ghost use Rattle.ts_model.specs.States.{heads_of, loaded_of, opened_among, with_clipped};
 ghost use Rattle.ts_commit.specs.Selections.{clipped_names};
-ghost use Rattle.ts_reader.specs.Reading.{AreSpelled};
+ghost use Rattle.ts_actor.specs.Listings.{AreSpelled};
 
 use std::alloc::Global;
-use ts_base::{FragList, HeadList, OutOfMemory};
-use ts_commit::{Selection, selection_of, set_of};
-use ts_model::{Opened, OpenedList, Reading};
+use ts_actor::{heads_of, opened_among};
+use ts_base::{FragList, OutOfMemory};
+use ts_commit::{Selection, selection_of};
+use ts_model::{OpenedList, Reading};
 
 /// What a read reads, and the fragments that it loads.
 #[derive(Drop)]
@@ -42,35 +43,6 @@ pub(crate) fn choose(
         reading: with_clipped(reading, clipped),
         chosen,
     })
-}
-
-// The heads of open fragments.
-fn heads_of(alloc: Global, opened: &[Opened]) -> Result<HeadList, OutOfMemory>
-    ensures { IfOk result (λ heads. heads ≡ heads_of opened.now) }
-{
-    let mut heads = HeadList::new(alloc);
-    for one in opened {
-        heads.push(one.head.clone()?)?;
-    }
-    Ok(heads)
-}
-
-// Those of the open fragments that are among these.
-fn opened_among(
-    alloc: Global,
-    frags: &FragList,
-    opened: OpenedList,
-) -> Result<OpenedList, OutOfMemory>
-    ensures { IfOk result (λ chosen. chosen ≡ opened_among frags.now opened) }
-{
-    let set = set_of(alloc, frags.as_slice())?;
-    let mut chosen = OpenedList::new(alloc);
-    for one in opened.into_vec() {
-        if set.contains(&one.frag) {
-            chosen.push(one)?;
-        }
-    }
-    Ok(chosen)
 }
 
 // A read that knows which fragments are clipped.

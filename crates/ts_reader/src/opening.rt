@@ -7,7 +7,9 @@ ghost use Rattle.ts_model.specs.Queries.{ready_in};
 ghost use Rattle.ts_model.specs.Selections.{IsNamedBox};
 ghost use Rattle.ts_model.specs.States.{after_head, after_schema, asks_for, gathering, get_head, get_schema, heads_of, loaded_of, loads, on_bytes, opened_among, opening, with_clipped, with_item, works};
 ghost use Rattle.ts_commit.specs.Selections.{clipped_names};
-ghost use Rattle.ts_reader.specs.Reading.{AreFirst, AreListed, AreSpelled, IsReadJob, IsReadState, IsReading, reads_left};
+ghost use Rattle.ts_reader.specs.Reading.{AreListed, IsReadJob, IsReadState, IsReading, reads_left};
+ghost use Rattle.ts_actor.specs.Listings.{AreSpelled};
+ghost use Rattle.ts_actor.specs.Known.{AreFirst};
 
 use crate::ends::{damaged, ended};
 use crate::fetching::Gathered;

@@ -1,11 +1,11 @@
 //! How a read goes: the call that it makes next, and where the reply leads it.
 ghost use Rattle.std.specs.Prelude.{◌≡◌, ◌≢◌, ◌<◌, true, None, option_map, slice_get, length, All, IfOk, IfSome, OnErr};
-ghost use Rattle.ts_base.specs.Names.{IsSpelledFrag};
 ghost use Rattle.std.specs.Thread.{IsSync};
 ghost use Rattle.ts_store.specs.Calls.{IsSpelledReply};
 ghost use Rattle.ts_actor.specs.Fetches.{IsWorkCall};
-ghost use Rattle.ts_model.specs.States.{asks, collect_asks, collect_goes, get_delete, get_head, get_schema, get_vac, goes, takes_memory};
-ghost use Rattle.ts_reader.specs.Reading.{AreListed, IsCollecting, IsReadJob, IsReadState, IsSpelledDelete, IsSpelledVac, MayCollect, MayRead, collect_left, collects_left, reads_left};
+ghost use Rattle.ts_model.specs.States.{asks, collect_asks, collect_goes, get_delete, goes, takes_memory};
+ghost use Rattle.ts_reader.specs.Reading.{AreListed, IsCollecting, IsReadJob, IsReadState, MayCollect, MayRead, collect_left, collects_left, reads_left};
+ghost use Rattle.ts_actor.specs.Listings.{IsSpelledDelete};
 
 use crate::fetching::{Gathered, OngoingFetch, after_fetched};
 use crate::getting_deletes::after_delete_reply;
@@ -15,10 +15,12 @@ use crate::opening::{after_further, after_head_reply, begin_reading};
 use std::alloc::Global;
 use std::marker::PhantomData;
 use std::thread::Threads;
-use ts_actor::{Automaton, Pieces, Works, ask_seeking, get_all, go_seeking};
-use ts_base::{CommitKind, Duplicate, KeyList, Name, OutOfMemory};
-use ts_model::{Collecting, Command, Job, Listed, OpenedList, Reading, Seeking, State};
-use ts_schema::{Frame, Schema, SchemaList};
+use ts_actor::{
+    Automaton, Pieces, Works, ask_seeking, get_all, go_seeking, head_asked, schema_asked, vac_asked,
+};
+use ts_base::{CommitKind, Duplicate, Name, OutOfMemory};
+use ts_model::{Collecting, Command, Job, Listed, Reading, Seeking, State};
+use ts_schema::{Frame, Schema};
 use ts_store::{Call, Reply};
 
 /// The automaton of reads, where pieces are read so.
@@ -130,14 +132,14 @@ fn ask_collecting<P: Pieces>(
     ensures spelled { IfOk result (λ call. IfSome call IsWorkCall) }
 {
     match collecting {
-        Collecting::GetsVacs { reading } => Ok(vac_asked(reading)),
-        Collecting::GetsHeads { reading, opened } => Ok(head_asked::<P>(reading, opened)),
+        Collecting::GetsVacs { reading } => Ok(vac_asked(&reading.counting, reading.vacs.len())),
+        Collecting::GetsHeads { reading, opened } => Ok(head_asked::<P>(&reading.frame, &reading.fragments, opened.len())),
         Collecting::GetsSchemas {
             reading: _,
             opened: _,
             keys,
             schemas,
-        } => Ok(schema_asked(keys, schemas)),
+        } => Ok(schema_asked(keys, schemas.len())),
         Collecting::GetsDeletes {
             reading,
             opened: _,
@@ -223,49 +225,6 @@ fn go_collecting<P: Pieces, R: Threads + Sync>(
             };
             after_fetched::<P, R>(rt, alloc, gathered, ongoing, asked, reply)
         }
-    }
-}
-
-// The get of the next `.vac`, if there is one.
-fn vac_asked(reading: &Reading) -> Option<Call>
-    requires { All IsSpelledVac reading.now.counting }
-    ensures is { result ≡ option_map get_vac (slice_get reading.now.counting (length reading.now.vacs)) }
-    ensures spelled { IfSome result IsWorkCall }
-{
-    let place = reading.vacs.len();
-    if place < reading.counting.len() {
-        let name = Name::Commit(*reading.counting.at(place), CommitKind::Vac);
-        Some(get_all(name))
-    } else {
-        None
-    }
-}
-
-// The get of the part that has the head of the next fragment, if there is one.
-fn head_asked<P: Pieces>(reading: &Reading, opened: &OpenedList) -> Option<Call>
-    requires { All IsSpelledFrag reading.now.fragments }
-    ensures is { result ≡ option_map (get_head P.codec reading.now) (slice_get reading.now.fragments (length opened.now)) }
-    ensures spelled { IfSome result IsWorkCall }
-{
-    let place = opened.len();
-    if place < reading.fragments.len() {
-        let part = P::head_part(&reading.frame);
-        Some(get_all(Name::Part(*reading.fragments.at(place), part)))
-    } else {
-        None
-    }
-}
-
-// The get of the next further schema, if there is one.
-fn schema_asked(keys: &KeyList, schemas: &SchemaList) -> Option<Call>
-    ensures is { result ≡ option_map get_schema (slice_get keys.now (length schemas.now)) }
-    ensures spelled { IfSome result IsWorkCall }
-{
-    let place = schemas.len();
-    if place < keys.len() {
-        Some(get_all(Name::Schema(*keys.at(place))))
-    } else {
-        None
     }
 }
 

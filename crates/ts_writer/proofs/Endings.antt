@@ -7,7 +7,7 @@ use Rattle.ts_store.specs.declared.call.Reply.{Reply}
 use Rattle.ts_store.specs.declared.call.Reply.TheVariants as reply
 use Rattle.ts_model.specs.declared.commands.Job.{Job}
 use Rattle.ts_model.specs.declared.states.State.{State}
-use Rattle.ts_model.specs.declared.states.State.TheVariants.{Creates, Seeks, Puts, Collects, Over}
+use Rattle.ts_model.specs.declared.states.State.TheVariants.{Creates, Seeks, Puts, Collects, Merges, Over}
 use Rattle.ts_model.specs.declared.states.Creating.TheVariants.{PutsFrame, ComparesFrame}
 use Rattle.ts_model.specs.States.{asks, on_made, on_bytes, ended, with_item, after_frame, frame_put, made_by, goes, get_frame, put_of, putting}
 use Rattle.ts_model.specs.declared.states.NewObject.{NewObject}
@@ -54,6 +54,7 @@ none_left (Creates s) over = absurd over
 none_left (Seeks s) over = absurd over
 none_left (Puts objects next end) over = absurd over
 none_left (Collects s) over = absurd over
+none_left (Merges s) over = absurd over
 
 -- each job can be over
 pub over_puts : {F : Type 0} (s : State F) → IsOver s → IsPutState s
@@ -62,6 +63,7 @@ over_puts (Creates s) over = over
 over_puts (Seeks s) over = over
 over_puts (Puts objects next end) over = absurd over
 over_puts (Collects s) over = over
+over_puts (Merges s) over = over
 
 -- a create can put its objects
 pub create_puts : {F : Type 0} (job : Job) (s : State F) → IsPutState s → IsCreateState job s
@@ -70,6 +72,7 @@ create_puts job (Over end) may = may
 create_puts job (Creates s) may = absurd may
 create_puts job (Seeks s) may = may
 create_puts job (Collects s) may = may
+create_puts job (Merges s) may = may
 
 -- the put of the frame that neither made it nor found its name taken ends a create
 frame_kept : {F : Type 0} (job : Job) (c : Call) (r : Reply) → (r ≡ reply.Made → ⊥) → (r ≡ reply.Taken → ⊥) → after_frame {F = F} job c r ≡ ended c r

@@ -1,6 +1,6 @@
 -- Where there was no memory for the next call, or it is none, the job was at its work and not over.
-use Rattle.std.proofs.Common.{sym, subst, ap, ◌∙◌}
-use Rattle.ts_actor.proofs.MachineLaws.{asks_on, call_short, not_over}
+use Rattle.std.proofs.Common.{sym, ◌∙◌}
+use Rattle.ts_actor.proofs.MachineLaws.{call_short, not_over}
 use Rattle.ts_actor.proofs.machine.ask_from.Goals as goal
 
 pub returns-in-None-clause-asks : goal.returns-in-None-clause-asks

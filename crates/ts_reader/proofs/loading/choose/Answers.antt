@@ -5,7 +5,7 @@ use Rattle.std.proofs.lemmas.List.Elements.{All-filter}
 use Rattle.ts_base.specs.Names.{IsSpelledFrag}
 use Rattle.ts_commit.specs.Selections.{is_among, loaded}
 use Rattle.ts_model.specs.States.{heads_of, opened_among}
-use Rattle.ts_reader.specs.Reading.{AreSpelled}
+use Rattle.ts_actor.specs.Listings.{AreSpelled}
 use Rattle.ts_reader.proofs.loading.choose.Goals as goal
 
 pub returns-clause-chosen : goal.returns-clause-chosen

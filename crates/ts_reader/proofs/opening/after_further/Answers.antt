@@ -2,8 +2,8 @@
 use Rattle.std.proofs.Common.{Some, sym, ap, ◌∙◌, subst}
 use Rattle.std.specs.Prelude.{slice_get}
 use Rattle.ts_reader.specs.declared.fetching.Gathered.{Gathered}
-use Rattle.ts_reader.specs.Reading.{AreFirst}
-use Rattle.ts_reader.proofs.Rising.{next_first}
+use Rattle.ts_actor.specs.Known.{AreFirst}
+use Rattle.ts_actor.proofs.Rising.{next_first}
 use Rattle.ts_reader.proofs.opening.after_further.Goals as goal
 
 pub gather_next-requires-clause-first : goal.gather_next-requires-clause-first

@@ -3,7 +3,7 @@ use Rattle.std.proofs.Common.{sym, ap, ◌∙◌, subst}
 use Rattle.std.proofs.lemmas.Result.{IfOk-weaker}
 use Rattle.std.proofs.lemmas.List.Elements.{All-push}
 use Rattle.ts_base.specs.Names.{IsSpelledFrag}
-use Rattle.ts_reader.specs.Reading.{AreSpelled}
+use Rattle.ts_actor.specs.Listings.{AreSpelled}
 use Rattle.ts_reader.proofs.Leads.{head_read}
 use Rattle.ts_reader.proofs.opening.after_head.Goals as goal
 

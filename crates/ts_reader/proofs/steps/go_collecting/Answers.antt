@@ -3,7 +3,7 @@ use Rattle.std.proofs.Common.{◌≢◌, ◌<◌, None, length, sym, subst}
 use Rattle.std.proofs.lemmas.Result.{IfOk-weaker}
 use Rattle.ts_model.specs.States.{collect_asks, get_delete, get_head, get_schema, get_vac}
 use Rattle.ts_reader.specs.Reading.{collect_left, reads_left}
-use Rattle.ts_reader.proofs.Collected.{within_asked}
+use Rattle.ts_actor.proofs.Collected.{within_asked}
 use Rattle.ts_reader.proofs.steps.go_collecting.Goals as goal
 
 pub returns-in-GetsVacs-clause-fewer : goal.returns-in-GetsVacs-clause-fewer
