@@ -3,6 +3,7 @@ mod merging;
 
 ghost use Rattle.std.specs.Prelude.{◌≡◌, ◌<◌, ◌≤◌, ◌+◌, [], true, IfOk, IsTrue, length};
 ghost use Rattle.std.specs.List.{list_all};
+ghost use Rattle.ts_domain.specs.Dims.{IsDim};
 ghost use Rattle.ts_model.specs.declared.commands.Command.TheVariants.{Create, Evolve, Write};
 ghost use Rattle.ts_model.specs.Commands.{fits, is_spelled_attr, is_spelled_col, is_spelled_dim, is_spelled_query};
 
@@ -50,7 +51,8 @@ fn label(name: &str) -> Result<Label, Fail> {
 
 // A dimension of the numbers from 0 to 9 in one tile.
 fn dim(name: Label) -> Dim
-    ensures { is_spelled_dim result ≡ true }
+    ensures spelled { is_spelled_dim result ≡ true }
+    ensures valid { IsDim result }
 {
     let _text = name.as_bytes();
     Dim {
@@ -185,7 +187,8 @@ fn two_writers<R: Threads + Sync>(rt: &R, alloc: Global) -> Result<World<PlainPi
 
 // Asks for everything.
 fn everything(alloc: Global) -> Query
-    ensures { is_spelled_query result ≡ true }
+    ensures spelled { is_spelled_query result ≡ true }
+    ensures bounds { result.sub ≡ [] }
 {
     Query {
         sub: NamedBoxList::new(alloc),
