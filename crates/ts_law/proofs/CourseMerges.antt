@@ -43,13 +43,14 @@ use Rattle.ts_model.specs.Jobs.{looked_at}
 use Rattle.ts_model.specs.States.{Exchange, asks, after_names, after_opened, after_source, after_surveyed, all_of, attributes_among, can_be_named, candidates_in, committed_in, counting_in, ended, frags_of, get_frame, get_head_in, get_schema, get_vac, getting_names, goes, heads_of, list_commits, list_schemas, merge_objects, merges_all, merges_in, merging_from, on_bytes, on_plan, on_read, opened_among, opening_next, piece_merged, plan_for, put_of, puts_piece, putting, refuse, schema_among, schemas_in, schemas_named, source_begins, source_leads, survey_with, surveying, vac_object_of, vac_of}
 use Rattle.ts_model.proofs.KeyLemmas.{key_itself, key_same}
 use Rattle.ts_model.proofs.ListLemmas.{Contains-cons, Contains-here, Contains-nil, Contains-only, Contains-there, filter-Contains, find-Some, find_member}
-use Rattle.ts_law.specs.Courses.{AreFound, AtFrame, AtNamed, AtNames, AtOpened, BreaksPart, EachTaken, Found, GotNames, GotSchema, HasOpened, HasTaken, InSource, IsCause, IsConsolidate, IsFramed, IsKeyThere, IsListedInside, IsLookBy, IsLookOf, IsMergeBy, IsNamedFor, IsOpened, IsUnderWay, LooksForSources, Merge, MergesFound, PlansBy, SaysThere, lets_on, merge_puts, wants_of}
+use Rattle.ts_law.specs.Courses.{AreFound, AtFrame, AtNamed, AtNames, AtOpened, BreaksPart, EachTaken, Found, GotNames, GotSchema, HasOpened, HasTaken, InSource, IsCause, IsConsolidate, IsFramed, IsKeyThere, IsListedInside, IsLookBy, IsLookOf, IsMergeBy, IsNamedFor, IsOpened, IsUnderWay, LooksForSources, MayFetch, Merge, MergesFound, PlansBy, SaysThere, lets_on, merge_puts, wants_of}
 use Rattle.ts_law.proofs.CourseCalls.{Ends, Follows, Goes, Well, WorkAsks, WorkEnds, follows_ended, follows_none, follows_on, follows_putting, follows_refused, goes_by, goes_none, item_in, lets_bytes, lets_length, lets_memory, look_leaves, parts_apart, puts_go}
 use Rattle.ts_law.proofs.CourseGrows.{AreAmong, among_more, each_stays, merged_nothing, names_stay, schema_stays, way_stays}
 use Rattle.ts_law.proofs.CourseReads.{fetched_on}
 use Rattle.ts_law.proofs.CourseThere.{no_frame, no_schema}
-use Rattle.ts_law.proofs.Fetches.{Contains-map, map-Contains}
+use Rattle.ts_law.proofs.Fetches.{map-Contains}
 use Rattle.ts_law.proofs.MergeKnows.{schema_named_by, schemas_named_has}
+use Rattle.ts_law.proofs.MergePlans.{contains_from}
 use Rattle.ts_law.proofs.ReadSteps.{push_next}
 use Rattle.ts_base.specs.declared.names.Name.TheVariants as name
 use Rattle.ts_commit.specs.declared.vacs.Planned.TheVariants as planned
@@ -221,14 +222,18 @@ module _ {F : Type 0} (codec : Codec F) (job : Job) (looks : AsksLooks codec) (f
     abbrev pub IsOnWay : List Exchange → FragKey → F → Call → Type 0
     IsOnWay seen frag f c = (merged : Option Merge) → IsUnderWay codec job (found merged) seen frag f c
 
-    -- a source is open
+    -- a source is open, and the plan takes it
     source_open : (seen : List Exchange) (vacs : List VacOf) (opened : List Opened) (schemas : List Schema) (chosen : List FragKey) (first : Opened) (others : List Opened) (schema : Schema) (o : Opened)
-        → HasSources seen vacs opened schemas chosen first others schema → Contains (first ∷ others) o → HasOpened codec (found None) seen o × IsListedInside seen from to o.frag
+        → HasSources seen vacs opened schemas chosen first others schema → Contains (first ∷ others) o → HasOpened codec (found None) seen o × Contains chosen o.frag
     source_open seen vacs opened schemas chosen first others schema o has at =
-        let among : Contains opened o = (filter-Contains (λ p. is_among p.frag chosen) opened o (subst (λ ps. Contains ps o) (sym has.sources) at)).0 in (
-          has.all.so_far.each_opened o among,
-          inside seen vacs opened schemas o.frag has.all.so_far (subst (λ fs. Contains fs o.frag) has.all.all_opened (Contains-map (λ (p : Opened). p.frag) opened o among)),
-        )
+        let (among, takes) = filter-Contains (λ p. is_among p.frag chosen) opened o (subst (λ ps. Contains ps o) (sym has.sources) at) in
+        (has.all.so_far.each_opened o among, contains_from o.frag chosen takes)
+
+    -- a consolidation may fetch its sources
+    may_fetch : (seen : List Exchange) (vacs : List VacOf) (opened : List Opened) (schemas : List Schema) (chosen : List FragKey) (first : Opened) (others : List Opened) (schema : Schema) (o : Opened)
+        → HasSources seen vacs opened schemas chosen first others schema → Contains (first ∷ others) o → MayFetch codec job (found None) seen job.command o.frag
+    may_fetch seen vacs opened schemas chosen first others schema o has at =
+        subst (λ k. MayFetch codec job (found None) seen k o.frag) (sym is) (chosen, plans_by seen vacs opened schemas None (planned.Take chosen) has.all has.plan, (source_open seen vacs opened schemas chosen first others schema o has at).1)
 
     -- how the fetch of a source began
     opens_so : (seen : List Exchange) (vacs : List VacOf) (opened : List Opened) (schemas : List Schema) (chosen : List FragKey) (first : Opened) (others : List Opened) (schema : Schema) (o : Opened) (begun : Result F ℕ) (merged : Option Merge)
@@ -371,7 +376,7 @@ module _ {F : Type 0} (codec : Codec F) (job : Job) (looks : AsksLooks codec) (f
           on_to (Merges (merging.Fetches (survey vacs) (first ∷ others) schema next o.frag got g c)) (later.fetches_go vacs opened schemas chosen first others schema next before o rest got g c has parts count each (waits g c steps) (looks f said g c steps))
       follows_step vacs opened schemas chosen first others schema next before o rest got then f said (Takes vs) has parts count each waits breaks steps goes_so = goes_so vs steps
       follows_step vacs opened schemas chosen first others schema next before o rest got then f said (Breaks part at) has parts count each waits breaks steps goes_so =
-          over_by (refusal.Damaged (name.Part o.frag part) at) (inr (o.frag, part, refl, inr (consolidates, framed now vacs opened schemas None has.all.so_far), breaks part at steps))
+          over_by (refusal.Damaged (name.Part o.frag part) at) (inr (o.frag, part, refl, may_fetch now vacs opened schemas chosen first others schema o has (subst (λ os. Contains os o) (sym parts) (between before o rest)), breaks part at steps))
 
       -- the sources from a place on
       follows_merging : (vacs : List VacOf) (opened : List Opened) (schemas : List Schema) (chosen : List FragKey) (first : Opened) (others : List Opened) (schema : Schema) (next : ℕ) (before rest : List Opened) (got : List (List Version))
@@ -399,7 +404,7 @@ module _ {F : Type 0} (codec : Codec F) (job : Job) (looks : AsksLooks codec) (f
               (λ vs steps. on_with vs (λ merged. (f, inl (start merged, steps))))
           by_opening (Err at) is_begun on_with =
               over_by (refusal.Damaged (name.Part o.frag (codec.head_part frame)) at)
-              (inr (o.frag, codec.head_part frame, refl, inr (consolidates, framed now vacs opened schemas None has.all.so_far), inl (refl, opens_so now vacs opened schemas chosen first others schema o (Err at) None has among is_begun)))
+              (inr (o.frag, codec.head_part frame, refl, may_fetch now vacs opened schemas chosen first others schema o has among, inl (refl, opens_so now vacs opened schemas chosen first others schema o (Err at) None has among is_begun)))
 
       -- the plan
       follows_plan : (vacs : List VacOf) (opened : List Opened) (schemas : List Schema) → HasAll now vacs opened schemas → FollowsOn seen x xs end (on_plan codec job (survey vacs) opened schemas (plan_for (survey vacs) opened schemas))
@@ -418,7 +423,7 @@ module _ {F : Type 0} (codec : Codec F) (job : Job) (looks : AsksLooks codec) (f
 
           by_plan : (p : Planned) → plan_for (survey vacs) opened schemas ≡ p → FollowsOn seen x xs end (on_plan codec job (survey vacs) opened schemas p)
           by_plan (planned.Take chosen) plan = by_sources chosen (opened_among chosen opened) plan refl
-          by_plan (planned.Nothing count) plan = over_by (refusal.NothingToDo count) (plans_by now vacs opened schemas None (planned.Nothing count) has plan)
+          by_plan (planned.Nothing count) plan = over_by (refusal.NothingToDo count) (refl, plans_by now vacs opened schemas None (planned.Nothing count) has plan)
 
       -- the gets of the schemas that are left
       follows_surveying : (vacs : List VacOf) (opened : List Opened) (schemas : List Schema) → list_map (λ v. v.frag) vacs ≡ counting_in names → frags_of opened ≡ fragments → list_map (λ s. s.key) schemas ≡ take (length schemas) (schemas_named opened)
@@ -595,7 +600,7 @@ module _ {F : Type 0} (codec : Codec F) (job : Job) (looks : AsksLooks codec) (f
 
         look : (merged : Option Merge) → IsLookOf codec job (found merged) seen c
         look merged =
-            for_sources (found merged) seen c (InSource o.frag f (framed seen vacs opened schemas merged has.all.so_far) (source_open seen vacs opened schemas chosen first others schema o has among).1 (way merged) looking)
+            for_sources (found merged) seen c (InSource chosen o.frag f (plans_by seen vacs opened schemas merged (planned.Take chosen) has.all has.plan) (source_open seen vacs opened schemas chosen first others schema o has among).1 (way merged) looking)
 
         goes_so : List Version → State F
         goes_so vs = merging_from codec job (survey vacs) (first ∷ others) schema (suc next) (drop (suc next) (first ∷ others)) (got ++ vs ∷ [])

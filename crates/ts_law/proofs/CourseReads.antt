@@ -26,7 +26,7 @@ use Rattle.ts_model.specs.declared.states.Collecting.TheVariants.{GetsVacs, Gets
 use Rattle.ts_model.specs.declared.commands.Command.TheVariants.{Read}
 use Rattle.ts_model.specs.Codecs.{Codec, Stepped, Asks, Takes, Breaks, is_look, AsksLooks}
 use Rattle.ts_model.specs.States.{Exchange, get_all, get_head, get_schema, on_bytes, after_fetched, opening, gathering, fetching, fetches_one, fetch_leads, fetch_begins, after_head, after_schema, known_schema, keys_named, want_of, answer_of, on_read, getting_deletes, with_deletion, deletion_named, get_delete, after_delete, get_vac, after_vac, getting_vacs, heads_of, loaded_of, loads, opened_among, vac_of, with_clipped, with_vac, wanted, committed_in, deletes_in}
-use Rattle.ts_law.specs.Courses.{Found, SaysThere, GotSchema, IsGot, IsOpened, IsFetched, IsUnderWay, IsListedIn, IsCountingIn, IsLookedInto, LooksInside, AtVac, AtHead, AtSchema, AtDelete, InFetch, IsLookBy, IsLookOf, IsNamedFor, wanted_in, wants_of, BreaksPart, IsNext, lets_on, refused_in}
+use Rattle.ts_law.specs.Courses.{Found, SaysThere, GotSchema, IsGot, IsOpened, IsFetched, IsUnderWay, IsListedIn, IsCountingIn, IsLookedInto, LooksInside, MayFetch, AtVac, AtHead, AtSchema, AtDelete, InFetch, IsLookBy, IsLookOf, IsNamedFor, wanted_in, wants_of, BreaksPart, IsNext, lets_on, refused_in}
 use Rattle.ts_model.proofs.KeyLemmas.{key_same, key_itself}
 use Rattle.ts_model.proofs.ListLemmas.{Contains-here, Contains-there, filter-Contains, find-Some}
 use Rattle.ts_model.specs.declared.deeds.Deletion.{Deletion}
@@ -101,6 +101,10 @@ module _ {F : Type 0} (codec : Codec F) (job : Job) where
     looks_inside : (seen : List Exchange) (c : Call) → IsGot job found seen → LooksInside codec job found seen from to c → IsLookOf codec job found seen c
     looks_inside seen c got inside = subst (λ k. IsLookBy codec job found seen k c) (sym is) (inr (got, inside))
 
+    -- a read that got the schema there and the frame may fetch
+    may_fetch : (seen : List Exchange) (f : FragKey) → IsGot job found seen → MayFetch codec job found seen job.command f
+    may_fetch seen f got = subst (λ k. MayFetch codec job found seen k f) (sym is) got
+
     -- it got each schema that it knows
     known_got : (seen : List Exchange) (r : Reading) (opened : List Opened) (schemas : List Schema) (k : Key) (s : Schema) → HasGot seen r opened schemas → known_schema r schemas k ≡ Some s → GotSchema seen s × (s.key ≡ k)
     known_got seen r opened schemas k s has is = by_test (key_eq k (r.there).key) refl is
@@ -163,7 +167,7 @@ module _ {F : Type 0} (codec : Codec F) (job : Job) where
           follows_on codec job seen found course [] x xs end (Collects (Fetches r opened schemas next frag got g c)) (silent x.call x.reply) on following (later.fetches r opened schemas next frag got g c objects fragments (waits g c steps) (looks f said g c steps))
       follows_step r opened schemas next frag got then f said (Takes vs) objects fragments waits breaks steps each = each vs
       follows_step r opened schemas next frag got then f said (Breaks part at) objects fragments waits breaks steps each =
-          follows_refused codec job seen found course [] x xs end (refusal.Damaged (name.Part frag part) at) (silent x.call x.reply) following (inr (frag, part, refl, inl objects.got, breaks part at steps))
+          follows_refused codec job seen found course [] x xs end (refusal.Damaged (name.Part frag part) at) (silent x.call x.reply) following (inr (frag, part, refl, may_fetch now frag objects.got, breaks part at steps))
 
       -- the fetch of one fragment
       follows_one : (r : Reading) (opened : List Opened) (schemas : List Schema) (next : ℕ) (o : Opened) (got : List Version) (then : List Version → State F) (s : Option Schema) → known_schema r schemas (o.head).schema ≡ s
@@ -178,7 +182,7 @@ module _ {F : Type 0} (codec : Codec F) (job : Job) where
               (λ g c steps. record { first = f; opened = start; begun = g; asked = c; begins = steps; replies = []; fetched = (refl, refl) }) (λ part at steps. inr (f, inl (start, steps))) refl each
           by_opening (Err at) is_begun =
               follows_refused codec job seen found course [] x xs end (refusal.Damaged (name.Part o.frag (codec.head_part r.frame)) at) (silent x.call x.reply) following
-              (inr (o.frag, codec.head_part r.frame, refl, inl objects.got, inl (ap (λ q. codec.head_part q.frame) objects.finds, opens_so now r opened schemas o s (Err at) objects among knows is_begun)))
+              (inr (o.frag, codec.head_part r.frame, refl, may_fetch now o.frag objects.got, inl (ap (λ q. codec.head_part q.frame) objects.finds, opens_so now r opened schemas o s (Err at) objects among knows is_begun)))
 
       -- the fetches of the fragments that are left
       follows_fetching : (r : Reading) (opened : List Opened) (schemas : List Schema) (next : ℕ) (rest : List Opened) (got : List Version)

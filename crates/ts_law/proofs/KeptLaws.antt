@@ -28,7 +28,7 @@ use Rattle.ts_law.specs.Ends.{IsTrueEnd}
 use Rattle.ts_model.specs.Codecs.{Codec, CodecLaws, SpeaksOf, Spelled, Tracking}
 use Rattle.ts_law.specs.Fresh.{id_in}
 use Rattle.ts_model.specs.Jobs.{IsFit, job_with}
-use Rattle.ts_law.specs.Kept.{AreAllowed, Claims, IsAllowed, IsOfJobs, Kept, StageClaims}
+use Rattle.ts_law.specs.Kept.{AreAllowed, Claims, IsAllowed, IsOfJobs, Kept, StageClaims, HeldSince}
 use Rattle.ts_model.specs.Driven.{MayAsk}
 use Rattle.ts_model.specs.declared.states.Stage.{Stage}
 use Rattle.ts_model.specs.declared.states.Stage.TheVariants.{ListsLeases, PutsLease, Releases}
@@ -189,10 +189,20 @@ pub AreAllowed-front : {F : Type 0} (codec : Codec F) (jobs : List Job) (dead : 
 AreAllowed-front codec jobs dead seen [] b may = tt
 AreAllowed-front codec jobs dead seen (e ∷ a) b may = (may.0, AreAllowed-front codec jobs dead (seen ++ e ∷ []) a b may.1)
 
+-- so may the rest, after the front
+AreAllowed-back : {F : Type 0} (codec : Codec F) (jobs : List Job) (dead : List ℕ) (seen a b : List Told) → AreAllowed codec jobs dead seen (a ++ b) → AreAllowed codec jobs dead (seen ++ a) b
+AreAllowed-back codec jobs dead seen [] b may = subst (λ t. AreAllowed codec jobs dead t b) (sym (append-nil seen)) may
+AreAllowed-back codec jobs dead seen (e ∷ a) b may = subst (λ t. AreAllowed codec jobs dead t b) (append_assoc seen (e ∷ []) a) (AreAllowed-back codec jobs dead (seen ++ e ∷ []) a b may.1)
+
 -- the front of calls that are replied to is such
 pub Replied-front : (m : Held) (a b : List Told) → Replied m (a ++ b) → Replied m a
 Replied-front m [] b replied = tt
 Replied-front m (e ∷ a) b replied = (replied.0, Replied-front (after_told m e) a b replied.1)
+
+-- so is the rest, over what the front leaves
+Replied-back : (m : Held) (a b : List Told) → Replied m (a ++ b) → Replied (held_told m a) b
+Replied-back m [] b replied = replied
+Replied-back m (e ∷ a) b replied = Replied-back (after_told m e) a b replied.1
 
 -- ---- any call
 
@@ -225,12 +235,11 @@ module _ {F : Type 0} (codec : Codec F) (spelled : Spelled) (tracks : Tracking F
       merge_fetch_steps codec spelled tracks opening past jobs seen e m number job s sources schema next frag got fetch c laws comes
   own_step opening past jobs seen e m number job (Over end) comes = absurd (none-some e.call comes.asked)
 
-  -- what is kept stays by a call that may come
-  pub step_kept : (opening : Held) (past : History) (jobs : List Job) (dead : List ℕ) (seen : List Told) (m : Held) (e : Told) → Kept codec spelled tracks opening past jobs dead seen m
-      → IsAllowed codec jobs dead seen e → IsReplied m e → Kept codec spelled tracks opening past jobs dead (seen ++ e ∷ []) (after_told m e)
-  step_kept opening past jobs dead seen m e kept may replied =
-      advance_kept codec spelled tracks laws opening past jobs dead seen m e kept may
-      (stage_step codec spelled tracks opening past jobs seen e m may.number may.job (own_step opening past jobs seen e m may.number may.job) (stage_of codec may.job (trace_of may.number seen)) (record {
+  -- where a call that may come leads its job
+  leads_on : (opening : Held) (past : History) (jobs : List Job) (dead : List ℕ) (seen : List Told) (m : Held) (e : Told) → Kept codec spelled tracks opening past jobs dead seen m
+      → (may : IsAllowed codec jobs dead seen e) → IsReplied m e → StageAdvances codec spelled tracks opening past jobs seen e m may.number may.job (stage_of codec may.job (trace_of may.number seen))
+  leads_on opening past jobs dead seen m e kept may replied =
+      stage_step codec spelled tracks opening past jobs seen e m may.number may.job (own_step opening past jobs seen e m may.number may.job) (stage_of codec may.job (trace_of may.number seen)) (record {
         stands = kept.stands;
         is_held = kept.is_held;
         apart = kept.apart;
@@ -241,7 +250,20 @@ module _ {F : Type 0} (codec : Codec F) (spelled : Spelled) (tracks : Tracking F
         short = may.short;
         asked = may.asked;
         claims = kept.claims may.number may.job may.is_job may.alive;
-      }))
+      })
+
+  -- what is kept stays by a call that may come
+  pub step_kept : (opening : Held) (past : History) (jobs : List Job) (dead : List ℕ) (seen : List Told) (m : Held) (e : Told) → Kept codec spelled tracks opening past jobs dead seen m
+      → IsAllowed codec jobs dead seen e → IsReplied m e → Kept codec spelled tracks opening past jobs dead (seen ++ e ∷ []) (after_told m e)
+  step_kept opening past jobs dead seen m e kept may replied = advance_kept codec spelled tracks laws opening past jobs dead seen m e kept may (leads_on opening past jobs dead seen m e kept may replied)
+
+  -- what is held stays held by calls that may come, but for leases
+  pub held_on : (opening : Held) (past : History) (jobs : List Job) (dead : List ℕ) (seen : List Told) (m : Held) (told : List Told)
+      → Kept codec spelled tracks opening past jobs dead seen m → AreAllowed codec jobs dead seen told → Replied m told → HeldSince m (held_told m told)
+  held_on opening past jobs dead seen m [] kept may replied n bytes no_lease held = held
+  held_on opening past jobs dead seen m (e ∷ told) kept may replied n bytes no_lease held =
+      held_on opening past jobs dead (seen ++ e ∷ []) (after_told m e) told (step_kept opening past jobs dead seen m e kept may.0 replied.0) may.1 replied.1 n bytes no_lease
+      ((((leads_on opening past jobs dead seen m e kept may.0 replied.0).leads).leaves).keeps n bytes no_lease held)
 
   -- what is kept stays by calls that may come
   pub all_kept : (opening : Held) (past : History) (jobs : List Job) (dead : List ℕ) (seen : List Told) (m : Held) (told : List Told)
@@ -259,3 +281,11 @@ module _ {F : Type 0} (codec : Codec F) (spelled : Spelled) (tracks : Tracking F
       all_kept opening past jobs dead seen m front kept
       (AreAllowed-front codec jobs dead seen front back (subst (AreAllowed codec jobs dead seen) parts may))
       (Replied-front m front back (subst (Replied m) parts replied))
+
+  -- what is held after the first of the calls stays held, but for leases
+  pub held_from : (opening : Held) (past : History) (jobs : List Job) (dead : List ℕ) (seen : List Told) (m : Held) (told front back : List Told)
+      → Kept codec spelled tracks opening past jobs dead seen m → AreAllowed codec jobs dead seen told → Replied m told → told ≡ front ++ back → HeldSince (held_told m front) (held_told m told)
+  held_from opening past jobs dead seen m told front back kept may replied parts =
+      subst (HeldSince (held_told m front)) (sym (ap (held_told m) parts ∙ held_told-append m front back))
+      (held_on opening past jobs dead (seen ++ front) (held_told m front) back (every_prefix opening past jobs dead seen m told front back kept may replied parts)
+      (AreAllowed-back codec jobs dead seen front back (subst (AreAllowed codec jobs dead seen) parts may)) (Replied-back m front back (subst (Replied m) parts replied)))

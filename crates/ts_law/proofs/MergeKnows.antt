@@ -287,7 +287,7 @@ module _ {F : Type 0} (codec : Codec F) (spelled : Spelled) (tracks : Tracking F
     plan_claims (planned.Take frags) is = merges_claims frags is (opened_among frags opened) refl
     plan_claims (planned.Nothing count) is = (
       clean.undone,
-      record { from = s.from; to = s.to; limits = s.limits; merges = surveys.merges; commits = (surveys.chooses).since.commits; by_plan = is_planned (planned.Nothing count) is },
+      record { from = s.from; to = s.to; limits = s.limits; merges = surveys.merges; commits = (surveys.chooses).since.commits; by_plan = is_planned (planned.Nothing count) is; found = surveys.found },
     )
 
   -- a consolidation gets the next schema, or plans

@@ -7,7 +7,7 @@ use Rattle.ts_base.specs.Names.{wrt_of}
 use Rattle.ts_base.specs.declared.keys.FragKey.{FragKey}
 use Rattle.ts_base.specs.declared.names.PartBytes.{PartBytes}
 use Rattle.ts_law.proofs.Objects.{CarryAll, Carries, part_object}
-use Rattle.ts_law.proofs.Stays.{are_schemas_stays, frame_stays, schema_stays, since_stays}
+use Rattle.ts_law.proofs.Stays.{are_schemas_stays, frame_stays, schema_stays, since_stays, finds_schema_stays}
 use Rattle.ts_law.specs.Kept.{AimsToMerge, ChoosesFrom, Chooses, Clean, HasSources, Learns, MergeClaims, Merges, Opens, Surveys}
 use Rattle.ts_law.specs.Steps.{Keeps}
 use Rattle.ts_model.specs.Codecs.{Codec, Spelled, Tracking}
@@ -56,6 +56,7 @@ module _ (spelled : Spelled) (opening : Held) (past : History) (jobs : List Job)
   surveys_stays job s is = record {
     merges = is.merges;
     chooses = chooses_from_stays s.from s.to s.fragments s.counting is.chooses;
+    found = finds_schema_stays past jobs seen e number job is.found;
     framed = frame_stays m m' (history_told jobs past seen) (history_told jobs past (seen ++ e ∷ [])) id keeps s.frame is.framed;
     are_vacs = is.are_vacs;
   }
@@ -118,7 +119,7 @@ module _ (spelled : Spelled) (opening : Held) (past : History) (jobs : List Job)
     merge_claims_stay tracks job cleans merging.ListsCommits is = (cleans is.0, is.1)
     merge_claims_stay tracks job cleans (merging.ListsSchemas c) is = (cleans is.0, chooses_stays job c is.1)
     merge_claims_stay tracks job cleans (merging.GetsFrame c) is =
-        (cleans is.0, chooses_stays job c is.1, (is.2.0, frame_stays m m' (history_told jobs past seen) (history_told jobs past (seen ++ e ∷ [])) id keeps is.2.0 is.2.1))
+        (cleans is.0, chooses_stays job c is.1, (is.2.0, frame_stays m m' (history_told jobs past seen) (history_told jobs past (seen ++ e ∷ [])) id keeps is.2.0 is.2.1), finds_schema_stays past jobs seen e number job is.3)
     merge_claims_stay tracks job cleans (merging.GetsVacs s) is = (cleans is.0, surveys_stays job s is.1)
     merge_claims_stay tracks job cleans (merging.GetsHeads s opened) is = (cleans is.0, opens_stays job s opened is.1)
     merge_claims_stay tracks job cleans (merging.GetsSchemas s opened named schemas) is = (cleans is.0, is.1, learns_stays job s opened schemas is.2)

@@ -46,7 +46,7 @@ use Rattle.ts_law.proofs.ListSteps.{counting_held, looked, Looked, names_lead, t
 use Rattle.ts_law.proofs.MergeKnows.{committed_from_inside, getting_names_claims, opening_claims, schema_named_by, surveying_claims}
 use Rattle.ts_law.proofs.MergeStays.{chooses_stays, learns_stays, opens_stays, surveys_stays}
 use Rattle.ts_law.proofs.ReadSteps.{asked_of, frame_at, push_next, read_lead, schema_at_listing, schema_lead, whole_lead}
-use Rattle.ts_law.proofs.Stays.{listed_now}
+use Rattle.ts_law.proofs.Stays.{finds_schema_stays, listed_now}
 
 module _ {F : Type 0} (codec : Codec F) (spelled : Spelled) (tracks : Tracking F) (opening : Held) (past : History) (jobs : List Job) (seen : List Told) (e : Told) (m : Held) (number : ℕ) (job : Job) where
   -- the history before the call
@@ -128,7 +128,7 @@ module _ {F : Type 0} (codec : Codec F) (spelled : Spelled) (tracks : Tracking F
               | None ↦ λ _. look.clean.undone
               | Some s ↦ λ there.
                   let framed = framed_by_schema h s.key s comes.stands.history (there_is_with h (looked_at job) s comes.stands.history there) in
-                  (look.clean, chooses, (framed.0, ap frame_in look.same_history ∙ framed.1))
+                  (look.clean, chooses, (framed.0, ap frame_in look.same_history ∙ framed.1), record { schemas = listed_now seen e number Schemas comes.own is; there = s; holds = there })
             ] refl))
             look.clean.undone;
       }
@@ -154,6 +154,7 @@ module _ {F : Type 0} (codec : Codec F) (spelled : Spelled) (tracks : Tracking F
             (getting_names_claims codec spelled tracks laws opening past jobs (seen ++ e ∷ []) m' number job look.clean (survey_of chooses.from chooses.to chooses.limits c frame) (record {
               merges = chooses.merges;
               chooses = chooses.chooses;
+              found = finds_schema_stays past jobs seen e number job comes.claims.3;
               framed = ap frame_in look.same_history ∙ framed;
               are_vacs = record { frags = refl; each = λ v at. absurd (Contains-nil v at) };
             }))));
@@ -170,6 +171,7 @@ module _ {F : Type 0} (codec : Codec F) (spelled : Spelled) (tracks : Tracking F
       record {
         merges = is.merges;
         chooses = record { since = is.chooses.since; fragments_are = is.chooses.fragments_are; counting_are = is.chooses.counting_are };
+        found = is.found;
         framed = is.framed;
         are_vacs = record {
           frags = push_next (λ v. v.frag) s.vacs (record { frag = f; names = names }) s.counting is.are_vacs.frags next;

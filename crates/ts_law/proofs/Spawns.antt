@@ -23,7 +23,7 @@ use Rattle.ts_model.proofs.ListLemmas.{find-append, or_else, slice_get_push}
 use Rattle.ts_model.specs.Answers.{IsAnswer}
 use Rattle.ts_model.specs.Commands.{create_refusal, frame_made}
 use Rattle.ts_model.specs.Deeds.{History, IsNewKey, deletions, frame_in, schema_there, schema_with, writes}
-use Rattle.ts_law.specs.Ends.{AreInside, FindsNothing, HasDeclared, IsCreated, IsMerged, IsPlanned, IsTrueEnd, IsTrueRefusal, IsUndone, ListedAt, attributes_with, up_to}
+use Rattle.ts_law.specs.Ends.{AreInside, FindsNothing, HasDeclared, IsCreated, IsMerged, IsPlanned, IsTrueEnd, IsTrueRefusal, IsUndone, ListedAt, attributes_with, up_to, FindsSchema}
 use Rattle.ts_model.specs.Codecs.{Codec, Spelled, Tracking}
 use Rattle.ts_law.specs.Fresh.{IsCarried, IsNewId, id_in}
 use Rattle.ts_model.specs.Jobs.{AreApart, IsFit, deletion_as, job_with, key_of, looked_at, written_as}
@@ -42,7 +42,6 @@ use Rattle.ts_model.specs.declared.commands.Command.{Command}
 use Rattle.ts_model.specs.declared.commands.Command.TheVariants.{Consolidate, Create, Delete, Evolve, Read, Write}
 use Rattle.ts_model.specs.declared.commands.FrameIn.{FrameIn}
 use Rattle.ts_model.specs.declared.commands.Job.{Job}
-use Rattle.ts_model.specs.declared.deeds.Written.{Written}
 use Rattle.ts_model.specs.declared.states.Listed.{Listed}
 use Rattle.ts_model.specs.declared.states.NewObject.{NewObject}
 use Rattle.ts_model.specs.declared.states.Opened.{Opened}
@@ -352,11 +351,16 @@ module _ (jobs : List Job) (job : Job) where
       chooses = chooses_from_more is.from is.to c.fragments c.counting is.chooses;
     }
 
+    -- that a job found a schema is true among all
+    abbrev finds_schema_more : FindsSchema jobs past seen number j → FindsSchema all past seen number j
+    finds_schema_more is = record { schemas = is.schemas; there = is.there; holds = subst (λ g. schema_there g (looked_at j) ≡ Some is.there) (listed_more Schemas is.schemas) is.holds }
+
     -- so is one that gets `.vac` objects
     abbrev surveys_more : (s : Survey) → Surveys spelled opening past jobs seen m number j s → Surveys spelled opening past all seen m number j s
     surveys_more s is = record {
       merges = is.merges;
       chooses = chooses_from_more s.from s.to s.fragments s.counting is.chooses;
+      found = finds_schema_more is.found;
       framed = framed_more s.frame is.framed;
       are_vacs = is.are_vacs;
     }
@@ -426,7 +430,7 @@ module _ (jobs : List Job) (job : Job) where
     merge_claims_more : (s : Merging F) → MergeClaims codec spelled tracks opening past jobs seen m number j s → MergeClaims codec spelled tracks opening past all seen m number j s
     merge_claims_more merging.ListsCommits is = (clean_more is.0, is.1)
     merge_claims_more (merging.ListsSchemas c) is = (clean_more is.0, chooses_more c is.1)
-    merge_claims_more (merging.GetsFrame c) is = (clean_more is.0, chooses_more c is.1, (is.2.0, framed_more is.2.0 is.2.1))
+    merge_claims_more (merging.GetsFrame c) is = (clean_more is.0, chooses_more c is.1, (is.2.0, framed_more is.2.0 is.2.1), finds_schema_more is.3)
     merge_claims_more (merging.GetsVacs s) is = (clean_more is.0, surveys_more s is.1)
     merge_claims_more (merging.GetsHeads s opened) is = (clean_more is.0, opens_more s opened is.1)
     merge_claims_more (merging.GetsSchemas s opened named schemas) is = (clean_more is.0, is.1, learns_more s opened schemas is.2)
@@ -451,6 +455,7 @@ module _ (jobs : List Job) (job : Job) where
           merges = is.merges;
           commits = is.commits;
           by_plan = planned_more (history_told jobs past before) (history_told all past before) (listed_more Commits is.commits) (held_told opening before) is.from is.to is.limits (planned.Nothing count) is.by_plan;
+          found = finds_schema_more is.found;
         }
 
     -- so is what it merged
@@ -467,6 +472,8 @@ module _ (jobs : List Job) (job : Job) where
           sources = is.sources;
           by_plan = planned_more (history_told jobs past before) (history_told all past before) (listed_more Commits is.commits) (held_told opening before) is.from is.to is.limits (planned.Take is.sources) is.by_plan;
           counted = is.counted;
+          found = finds_schema_more is.found;
+          own = is.own;
           put = is.put;
           later = is.later;
           order = is.order;

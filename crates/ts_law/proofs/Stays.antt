@@ -15,7 +15,7 @@ use Rattle.ts_model.proofs.HistoryLaws.{absent_from_new, deletions-append, frame
 use Rattle.ts_model.proofs.Traces.{schemas_found-stays}
 use Rattle.ts_model.specs.Commands.{frame_made}
 use Rattle.ts_model.specs.Deeds.{History, IsNewKey, deletions, frame_in, keys, schema_with, writes}
-use Rattle.ts_law.specs.Ends.{FindsNothing, HasDeclared, IsMerged, IsTrueEnd, IsTrueRefusal, IsUndone, ListedAt, MadeAt}
+use Rattle.ts_law.specs.Ends.{FindsNothing, HasDeclared, IsMerged, IsTrueEnd, IsTrueRefusal, IsUndone, ListedAt, MadeAt, FindsSchema}
 use Rattle.ts_model.specs.Codecs.{Codec, Spelled}
 use Rattle.ts_law.specs.Fresh.{id_in}
 use Rattle.ts_model.specs.Jobs.{deletion_as, key_of, schema_of_job, written_as}
@@ -257,6 +257,10 @@ module _ (spelled : Spelled) (opening : Held) (past : History) (jobs : List Job)
 
 -- ---- ends
 
+-- that a job found a schema stays true
+abbrev pub finds_schema_stays : (past : History) (jobs : List Job) (seen : List Told) (e : Told) (number : ℕ) (job : Job) → FindsSchema jobs past seen number job → FindsSchema jobs past (seen ++ e ∷ []) number job
+finds_schema_stays past jobs seen e number job is = record { schemas = listed_stays seen e number Schemas is.schemas; there = is.there; holds = is.holds }
+
 -- that a consolidation found nothing to do stays true
 pub finds_nothing_stays : (spelled : Spelled) (opening : Held) (past : History) (jobs : List Job) (seen : List Told) (e : Told) (number : ℕ) (job : Job) (count : ℕ)
     → FindsNothing spelled opening jobs past seen number job count → FindsNothing spelled opening jobs past (seen ++ e ∷ []) number job count
@@ -267,6 +271,7 @@ finds_nothing_stays spelled opening past jobs seen e number job count is = recor
   merges = is.merges;
   commits = listed_stays seen e number Commits is.commits;
   by_plan = is.by_plan;
+  found = finds_schema_stays past jobs seen e number job is.found;
 }
 
 -- what a consolidation merged stays
@@ -281,6 +286,8 @@ merged_stays spelled opening past jobs seen e number job f count is = record {
   sources = is.sources;
   by_plan = is.by_plan;
   counted = is.counted;
+  found = finds_schema_stays past jobs seen e number job is.found;
+  own = is.own;
   put = made_stays seen e number (call.Put (wrt_of f) []) is.put;
   later = is.later;
   order = is.order;

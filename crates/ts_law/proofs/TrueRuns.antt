@@ -38,7 +38,7 @@ use Rattle.ts_model.proofs.ListLemmas.{Contains-nil, Contains-here, Contains-the
 use Rattle.ts_model.proofs.Traces.{exchange_of_own, exchange_of_other, stage_of-own, stage_of-other}
 use Rattle.ts_law.proofs.Fetches.{one_head}
 use Rattle.ts_law.proofs.Clipped.{true_over}
-use Rattle.ts_law.proofs.KeptLaws.{end_is_true, all_kept, every_prefix}
+use Rattle.ts_law.proofs.KeptLaws.{end_is_true, all_kept, every_prefix, held_from}
 use Rattle.ts_law.proofs.LineJobs.{AreInOrder, ids_apart, id_has_seed, jobs_fit}
 use Rattle.ts_law.proofs.Lists.{item_at}
 use Rattle.ts_law.proofs.Segments.{segment_of}
@@ -158,6 +158,7 @@ module _ {F : Type 0} (codec : Codec F) (spelled : Spelled) (tracks : Tracking F
   jobs_true_run = record {
     stands = prefix_stands;
     journal = journal_stands;
+    stays = λ front back parts. held_from codec spelled tracks laws m h jobs [] [] m told front back begins may replied parts;
     answers = λ number job end at end_at.
         true_over spelled m jobs h told number job end (λ g n. one_head codec spelled tracks laws g n) (λ front back parts. (every_prefix codec spelled tracks laws m h jobs [] [] m told front back begins may replied parts).stands)
         (λ short. short_undone codec spelled tracks laws h jobs m told begins may replied number job at (subst (EndsBy codec job (trace_of number told)) short (driven.driven number job (Done end) at end_at).ends))

@@ -222,6 +222,38 @@ pub record IsUnderWay {F : Type 0} (codec : Codec F) (job : Job) (found : Found)
   pub replies : List Reply
   pub fetched : IsFetched codec trace begun asked replies fetch c
 
+-- ---- the plan of a consolidation
+
+-- a consolidation was told names by the `.vac` of a fragment
+abbrev pub GotNames : List Exchange → FragKey → List FragKey → Type 0
+GotNames trace f names = (bytes : List ℕ) × Contains trace (record { call = get_vac f; reply = reply.Bytes bytes }) × (names_of bytes ≡ Ok names)
+
+-- a job got the object with the head of a fragment, and the head is that which it spells
+abbrev pub HasOpened : {F : Type 0} → Codec F → Found → List Exchange → Opened → Type 0
+HasOpened codec found trace o =
+    Contains trace (record { call = get_all (name.Part o.frag (codec.head_part found.frame)); reply = reply.Bytes o.object }) × (codec.head found.frame o.frag o.object ≡ Ok o.head)
+
+-- a consolidation planned so, by what it was told
+-- It planned over the heads of all fragments in its interval that it listed with the commits.
+-- It knew all `.vac` objects that count, and the schemas that the heads name.
+pub record PlansBy {F : Type 0} (codec : Codec F) (job : Job) (found : Found) (trace : List Exchange) (plan : Planned) : Type 0 where
+  pub from : ℕ
+  pub to : ℕ
+  pub limits : Limits
+  pub merges : job.command ≡ Consolidate from to limits
+  pub framed : IsFramed found trace
+  pub names : List Name
+  pub listed : Contains trace (record { call = list_commits; reply = reply.Names names })
+  pub opened : List Opened
+  pub all_opened : frags_of opened ≡ filter (is_inside from to) (committed_in names)
+  pub each_opened : (o : Opened) → Contains opened o → HasOpened codec found trace o
+  pub vacs : List VacOf
+  pub all_vacs : list_map (λ v. v.frag) vacs ≡ counting_in names
+  pub each_vac : (v : VacOf) → Contains vacs v → GotNames trace v.frag v.names
+  pub attributes : Key → ℕ
+  pub counted : (o : Opened) → Contains opened o → (s : Schema) × (s.key ≡ o.head.schema) × GotSchema trace s × (attributes o.head.schema ≡ length s.attrs)
+  pub is : plan_of (heads_of opened) vacs attributes from to limits ≡ plan
+
 -- ---- which objects a job may look at
 
 -- of the names of a kind that a read listed with the commits one whose span meets the interval
@@ -267,8 +299,8 @@ pub data LooksForSources {F : Type 0} (codec : Codec F) (job : Job) (found : Fou
   AtOpened : (f : FragKey) → IsFramed found trace → IsListedInside trace from to f → c ≡ get_all (name.Part f (codec.head_part found.frame)) → LooksForSources codec job found trace from to c
   -- a schema that is named by a head which it got
   AtNamed : (f : FragKey) (head : Head) → IsFramed found trace → GotHead codec found trace f head → c ≡ get_schema head.schema → LooksForSources codec job found trace from to c
-  -- a get or a size for which the fetch of a fragment in the interval asks, which it began on what it got
-  InSource : (f : FragKey) (fetch : F) → IsFramed found trace → IsListedInside trace from to f → IsUnderWay codec job found trace f fetch c → IsTrue (is_look c) → LooksForSources codec job found trace from to c
+  -- a get or a size for which the fetch of a fragment asks that its plan takes
+  InSource : (chosen : List FragKey) (f : FragKey) (fetch : F) → PlansBy codec job found trace (planned.Take chosen) → Contains chosen f → IsUnderWay codec job found trace f fetch c → IsTrue (is_look c) → LooksForSources codec job found trace from to c
 
 -- the call looks at an object that the job's command reads, by what the job was told before; but for the calls of fetches it gets the whole object
 abbrev pub IsLookBy : {F : Type 0} → Codec F → Job → Found → List Exchange → Command → Call → Type 0
@@ -324,34 +356,6 @@ pub record EndsAt (looks : Looks) (before : List Exchange) (course : List Call) 
 abbrev pub refused_in : Found → Command → Option Refusal
 refused_in found command = refusal_in found.frame (found.there).attrs command
 
--- a consolidation was told names by the `.vac` of a fragment
-abbrev pub GotNames : List Exchange → FragKey → List FragKey → Type 0
-GotNames trace f names = (bytes : List ℕ) × Contains trace (record { call = get_vac f; reply = reply.Bytes bytes }) × (names_of bytes ≡ Ok names)
-
--- a job got the object with the head of a fragment, and the head is that which it spells
-abbrev pub HasOpened : {F : Type 0} → Codec F → Found → List Exchange → Opened → Type 0
-HasOpened codec found trace o =
-    Contains trace (record { call = get_all (name.Part o.frag (codec.head_part found.frame)); reply = reply.Bytes o.object }) × (codec.head found.frame o.frag o.object ≡ Ok o.head)
-
--- a consolidation planned so, by what it was told: over the heads of all fragments in its interval that it listed with the commits, all `.vac` objects that count, and the schemas that the heads name
-pub record PlansBy {F : Type 0} (codec : Codec F) (job : Job) (found : Found) (trace : List Exchange) (plan : Planned) : Type 0 where
-  pub from : ℕ
-  pub to : ℕ
-  pub limits : Limits
-  pub merges : job.command ≡ Consolidate from to limits
-  pub framed : IsFramed found trace
-  pub names : List Name
-  pub listed : Contains trace (record { call = list_commits; reply = reply.Names names })
-  pub opened : List Opened
-  pub all_opened : frags_of opened ≡ filter (is_inside from to) (committed_in names)
-  pub each_opened : (o : Opened) → Contains opened o → HasOpened codec found trace o
-  pub vacs : List VacOf
-  pub all_vacs : list_map (λ v. v.frag) vacs ≡ counting_in names
-  pub each_vac : (v : VacOf) → Contains vacs v → GotNames trace v.frag v.names
-  pub attributes : Key → ℕ
-  pub counted : (o : Opened) → Contains opened o → (s : Schema) × (s.key ≡ o.head.schema) × GotSchema trace s × (attributes o.head.schema ≡ length s.attrs)
-  pub is : plan_of (heads_of opened) vacs attributes from to limits ≡ plan
-
 -- a fetch of a fragment has all versions that were wanted: as it began, or by a reply for which it waited
 abbrev pub HasTaken : {F : Type 0} → Codec F → Job → Found → List Exchange → FragKey → List Version → Type 0
 HasTaken {F} codec job found trace f vs =
@@ -399,9 +403,15 @@ BreaksPart {F} codec job found trace last f part at =
     ((part ≡ codec.head_part found.frame) × IsOpened codec job found trace f (Err at))
     ⊎ ((fetch : F) × ((IsOpened codec job found trace f (Ok fetch) × (codec.steps fetch reply.Start ≡ Breaks part at)) ⊎ (IsUnderWay codec job found trace f fetch last.call × (codec.steps fetch last.reply ≡ Breaks part at))))
 
--- a job in the frame that it got finds a part of a fragment broken at an offset
+-- a job may fetch a fragment: a consolidation one that its plan takes
+-- Another job may fetch any, once it got the schema that it works in and the frame.
+abbrev pub MayFetch : {F : Type 0} → Codec F → Job → Found → List Exchange → Command → FragKey → Type 0
+MayFetch codec job found trace (Consolidate from to limits) f = (chosen : List FragKey) × PlansBy codec job found trace (planned.Take chosen) × Contains chosen f
+MayFetch codec job found trace _ f = IsGot job found trace
+
+-- a job finds a part broken at an offset, of a fragment that it may fetch
 abbrev pub BreaksFetch : {F : Type 0} → Codec F → Job → Found → List Exchange → Exchange → Name → ℕ → Type 0
-BreaksFetch codec job found trace last n at = (f : FragKey) × (part : Part) × (n ≡ name.Part f part) × KnowsFrame job found trace × BreaksPart codec job found trace last f part at
+BreaksFetch codec job found trace last n at = (f : FragKey) × (part : Part) × (n ≡ name.Part f part) × MayFetch codec job found trace job.command f × BreaksPart codec job found trace last f part at
 
 -- the bytes of an object break its layout at an offset: a schema, the frame, a delete, a `.vac`, or the head of a fragment in an array of the frame that the job got
 abbrev pub BreaksAt : {F : Type 0} → Codec F → Job → Found → List Exchange → Name → List ℕ → ℕ → Type 0
@@ -428,7 +438,7 @@ abbrev pub IsCause : {F : Type 0} → Codec F → Job → Found → List Exchang
 IsCause codec job found trace last refusal.ArrayExists = (f : FrameIn) × (job.command ≡ Create f) × IsThere f last
 IsCause codec job found trace last (refusal.NoSchema at) =
     (made_by job.command ≡ None) × (names : List Name) × (last ≡ record { call = list_schemas; reply = reply.Names names }) × (at ≡ looked_at job) × (schema_at (schemas_in names) at ≡ None)
-IsCause codec job found trace last (refusal.NothingToDo count) = PlansBy codec job found trace (planned.Nothing count)
+IsCause codec job found trace last (refusal.NothingToDo count) = (found.merged ≡ None) × PlansBy codec job found trace (planned.Nothing count)
 IsCause codec job found trace last (refusal.Leased other) = IsHeldUp job last other
 IsCause codec job found trace last (refusal.Taken n) = (n ≡ name.Domain → ⊥) × (bytes : List ℕ) × (last ≡ record { call = call.Put n bytes; reply = reply.Taken })
 IsCause codec job found trace last (refusal.StoreFault p) = (p ≡ place_of last.call) × (last.reply ≡ reply.Failed)
