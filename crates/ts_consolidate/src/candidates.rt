@@ -50,12 +50,7 @@ fn committed_inside(
 }
 
 // Those of the fragments that are in the interval, in their order.
-fn inside_of(
-    alloc: Global,
-    from: u64,
-    to: u64,
-    frags: FragList,
-) -> Result<FragList, OutOfMemory>
+fn inside_of(alloc: Global, from: u64, to: u64, frags: FragList) -> Result<FragList, OutOfMemory>
     ensures { IfOk result (λ inside. inside ≡ filter (is_inside from to) frags) }
 {
     let mut inside = FragList::new(alloc);

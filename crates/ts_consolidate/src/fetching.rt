@@ -13,9 +13,7 @@ use std::alloc::Global;
 use std::thread::Threads;
 use ts_actor::{Fetched, Pieces, wanted};
 use ts_base::{FragKey, Name, OutOfMemory, VersionList, VersionLists};
-use ts_model::{
-    Job, Merging, Opened, OpenedList, Outcome, Refusal, State, Survey, box_of,
-};
+use ts_model::{Job, Merging, Opened, OpenedList, Outcome, Refusal, State, Survey, box_of};
 use ts_schema::{AttrList, Frame, Schema, Want};
 use ts_store::{Call, Reply};
 use ts_wire::ReadFault;
@@ -139,15 +137,7 @@ fn start<P: Pieces, R: Threads + Sync>(
     ensures spelled { IfOk result AsksSpelled }
 {
     let want = all_of(alloc, frame, &schema.attrs)?;
-    match P::fetch(
-        rt,
-        alloc,
-        frame,
-        schema,
-        source.frag,
-        &source.object,
-        &want,
-    ) {
+    match P::fetch(rt, alloc, frame, schema, source.frag, &source.object, &want) {
         Ok(fetch) => go_on::<P, R>(rt, alloc, source.frag, fetch, Reply::Start),
         Err(ReadFault::Damaged(fault)) => {
             let name = Name::Part(source.frag, P::head_part(frame));

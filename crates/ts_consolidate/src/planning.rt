@@ -54,9 +54,7 @@ pub(crate) fn merge_planned<P: Pieces, R: Threads + Sync>(
             merge_all::<P, R>(rt, alloc, job, survey, &schemas, sources)
         }
         Planned::Nothing { eligible } => {
-            Ok(State::Over(Outcome::Refused(Refusal::NothingToDo {
-                eligible,
-            })))
+            Ok(State::Over(Outcome::Refused(Refusal::NothingToDo { eligible })))
         }
     }
 }

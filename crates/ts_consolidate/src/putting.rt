@@ -36,7 +36,15 @@ pub(crate) fn put_merged<P: Pieces>(
 {
     match first_and_others(merged.opened.as_slice()) {
         Some((first, others)) => {
-            put_sources::<P>(alloc, job, &merged.survey, &merged.schema, first, others, got)
+            put_sources::<P>(
+                alloc,
+                job,
+                &merged.survey,
+                &merged.schema,
+                first,
+                others,
+                got,
+            )
         }
         None => Ok(State::Over(Outcome::OutOfMemory)),
     }
@@ -78,9 +86,7 @@ fn put_sources<P: Pieces>(
     let frags = frags_of(alloc, first, others)?;
     let names = names_merged(alloc, &survey.vacs, &frags)?;
     match merge_sources::<P>(alloc, job, survey, schema, first, others, got) {
-        Ok(piece) => {
-            put_piece::<P>(alloc, survey.frame.get(), schema, &names, more + 1, &piece)
-        }
+        Ok(piece) => { put_piece::<P>(alloc, survey.frame.get(), schema, &names, more + 1, &piece) }
         Err(Unmerged::TooManyOrigins) => Ok(State::Over(Outcome::OutOfMemory)),
         Err(Unmerged::OutOfMemory) => Err(OutOfMemory),
     }

@@ -18,9 +18,7 @@ use crate::planning::{Surveyed, merge_planned};
 use std::alloc::Global;
 use std::thread::Threads;
 use ts_actor::{Pieces, get_all, schemas_in};
-use ts_base::{
-    Boxed, ByteList, CommitKind, FragKey, FragList, KeyList, Name, OutOfMemory, Prefix,
-};
+use ts_base::{Boxed, ByteList, CommitKind, FragKey, FragList, KeyList, Name, OutOfMemory, Prefix};
 use ts_commit::{VacList, VacOf, decode_vac};
 use ts_model::{
     Candidates, Command, Job, Merging, Opened, OpenedList, Outcome, Refusal, State, Survey,
