@@ -6,7 +6,7 @@
 
 The store has 1,000 fragments of one cell each, over ten places in turn; the file of `sqlite3` has a row for each of these writes, with its place and its stamp as the key.
 A read shows one place as it is in the end. A write adds a cell, and is synced: `sqlite3` has `synchronous` at FULL. It prints the medians of what one call takes on the wall
-and of processors, and how many system calls it makes, where `strace` is there.
+and of processors, and how many system calls it makes, where `strace` is there. At last it times the same read after all fragments were consolidated into one.
 """
 import argparse
 import json
@@ -126,6 +126,10 @@ def main():
             mine, theirs = [call.system_calls() for call in more.get(name, (own[0], others[0]))]
             if mine and theirs:
                 print(f"{name}, system calls\t{mine}\t{theirs}\t{mine / theirs:.1f}", flush=True)
+        Call([program, store, "consolidate", "--at", str(FRAGMENTS), "--max", str(FRAGMENTS)], None, b"consolidate\tok").run()
+        merged = [Call(read, None, b"%d\t%d\n" % (PLACE, last))] * (RUNS + 1)
+        wall, used = medians(merged)
+        print(f"read after a consolidation\t{wall * 1000:.1f} ms on the wall\t{used * 1000:.1f} ms of processors\t{merged[0].system_calls()} system calls")
 
 
 if __name__ == "__main__":

@@ -1,9 +1,9 @@
 #!/usr/bin/env python3
 """Times scripts through `./tilestore - play`: many writes of one cell, one write of many cells, reads with a condition,
-many deletes, long conditions, dense arrays that are written and read whole, one large text, and very many attributes.
+many deletes, long conditions, dense arrays that are written and read whole, consolidations, one large text, and very many attributes.
 
     bench/play.py                   times all
-    bench/play.py WORD..            times what has one of these names: writes cells conditions deletes parses squares text attributes
+    bench/play.py WORD..            times what has one of these names: writes cells conditions deletes parses squares merges text attributes
     bench/play.py --program FILE    times another build of the program
 
 Each script runs five times; it prints the medians in milliseconds, and how they grow with the size.
@@ -31,6 +31,9 @@ DELETED_CELLS = 10000
 NODES = 1000
 PARSES = 500
 SIDES = (500, 1000)
+MERGED = (16, 32, 64)
+MERGED_CELLS = 10000
+SMALL = 1000
 TEXT_BYTES = 30_000_000
 ATTRIBUTES = (40_000, 400_000)
 
@@ -106,6 +109,21 @@ def dense(side):
     return text_of(commands), side * side
 
 
+def fragments(count, cells):
+    """A create, and so many writes of so many cells each, no two at one place."""
+    commands = [create([dim("x", count * cells - 1, 1000)], [attr("v", "int64")])]
+    for i in range(count):
+        places = list(range(i, count * cells, count))
+        commands.append({"cmd": "write", "at": i + 1, "cols": {"x": places, "v": places}})
+    return commands
+
+
+def in_one(cells):
+    """A create, and one write of so many cells."""
+    places = list(range(cells))
+    return [create([dim("x", cells - 1, 1000)], [attr("v", "int64")]), {"cmd": "write", "at": 1, "cols": {"x": places, "v": places}}]
+
+
 def milliseconds(data, rows):
     start = time.perf_counter()
     done = subprocess.run([PROGRAM, "-", "play"], input=data, capture_output=True)
@@ -165,6 +183,34 @@ def squares(sides):
     print("wanted: below 3000 ms for %d by %d, at most 5 times the %d by %d" % (sides[-1], sides[-1], sides[0], sides[0]), flush=True)
 
 
+def merges(counts, cells):
+    """How long a consolidation takes of fragments of so many cells each, beside one write of all their cells."""
+    print("fragments of %d cells\tconsolidated in ms\tgrowth\twritten at once in ms\ttimes" % cells)
+    before = None
+    for count in counts:
+        written = fragments(count, cells)
+        merge = {"cmd": "consolidate", "at": count + 1}
+        own = median(text_of(written + [merge]), None) - median(text_of(written), None)
+        once = in_one(count * cells)
+        other = median(text_of(once), None) - median(text_of(once[:1]), None)
+        growth = "" if before is None else "%.2f" % (own / before)
+        print("%d\t%.1f\t%s\t%.1f\t%.2f" % (count, own, growth, other, own / other), flush=True)
+        before = own
+    print("wanted: at most 2 times one write")
+
+
+def reads_of_small(count):
+    """How long a read takes over so many fragments of one cell each, before and after a consolidation of all of them."""
+    written = fragments(count, 1)
+    merge = {"cmd": "consolidate", "at": count + 1, "max": count}
+    read = {"cmd": "read", "at": count + 2}
+    took = []
+    for commands in (written, written + [merge]):
+        alone = median(text_of(commands), None)
+        took.append((median(text_of(commands + [read] * READS), count) - alone) / READS)
+    print("a read of %d fragments\t%.2f\tafter a consolidation of them\t%.2f\ttimes %.2f" % (count, took[0], took[1], took[0] / took[1]), flush=True)
+
+
 def large_text(size):
     """How long a read of one cell takes whose value is a text of so many bytes, and its write."""
     made = [create([dim("x", 9, 10)], [attr("v", "text")])]
@@ -194,6 +240,7 @@ MEASURES = {
     "deletes": lambda: deletes(DELETES, DELETED_CELLS),
     "parses": lambda: parses(NODES),
     "squares": lambda: squares(SIDES),
+    "merges": lambda: (merges(MERGED, MERGED_CELLS), reads_of_small(SMALL)),
     "text": lambda: large_text(TEXT_BYTES),
     "attributes": lambda: [many_attributes(count) for count in ATTRIBUTES],
 }

@@ -18,10 +18,13 @@ pub(crate) fn say_of_command(
         "write" => say_of_write(text, value),
         "read" => say_of_read(text, value),
         "delete" => say_of_delete(text, value),
+        "consolidate" => say_of_consolidate(text, value),
         _ => {
             text.push_str("unknown command ")?;
             quote(text, name)?;
-            text.push_str("; the commands are create, evolve, write, read and delete")?;
+            text.push_str(
+                "; the commands are create, evolve, write, read, delete and consolidate",
+            )?;
             Ok(true)
         }
     }
@@ -141,6 +144,52 @@ fn say_of_delete(text: &mut String, value: &Value) -> Result<bool, OutOfMemory> 
         return Ok(true);
     }
     say_of_condition(text, value)
+}
+
+// Complains of a consolidation.
+fn say_of_consolidate(text: &mut String, value: &Value) -> Result<bool, OutOfMemory> {
+    let allowed = "a consolidate has from, to, min, max, lane, at";
+    let known = ["cmd", "lane", "at", "from", "to", "min", "max"];
+    if say_of_keys(text, value, &known, &[], allowed)? {
+        return Ok(true);
+    }
+    Ok(
+        say_of_time(text, value, "from")?
+            || say_of_time(text, value, "to")?
+            || say_of_limit(text, value, "min")?
+            || say_of_limit(text, value, "max")?
+            || say_of_limits(text, value)?,
+    )
+}
+
+// Complains of how many fragments a consolidation takes, at least or at most.
+fn say_of_limit(text: &mut String, value: &Value, key: &str) -> Result<bool, OutOfMemory> {
+    let limit = limit_in(value, key, 2);
+    unless(
+        text,
+        2 <= limit && limit <= 4096,
+        at(key),
+        "a consolidate takes a whole number of fragments from 2 to 4,096",
+    )
+}
+
+// Complains of a least number of fragments that is above the greatest one.
+fn say_of_limits(text: &mut String, value: &Value) -> Result<bool, OutOfMemory> {
+    unless(
+        text,
+        limit_in(value, "min", 2) <= limit_in(value, "max", 64),
+        at("min"),
+        "the least number of fragments is at most the greatest one under \"max\", which is 64 where it is not there",
+    )
+}
+
+// The number of fragments under a key, this one where the key is not there, and 0 where it is no
+// number.
+fn limit_in(value: &Value, key: &str, missing: u64) -> u64 {
+    match value.get(key) {
+        Some(limit) => limit.as_u64().unwrap_or(0),
+        None => missing,
+    }
 }
 
 // Complains of the condition under `where`.

@@ -7,7 +7,7 @@ use std::alloc::Global;
 use ts_base::OutOfMemory;
 
 /// The commands that are not built yet.
-const LATER: [&str; 4] = ["consolidate", "vacuum", "unlock", "fragments"];
+const LATER: [&str; 3] = ["vacuum", "unlock", "fragments"];
 
 /// Adds what is wrong with the bytes of a line.
 pub(crate) fn say_of_line(
@@ -63,7 +63,7 @@ fn say_of_value(text: &mut String, value: &Value) -> Result<(), OutOfMemory> {
     }
     let Some(name) = value.get("cmd") else {
         text.push_str(
-            "no key \"cmd\"; it names the command: create, evolve, write, read or delete",
+            "no key \"cmd\"; it names the command: create, evolve, write, read, delete or consolidate",
         )?;
         return Ok(());
     };

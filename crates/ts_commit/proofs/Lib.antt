@@ -1,10 +1,10 @@
 mod Corners
 mod FragTexts
-mod LineLaws
+pub mod LineLaws
 mod Merged
 pub mod PlanLaws
 mod PlanSteps
 mod Selected
-mod Sets
+pub mod Sets
 mod Steps
 mod WorkedRows

@@ -32,7 +32,7 @@ use Rattle.ts_law.proofs.TrueRuns.{jobs_true_run}
 pub record IsTrueAlone (spelled : Spelled) (job : Job) (h : History) (m : Held) (told : List Told) (result : Driven Outcome) : Type 0 where
   pub stands : Stands spelled (held_told m told) (history_told (job ∷ []) h told)
   pub is_true : (end : Outcome) → result ≡ Done end → IsTrueOver spelled m (job ∷ []) h told 0 job end
-  pub causes : (r : Refusal) → result ≡ Done (outcome.Refused r) → IsRefusedFor m (job ∷ []) h told 0 job r
+  pub causes : (r : Refusal) → result ≡ Done (outcome.Refused r) → IsRefusedFor spelled m (job ∷ []) h told 0 job r
 
 module _ {F : Type 0} (codec : Codec F) (spelled : Spelled) (tracks : Tracking F) (laws : CodecLaws codec spelled tracks) (job : Job) (h : History) (m : Held) (told : List Told) (result : Driven Outcome)
     (stands : Stands spelled m h) (new : IsNewId m h [] job.id) (fit : IsFit job) (replied : Replied m told) (suit : All Suits told) (own : AreBy 0 told) (is : IsDriven codec job (trace_of 0 told) result) where

@@ -68,7 +68,7 @@ nothing_clipped spelled h m a b one stands =
 -- an end that is true of the history is true over what was held at the beginning, where each first part of the calls leaves objects that stand for its history, and where want of memory leaves nothing done
 pub true_over : (spelled : Spelled) (opening : Held) (jobs : List Job) (past : History) (told : List Told) (number : ℕ) (job : Job) (end : Outcome)
     → ((g : History) (n : Held) → OneHead spelled g n) → ((front back : List Told) → told ≡ front ++ back → Stands spelled (held_told opening front) (history_told jobs past front))
-    → (end ≡ outcome.OutOfMemory → IsUndone (history_told jobs past told) job) → IsTrueEnd jobs past told number job end → IsTrueOver spelled opening jobs past told number job end
+    → (end ≡ outcome.OutOfMemory → IsUndone (history_told jobs past told) job) → IsTrueEnd spelled opening jobs past told number job end → IsTrueOver spelled opening jobs past told number job end
 true_over spelled opening jobs past told number job (outcome.Read answer) one stands short (from, to, query, reads, is) =
     let before = (is.commits).before in
     let none = nothing_clipped spelled (history_told jobs past before) (held_told opening before) from to (one (history_told jobs past before) (held_told opening before)) (stands before ((is.commits).listing ∷ (is.commits).later) (is.commits).place) in
@@ -77,16 +77,18 @@ true_over spelled opening jobs past told number job outcome.Created one stands s
 true_over spelled opening jobs past told number job (outcome.Evolved k) one stands short is = is
 true_over spelled opening jobs past told number job (outcome.Written f) one stands short is = is
 true_over spelled opening jobs past told number job (outcome.Deleted f) one stands short is = is
+true_over spelled opening jobs past told number job (outcome.Consolidated f count) one stands short is = is
 true_over spelled opening jobs past told number job (outcome.Refused r) one stands short is = is
 true_over spelled opening jobs past told number job outcome.OutOfMemory one stands short is = short refl
 
 -- and the other way round
 pub true_end_of : (spelled : Spelled) (opening : Held) (jobs : List Job) (past : History) (told : List Told) (number : ℕ) (job : Job) (end : Outcome)
-    → IsTrueOver spelled opening jobs past told number job end → IsTrueEnd jobs past told number job end
+    → IsTrueOver spelled opening jobs past told number job end → IsTrueEnd spelled opening jobs past told number job end
 true_end_of spelled opening jobs past told number job (outcome.Read answer) (from, to, query, reads, is) = (from, to, query, reads, is.0)
 true_end_of spelled opening jobs past told number job outcome.Created is = is
 true_end_of spelled opening jobs past told number job (outcome.Evolved k) is = is
 true_end_of spelled opening jobs past told number job (outcome.Written f) is = is
 true_end_of spelled opening jobs past told number job (outcome.Deleted f) is = is
+true_end_of spelled opening jobs past told number job (outcome.Consolidated f count) is = is
 true_end_of spelled opening jobs past told number job (outcome.Refused r) is = is
 true_end_of spelled opening jobs past told number job outcome.OutOfMemory is = tt

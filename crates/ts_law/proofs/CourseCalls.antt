@@ -1,12 +1,14 @@
 -- Calls of a job along its course, and what follows where a state leads.
-use Rattle.std.proofs.Common.{length, ◌≡◌, ℕ, suc, zero, Bool, true, false, cond, ◌⊎◌, List, [], ◌∷◌, ◌++◌, drop, Option, Some, None, IsTrue, refl, sym, ◌∙◌, ap, inl, inr, subst, slice_get, append_assoc}
+use Rattle.std.proofs.Common.{length, ◌≡◌, ◌≢◌, ℕ, suc, zero, Bool, true, false, cond, ◌⊎◌, List, [], ◌∷◌, ◌++◌, drop, Option, Some, None, IsTrue, refl, sym, ◌∙◌, ap, inl, inr, subst, slice_get, append_assoc}
 use Rattle.std.specs.Prelude.{Contains, ⊤, option_map, nat_lt, map as list_map}
 use Rattle.std.proofs.lemmas.Bool.{ltb-false}
 use Rattle.std.proofs.Math.ListN.{drop_of_length-le}
 use Rattle.std.proofs.lemmas.Option.{same_Some, none-some}
 use Rattle.std.proofs.lemmas.List.{append-nil}
 use Rattle.std.proofs.lemmas.List.Elements.{All-nil, All-cons}
+use Rattle.ts_base.specs.declared.keys.FragKey.{FragKey}
 use Rattle.ts_base.specs.declared.names.Name.{Name}
+use Rattle.ts_base.specs.declared.names.PartBytes.{PartBytes}
 use Rattle.ts_schema.specs.declared.evolution.Evolution.{Evolution}
 use Rattle.ts_store.specs.declared.call.Call.{Call}
 use Rattle.ts_store.specs.declared.call.Reply.{Reply}
@@ -21,10 +23,10 @@ use Rattle.ts_model.specs.declared.states.State.TheVariants.{Puts, Over}
 use Rattle.ts_model.specs.declared.commands.Command.TheVariants.{Create, Evolve, Write, Read, Delete}
 use Rattle.ts_model.specs.Codecs.{Codec, is_look}
 use Rattle.ts_model.specs.Jobs.{key_of, frag_of_job}
-use Rattle.ts_model.specs.States.{Exchange, asks, goes, ended, refuse, place_of, put_of, putting, on_made}
-use Rattle.ts_law.specs.Courses.{Found, SaysThere, IsGot, AreFound, IsLookOf, Looks, IsNext, lets_on, Along, EndsAt, refused_in, IsCause}
-use Rattle.ts_law.proofs.CourseGrows.{among_more, got_stays}
-use Rattle.ts_model.proofs.ListLemmas.{Contains-here, Contains-there}
+use Rattle.ts_model.specs.States.{Exchange, asks, goes, ended, refuse, part_objects, place_of, put_of, putting, on_made}
+use Rattle.ts_law.specs.Courses.{Found, Merge, SaysThere, IsGot, IsMergeBy, AreFound, IsLookOf, Looks, IsNext, lets_on, Along, EndsAlong, EndsAt, refused_in, IsCause}
+use Rattle.ts_law.proofs.CourseGrows.{among_more, got_stays, merge_stays}
+use Rattle.ts_model.proofs.ListLemmas.{Contains-cons, Contains-here, Contains-there}
 use Rattle.ts_cond.specs.declared.query.Query.{Query}
 use Rattle.ts_base.specs.declared.names.Name.TheVariants as name
 use Rattle.ts_store.specs.declared.call.Call.TheVariants as call
@@ -78,6 +80,18 @@ lets_length (call.Put n b) size look = cc
 lets_length (call.Remove n) size look = cc
 lets_length (call.List p) size look = cc
 
+-- a reply that lets a job go on is not want of memory
+pub lets_memory : (c : Call) (r : Reply) → IsTrue (lets_on c r) → r ≢ reply.NoMemory
+lets_memory c r on none = no_memory c (subst (λ q. IsTrue (lets_on c q)) none on)
+  where
+    no_memory : (d : Call) → IsTrue (lets_on d reply.NoMemory) → ⊥
+    no_memory (call.Put name.Domain bytes) is = cc
+    no_memory (call.Put n bytes) is = cc
+    no_memory (call.Remove n) is = cc
+    no_memory (call.List p) is = cc
+    no_memory (call.Get n from len) is = cc
+    no_memory (call.Size n) is = cc
+
 -- the call that is asked is this one
 call_is : (c d : Call) → Some c ≡ Some d → d ≡ c
 call_is c d e = sym (same_Some c d e)
@@ -129,6 +143,18 @@ item_in [] i x is = absurd (none-some x is)
 item_in (y ∷ xs) zero x is = subst (Contains (y ∷ xs)) (same_Some y x is) (Contains-here y xs)
 item_in (y ∷ xs) (suc i) x is = Contains-there y xs x (item_in xs i x is)
 
+-- ---- objects
+
+-- no part of a fragment is the frame, nor is one of more objects that are not
+pub parts_apart : (frag : FragKey) (parts : List PartBytes) (more : List NewObject) → ((ob : NewObject) → Contains more ob → ob.name ≡ name.Domain → ⊥) → (ob : NewObject) → Contains (part_objects frag parts ++ more) ob → ob.name ≡ name.Domain → ⊥
+parts_apart frag [] more apart ob at same = apart ob at same
+parts_apart frag (x ∷ parts) more apart ob at same =
+    let first : NewObject = record { name = name.Part frag x.part; bytes = x.bytes } in
+    elim (Contains-cons first (part_objects frag parts ++ more) ob at) [
+      | inl is ↦ cc
+      | inr there ↦ parts_apart frag parts more apart ob there same
+    ]
+
 -- ---- the calls of a job at its work
 
 module _ {F : Type 0} (codec : Codec F) (job : Job) where
@@ -162,10 +188,23 @@ module _ {F : Type 0} (codec : Codec F) (job : Job) where
       Along (IsLookOf codec job found) seen course xs [] × ((text : List ℕ) × (job.command ≡ Delete text)) × (f ≡ frag_of_job job) × IsGot job found whole × (refused_in found job.command ≡ None)
   EndsIn whole seen found course xs (outcome.Read answer) =
       Along (IsLookOf codec job found) seen course xs [] × ((from : ℕ) × (to : ℕ) × (query : Query) × (job.command ≡ Read from to query)) × IsGot job found whole × (refused_in found job.command ≡ None)
+  EndsIn whole seen found course xs (outcome.Consolidated f count) =
+      Along (IsLookOf codec job found) seen course xs [] × ((merge : Merge) × (found.merged ≡ Some merge) × (f ≡ merge.piece.head.frag) × IsMergeBy codec job found whole merge count)
 
   -- how the last calls may end along a course
   abbrev pub Ends : List Exchange → Found → List Call → List Exchange → Outcome → Type 0
   Ends seen found course xs end = EndsIn (seen ++ xs) seen found course xs end
+
+  -- the ends of a whole trace along the course of a job
+  pub ends_along : (found : Found) (course : List Call) (whole : List Exchange) (end : Outcome) → Ends [] found course whole end → EndsAlong codec job found course whole end
+  ends_along found course whole outcome.Created h = h
+  ends_along found course whole (outcome.Evolved k) h = h
+  ends_along found course whole (outcome.Written f) h = h
+  ends_along found course whole (outcome.Deleted f) h = h
+  ends_along found course whole (outcome.Read answer) h = h
+  ends_along found course whole (outcome.Consolidated f count) h = h
+  ends_along found course whole (outcome.Refused r) h = h
+  ends_along found course whole outcome.OutOfMemory h = h
 
   -- what a job that ends well must be
   abbrev pub Well : List Exchange → Found → Outcome → Type 0
@@ -174,6 +213,7 @@ module _ {F : Type 0} (codec : Codec F) (job : Job) where
   Well whole found (outcome.Written f) = ((w : WriteIn) × (job.command ≡ Write w)) × (f ≡ frag_of_job job) × IsGot job found whole × (refused_in found job.command ≡ None)
   Well whole found (outcome.Deleted f) = ((text : List ℕ) × (job.command ≡ Delete text)) × (f ≡ frag_of_job job) × IsGot job found whole × (refused_in found job.command ≡ None)
   Well whole found (outcome.Read answer) = ((from : ℕ) × (to : ℕ) × (query : Query) × (job.command ≡ Read from to query)) × IsGot job found whole × (refused_in found job.command ≡ None)
+  Well whole found (outcome.Consolidated f count) = (merge : Merge) × (found.merged ≡ Some merge) × (f ≡ merge.piece.head.frag) × IsMergeBy codec job found whole merge count
   Well whole found _ = ⊥
 
   -- a job that can end well can after a call more
@@ -183,6 +223,7 @@ module _ {F : Type 0} (codec : Codec F) (job : Job) where
   well_stays seen found x (outcome.Written f) is = (is.0, is.1, got_stays job found seen (seen ++ x ∷ []) (among_more seen x) is.2, is.3)
   well_stays seen found x (outcome.Deleted f) is = (is.0, is.1, got_stays job found seen (seen ++ x ∷ []) (among_more seen x) is.2, is.3)
   well_stays seen found x (outcome.Read answer) is = (is.0, got_stays job found seen (seen ++ x ∷ []) (among_more seen x) is.1, is.2)
+  well_stays seen found x (outcome.Consolidated f count) (merge, some, named, is) = (merge, some, named, merge_stays codec job found seen (seen ++ x ∷ []) merge count (among_more seen x) is)
   well_stays seen found x _ is = absurd is
 
   -- a job that ends well at the end of its course ends along it
@@ -192,6 +233,7 @@ module _ {F : Type 0} (codec : Codec F) (job : Job) where
   well_ended seen found course xs (outcome.Written f) is along = (along, is.0, is.1, is.2, is.3)
   well_ended seen found course xs (outcome.Deleted f) is along = (along, is.0, is.1, is.2, is.3)
   well_ended seen found course xs (outcome.Read answer) is along = (along, is.0, is.1, is.2)
+  well_ended seen found course xs (outcome.Consolidated f count) is along = (along, is)
   well_ended seen found course xs _ is along = absurd is
 
   -- a call that lets the job go on, before calls along the rest of the course
@@ -202,6 +244,7 @@ module _ {F : Type 0} (codec : Codec F) (job : Job) where
   ends_before whole seen found course rest x xs (outcome.Written f) on next h = ((on, (rest, next, h.0)), h.1, h.2, h.3, h.4)
   ends_before whole seen found course rest x xs (outcome.Deleted f) on next h = ((on, (rest, next, h.0)), h.1, h.2, h.3, h.4)
   ends_before whole seen found course rest x xs (outcome.Read answer) on next h = ((on, (rest, next, h.0)), h.1, h.2, h.3)
+  ends_before whole seen found course rest x xs (outcome.Consolidated f count) on next h = ((on, (rest, next, h.0)), h.1)
   ends_before whole seen found course rest x xs (outcome.Refused r) on next h = (h.0, at_cons (IsLookOf codec job found) seen course rest x xs h.0 on next h.1, h.2)
   ends_before whole seen found course rest x xs outcome.OutOfMemory on next (inl h) = inl (h.0, (on, (rest, next, h.1)))
   ends_before whole seen found course rest x xs outcome.OutOfMemory on next (inr h) = inr (h.0, at_cons (IsLookOf codec job found) seen course rest x xs h.0 on next h.1)

@@ -1,7 +1,8 @@
 -- What a job was told before some calls it was told before more of them too.
-use Rattle.std.proofs.Common.{ℕ, List, [], ◌∷◌, ◌++◌, Result, Ok}
+use Rattle.std.proofs.Common.{◌≡◌, ℕ, List, [], ◌∷◌, ◌++◌, None, Result, Ok, inl, inr, sym, ◌∙◌, ap, append_assoc}
 use Rattle.std.specs.Prelude.{Contains}
 use Rattle.std.proofs.lemmas.List.Elements.{Contains-append_left}
+use Rattle.std.proofs.lemmas.Option.{none-some}
 use Rattle.ts_base.specs.declared.keys.Key.{Key}
 use Rattle.ts_base.specs.declared.keys.FragKey.{FragKey}
 use Rattle.ts_base.specs.declared.names.Name.{Name}
@@ -11,7 +12,14 @@ use Rattle.ts_store.specs.declared.call.Reply.{Reply}
 use Rattle.ts_model.specs.declared.commands.Job.{Job}
 use Rattle.ts_model.specs.Codecs.{Codec}
 use Rattle.ts_model.specs.States.{Exchange}
-use Rattle.ts_law.specs.Courses.{Found, GotSchema, IsKeyThere, IsGot, IsOpened, IsFetched, IsUnderWay, IsListedIn, IsCountingIn}
+use Rattle.ts_base.specs.declared.heads.Head.{Head}
+use Rattle.ts_base.specs.declared.heads.Version.{Version}
+use Rattle.ts_commit.specs.declared.vacs.Planned.{Planned}
+use Rattle.ts_commit.specs.declared.vacs.Planned.TheVariants as planned
+use Rattle.ts_model.specs.declared.commands.Command.{Command}
+use Rattle.ts_model.specs.declared.commands.Command.TheVariants.{Create, Evolve, Write, Read, Delete, Consolidate}
+use Rattle.ts_model.specs.declared.states.Opened.{Opened}
+use Rattle.ts_law.specs.Courses.{Found, Merge, MergesFound, GotHead, GotNames, GotSchema, HasOpened, HasTaken, EachTaken, IsFramed, IsKeyThere, IsGot, IsNamedFor, IsOpened, IsFetched, IsUnderWay, IsListedIn, IsListedInside, IsCountingIn, IsMergeBy, PlansBy}
 
 -- the calls of the first list are calls of the second
 abbrev pub AreAmong : List Exchange → List Exchange → Type 0
@@ -47,21 +55,44 @@ listed_stays kind a b from to f among (names, told, has, in_time) = (names, amon
 pub counting_stays : (a b : List Exchange) (f : FragKey) → AreAmong a b → IsCountingIn a f → IsCountingIn b f
 counting_stays a b f among (names, told, has) = (names, among _ told, has)
 
+-- the frame alone
+pub framed_stays : (found : Found) (a b : List Exchange) → AreAmong a b → IsFramed found a → IsFramed found b
+framed_stays found a b among framed = record { frame_bytes = framed.frame_bytes; frame_got = among _ framed.frame_got; frame_is = framed.frame_is }
+
+-- a fragment in the interval of a consolidation
+pub inside_stays : (a b : List Exchange) (from to : ℕ) (f : FragKey) → AreAmong a b → IsListedInside a from to f → IsListedInside b from to f
+inside_stays a b from to f among (names, told, has, in_time) = (names, among _ told, has, in_time)
+
+-- what a `.vac` names
+pub names_stay : (a b : List Exchange) (f : FragKey) (names : List FragKey) → AreAmong a b → GotNames a f names → GotNames b f names
+names_stay a b f names among (bytes, told, is) = (bytes, among _ told, is)
+
 module _ {F : Type 0} (codec : Codec F) where
+  -- the head of a fragment
+  pub head_stays : (found : Found) (a b : List Exchange) (f : FragKey) (head : Head) → AreAmong a b → GotHead codec found a f head → GotHead codec found b f head
+  head_stays found a b f head among (object, told, is) = (object, among _ told, is)
+
+  -- the schema in which a fragment is opened
+  named_stays : (command : Command) (found : Found) (a b : List Exchange) (head : Head) (s : Schema) → AreAmong a b → IsNamedFor codec found a command head s → IsNamedFor codec found b command head s
+  named_stays (Consolidate from to limits) found a b head s among (f, first, got, same) = (f, first, head_stays found a b f first among got, same)
+  named_stays (Create f) found a b head s among same = same
+  named_stays (Evolve change) found a b head s among same = same
+  named_stays (Write w) found a b head s among same = same
+  named_stays (Read from to query) found a b head s among same = same
+  named_stays (Delete text) found a b head s among same = same
+
   -- a fragment that was opened
   pub opened_stays : (job : Job) (found : Found) (a b : List Exchange) (frag : FragKey) (opening : Result F ℕ) → AreAmong a b → IsOpened codec job found a frag opening → IsOpened codec job found b frag opening
   opened_stays job found a b frag opening among is = record {
-    from = is.from;
-    to = is.to;
-    query = is.query;
-    is_read = is.is_read;
     object = is.object;
     got = among _ is.got;
     head = is.head;
     reads = is.reads;
     schema = is.schema;
     schema_got = schema_stays a b is.schema among is.schema_got;
-    named = is.named;
+    named = named_stays job.command found a b is.head is.schema among is.named;
+    want = is.want;
+    wants = is.wants;
     opens = is.opens;
   }
 
@@ -81,3 +112,75 @@ module _ {F : Type 0} (codec : Codec F) where
     replies = way.replies;
     fetched = fetched_stays a b way.begun way.asked way.replies fetch c among way.fetched;
   }
+
+  -- an opened fragment
+  pub open_stays : (found : Found) (a b : List Exchange) (o : Opened) → AreAmong a b → HasOpened codec found a o → HasOpened codec found b o
+  open_stays found a b o among (told, is) = (among _ told, is)
+
+  -- a fetch that has all versions
+  pub taken_stays : (job : Job) (found : Found) (a b : List Exchange) (f : FragKey) (vs : List Version) → AreAmong a b → HasTaken codec job found a f vs → HasTaken codec job found b f vs
+  taken_stays job found a b f vs among (fetch, inl (opened, takes)) = (fetch, inl (opened_stays job found a b f (Ok fetch) among opened, takes))
+  taken_stays job found a b f vs among (fetch, inr (x, way, told, takes)) = (fetch, inr (x, way_stays job found a b f fetch x.call among way, among x told, takes))
+
+  -- so have those of several fragments
+  pub each_stays : (job : Job) (found : Found) (a b : List Exchange) (sources : List Opened) (got : List (List Version)) → AreAmong a b → EachTaken codec job found a sources got → EachTaken codec job found b sources got
+  each_stays job found a b [] [] among each = tt
+  each_stays job found a b (o ∷ sources) (vs ∷ got) among each = (taken_stays job found a b o.frag vs among each.0, each_stays job found a b sources got among each.1)
+  each_stays job found a b [] (vs ∷ got) among each = absurd each
+  each_stays job found a b (o ∷ sources) [] among each = absurd each
+
+  -- the plan of a consolidation
+  abbrev plans_stay : (job : Job) (found : Found) (a b : List Exchange) (plan : Planned) → AreAmong a b → PlansBy codec job found a plan → PlansBy codec job found b plan
+  plans_stay job found a b plan among is = record {
+    from = is.from;
+    to = is.to;
+    limits = is.limits;
+    merges = is.merges;
+    framed = framed_stays found a b among is.framed;
+    names = is.names;
+    listed = among _ is.listed;
+    opened = is.opened;
+    all_opened = is.all_opened;
+    each_opened = λ o at. open_stays found a b o among (is.each_opened o at);
+    vacs = is.vacs;
+    all_vacs = is.all_vacs;
+    each_vac = λ v at. names_stay a b v.frag v.names among (is.each_vac v at);
+    attributes = is.attributes;
+    counted = λ o at. let (s, same, got, count) = is.counted o at in (s, same, schema_stays a b s among got, count);
+    is = is.is;
+  }
+
+  -- what a consolidation merged
+  pub merge_stays : (job : Job) (found : Found) (a b : List Exchange) (merge : Merge) (count : ℕ) → AreAmong a b → IsMergeBy codec job found a merge count → IsMergeBy codec job found b merge count
+  merge_stays job found a b merge count among is = record {
+    chosen = is.chosen;
+    by_plan = plans_stay job found a b (planned.Take is.chosen) among is.by_plan;
+    first = is.first;
+    others = is.others;
+    sources = is.sources;
+    counted = is.counted;
+    schema_got = schema_stays a b merge.schema among is.schema_got;
+    schema_named = is.schema_named;
+    got = is.got;
+    each_taken = each_stays job found a b (is.first ∷ is.others) is.got among is.each_taken;
+    piece = is.piece;
+    names = is.names;
+  }
+
+  -- what was merged
+  pub merged_stays : (job : Job) (found : Found) (trace more : List Exchange) → MergesFound codec job found trace → MergesFound codec job found (trace ++ more)
+  merged_stays job found trace more merges merge some =
+      let has = merges merge some in
+      record {
+        front = has.front;
+        last = has.last;
+        later = has.later ++ more;
+        parts = ap (λ t. t ++ more) has.parts ∙ append_assoc has.front (has.last ∷ has.later) more;
+        was_told = has.was_told;
+        count = has.count;
+        by_told = has.by_told;
+      }
+
+  -- a job that merged nothing is not said to have merged anything
+  pub merged_nothing : (job : Job) (found : Found) (trace : List Exchange) → found.merged ≡ None → MergesFound codec job found trace
+  merged_nothing job found trace none merge some = absurd (none-some merge (sym none ∙ some))

@@ -1,14 +1,12 @@
 -- A job of each command makes the calls of its course, and ends by it.
-use Rattle.std.proofs.Common.{length, ◌∙◌, ◌⊎◌, ◌≡◌, ℕ, suc, Bool, true, false, cond, not, ◌||◌, List, [], ◌∷◌, ◌++◌, Option, Some, None, Result, Ok, Err, IsTrue, arith, refl, sym, ap, inl, inr, subst}
+use Rattle.std.proofs.Common.{length, ◌∙◌, ◌⊎◌, ◌≡◌, ℕ, suc, Bool, true, false, cond, List, [], ◌∷◌, ◌++◌, Option, Some, None, Result, Ok, Err, IsTrue, arith, refl, sym, ap, inl, inr, subst}
 use Rattle.std.specs.Prelude.{Contains, option_map, nat_eq, map as list_map}
 use Rattle.std.specs.Result.{result_err}
-use Rattle.std.proofs.lemmas.Bool.{lt-ltb, ne_eqb, true≢false}
-use Rattle.std.proofs.lemmas.Option.{none-some, same_Some}
-use Rattle.std.proofs.lemmas.List.Elements.{All-cons, All-nil, All-push, Contains-push}
+use Rattle.std.proofs.lemmas.Bool.{lt-ltb, ne_eqb}
+use Rattle.std.proofs.lemmas.Option.{none-some}
+use Rattle.std.proofs.lemmas.List.Elements.{All-nil, Contains-push}
 use Rattle.ts_base.specs.declared.keys.Key.{Key}
-use Rattle.ts_base.specs.declared.keys.FragKey.{FragKey}
 use Rattle.ts_base.specs.declared.names.Name.{Name}
-use Rattle.ts_base.specs.declared.names.PartBytes.{PartBytes}
 use Rattle.ts_base.specs.declared.heads.Cell.{Cell}
 use Rattle.ts_schema.specs.declared.frames.Frame.{Frame}
 use Rattle.ts_schema.specs.declared.schemas.Schema.{Schema}
@@ -28,44 +26,38 @@ use Rattle.ts_model.specs.declared.answers.Refusal.{Refusal}
 use Rattle.ts_model.specs.declared.states.State.{State}
 use Rattle.ts_model.specs.declared.states.NewObject.{NewObject}
 use Rattle.ts_model.specs.declared.states.State.TheVariants.{Creates, Seeks, Over}
-use Rattle.ts_model.specs.declared.states.Stage.{Stage}
-use Rattle.ts_model.specs.declared.states.Stage.TheVariants.{PutsLease, Releases, Works}
+use Rattle.ts_model.specs.declared.states.Stage.TheVariants.{Works}
 use Rattle.ts_base.specs.declared.names.LeaseMode.TheVariants.{Shr}
-use Rattle.ts_lease.specs.Leases.{verdict_in}
-use Rattle.ts_lease.specs.declared.verdicts.Verdict.{Verdict}
-use Rattle.ts_lease.specs.declared.verdicts.Verdict.TheVariants as verdict
 use Rattle.ts_model.proofs.Asked.{asked-push, next_call}
-use Rattle.ts_model.proofs.Lacks.{lacks-push, no_memory_ends}
-use Rattle.ts_base.specs.Exact.{name_decides}
+use Rattle.ts_model.proofs.Lacks.{no_memory_ends}
 use Rattle.ts_model.specs.declared.states.Creating.TheVariants.{PutsFrame, ComparesFrame, ListsDeclared}
 use Rattle.ts_model.specs.declared.states.Seeking.TheVariants.{ListsCommits, ListsSchemas}
-use Rattle.ts_model.specs.declared.commands.Command.TheVariants.{Create, Evolve, Write, Read, Delete}
+use Rattle.ts_model.specs.declared.commands.Command.TheVariants.{Create, Evolve, Write, Read, Delete, Consolidate}
 use Rattle.ts_model.specs.Codecs.{Codec, AsksLooks}
 use Rattle.ts_model.specs.Commands.{laid, piece_of}
 use Rattle.ts_model.specs.Jobs.{key_of, frag_of_job, written_as, refused_before}
-use Rattle.ts_model.specs.Stages.{after_lease, after_leases, end_at, first_stage, goes_on, is_done, is_leased, is_release, lease_of, list_leases, on_verdict, put_lease, released, settled, stage_asks, stage_from, stage_of, stage_takes_memory}
+use Rattle.ts_model.specs.Stages.{first_stage, goes_on, lease_of, stage_from, stage_of}
 use Rattle.ts_model.specs.Stops.{cuts}
-use Rattle.ts_model.specs.States.{Exchange, end_by, goes, begins, begun, refuse, unless_refused, get_schema, get_frame, list_schemas, list_commits, looked_into, committed_in, deletes_in, meets, commit_of, part_objects, put_of, putting, puts_cells, schema_object_of, write_objects, frame_put, is_own_frame, nothing_listed, asks_for, reading_of, puts_delete, delete_object_of}
-use Rattle.ts_model.specs.Driven.{AskedFrom, EndsBy, MayAsk, lacks_from}
-use Rattle.ts_law.specs.Courses.{EndsUnder, FindsOpposed, HasPut, HeedsLeases, IsCutAlong, IsCutOff, NotBegun, NotOwn, Removed, removal, Found, cell_puts, evolve_puts, course_of, IsSchemaIn, IsFrameIn, SaysThere, IsGot, AreFound, LooksThere, IsLookOf, lets_on, refused_in, IsCause, EndsAlong, MayEndAs, delete_puts}
-use Rattle.ts_model.proofs.ListLemmas.{Contains-nil, Contains-here, Contains-cons, Contains-only, filter-Contains}
-use Rattle.ts_law.proofs.CourseGrows.{among_more}
+use Rattle.ts_model.specs.States.{Exchange, goes, begins, begun, refuse, unless_refused, get_schema, get_frame, list_schemas, list_commits, looked_into, committed_in, deletes_in, meets, commit_of, put_of, putting, puts_cells, schema_object_of, write_objects, frame_put, is_own_frame, nothing_listed, asks_for, reading_of, puts_delete, delete_object_of}
+use Rattle.ts_model.specs.Driven.{AskedFrom, EndsBy, MayAsk}
+use Rattle.ts_law.specs.Courses.{EndsUnder, IsCutAlong, IsCutOff, Found, cell_puts, evolve_puts, course_of, IsSchemaIn, IsFrameIn, SaysThere, IsGot, AreFound, LooksThere, IsLookOf, lets_on, refused_in, IsCause, EndsAlong, MayEndAs, MergesFound, delete_puts}
+use Rattle.ts_model.proofs.ListLemmas.{Contains-nil, Contains-here, Contains-only, filter-Contains}
+use Rattle.ts_law.proofs.CourseGrows.{among_more, merged_nothing}
 use Rattle.ts_law.proofs.LaidRefusals.{IsOfColumns, FailsByColumns, laid_fails}
 use Rattle.ts_model.specs.declared.queries.Ready.{Ready}
 use Rattle.ts_cond.specs.declared.query.Query.{Query}
 use Rattle.ts_cond.specs.Tests.{Condition}
 use Rattle.ts_model.specs.Queries.{ready_in, delete_condition}
 use Rattle.ts_law.proofs.QueryRefusals.{IsOfQuery, FailsByQuery, ready_fails, delete_condition_fails}
-use Rattle.ts_law.proofs.CourseCalls.{Ends, WorkAsks, WorkEnds, Well, ends_cons, work_from, over_ends, Goes, Follows, follows_on, follows_refused, follows_ended, goes_none, goes_by, follows_putting, puts_go, Next}
+use Rattle.ts_law.proofs.CourseCalls.{ends_along, Ends, WorkAsks, WorkEnds, Well, work_from, over_ends, Goes, Follows, follows_on, follows_refused, follows_ended, goes_none, goes_by, follows_putting, parts_apart, puts_go, Next}
 use Rattle.ts_law.proofs.CourseReads.{follows_getting_vacs, reads_on}
-use Rattle.ts_law.proofs.CutOff.{as_if, found_before, last_same, no_calls, unmade_of}
-use Rattle.ts_law.proofs.CourseStages.{Closed, IsWas, Open, OpenAsks, Split, bare_asks, bare_from, open-push, open_from, releasing_asks, same_work, settled_leased, split, work_open, work_was}
-use Rattle.ts_law.proofs.KeptLaws.{no_removal}
-use Rattle.ts_law.proofs.LeaseSteps.{release_is}
+use Rattle.ts_law.proofs.CourseMerges.{merge_finds}
+use Rattle.ts_law.proofs.CourseLeased.{leased_cut, leased_finds}
+use Rattle.ts_law.proofs.CutOff.{as_if, found_before, merged_before, no_calls, unmade_of}
+use Rattle.ts_law.proofs.CourseStages.{bare_asks, bare_from, same_work}
 use Rattle.ts_law.proofs.CourseThere.{no_schema, no_frame, found_as, OfBytes, schemas_found}
 use Rattle.ts_base.specs.declared.names.Name.TheVariants as name
 use Rattle.ts_store.specs.declared.call.Reply.TheVariants as reply
-use Rattle.ts_store.specs.declared.call.Call.TheVariants as call
 use Rattle.ts_model.specs.declared.answers.Outcome.TheVariants as outcome
 use Rattle.ts_model.specs.declared.answers.Refusal.TheVariants as refusal
 
@@ -78,16 +70,6 @@ schema_apart k bytes ob at same = let is = Contains-only (record { name = name.S
 -- nor is that of a delete
 delete_apart : (job : Job) (condition : Condition) (ob : NewObject) → Contains (delete_object_of job condition ∷ []) ob → ob.name ≡ name.Domain → ⊥
 delete_apart job condition ob at same = let is = Contains-only (delete_object_of job condition) ob at in cc
-
--- nor is a part of a fragment
-parts_apart : (frag : FragKey) (parts : List PartBytes) (more : List NewObject) → ((ob : NewObject) → Contains more ob → ob.name ≡ name.Domain → ⊥) → (ob : NewObject) → Contains (part_objects frag parts ++ more) ob → ob.name ≡ name.Domain → ⊥
-parts_apart frag [] more apart ob at same = apart ob at same
-parts_apart frag (x ∷ parts) more apart ob at same =
-    let first : NewObject = record { name = name.Part frag x.part; bytes = x.bytes } in
-    elim (Contains-cons first (part_objects frag parts ++ more) ob at) [
-      | inl is ↦ cc
-      | inr there ↦ parts_apart frag parts more apart ob there same
-    ]
 
 -- nor an object of a write
 written_apart : {F : Type 0} (codec : Codec F) (job : Job) (frame : Frame) (there : Schema) (cells : List Cell) (ob : NewObject) → Contains (write_objects codec frame there job cells) ob → ob.name ≡ name.Domain → ⊥
@@ -102,7 +84,7 @@ module _ {F : Type 0} (codec : Codec F) (any : Job) where
 
   -- a job found something, and its calls from a state on say so and end along its course
   abbrev Finds : Job → List Exchange → Outcome → State F → Type 0
-  Finds job xs end s = WorkAsks codec job s xs → WorkEnds codec job s xs end → (found : Found) × AreTold job found xs end
+  Finds job xs end s = WorkAsks codec job s xs → WorkEnds codec job s xs end → (found : Found) × AreTold job found xs end × (found.merged ≡ None)
 
   -- a job with another command
   abbrev pub with : Command → Job
@@ -220,7 +202,7 @@ module _ {F : Type 0} (codec : Codec F) (any : Job) where
       let (there, frame, goes_on) =
       schemas_found codec (with (Evolve change)) refl (λ found seen c look. look) (λ found r. tt) (evolve_schema change) (evolve_frame change) (λ found. evolve_puts (with (Evolve change)) found change (evolution_fault (found.frame).domain (found.there).attrs change)) [] nothing_listed
       (λ there frame seen x xs end since got says on look. evolve_works change there frame seen x xs end got says on look (evolution_fault frame.domain there.attrs change) refl) [] xs end (λ x at. at) in
-      (found_as there frame, goes_on a e)
+      (found_as there frame, goes_on a e, refl)
 
   -- a write
   write_finds : (w : WriteIn) (xs : List Exchange) (end : Outcome) → Finds (with (Write w)) xs end (Seeks (ListsSchemas nothing_listed))
@@ -228,7 +210,7 @@ module _ {F : Type 0} (codec : Codec F) (any : Job) where
       let (there, frame, goes_on) =
       schemas_found codec (with (Write w)) refl (λ found seen c look. look) (λ found r. tt) (write_schema w) (write_frame w) (λ found. cell_puts codec (with (Write w)) found (laid found.frame (found.there).attrs w)) [] nothing_listed
       (λ there frame seen x xs end since got says on look. write_works w there frame seen x xs end got says on look (laid frame there.attrs w) refl (laid_fails frame there.attrs w)) [] xs end (λ x at. at) in
-      (found_as there frame, goes_on a e)
+      (found_as there frame, goes_on a e, refl)
 
   -- a delete
   delete_finds : (text : List ℕ) (xs : List Exchange) (end : Outcome) → Finds (with (Delete text)) xs end (Seeks (ListsSchemas nothing_listed))
@@ -236,7 +218,7 @@ module _ {F : Type 0} (codec : Codec F) (any : Job) where
       let (there, frame, goes_on) =
       schemas_found codec (with (Delete text)) refl (λ found seen c look. look) (λ found r. tt) (delete_schema text) (delete_frame text) (λ found. delete_puts (with (Delete text)) (delete_condition found.frame (found.there).attrs text)) [] nothing_listed
       (λ there frame seen x xs end since got says on look. delete_works text there frame seen x xs end got says on look (delete_condition frame there.attrs text) refl (delete_condition_fails frame there.attrs text)) [] xs end (λ x at. at) in
-      (found_as there frame, goes_on a e)
+      (found_as there frame, goes_on a e, refl)
 
   -- the calls after those before say what a job found, and end along a course
   abbrev AreAlong : Job → List Exchange → Found → List Call → List Exchange → Outcome → Type 0
@@ -244,17 +226,17 @@ module _ {F : Type 0} (codec : Codec F) (any : Job) where
 
   -- a read
   read_finds : AsksLooks codec → (from to : ℕ) (query : Query) (before xs : List Exchange) (end : Outcome) → WorkAsks codec (with (Read from to query)) (Seeks ListsCommits) xs → WorkEnds codec (with (Read from to query)) (Seeks ListsCommits) xs end
-      → (found : Found) × AreAlong (with (Read from to query)) before found (list_commits ∷ list_schemas ∷ []) xs end
-  read_finds looks from to query before [] end a e = (found_as no_schema no_frame, goes_none codec (with (Read from to query)) before (found_as no_schema no_frame) (list_commits ∷ list_schemas ∷ []) end (Seeks ListsCommits) (λ o q. cc) a e)
+      → (found : Found) × AreAlong (with (Read from to query)) before found (list_commits ∷ list_schemas ∷ []) xs end × MergesFound codec (with (Read from to query)) found (before ++ xs)
+  read_finds looks from to query before [] end a e = (found_as no_schema no_frame, goes_none codec (with (Read from to query)) before (found_as no_schema no_frame) (list_commits ∷ list_schemas ∷ []) end (Seeks ListsCommits) (λ o q. cc) a e, merged_nothing codec (with (Read from to query)) (found_as no_schema no_frame) (before ++ []) refl)
   read_finds looks from to query before (x ∷ xs) end a e =
-      let (found, follows) = by_reply x.reply in
-      (found, goes_by codec (with (Read from to query)) before found (list_commits ∷ list_schemas ∷ []) x xs end (Seeks ListsCommits) list_commits refl (λ same. follows) a e)
+      let (there, frame, follows) = by_reply x.reply in
+      (found_as there frame, goes_by codec (with (Read from to query)) before (found_as there frame) (list_commits ∷ list_schemas ∷ []) x xs end (Seeks ListsCommits) list_commits refl (λ same. follows) a e, merged_nothing codec job (found_as there frame) (before ++ x ∷ xs) refl)
     where
       job : Job
       job = with (Read from to query)
 
       CommitsFor : Reply → Type 0
-      CommitsFor r = (found : Found) × Follows codec job before found (list_commits ∷ list_schemas ∷ []) (record { call = list_commits; reply = r }) xs end (goes codec job (Seeks ListsCommits) r)
+      CommitsFor r = (there : Schema) × (frame : Frame) × Follows codec job before (found_as there frame) (list_commits ∷ list_schemas ∷ []) (record { call = list_commits; reply = r }) xs end (goes codec job (Seeks ListsCommits) r)
 
       by_reply : (r : Reply) → CommitsFor r
       by_reply (reply.Names names) =
@@ -263,8 +245,8 @@ module _ {F : Type 0} (codec : Codec F) (any : Job) where
           schemas_found codec job refl (λ found seen c look. inl look) (λ found r. tt) (λ found k r is. tt) (λ found r is. tt) (λ found. []) (before ++ y ∷ []) (looked_into (Read from to query) names)
           (λ there frame seen z zs end' since got says on look. read_works looks from to query names there frame seen z zs end' (since y (Contains-push before y)) got on look (ready_in frame there.attrs query) refl (ready_fails frame there.attrs query))
           (before ++ y ∷ []) xs end (λ z at. at) in
-          (found_as there frame, follows_on codec job before (found_as there frame) (list_commits ∷ list_schemas ∷ []) (list_schemas ∷ []) y xs end (Seeks (ListsSchemas (looked_into (Read from to query) names))) tt refl (inr refl) later)
-      by_reply r = (found_as no_schema no_frame, follows_ended codec job before (found_as no_schema no_frame) (list_commits ∷ list_schemas ∷ []) (list_schemas ∷ []) list_commits r xs end tt tt (inr refl))
+          (there, frame, follows_on codec job before (found_as there frame) (list_commits ∷ list_schemas ∷ []) (list_schemas ∷ []) y xs end (Seeks (ListsSchemas (looked_into (Read from to query) names))) tt refl (inr refl) later)
+      by_reply r = (no_schema, no_frame, follows_ended codec job before (found_as no_schema no_frame) (list_commits ∷ list_schemas ∷ []) (list_schemas ∷ []) list_commits r xs end tt tt (inr refl))
 
   -- ---- a create
 
@@ -279,7 +261,7 @@ module _ {F : Type 0} (codec : Codec F) (any : Job) where
 
     -- what a create found
     abbrev found_by : Bool → Found
-    found_by taken = record { taken = taken; there = no_schema; frame = no_frame }
+    found_by taken = record { taken = taken; there = no_schema; frame = no_frame; merged = None }
 
     -- after a call, the first schema is put
     first_follows : (taken : Bool) (seen : List Exchange) (course : List Call) (x : Exchange) (xs : List Exchange) (end : Outcome) → SaysThere (found_by taken) (Create f) x.call x.reply → IsTrue (lets_on x.call x.reply) → Next codec creating seen (found_by taken) course x.call (put_of first_object ∷ [])
@@ -325,10 +307,10 @@ module _ {F : Type 0} (codec : Codec F) (any : Job) where
 
     -- a create
     create_finds : (xs : List Exchange) (end : Outcome) → Finds creating xs end (Creates PutsFrame)
-    create_finds [] end a e = (found_by false, goes_none codec creating [] (found_by false) (course_of codec creating (found_by false)) end (Creates PutsFrame) (λ o q. cc) a e)
+    create_finds [] end a e = (found_by false, goes_none codec creating [] (found_by false) (course_of codec creating (found_by false)) end (Creates PutsFrame) (λ o q. cc) a e, refl)
     create_finds (x ∷ xs) end a e =
         let (taken, follows) = by_reply x.reply in
-        (found_by taken, goes_by codec creating [] (found_by taken) (course_of codec creating (found_by taken)) x xs end (Creates PutsFrame) (frame_put f) refl (λ same. follows) a e)
+        (found_by taken, goes_by codec creating [] (found_by taken) (course_of codec creating (found_by taken)) x xs end (Creates PutsFrame) (frame_put f) refl (λ same. follows) a e, refl)
       where
         FrameFor : Reply → Type 0
         FrameFor r = (taken : Bool) × Follows codec creating [] (found_by taken) (course_of codec creating (found_by taken)) (record { call = frame_put f; reply = r }) xs end (goes codec creating (Creates PutsFrame) r)
@@ -337,308 +319,6 @@ module _ {F : Type 0} (codec : Codec F) (any : Job) where
         by_reply reply.Made = (false, first_follows false [] (course_of codec creating (found_by false)) (record { call = frame_put f; reply = reply.Made }) xs end refl refl (inr refl))
         by_reply reply.Taken = (true, follows_on codec creating [] (found_by true) (course_of codec creating (found_by true)) (list_schemas ∷ put_of first_object ∷ []) (record { call = frame_put f; reply = reply.Taken }) xs end (Creates ComparesFrame) refl refl (inr refl) (compare_goes (record { call = frame_put f; reply = reply.Taken } ∷ []) xs end (Contains-here (record { call = frame_put f; reply = reply.Taken }) [])))
         by_reply r = (false, follows_ended codec creating [] (found_by false) (course_of codec creating (found_by false)) (put_of first_object ∷ []) (frame_put f) r xs end tt tt (inr refl))
-
-  -- ---- where a job begins
-
-  -- the ends of a whole trace along the course of a job
-  ends_along : (job : Job) (found : Found) (course : List Call) (whole : List Exchange) (end : Outcome) → Ends codec job [] found course whole end → EndsAlong codec job found course whole end
-  ends_along job found course whole outcome.Created h = h
-  ends_along job found course whole (outcome.Evolved k) h = h
-  ends_along job found course whole (outcome.Written f) h = h
-  ends_along job found course whole (outcome.Deleted f) h = h
-  ends_along job found course whole (outcome.Read answer) h = h
-  ends_along job found course whole (outcome.Refused r) h = h
-  ends_along job found course whole outcome.OutOfMemory h = h
-
-  -- ---- a read, under its lease
-
-  module _ (looks : AsksLooks codec) (from to : ℕ) (query : Query) where
-    -- a job that reads
-    abbrev reading : Job
-    reading = with (Read from to query)
-
-    -- its lease
-    abbrev own_lease : Name
-    own_lease = name.Lease (key_of any) Shr
-
-    -- the put of it, with its reply
-    abbrev lease_put : Reply → Exchange
-    lease_put r = record { call = put_lease own_lease; reply = r }
-
-    -- the listing of the leases, with its reply
-    abbrev leases_listed : Reply → Exchange
-    leases_listed r = record { call = list_leases; reply = r }
-
-    -- the course of a read at its work
-    abbrev reads_course : List Call
-    reads_course = list_commits ∷ list_schemas ∷ []
-
-    -- something was found, and the calls up to the removal of the lease may come to this end
-    abbrev ComesTo : List Exchange → Outcome → Type 0
-    ComesTo front was = (found : Found) × AreFound reading found front × EndsAlong codec reading found (put_lease own_lease ∷ list_leases ∷ reads_course) front was
-
-    -- an end along the course is one
-    comes_to : (found : Found) (front : List Exchange) (was : Outcome) → AreFound reading found front × Ends codec reading [] found (put_lease own_lease ∷ list_leases ∷ reads_course) front was → ComesTo front was
-    comes_to found front was h = (found, h.0, ends_along reading found (put_lease own_lease ∷ list_leases ∷ reads_course) front was h.1)
-
-    -- where a listing of the leases showed one that opposes its own, it was the last call, the lease is removed next, and no memory was wanting
-    abbrev Heeds : List Exchange → Type 0
-    Heeds front =
-        (more : List Exchange) (other : Name) → FindsOpposed own_lease front more other
-        → (more ≡ []) × (open_from codec reading own_lease refl (PutsLease own_lease) front ≡ Releases own_lease (outcome.Refused (refusal.Leased other))) × (lacks_from codec reading true (PutsLease own_lease) front ≡ false)
-
-    -- the calls before the removal of the lease: there is none, the name of the lease was taken, or the lease is held
-    data Began (front : List Exchange) : Type 0 where
-      NoCall : front ≡ [] → Began front
-      WasTaken : front ≡ lease_put reply.Taken ∷ [] → Began front
-      HeldLease : HasPut own_lease front → is_leased (open_from codec reading own_lease refl (PutsLease own_lease) front) ≡ true
-          → ((was : Outcome) → IsWas codec reading own_lease refl (open_from codec reading own_lease refl (PutsLease own_lease) front) was → ComesTo front was)
-          → Heeds front → Began front
-
-    -- so do calls of which the second one is no listing of the leases that told names
-    none_listed : (front : List Exchange) → ((put : Exchange) (names : List Name) (more : List Exchange) → front ≡ put ∷ leases_listed (reply.Names names) ∷ more → ⊥) → Heeds front
-    none_listed front none more other (put, names, is, opposes) = absurd (none put names more is)
-
-    -- the end that such calls came to heeds the leases
-    heeds_end : (front : List Exchange) → Heeds front → HeedsLeases own_lease front (end_at (open_from codec reading own_lease refl (PutsLease own_lease) front))
-    heeds_end front heeds more other finds = let found = heeds more other finds in (found.0, ap end_at found.1)
-
-    -- an end that the job may come to where it removes its lease is one that it came to, or want of memory
-    of_was : (e was : Outcome) → IsWas codec reading own_lease refl (Releases own_lease e) was → ◌≡◌ {A = State F} (Over e) (Over was) ⊎ (was ≡ outcome.OutOfMemory)
-    of_was e was (inl is) = inl (ap Over (sym is))
-    of_was e was (inr none) = inr none
-
-    -- where the listing of the leases led
-    after_list : (r : Reply) (ys : List Exchange) → OpenAsks codec reading own_lease refl (after_leases own_lease (Seeks ListsCommits) r) ys → Began (lease_put reply.Made ∷ leases_listed r ∷ ys)
-    after_list (reply.Names names) ys asked = by_verdict (verdict_in names own_lease) refl asked
-      where
-        y : Exchange
-        y = leases_listed (reply.Names names)
-
-        one_names : (x put : Exchange) (others : List Name) (more zs : List Exchange) → x ∷ y ∷ zs ≡ put ∷ leases_listed (reply.Names others) ∷ more → others ≡ names
-        one_names x put others more zs same =
-            let one : y ≡ leases_listed (reply.Names others) = cc in
-            let replies : reply.Names names ≡ reply.Names others = ap (λ z. z.reply) one in
-            cc
-
-        not_held : {other : Name} → verdict.Granted ≡ verdict.Held other → ⊥
-        not_held e = cc
-
-        listed_same : (put : Exchange) (others : List Name) (more : List Exchange) → lease_put reply.Made ∷ y ∷ ys ≡ put ∷ leases_listed (reply.Names others) ∷ more → others ≡ names
-        listed_same put others more same = one_names (lease_put reply.Made) put others more ys same
-
-        by_verdict : (v : Verdict) → verdict_in names own_lease ≡ v → OpenAsks codec reading own_lease refl (on_verdict own_lease (Seeks ListsCommits) v) ys → Began (lease_put reply.Made ∷ y ∷ ys)
-        by_verdict verdict.Granted is a =
-            let (work, same) = work_open codec reading own_lease refl (Seeks ListsCommits) ys a in
-            let leads : open_from codec reading own_lease refl (PutsLease own_lease) (lease_put reply.Made ∷ y ∷ ys) ≡ settled (Some own_lease) (work_from codec reading (Seeks ListsCommits) ys) =
-            ap (λ v. open_from codec reading own_lease refl (on_verdict own_lease (Seeks ListsCommits) v) ys) is ∙ same in
-            HeldLease (refl, λ e. cc) (ap is_leased leads ∙ settled_leased codec reading own_lease refl (work_from codec reading (Seeks ListsCommits) ys))
-            (λ was is_was.
-            let ends = work_was codec reading own_lease refl (Seeks ListsCommits) ys was (subst (λ g. IsWas codec reading own_lease refl g was) leads is_was) in
-            let (found, told) = read_finds looks from to query (lease_put reply.Made ∷ y ∷ []) ys was work ends in
-            comes_to found (lease_put reply.Made ∷ y ∷ ys) was (
-              All-cons (λ z. SaysThere found (Read from to query) z.call z.reply) (lease_put reply.Made) (y ∷ ys) tt (All-cons (λ z. SaysThere found (Read from to query) z.call z.reply) y ys tt told.0),
-              ends_cons codec reading [] found (put_lease own_lease ∷ list_leases ∷ reads_course) (list_leases ∷ reads_course) (lease_put reply.Made) (y ∷ ys) was refl (inr refl)
-                  (ends_cons codec reading (lease_put reply.Made ∷ []) found (list_leases ∷ reads_course) reads_course y ys was refl (inr refl) told.1),
-            ))
-            (λ more other (put, others, same, opposes).
-            let same_names : others ≡ names = listed_same put others more same in
-            let granted : verdict.Granted ≡ verdict.Held other = sym is ∙ ap (λ ns. verdict_in ns own_lease) (sym same_names) ∙ opposes in
-            absurd (not_held granted))
-        by_verdict (verdict.Held other) is a =
-            let none = releasing_asks codec reading own_lease refl (outcome.Refused (refusal.Leased other)) ys a in
-            let at : on_verdict own_lease (Seeks ListsCommits) (verdict_in names own_lease) ≡ Releases own_lease (outcome.Refused (refusal.Leased other)) = ap (on_verdict own_lease (Seeks ListsCommits)) is in
-            subst (λ t. Began (lease_put reply.Made ∷ y ∷ t)) (sym none)
-            (HeldLease (refl, λ e. cc) (ap is_leased at)
-            (λ was is_was.
-            let found = found_as no_schema no_frame in
-            let ends : WorkEnds codec reading (refuse (refusal.Leased other)) [] was = of_was (outcome.Refused (refusal.Leased other)) was (subst (λ g. IsWas codec reading own_lease refl g was) at is_was) in
-            let told = follows_refused codec reading (lease_put reply.Made ∷ []) found (list_leases ∷ reads_course) reads_course y [] was (refusal.Leased other) tt (inr refl) (own_lease, refl, names, refl, is) tt ends in
-            comes_to found (lease_put reply.Made ∷ y ∷ []) was (
-              All-cons (λ z. SaysThere found (Read from to query) z.call z.reply) (lease_put reply.Made) (y ∷ []) tt told.0,
-              ends_cons codec reading [] found (put_lease own_lease ∷ list_leases ∷ reads_course) (list_leases ∷ reads_course) (lease_put reply.Made) (y ∷ []) was refl (inr refl) told.1,
-            ))
-            (λ more another (put, others, same, opposes).
-            let same_names : others ≡ names = one_names (lease_put reply.Made) put others more [] same in
-            let held : verdict.Held other ≡ verdict.Held another = sym is ∙ ap (λ ns. verdict_in ns own_lease) (sym same_names) ∙ opposes in
-            let one : other ≡ another = cc in
-            let last : more ≡ [] = cc in
-            (last, at ∙ ap (λ o. Releases own_lease (outcome.Refused (refusal.Leased o))) one, ap (λ g. not (is_done g)) at)))
-    after_list r ys asked =
-        let none = releasing_asks codec reading own_lease refl (end_by list_leases r) ys asked in
-        subst (λ t. Began (lease_put reply.Made ∷ leases_listed r ∷ t)) (sym none)
-        (HeldLease (refl, λ e. cc) refl
-        (λ was is_was.
-        let found = found_as no_schema no_frame in
-        let told = follows_ended codec reading (lease_put reply.Made ∷ []) found (list_leases ∷ reads_course) reads_course list_leases r [] was tt tt (inr refl) tt (of_was (end_by list_leases r) was is_was) in
-        comes_to found (lease_put reply.Made ∷ leases_listed r ∷ []) was (
-          All-cons (λ z. SaysThere found (Read from to query) z.call z.reply) (lease_put reply.Made) (leases_listed r ∷ []) tt told.0,
-          ends_cons codec reading [] found (put_lease own_lease ∷ list_leases ∷ reads_course) (list_leases ∷ reads_course) (lease_put reply.Made) (leases_listed r ∷ []) was refl (inr refl) told.1,
-        ))
-        (none_listed (lease_put reply.Made ∷ leases_listed r ∷ [])
-        (λ put names more same.
-        let one : leases_listed r ≡ leases_listed (reply.Names names) = cc in
-        let replies : r ≡ reply.Names names = ap (λ z. z.reply) one in
-        cc)))
-
-    -- where the put of the lease led
-    after_put : (r : Reply) (xs : List Exchange) → OpenAsks codec reading own_lease refl (after_lease own_lease r) xs → Began (lease_put r ∷ xs)
-    after_put reply.Made [] asked =
-        HeldLease (refl, λ e. cc) refl
-        (λ was is_was.
-        let found = found_as no_schema no_frame in
-        let none : was ≡ outcome.OutOfMemory = elim is_was [ inl is ↦ is | inr is ↦ is ] in
-        comes_to found (lease_put reply.Made ∷ []) was (
-          All-cons (λ z. SaysThere found (Read from to query) z.call z.reply) (lease_put reply.Made) [] tt (All-nil (λ z. SaysThere found (Read from to query) z.call z.reply)),
-          subst (Ends codec reading [] found (put_lease own_lease ∷ list_leases ∷ reads_course) (lease_put reply.Made ∷ [])) (sym none) (inl (list_leases ∷ reads_course, (refl, (list_leases ∷ reads_course, inr refl, refl)))),
-        ))
-        (none_listed (lease_put reply.Made ∷ []) (λ put names more same. cc))
-    after_put reply.Made (y ∷ ys) (asked, other, rest) =
-        subst (λ c. Began (lease_put reply.Made ∷ record { call = c; reply = y.reply } ∷ ys)) (same_Some list_leases y.call asked) (after_list y.reply ys rest)
-    after_put reply.Taken [] asked = WasTaken refl
-    after_put reply.Taken (y ∷ ys) asked = absurd (none-some y.call asked.0)
-    after_put r xs asked =
-        let none = releasing_asks codec reading own_lease refl (end_by (put_lease own_lease) r) xs asked in
-        subst (λ t. Began (lease_put r ∷ t)) (sym none)
-        (HeldLease (refl, λ e. cc) refl
-        (λ was is_was.
-        let found = found_as no_schema no_frame in
-        comes_to found (lease_put r ∷ []) was
-        (follows_ended codec reading [] found (put_lease own_lease ∷ list_leases ∷ reads_course) (list_leases ∷ reads_course) (put_lease own_lease) r [] was tt tt (inr refl) tt (of_was (end_by (put_lease own_lease) r) was is_was)))
-        (none_listed (lease_put r ∷ []) (λ put names more same. cc)))
-
-    -- the calls before the removal of the lease
-    began : (front : List Exchange) → OpenAsks codec reading own_lease refl (PutsLease own_lease) front → Began front
-    began [] asked = NoCall refl
-    began (x ∷ xs) (asked, other, rest) = subst (λ c. Began (record { call = c; reply = x.reply } ∷ xs)) (same_Some (put_lease own_lease) x.call asked) (after_put x.reply xs rest)
-
-    -- a lease that is not put is not removed
-    none_before : MayAsk codec reading (PutsLease own_lease) (call.Remove own_lease) → ⊥
-    none_before (inl asked) = no_removal own_lease own_lease [] (sym (same_Some (put_lease own_lease) (call.Remove own_lease) asked))
-    none_before (inr gives_up) = true≢false (sym gives_up.1)
-
-    -- nor does a job that is over make a call
-    none_over : (end : Outcome) (c : Call) → MayAsk codec reading (Works (Over end)) c → ⊥
-    none_over end c (inl asked) = none-some c asked
-    none_over end c (inr gives_up) = true≢false (sym gives_up.1)
-
-    -- where its lease is removed at the end of its calls, the job may end so
-    removed_ends : (front : List Exchange) (r : Reply) (was end : Outcome) → HasPut own_lease front → HeedsLeases own_lease front was → ComesTo front was → end ≡ released own_lease was r
-        → (found : Found) × AreFound reading found (front ++ removal own_lease r ∷ []) × EndsUnder codec reading found (lease_of reading) (front ++ removal own_lease r ∷ []) end
-    removed_ends front r was end put heeds (found, told, ended) is = (found, All-push (λ z. SaysThere found (Read from to query) z.call z.reply) front (removal own_lease r) told tt, Removed front r was refl put heeds ended is)
-
-    -- a read ends as one may that has a lease
-    leased_finds : (whole : List Exchange) (end : Outcome) → AskedFrom codec reading (PutsLease own_lease) whole → EndsBy codec reading whole end
-        → (found : Found) × AreFound reading found whole × EndsUnder codec reading found (lease_of reading) whole end
-    leased_finds whole end asked ends = by_split (split codec reading own_lease refl (PutsLease own_lease) whole asked)
-      where
-        none_found : Found
-        none_found = found_as no_schema no_frame
-
-        g_of : List Exchange → Stage F
-        g_of front = open_from codec reading own_lease refl (PutsLease own_lease) front
-
-        silent : (xs : List Exchange) → AreFound reading none_found xs
-        silent [] = All-nil (λ z. SaysThere none_found (Read from to query) z.call z.reply)
-        silent (x ∷ xs) = All-cons (λ z. SaysThere none_found (Read from to query) z.call z.reply) x xs tt (silent xs)
-
-        one_end : (o e : Outcome) → ◌≡◌ {A = Stage F} (Works (Over o)) (Works (Over e)) → e ≡ o
-        one_end o e same = cc
-
-        not_held : (g : Stage F) → is_leased g ≡ true → g ≡ Works (Over end) → ⊥
-        not_held g held over = true≢false (sym held ∙ ap is_leased over)
-
-        taken_ends : EndsBy codec reading (lease_put reply.Taken ∷ []) end → end ≡ outcome.Refused (refusal.Taken own_lease)
-        taken_ends (inl over) = one_end (outcome.Refused (refusal.Taken own_lease)) end over
-        taken_ends (inr short) = absurd (true≢false (sym short.1.1))
-
-        at_first : EndsBy codec reading [] end → end ≡ outcome.OutOfMemory
-        at_first (inl over) = absurd (not_work over)
-          where
-            not_work : ◌≡◌ {A = Stage F} (PutsLease own_lease) (Works (Over end)) → ⊥
-            not_work e = cc
-        at_first (inr short) = short.0
-
-        by_open : (front : List Exchange) → stage_of codec reading front ≡ g_of front → EndsBy codec reading front end → Began front
-            → (found : Found) × AreFound reading found front × EndsUnder codec reading found (lease_of reading) front end
-        by_open front same e (NoCall none) = (none_found, silent front, NotBegun none (at_first (subst (λ t. EndsBy codec reading t end) none e)))
-        by_open front same e (WasTaken is) = (none_found, silent front, NotOwn is (taken_ends (subst (λ t. EndsBy codec reading t end) is e)))
-        by_open front same (inl over) (HeldLease put held comes heeds) = absurd (not_held (g_of front) held (sym same ∙ over))
-        by_open front same (inr short) (HeldLease put held comes heeds) = absurd (true≢false (sym (ap is_leased same ∙ held) ∙ short.1.0))
-
-        lacked : (front : List Exchange) (r : Reply) → lacks_from codec reading true (PutsLease own_lease) (front ++ removal own_lease r ∷ []) ≡ true → lacks_from codec reading true (PutsLease own_lease) front ≡ true
-        lacked front r lacks =
-            let before = lacks_from codec reading true (PutsLease own_lease) front in
-            let here = stage_of codec reading front in
-            let x = removal own_lease r in
-            let is : is_release reading x.call ≡ true = (name_decides own_lease own_lease).1 refl in
-            sym (lacks-push codec reading true (PutsLease own_lease) front x ∙ ap (λ b. cond b before (stage_takes_memory here || not (is_done (goes_on codec reading here x)))) is) ∙ lacks
-
-        by_closed : (front : List Exchange) (r : Reply) → MayAsk codec reading (g_of front) (call.Remove own_lease) → stage_of codec reading (front ++ removal own_lease r ∷ []) ≡ Works (Over (released own_lease (end_at (g_of front)) r))
-            → EndsBy codec reading (front ++ removal own_lease r ∷ []) end → Began front
-            → (found : Found) × AreFound reading found (front ++ removal own_lease r ∷ []) × EndsUnder codec reading found (lease_of reading) (front ++ removal own_lease r ∷ []) end
-        by_closed front r may same e (NoCall none) = absurd (none_before (subst (λ t. MayAsk codec reading (g_of t) (call.Remove own_lease)) none may))
-        by_closed front r may same e (WasTaken is) = absurd (none_over (outcome.Refused (refusal.Taken own_lease)) (call.Remove own_lease) (subst (λ t. MayAsk codec reading (g_of t) (call.Remove own_lease)) is may))
-        by_closed front r may same (inl over) (HeldLease put held comes heeds) =
-            removed_ends front r (end_at (g_of front)) end put (heeds_end front heeds) (comes (end_at (g_of front)) (inl refl)) (one_end (released own_lease (end_at (g_of front)) r) end (sym same ∙ over))
-        by_closed front r may same (inr short) (HeldLease put held comes heeds) = removed_ends front r outcome.OutOfMemory end put (λ more other finds. absurd (true≢false (sym (lacked front r short.1.1) ∙ (heeds more other finds).2))) (comes outcome.OutOfMemory (inr refl)) short.0
-
-        by_split : Split codec reading own_lease refl (PutsLease own_lease) whole → (found : Found) × AreFound reading found whole × EndsUnder codec reading found (lease_of reading) whole end
-        by_split (Open opened same) = by_open whole same ends (began whole opened)
-        by_split (Closed front r parts opened may same) =
-            subst (λ t. (found : Found) × AreFound reading found t × EndsUnder codec reading found (lease_of reading) t end) (sym parts)
-            (by_closed front r may (subst (λ t. stage_of codec reading t ≡ Works (Over (released own_lease (end_at (g_of front)) r))) parts same) (subst (λ t. EndsBy codec reading t end) parts ends) (began front opened))
-
-    -- a read that its stop cuts off
-    pub leased_cut : (whole : List Exchange) (c : Call) → AskedFrom codec reading (PutsLease own_lease) whole → MayAsk codec reading (stage_of codec reading whole) c → cuts any.stop (length whole) c ≡ true
-        → (found : Found) × AreFound reading found whole × IsCutOff codec reading found whole
-    leased_cut whole c asked may cut = by_split (split codec reading own_lease refl (PutsLease own_lease) whole asked)
-      where
-        g_of : List Exchange → Stage F
-        g_of front = open_from codec reading own_lease refl (PutsLease own_lease) front
-
-        at_removal : whole ≡ whole → MayAsk codec reading (g_of whole) (call.Remove own_lease) → cuts any.stop (length whole) (call.Remove own_lease) ≡ true → Began whole → (found : Found) × AreFound reading found whole × IsCutOff codec reading found whole
-        at_removal e m k (NoCall none) = absurd (none_before (subst (λ t. MayAsk codec reading (g_of t) (call.Remove own_lease)) none m))
-        at_removal e m k (WasTaken is) = absurd (none_over (outcome.Refused (refusal.Taken own_lease)) (call.Remove own_lease) (subst (λ t. MayAsk codec reading (g_of t) (call.Remove own_lease)) is m))
-        at_removal e m k (HeldLease put held comes heeds) =
-            let (found, told, ended) = comes (end_at (g_of whole)) (inl refl) in
-            (found, told, inr (record { lease = own_lease; own = refl; was = end_at (g_of whole); put = put; heeds = heeds_end whole heeds; ended = ended; cut = k }))
-
-        along : (x : Exchange) → x ≡ as_if c → Began (whole ++ x ∷ []) → (found : Found) × AreFound reading found whole × IsCutOff codec reading found whole
-        along x is (NoCall none) = absurd (no_calls whole x none)
-        along x is (WasTaken taken) = let last = last_same whole [] x (lease_put reply.Taken) taken in let none : reply.NoMemory ≡ reply.Taken = ap (λ y. y.reply) (sym is ∙ last.1) in cc
-        along x is (HeldLease put held comes heeds) =
-            let (found, told, ended) = comes outcome.OutOfMemory (inr refl) in
-            let u = unmade_of (IsLookOf codec reading found) (put_lease own_lease ∷ list_leases ∷ reads_course) whole c (subst (λ y. EndsAlong codec reading found (put_lease own_lease ∷ list_leases ∷ reads_course) (whole ++ y ∷ []) outcome.OutOfMemory) is ended) in (
-              found,
-              found_before reading found whole x told,
-              inl (record {
-                begins = refl;
-                left = u.0;
-                along = u.2;
-                unmade = c;
-                rest = u.1;
-                next = u.3;
-                cut = cut;
-                free = λ lease some more other (put_it, names, same, opposes).
-                    let own : own_lease ≡ lease = same_Some own_lease lease some in
-                    no_calls more x (heeds (more ++ x ∷ []) other (put_it, names, ap (λ t. t ++ x ∷ []) same, ap (verdict_in names) own ∙ opposes)).0;
-              }),
-            )
-
-        by_kind : (b : Bool) → is_release reading c ≡ b → OpenAsks codec reading own_lease refl (PutsLease own_lease) whole → stage_of codec reading whole ≡ g_of whole → (found : Found) × AreFound reading found whole × IsCutOff codec reading found whole
-        by_kind true is opened same =
-            let (lease, some, removes) = release_is reading c is in
-            let own : c ≡ call.Remove own_lease = removes ∙ ap call.Remove (sym (same_Some own_lease lease some)) in
-            at_removal refl (subst (MayAsk codec reading (g_of whole)) own (subst (λ g. MayAsk codec reading g c) same may)) (ap (cuts any.stop (length whole)) (sym own) ∙ cut) (began whole opened)
-        by_kind false other opened same = elim may [
-          | inl asks_it ↦ along (as_if c) refl (began (whole ++ as_if c ∷ []) (open-push codec reading own_lease refl (PutsLease own_lease) whole (as_if c) opened (ap (stage_asks codec reading) (sym same) ∙ asks_it) other))
-          | inr gives_up ↦ absurd (true≢false (sym gives_up.0 ∙ other))
-        ]
-
-        by_split : Split codec reading own_lease refl (PutsLease own_lease) whole → (found : Found) × AreFound reading found whole × IsCutOff codec reading found whole
-        by_split (Open opened same) = by_kind (is_release reading c) refl opened same
-        by_split (Closed front r parts opened m same) = absurd (none_over (released own_lease (end_at (g_of front)) r) c (subst (λ g. MayAsk codec reading g c) same may))
 
   -- ---- a job of any command
 
@@ -649,6 +329,7 @@ module _ {F : Type 0} (codec : Codec F) (any : Job) where
   begins_finds (Write w) none whole end = write_finds w whole end
   begins_finds (Delete text) none whole end = delete_finds text whole end
   begins_finds (Read from to query) none whole end = absurd (none-some _ (sym none))
+  begins_finds (Consolidate from to limits) none whole end = absurd (none-some _ (sym none))
 
   -- the ends of its work
   bare_ends : (command : Command) → lease_of (with command) ≡ None → (whole : List Exchange) (end : Outcome) → (stage_from codec (with command) (Works (begun command)) whole ≡ Works (Over end)) ⊎ (end ≡ outcome.OutOfMemory) → WorkEnds codec (with command) (begun command) whole end
@@ -657,20 +338,20 @@ module _ {F : Type 0} (codec : Codec F) (any : Job) where
 
   -- a job without a lease
   pub bare_finds : (command : Command) → lease_of (with command) ≡ None → (whole : List Exchange) (end : Outcome) → AskedFrom codec (with command) (Works (begun command)) whole
-      → (stage_from codec (with command) (Works (begun command)) whole ≡ Works (Over end)) ⊎ (end ≡ outcome.OutOfMemory) → (found : Found) × AreFound (with command) found whole × MayEndAs codec (with command) found whole end (refused_before command)
+      → (stage_from codec (with command) (Works (begun command)) whole ≡ Works (Over end)) ⊎ (end ≡ outcome.OutOfMemory) → (found : Found) × AreFound (with command) found whole × MergesFound codec (with command) found whole × MayEndAs codec (with command) found whole end (refused_before command)
   bare_finds command none whole end asked ends = by_refusal (refused_before command) (bare_asks codec (with command) none (begun command) whole asked) (bare_ends command none whole end ends)
     where
       under : (found : Found) → EndsAlong codec (with command) found (course_of codec (with command) found) whole end → EndsUnder codec (with command) found (lease_of (with command)) whole end
       under found h = subst (λ o. EndsUnder codec (with command) found o whole end) (sym none) h
 
       by_refusal : (r : Option Refusal) → WorkAsks codec (with command) (unless_refused (begins command) r) whole → WorkEnds codec (with command) (unless_refused (begins command) r) whole end
-          → (found : Found) × AreFound (with command) found whole × MayEndAs codec (with command) found whole end r
+          → (found : Found) × AreFound (with command) found whole × MergesFound codec (with command) found whole × MayEndAs codec (with command) found whole end r
       by_refusal None a e =
-          let (found, told) = begins_finds command none whole end a e in
-          (found, told.0, under found (ends_along (with command) found (course_of codec (with command) found) whole end told.1))
+          let (found, told, merged) = begins_finds command none whole end a e in
+          (found, told.0, merged_nothing codec (with command) found whole merged, under found (ends_along codec (with command) found (course_of codec (with command) found) whole end told.1))
       by_refusal (Some r) a e =
           let over = over_ends codec (with command) (outcome.Refused r) whole end a e in
-          (found_as no_schema no_frame, subst (AreFound (with command) (found_as no_schema no_frame)) (sym over.0) (All-nil (λ x. SaysThere (found_as no_schema no_frame) command x.call x.reply)), over)
+          (found_as no_schema no_frame, subst (AreFound (with command) (found_as no_schema no_frame)) (sym over.0) (All-nil (λ x. SaysThere (found_as no_schema no_frame) command x.call x.reply)), merged_nothing codec (with command) (found_as no_schema no_frame) whole refl, over)
 
   -- how a job without a lease ended
   bare_by : (command : Command) (whole : List Exchange) (end : Outcome) → first_stage {F = F} (with command) ≡ Works (begun command) → EndsBy codec (with command) whole end
@@ -680,8 +361,9 @@ module _ {F : Type 0} (codec : Codec F) (any : Job) where
 
   -- a job of any command
   pub begun_finds : AsksLooks codec → (command : Command) (whole : List Exchange) (end : Outcome) → AskedFrom codec (with command) (first_stage (with command)) whole → EndsBy codec (with command) whole end
-      → (found : Found) × AreFound (with command) found whole × MayEndAs codec (with command) found whole end (refused_before command)
-  begun_finds looks (Read from to query) whole end asked ends = leased_finds looks from to query whole end asked ends
+      → (found : Found) × AreFound (with command) found whole × MergesFound codec (with command) found whole × MayEndAs codec (with command) found whole end (refused_before command)
+  begun_finds looks (Read from to query) whole end asked ends = leased_finds codec (with (Read from to query)) Shr refl refl (λ found c r. tt) (found_as no_schema no_frame) refl (read_finds looks from to query) whole end asked ends
+  begun_finds looks (Consolidate from to limits) whole end asked ends = leased_finds codec (with (Consolidate from to limits)) Shr refl refl (λ found c r. tt) (found_as no_schema no_frame) refl (merge_finds codec any looks from to limits) whole end asked ends
   begun_finds looks (Create f) whole end asked ends = bare_finds (Create f) refl whole end asked (bare_by (Create f) whole end refl ends)
   begun_finds looks (Evolve change) whole end asked ends = bare_finds (Evolve change) refl whole end asked (bare_by (Evolve change) whole end refl ends)
   begun_finds looks (Write w) whole end asked ends = bare_finds (Write w) refl whole end asked (bare_by (Write w) whole end refl ends)
@@ -689,7 +371,7 @@ module _ {F : Type 0} (codec : Codec F) (any : Job) where
 
   -- a job without a lease that its stop cuts off
   bare_cut : (command : Command) → lease_of (with command) ≡ None → first_stage {F = F} (with command) ≡ Works (begun command) → (whole : List Exchange) (c : Call) → AskedFrom codec (with command) (first_stage (with command)) whole
-      → MayAsk codec (with command) (stage_of codec (with command) whole) c → cuts any.stop (length whole) c ≡ true → (found : Found) × AreFound (with command) found whole × IsCutOff codec (with command) found whole
+      → MayAsk codec (with command) (stage_of codec (with command) whole) c → cuts any.stop (length whole) c ≡ true → (found : Found) × AreFound (with command) found whole × MergesFound codec (with command) found whole × IsCutOff codec (with command) found whole
   bare_cut command none first whole c asked may cut =
       let begins : AskedFrom codec (with command) (Works (begun command)) whole = subst (λ g. AskedFrom codec (with command) g whole) first asked in
       let at : stage_of codec (with command) whole ≡ Works (work_from codec (with command) (begun command) whole) = ap (λ g. stage_from codec (with command) g whole) first ∙ bare_from codec (with command) none (begun command) whole in
@@ -699,8 +381,8 @@ module _ {F : Type 0} (codec : Codec F) (any : Job) where
       let ends : stage_from codec (with command) (Works (begun command)) (whole ++ as_if c ∷ []) ≡ Works (Over outcome.OutOfMemory) =
       bare_from codec (with command) none (begun command) (whole ++ as_if c ∷ [])
       ∙ ap Works (work_from-push (begun command) whole (as_if c) ∙ no_memory_ends F codec (with command) (work_from codec (with command) (begun command) whole) c asks_it) in
-      let (found, told, ended) = bare_finds command none (whole ++ as_if c ∷ []) outcome.OutOfMemory more (inl ends) in
-      (found, found_before (with command) found whole (as_if c) told, inl (by_refusal found (refused_before command) refl ended))
+      let (found, told, merged, ended) = bare_finds command none (whole ++ as_if c ∷ []) outcome.OutOfMemory more (inl ends) in
+      (found, found_before (with command) found whole (as_if c) told, merged_before codec (with command) found whole c merged, inl (by_refusal found (refused_before command) refl ended))
     where
       work_from-push : (s : State F) (xs : List Exchange) (x : Exchange) → work_from codec (with command) s (xs ++ x ∷ []) ≡ goes codec (with command) (work_from codec (with command) s xs) x.reply
       work_from-push s [] x = refl
@@ -715,8 +397,9 @@ module _ {F : Type 0} (codec : Codec F) (any : Job) where
 
   -- a job of any command that its stop cuts off
   pub begun_cut : AsksLooks codec → (command : Command) (whole : List Exchange) (c : Call) → AskedFrom codec (with command) (first_stage (with command)) whole → MayAsk codec (with command) (stage_of codec (with command) whole) c → cuts any.stop (length whole) c ≡ true
-      → (found : Found) × AreFound (with command) found whole × IsCutOff codec (with command) found whole
-  begun_cut looks (Read from to query) whole c asked may cut = leased_cut looks from to query whole c asked may cut
+      → (found : Found) × AreFound (with command) found whole × MergesFound codec (with command) found whole × IsCutOff codec (with command) found whole
+  begun_cut looks (Read from to query) whole c asked may cut = leased_cut codec (with (Read from to query)) Shr refl refl (λ found c r. tt) (found_as no_schema no_frame) refl (read_finds looks from to query) whole c asked may cut
+  begun_cut looks (Consolidate from to limits) whole c asked may cut = leased_cut codec (with (Consolidate from to limits)) Shr refl refl (λ found c r. tt) (found_as no_schema no_frame) refl (merge_finds codec any looks from to limits) whole c asked may cut
   begun_cut looks (Create f) whole c asked may cut = bare_cut (Create f) refl refl whole c asked may cut
   begun_cut looks (Evolve change) whole c asked may cut = bare_cut (Evolve change) refl refl whole c asked may cut
   begun_cut looks (Write w) whole c asked may cut = bare_cut (Write w) refl refl whole c asked may cut

@@ -26,7 +26,7 @@ use Rattle.ts_model.specs.declared.states.Collecting.TheVariants.{GetsVacs, Gets
 use Rattle.ts_model.specs.declared.commands.Command.TheVariants.{Read}
 use Rattle.ts_model.specs.Codecs.{Codec, Stepped, Asks, Takes, Breaks, is_look, AsksLooks}
 use Rattle.ts_model.specs.States.{Exchange, get_all, get_head, get_schema, on_bytes, after_fetched, opening, gathering, fetching, fetches_one, fetch_leads, fetch_begins, after_head, after_schema, known_schema, keys_named, want_of, answer_of, on_read, getting_deletes, with_deletion, deletion_named, get_delete, after_delete, get_vac, after_vac, getting_vacs, heads_of, loaded_of, loads, opened_among, vac_of, with_clipped, with_vac, wanted, committed_in, deletes_in}
-use Rattle.ts_law.specs.Courses.{Found, SaysThere, GotSchema, IsGot, IsOpened, IsFetched, IsUnderWay, IsListedIn, IsCountingIn, IsLookedInto, LooksInside, AtVac, AtHead, AtSchema, AtDelete, InFetch, IsLookBy, IsLookOf, BreaksPart, IsNext, lets_on, refused_in}
+use Rattle.ts_law.specs.Courses.{Found, SaysThere, GotSchema, IsGot, IsOpened, IsFetched, IsUnderWay, IsListedIn, IsCountingIn, IsLookedInto, LooksInside, MayFetch, AtVac, AtHead, AtSchema, AtDelete, InFetch, IsLookBy, IsLookOf, IsNamedFor, wanted_in, wants_of, BreaksPart, IsNext, lets_on, refused_in}
 use Rattle.ts_model.proofs.KeyLemmas.{key_same, key_itself}
 use Rattle.ts_model.proofs.ListLemmas.{Contains-here, Contains-there, filter-Contains, find-Some}
 use Rattle.ts_model.specs.declared.deeds.Deletion.{Deletion}
@@ -49,7 +49,7 @@ use Rattle.ts_model.specs.declared.answers.Outcome.TheVariants as outcome
 use Rattle.ts_model.specs.declared.answers.Refusal.TheVariants as refusal
 
 -- a fetch that came to wait for a call comes by the reply to it to wait for another
-fetched_on : {F : Type 0} (codec : Codec F) (trace : List Exchange) (f : F) (c : Call) (replies : List Reply) (g : F) (d : Call) (r : Reply) (h : F) (b : Call)
+pub fetched_on : {F : Type 0} (codec : Codec F) (trace : List Exchange) (f : F) (c : Call) (replies : List Reply) (g : F) (d : Call) (r : Reply) (h : F) (b : Call)
     → IsFetched codec trace f c replies g d → Contains trace (record { call = d; reply = r }) → codec.steps g r ≡ Asks h b → IsFetched codec trace f c (replies ++ r ∷ []) h b
 fetched_on codec trace f c [] g d r h b (same_f, same_c) told steps =
     (subst (λ k. Contains trace (record { call = k; reply = r })) (sym same_c) told, h, b, ap (λ k. codec.steps k r) same_f ∙ steps, (refl, refl))
@@ -101,6 +101,10 @@ module _ {F : Type 0} (codec : Codec F) (job : Job) where
     looks_inside : (seen : List Exchange) (c : Call) → IsGot job found seen → LooksInside codec job found seen from to c → IsLookOf codec job found seen c
     looks_inside seen c got inside = subst (λ k. IsLookBy codec job found seen k c) (sym is) (inr (got, inside))
 
+    -- a read that got the schema there and the frame may fetch
+    may_fetch : (seen : List Exchange) (f : FragKey) → IsGot job found seen → MayFetch codec job found seen job.command f
+    may_fetch seen f got = subst (λ k. MayFetch codec job found seen k f) (sym is) got
+
     -- it got each schema that it knows
     known_got : (seen : List Exchange) (r : Reading) (opened : List Opened) (schemas : List Schema) (k : Key) (s : Schema) → HasGot seen r opened schemas → known_schema r schemas k ≡ Some s → GotSchema seen s × (s.key ≡ k)
     known_got seen r opened schemas k s has is = by_test (key_eq k (r.there).key) refl is
@@ -123,17 +127,15 @@ module _ {F : Type 0} (codec : Codec F) (job : Job) where
         let Heads : Reading → Type 0 = λ q. codec.head q.frame o.frag o.object ≡ Ok o.head in
         let Opens : Reading → Type 0 = λ q. codec.opens q.frame s o.frag o.object (want_of q s.attrs) ≡ begun in
         record {
-          from = from;
-          to = to;
-          query = query;
-          is_read = is;
           object = o.object;
           got = subst Got has.finds was.1;
           head = o.head;
           reads = subst Heads has.finds was.2;
           schema = s;
           schema_got = known.0;
-          named = known.1;
+          named = subst (λ k. IsNamedFor codec found seen k o.head s) (sym is) known.1;
+          want = wanted_in found from to query s;
+          wants = ap (λ k. wants_of found k s) is;
           opens = ap (λ sub. codec.opens found.frame s o.frag o.object (wanted sub from to s.attrs)) (sym (ready_box found.frame (found.there).attrs query ready is_ready)) ∙ subst Opens has.finds is_begun;
         }
 
@@ -165,7 +167,7 @@ module _ {F : Type 0} (codec : Codec F) (job : Job) where
           follows_on codec job seen found course [] x xs end (Collects (Fetches r opened schemas next frag got g c)) (silent x.call x.reply) on following (later.fetches r opened schemas next frag got g c objects fragments (waits g c steps) (looks f said g c steps))
       follows_step r opened schemas next frag got then f said (Takes vs) objects fragments waits breaks steps each = each vs
       follows_step r opened schemas next frag got then f said (Breaks part at) objects fragments waits breaks steps each =
-          follows_refused codec job seen found course [] x xs end (refusal.Damaged (name.Part frag part) at) (silent x.call x.reply) following (inr (frag, part, refl, objects.got, breaks part at steps))
+          follows_refused codec job seen found course [] x xs end (refusal.Damaged (name.Part frag part) at) (silent x.call x.reply) following (inr (frag, part, refl, may_fetch now frag objects.got, breaks part at steps))
 
       -- the fetch of one fragment
       follows_one : (r : Reading) (opened : List Opened) (schemas : List Schema) (next : ℕ) (o : Opened) (got : List Version) (then : List Version → State F) (s : Option Schema) → known_schema r schemas (o.head).schema ≡ s
@@ -180,7 +182,7 @@ module _ {F : Type 0} (codec : Codec F) (job : Job) where
               (λ g c steps. record { first = f; opened = start; begun = g; asked = c; begins = steps; replies = []; fetched = (refl, refl) }) (λ part at steps. inr (f, inl (start, steps))) refl each
           by_opening (Err at) is_begun =
               follows_refused codec job seen found course [] x xs end (refusal.Damaged (name.Part o.frag (codec.head_part r.frame)) at) (silent x.call x.reply) following
-              (inr (o.frag, codec.head_part r.frame, refl, objects.got, inl (ap (λ q. codec.head_part q.frame) objects.finds, opens_so now r opened schemas o s (Err at) objects among knows is_begun)))
+              (inr (o.frag, codec.head_part r.frame, refl, may_fetch now o.frag objects.got, inl (ap (λ q. codec.head_part q.frame) objects.finds, opens_so now r opened schemas o s (Err at) objects among knows is_begun)))
 
       -- the fetches of the fragments that are left
       follows_fetching : (r : Reading) (opened : List Opened) (schemas : List Schema) (next : ℕ) (rest : List Opened) (got : List Version)
@@ -314,7 +316,7 @@ module _ {F : Type 0} (codec : Codec F) (job : Job) where
                 let y : Exchange = record { call = get_head codec r f; reply = reply.Bytes bytes } in
                 let Broken : Reading → Type 0 = λ q. codec.head q.frame f bytes ≡ Err at in
                 follows_refused codec job seen found [] [] y xs end (refusal.Damaged (name.Part f (codec.head_part r.frame)) at) (silent (get_head codec r f) (reply.Bytes bytes)) (inl (look, refl))
-                (inl (bytes, Contains-push seen y, (got_stays job found seen (seen ++ y ∷ []) (among_more seen y) objects.got, ap (λ q. codec.head_part q.frame) objects.finds, subst Broken objects.finds reads)))
+                (inl (bytes, Contains-push seen y, (inl (got_stays job found seen (seen ++ y ∷ []) (among_more seen y) objects.got), ap (λ q. codec.head_part q.frame) objects.finds, subst Broken objects.finds reads)))
 
             by_reply : (r' : Reply) → Follows codec job seen found [] (record { call = get_head codec r f; reply = r' }) xs end (on_bytes (get_head codec r f) (after_head codec r opened f) r')
             by_reply (reply.Bytes bytes) = by_head bytes (codec.head r.frame f bytes) refl

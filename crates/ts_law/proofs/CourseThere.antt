@@ -40,7 +40,7 @@ no_frame = record { dense = false; domain = []; cell = order.Row; tile = order.R
 
 -- what a job found that works in a schema of an array with a frame
 abbrev pub found_as : Schema → Frame → Found
-found_as there frame = record { taken = false; there = there; frame = frame }
+found_as there frame = record { taken = false; there = there; frame = frame; merged = None }
 
 -- what bytes say, if a reply has any
 abbrev pub OfBytes : (List ℕ → Type 0) → Reply → Type 0

@@ -17,8 +17,7 @@ use Rattle.ts_model.specs.Deeds.{History, frame_in, keys}
 use Rattle.ts_law.specs.Ends.{IsUndone}
 use Rattle.ts_model.specs.Codecs.{Codec, CodecLaws, Spelled, Tracking}
 use Rattle.ts_law.specs.Fresh.{id_in}
-use Rattle.ts_model.specs.Jobs.{frag_of_job, key_of}
-use Rattle.ts_model.specs.States.{vac_of}
+use Rattle.ts_model.specs.Jobs.{key_of}
 use Rattle.ts_law.specs.Kept.{Claims, Clean}
 use Rattle.ts_model.specs.States.{ended, frame_put, get_frame, goes, is_own_frame, list_schemas, made_by, puts_first, refuse, schema_object_of, with_item}
 use Rattle.ts_law.specs.Steps.{Advances, Comes}
@@ -37,7 +36,9 @@ use Rattle.ts_model.proofs.HistoryLaws.{frame_facts, keys-append}
 use Rattle.ts_model.proofs.ListLemmas.{Contains-nil}
 use Rattle.ts_law.proofs.Objects.{begins_putting, schema_carries}
 use Rattle.ts_law.proofs.StandsLaws.{first_deed, frame_held, keeps_put, leads_at, marks_domain, stands_frame}
-use Rattle.ts_law.proofs.VacLaws.{bare_stays}
+use Rattle.ts_law.proofs.VacLaws.{unspent_put}
+use Rattle.ts_base.specs.declared.keys.FragKey.{FragKey}
+use Rattle.ts_base.specs.Names.{wrt_of}
 use Rattle.ts_law.proofs.Stays.{clean_look}
 use Rattle.ts_model.proofs.Traces.{deed_told_own, later_deed, later_unchanged}
 use Rattle.std.specs.FinMap as map
@@ -58,10 +59,12 @@ clean_after_frame : (m : Held) (h : History) (frame : Frame) (bytes : List ℕ) 
 clean_after_frame m h frame bytes job free clean = record {
   free = λ n carries apart. get_apart m name.Domain bytes n (λ same. none-some job.id (ap id_in (sym same) ∙ carries)) ∙ clean.free n carries apart;
   undone = undone_more h (Framed frame ∷ []) job refl clean.undone;
-  bare = bare_stays m (map.insert m name.Domain bytes) h (h ++ Framed frame ∷ []) job.id
-      (keeps_put m h name.Domain bytes job.id (Framed frame ∷ []) free (marks_domain m) (inr refl) (λ k none. absurd (Contains-nil k none))) (frag_of_job job)
-      (λ none. get_apart m name.Domain bytes (vac_of (frag_of_job job)) (λ e. cc) ∙ none) clean.bare;
+  unspent = unspent_put m name.Domain bytes h (h ++ Framed frame ∷ []) job.id job.id
+      (keeps_put m h name.Domain bytes job.id (Framed frame ∷ []) free (marks_domain m) (inr refl) (λ k none. absurd (Contains-nil k none))) (λ f e. no_frame f e) clean.unspent;
 }
+  where
+    no_frame : (f : FragKey) → wrt_of f ≡ name.Domain → ⊥
+    no_frame f e = cc
 
 -- all of a short object is got
 got_whole : (whole : List ℕ) → IsShort whole → part_of 0 (2 ^ 64 - 1) whole ≡ whole
@@ -122,7 +125,7 @@ module _ {F : Type 0} (codec : Codec F) (spelled : Spelled) (tracks : Tracking F
   puts_first_claims : (f : FrameIn) → job.command ≡ Create f → create_refusal f ≡ None → Clean m' h' job → frame_in h' ≡ Some (frame_made f)
       → ClaimsLater (Puts (schema_object_of job f.attrs ∷ []) 0 outcome.Created)
   puts_first_claims f creates sound clean framed =
-      begins_putting codec past jobs (seen ++ e ∷ []) m' number job (schema_object_of job f.attrs ∷ []) outcome.Created clean
+      begins_putting codec spelled opening past jobs (seen ++ e ∷ []) m' number job (schema_object_of job f.attrs ∷ []) outcome.Created clean
       (schema_carries job f.attrs) (omega arith) (f, creates, refl, sound, framed)
 
   -- the put of the frame advances a create

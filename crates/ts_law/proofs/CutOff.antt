@@ -4,8 +4,9 @@ use Rattle.std.proofs.lemmas.List.{append-nil}
 use Rattle.std.proofs.lemmas.List.Elements.{All-pop}
 use Rattle.ts_store.specs.declared.call.Call.{Call}
 use Rattle.ts_model.specs.declared.commands.Job.{Job}
+use Rattle.ts_model.specs.Codecs.{Codec}
 use Rattle.ts_model.specs.States.{Exchange}
-use Rattle.ts_law.specs.Courses.{Found, SaysThere, AreFound, Looks, IsNext, Along, EndsAt}
+use Rattle.ts_law.specs.Courses.{Found, MergesFound, SaysThere, AreFound, Looks, IsNext, Along, EndsAt}
 use Rattle.ts_store.specs.declared.call.Reply.TheVariants as reply
 
 -- ---- a job that is cut off
@@ -58,3 +59,41 @@ no_calls (y ∷ trace) x e = cc
 -- what all replies say, those before the last say
 pub found_before : (job : Job) (found : Found) (trace : List Exchange) (x : Exchange) → AreFound job found (trace ++ x ∷ []) → AreFound job found trace
 found_before job found trace x all = (All-pop (λ y. SaysThere found job.command y.call y.reply) (trace ++ x ∷ []) trace (Some x) refl all).0
+
+-- a list with one last item falls apart before that, or at it
+last_apart : (trace front later : List Exchange) (x last : Exchange) → trace ++ x ∷ [] ≡ front ++ last ∷ later → (last ≡ x) ⊎ ((rest : List Exchange) × (trace ≡ front ++ last ∷ rest))
+last_apart [] [] later x last e = inl (sym (first_same e))
+  where
+    first_same : x ∷ [] ≡ last ∷ later → x ≡ last
+    first_same same = cc
+last_apart [] (z ∷ front) later x last e = absurd (no_calls front last later (tails e))
+  where
+    tails : x ∷ [] ≡ z ∷ front ++ last ∷ later → front ++ last ∷ later ≡ []
+    tails same = cc
+
+    no_calls : (front : List Exchange) (last : Exchange) (later : List Exchange) → front ++ last ∷ later ≡ [] → ⊥
+    no_calls [] last later same = cc
+    no_calls (w ∷ front) last later same = cc
+last_apart (y ∷ trace) [] later x last e = inr (trace, ap (λ z. z ∷ trace) (first_same e))
+  where
+    first_same : y ∷ trace ++ x ∷ [] ≡ last ∷ later → y ≡ last
+    first_same same = cc
+last_apart (y ∷ trace) (z ∷ front) later x last e = elim (last_apart trace front later x last (tails e)) [
+  | inl same ↦ inl same
+  | inr (rest, is) ↦ inr (rest, ap (λ h. h ∷ trace) (first_same e) ∙ ap (λ t. z ∷ t) is)
+]
+  where
+    first_same : y ∷ trace ++ x ∷ [] ≡ z ∷ front ++ last ∷ later → y ≡ z
+    first_same same = cc
+
+    tails : y ∷ trace ++ x ∷ [] ≡ z ∷ front ++ last ∷ later → trace ++ x ∷ [] ≡ front ++ last ∷ later
+    tails same = cc
+
+-- what was merged was merged before a call that was not made
+pub merged_before : {F : Type 0} (codec : Codec F) (job : Job) (found : Found) (trace : List Exchange) (c : Call) → MergesFound codec job found (trace ++ as_if c ∷ []) → MergesFound codec job found trace
+merged_before codec job found trace c merges merge some =
+    let has = merges merge some in
+    elim (last_apart trace has.front has.later (as_if c) has.last has.parts) [
+      | inl same ↦ absurd (has.was_told (ap (λ (x : Exchange). x.reply) same))
+      | inr (rest, is) ↦ record { front = has.front; last = has.last; later = rest; parts = is; was_told = has.was_told; count = has.count; by_told = has.by_told }
+    ]

@@ -97,7 +97,7 @@ pub keeps_still : (m m' : Held) (h h' : History) (id : ℕ) → m' ≡ m → h' 
 keeps_still m m' h h' id same_held same_history = record {
   keeps = λ n bytes _ e. subst (λ x. map.get x n ≡ Some bytes) (sym same_held) e;
   adds = λ n bytes e. inl (subst (λ x. map.get x n ≡ Some bytes) same_held e);
-  names = λ g f committed named. (subst (λ x. IsCommitted x g) same_held committed, subst (λ x. DoesName x g f) same_held named);
+  names = λ g f committed named. inr (g, subst (λ x. IsCommitted x g) same_held committed, subst (λ x. DoesName x g f) same_held named);
   more = [];
   grows = same_history ∙ sym (append-nil h);
   come = λ k at. absurd (Contains-nil k at);

@@ -60,20 +60,20 @@ use Rattle.ts_law.proofs.ReadingLaw.{answer_is, last_is_all}
 -- ---- where a list is dropped up to a place
 
 -- the first item that is left stands at the place, and the others are left from the next place on
-drop_first : {X : Type 0} (xs : List X) (i : ℕ) (x : X) (rest : List X) → drop i xs ≡ x ∷ rest → (slice_get xs i ≡ Some x) × (drop (suc i) xs ≡ rest)
+pub drop_first : {X : Type 0} (xs : List X) (i : ℕ) (x : X) (rest : List X) → drop i xs ≡ x ∷ rest → (slice_get xs i ≡ Some x) × (drop (suc i) xs ≡ rest)
 drop_first [] zero x rest is = absurd (none-some x (ap (λ l. slice_get l 0) is))
 drop_first [] (suc i) x rest is = absurd (none-some x (ap (λ l. slice_get l 0) is))
 drop_first (y ∷ xs) zero x rest is = (ap (λ l. slice_get l 0) is, ap (λ l. drop 1 l) is)
 drop_first (y ∷ xs) (suc i) x rest is = drop_first xs i x rest is
 
 -- a place from which on nothing is left is at the end
-drop_none : {X : Type 0} (xs : List X) (i : ℕ) → drop i xs ≡ [] → length xs ≤ i
+pub drop_none : {X : Type 0} (xs : List X) (i : ℕ) → drop i xs ≡ [] → length xs ≤ i
 drop_none xs i is = let none : length xs - i ≡ 0 = sym (length-drop i xs) ∙ ap length is in omega arith
 
 -- ---- histories at listings
 
 -- the history at a listing is the beginning of the history now
-begins_now : (jobs : List Job) (past : History) (seen before : List Told) (listing : Told) (later : List Told) → seen ≡ before ++ listing ∷ later
+pub begins_now : (jobs : List Job) (past : History) (seen before : List Told) (listing : Told) (later : List Told) → seen ≡ before ++ listing ∷ later
     → (more : History) × (history_told jobs past seen ≡ history_told jobs past before ++ more)
 begins_now jobs past seen before listing later place = let grown = history_told_grows jobs past before (listing ∷ later) in (grown.0, ap (history_told jobs past) place ∙ grown.1)
 
@@ -263,8 +263,8 @@ module _ {F : Type 0} (codec : Codec F) (spelled : Spelled) (tracks : Tracking F
 
     -- a call on a part that fails ends the read, which has no deed
     failed_claims : (c : Call) (f : FragKey) (part : Part) → SpeaksOf c (name.Part f part) → Holds (ended c reply.Failed)
-    failed_claims (call.Get q from len) f part speaks = subst (λ n. IsTrueRefusal h job (refusal.StoreFault (place.Name n))) (sym speaks) clean.undone
-    failed_claims (call.Size q) f part speaks = subst (λ n. IsTrueRefusal h job (refusal.StoreFault (place.Name n))) (sym speaks) clean.undone
+    failed_claims (call.Get q from len) f part speaks = subst (λ n. IsTrueRefusal spelled opening jobs past seen number job (refusal.StoreFault (place.Name n))) (sym speaks) clean.undone
+    failed_claims (call.Size q) f part speaks = subst (λ n. IsTrueRefusal spelled opening jobs past seen number job (refusal.StoreFault (place.Name n))) (sym speaks) clean.undone
     failed_claims (call.Put q bytes) f part speaks = absurd speaks
     failed_claims (call.Remove q) f part speaks = absurd speaks
     failed_claims (call.List p) f part speaks = absurd speaks
@@ -342,14 +342,14 @@ module _ (m : Held) (n : Name) (bytes : List ℕ) (held : map.get m n ≡ Some b
   told_or_failed c speaks _ = inl refl
 
   -- a call on an object that is held finds no memory, or fails, or tells of it
-  tells_of : (e : Told) (c : Call) → e.call ≡ c → SpeaksOf c n → IsReplied m e → (e.reply ≡ reply.NoMemory) ⊎ ((e.reply ≡ reply.Failed) ⊎ IsToldOf c bytes e.reply)
+  pub tells_of : (e : Told) (c : Call) → e.call ≡ c → SpeaksOf c n → IsReplied m e → (e.reply ≡ reply.NoMemory) ⊎ ((e.reply ≡ reply.Failed) ⊎ IsToldOf c bytes e.reply)
   tells_of e c is speaks (inl none) = inl (no_memory_is e.reply none.0)
   tells_of e c is speaks (inr replied) =
       let said : e.reply ≡ reply_of m c e.fate = replied.0 ∙ ap (λ x. reply_of m x e.fate) is in
       inr (subst (λ x. (x ≡ reply.Failed) ⊎ IsToldOf c bytes x) (sym said) (told_or_failed c speaks e.fate))
 
 -- a call on an object only looks
-speaks_look : (c : Call) (n : Name) → SpeaksOf c n → IsLook c
+pub speaks_look : (c : Call) (n : Name) → SpeaksOf c n → IsLook c
 speaks_look (call.Get q from len) n speaks = tt
 speaks_look (call.Size q) n speaks = tt
 speaks_look (call.Put q bytes) n speaks = absurd speaks

@@ -1,5 +1,5 @@
 -- The claims of a job stay by the calls of others.
-use Rattle.std.proofs.Common.{List, Some, ap, [], refl, subst, sym, ℕ, ◌++◌, ◌∷◌, ◌≡◌}
+use Rattle.std.proofs.Common.{List, Some, ap, [], subst, sym, ℕ, ◌++◌, ◌∷◌, ◌≡◌}
 use Rattle.ts_base.specs.Held.{Held}
 use Rattle.ts_law.proofs.Objects.{CarryAll, delete_carries, schema_carries, write_carries}
 use Rattle.ts_law.proofs.Stays.{absent_stays, clean_stays, end_stays, getting_deletes_stays, fetching_stays, frame_stays, getting_vacs_stays, gathering_stays, has_listed_stays, has_near_stays, new_stays, opening_stays, works_stays}
@@ -10,19 +10,20 @@ use Rattle.ts_model.specs.Jobs.{frag_of_job, key_of, written_as}
 use Rattle.ts_law.specs.Kept.{Aims, Claims, Clean, Putting, StageClaims}
 use Rattle.ts_law.specs.Fresh.{id_in}
 use Rattle.ts_law.proofs.LeaseSteps.{lease_is}
+use Rattle.ts_law.proofs.MergeStays.{aims_to_merge_stays, merge_carries, merge_claims_stay}
 use Rattle.ts_model.specs.declared.states.Stage.{Stage}
 use Rattle.ts_model.specs.declared.states.Stage.TheVariants.{ListsLeases, PutsLease, Releases}
 use Rattle.ts_model.specs.declared.states.Stage.TheVariants as stages
-use Rattle.ts_model.specs.States.{begun, list_schemas}
-use Rattle.ts_model.specs.States.{vac_of}
+use Rattle.ts_model.specs.States.{begun, list_schemas, piece_merged, frags_of, vac_of}
+use Rattle.ts_commit.specs.Selections.{names_merged}
 use Rattle.ts_law.specs.Steps.{Keeps}
-use Rattle.ts_law.proofs.VacLaws.{bare_stays}
+use Rattle.ts_law.proofs.VacLaws.{unspent_stays}
 use Rattle.ts_model.specs.Told.{Told, after_told, history_told}
 use Rattle.ts_model.specs.declared.answers.Outcome.{Outcome}
 use Rattle.ts_model.specs.declared.commands.Job.{Job}
 use Rattle.ts_model.specs.declared.states.NewObject.{NewObject}
 use Rattle.ts_model.specs.declared.states.State.{State}
-use Rattle.ts_model.specs.declared.states.State.TheVariants.{Creates, Seeks, Puts, Collects, Over}
+use Rattle.ts_model.specs.declared.states.State.TheVariants.{Creates, Seeks, Puts, Collects, Merges, Over}
 use Rattle.ts_model.specs.declared.states.Creating.TheVariants.{PutsFrame, ComparesFrame, ListsDeclared}
 use Rattle.ts_model.specs.declared.states.Seeking.TheVariants.{ListsCommits, ListsSchemas, GetsSchema, GetsFrame}
 use Rattle.ts_model.specs.declared.states.Collecting.TheVariants.{GetsVacs, GetsHeads, GetsSchemas, GetsDeletes, Fetches}
@@ -33,19 +34,22 @@ use Rattle.ts_model.specs.declared.answers.Outcome.TheVariants as outcome
 -- ---- what a job puts carries its identifier
 
 -- what a job puts carries its identifier
-pub aims-carry : {F : Type 0} (codec : Codec F) (past : History) (jobs : List Job) (seen : List Told) (number : ℕ) (job : Job) (objects : List NewObject) (end : Outcome)
-    → Aims codec past jobs seen number job objects end → CarryAll job.id objects
-aims-carry codec past jobs seen number job objects outcome.Created (f, creates, is, none, framed) =
+pub aims-carry : {F : Type 0} (codec : Codec F) (spelled : Spelled) (opening : Held) (past : History) (jobs : List Job) (seen : List Told) (m : Held) (number : ℕ) (job : Job) (objects : List NewObject) (end : Outcome)
+    → Aims codec spelled opening past jobs seen m number job objects end → CarryAll job.id objects
+aims-carry codec spelled opening past jobs seen m number job objects outcome.Created (f, creates, is, none, framed) =
     subst (CarryAll job.id) (sym is) (schema_carries job f.attrs)
-aims-carry codec past jobs seen number job objects (outcome.Evolved k) (change, frame, there, evolves, same, is, framed, sound, works) =
+aims-carry codec spelled opening past jobs seen m number job objects (outcome.Evolved k) (change, frame, there, evolves, same, is, framed, sound, works) =
     subst (CarryAll job.id) (sym is) (schema_carries job (evolved_attrs there.attrs change))
-aims-carry codec past jobs seen number job objects (outcome.Written f) (w, frame, there, cells, writes_them, same, is, framed, lays, works) =
+aims-carry codec spelled opening past jobs seen m number job objects (outcome.Written f) (w, frame, there, cells, writes_them, same, is, no_vac, framed, lays, works) =
     subst (CarryAll job.id) (sym is) (write_carries (frag_of_job job) (codec.parts frame there (piece_of frame (written_as job there.key cells))))
-aims-carry codec past jobs seen number job objects (outcome.Deleted f) (text, frame, there, condition, deletes, same, is, framed, says, works) =
+aims-carry codec spelled opening past jobs seen m number job objects (outcome.Deleted f) (text, frame, there, condition, deletes, same, is, framed, says, works) =
     subst (CarryAll job.id) (sym is) (delete_carries job condition)
-aims-carry codec past jobs seen number job objects (outcome.Read answer) none = absurd none
-aims-carry codec past jobs seen number job objects (outcome.Refused r) none = absurd none
-aims-carry codec past jobs seen number job objects outcome.OutOfMemory none = absurd none
+aims-carry codec spelled opening past jobs seen m number job objects (outcome.Consolidated f count) aims =
+    let piece = piece_merged job (aims.survey).frame aims.first aims.others aims.got in
+    subst (CarryAll job.id) (sym aims.are) (merge_carries piece.head.frag (codec.parts (aims.survey).frame aims.schema piece) (names_merged (aims.survey).vacs (frags_of (aims.first ∷ aims.others))))
+aims-carry codec spelled opening past jobs seen m number job objects (outcome.Read answer) none = absurd none
+aims-carry codec spelled opening past jobs seen m number job objects (outcome.Refused r) none = absurd none
+aims-carry codec spelled opening past jobs seen m number job objects outcome.OutOfMemory none = absurd none
 
 -- ---- claims that stay
 
@@ -56,20 +60,6 @@ module _ {F : Type 0} (codec : Codec F) (spelled : Spelled) (tracks : Tracking F
   framed_stays : (frame : Frame) → frame_in (history_told jobs past seen) ≡ Some frame → frame_in (history_told jobs past (seen ++ e ∷ [])) ≡ Some frame
   framed_stays = frame_stays m (after_told m e) (history_told jobs past seen) (history_told jobs past (seen ++ e ∷ [])) id keeps
 
-  -- what the last put of a job makes of it stays
-  pub aims_stays : (objects : List NewObject) (end : Outcome) → (e.job ≡ Some number → e.call ≡ list_schemas → ⊥)
-      → Aims codec past jobs seen number job objects end → Aims codec past jobs (seen ++ e ∷ []) number job objects end
-  aims_stays objects outcome.Created unlisted (f, creates, is, none, framed) = (f, creates, is, none, framed_stays (frame_made f) framed)
-  aims_stays objects (outcome.Evolved k) unlisted (change, frame, there, evolves, same, is, framed, sound, works) =
-      (change, frame, there, evolves, same, is, framed_stays frame framed, sound, works_stays spelled opening past jobs seen e m (after_told m e) id keeps number job there unlisted works)
-  aims_stays objects (outcome.Written f) unlisted (w, frame, there, cells, writes_them, same, is, framed, lays, works) =
-      (w, frame, there, cells, writes_them, same, is, framed_stays frame framed, lays, works_stays spelled opening past jobs seen e m (after_told m e) id keeps number job there unlisted works)
-  aims_stays objects (outcome.Deleted f) unlisted (text, frame, there, condition, deletes, same, is, framed, says, works) =
-      (text, frame, there, condition, deletes, same, is, framed_stays frame framed, says, works_stays spelled opening past jobs seen e m (after_told m e) id keeps number job there unlisted works)
-  aims_stays objects (outcome.Read answer) unlisted is = is
-  aims_stays objects (outcome.Refused r) unlisted is = is
-  aims_stays objects outcome.OutOfMemory unlisted is = is
-
   module _ (other : job.id ≡ id → ⊥) (apart : e.job ≡ Some number → ⊥) where
     -- the call lists nothing for the job
     unlisted : e.job ≡ Some number → e.call ≡ list_schemas → ⊥
@@ -79,19 +69,43 @@ module _ {F : Type 0} (codec : Codec F) (spelled : Spelled) (tracks : Tracking F
     cleans : Clean m (history_told jobs past seen) job → Clean (after_told m e) (history_told jobs past (seen ++ e ∷ [])) job
     cleans = clean_stays m (after_told m e) (history_told jobs past seen) (history_told jobs past (seen ++ e ∷ [])) id keeps job other
 
+    -- what the last put of a job makes of it stays
+    aims_stays : (objects : List NewObject) (end : Outcome) → Aims codec spelled opening past jobs seen m number job objects end → Aims codec spelled opening past jobs (seen ++ e ∷ []) (after_told m e) number job objects end
+    aims_stays objects outcome.Created (f, creates, is, none, framed) = (f, creates, is, none, framed_stays (frame_made f) framed)
+    aims_stays objects (outcome.Evolved k) (change, frame, there, evolves, same, is, framed, sound, works) =
+        (change, frame, there, evolves, same, is, framed_stays frame framed, sound, works_stays spelled opening past jobs seen e m (after_told m e) id keeps number job there unlisted works)
+    aims_stays objects (outcome.Written f) (w, frame, there, cells, writes_them, same, is, no_vac, framed, lays, works) = (
+      w,
+      frame,
+      there,
+      cells,
+      writes_them,
+      same,
+      is,
+      absent_stays m (after_told m e) (history_told jobs past seen) (history_told jobs past (seen ++ e ∷ [])) id keeps (vac_of f) job.id (ap (λ g. id_in (vac_of g)) same) other no_vac,
+      framed_stays frame framed,
+      lays,
+      works_stays spelled opening past jobs seen e m (after_told m e) id keeps number job there unlisted works,
+    )
+    aims_stays objects (outcome.Deleted f) (text, frame, there, condition, deletes, same, is, framed, says, works) =
+        (text, frame, there, condition, deletes, same, is, framed_stays frame framed, says, works_stays spelled opening past jobs seen e m (after_told m e) id keeps number job there unlisted works)
+    aims_stays objects (outcome.Consolidated f count) is = aims_to_merge_stays spelled opening past jobs seen e m (after_told m e) id keeps number codec job objects f count is
+    aims_stays objects (outcome.Read answer) is = is
+    aims_stays objects (outcome.Refused r) is = is
+    aims_stays objects outcome.OutOfMemory is = is
+
     -- a job that puts goes on as it was
     putting_stays : (objects : List NewObject) (next : ℕ) (end : Outcome)
-        → Putting codec past jobs seen m number job objects next end → Putting codec past jobs (seen ++ e ∷ []) (after_told m e) number job objects next end
+        → Putting codec spelled opening past jobs seen m number job objects next end → Putting codec spelled opening past jobs (seen ++ e ∷ []) (after_told m e) number job objects next end
     putting_stays objects next end is = record {
-      held = λ i o before at. keeps.keeps o.name o.bytes (aims-carry codec past jobs seen number job objects end is.aims i o at).1 (is.held i o before at);
+      held = λ i o before at. keeps.keeps o.name o.bytes (aims-carry codec spelled opening past jobs seen m number job objects end is.aims i o at).1 (is.held i o before at);
       short = is.short;
       free = λ i o from at. absent_stays m (after_told m e) (history_told jobs past seen) (history_told jobs past (seen ++ e ∷ [])) id keeps o.name job.id
-          (aims-carry codec past jobs seen number job objects end is.aims i o at).0 other (is.free i o from at);
+          (aims-carry codec spelled opening past jobs seen m number job objects end is.aims i o at).0 other (is.free i o from at);
       some = is.some;
       undone = new_stays m (after_told m e) (history_told jobs past seen) (history_told jobs past (seen ++ e ∷ [])) id keeps (key_of job) other is.undone;
-      bare = bare_stays m (after_told m e) (history_told jobs past seen) (history_told jobs past (seen ++ e ∷ [])) id keeps (frag_of_job job)
-          (absent_stays m (after_told m e) (history_told jobs past seen) (history_told jobs past (seen ++ e ∷ [])) id keeps (vac_of (frag_of_job job)) job.id refl other) is.bare;
-      aims = aims_stays objects end unlisted is.aims;
+      unspent = unspent_stays m (after_told m e) (history_told jobs past seen) (history_told jobs past (seen ++ e ∷ [])) id job.id keeps other is.unspent;
+      aims = aims_stays objects end is.aims;
     }
 
     -- the claims of a state stay
@@ -118,7 +132,8 @@ module _ {F : Type 0} (codec : Codec F) (spelled : Spelled) (tracks : Tracking F
         is.2.1,
       ),
     )
-    claims_stay_at (Over end) is = end_stays past jobs seen e m (after_told m e) id keeps number job end other is
+    claims_stay_at (Merges s) is = merge_claims_stay spelled opening past jobs seen e m (after_told m e) id keeps number codec tracks job cleans s is
+    claims_stay_at (Over end) is = end_stays spelled opening past jobs seen e m (after_told m e) id keeps number job end other is
 
 -- the claims of a job stay by a call of another
 pub claims_stay : {F : Type 0} (codec : Codec F) (spelled : Spelled) (tracks : Tracking F) (opening : Held) (past : History) (jobs : List Job) (seen : List Told) (e : Told) (m : Held) (id : ℕ)
@@ -141,6 +156,6 @@ stage_stays codec spelled tracks opening past jobs seen e m id keeps number job 
 stage_stays codec spelled tracks opening past jobs seen e m id keeps number job (stages.Works s) other apart is = claims_stay codec spelled tracks opening past jobs seen e m id keeps number job s other apart is
 stage_stays codec spelled tracks opening past jobs seen e m id keeps number job (Releases lease end) other apart is = (
   is.0,
-  end_stays past jobs seen e m (after_told m e) id keeps number job end other is.1,
+  end_stays spelled opening past jobs seen e m (after_told m e) id keeps number job end other is.1,
   new_stays m (after_told m e) (history_told jobs past seen) (history_told jobs past (seen ++ e ∷ [])) id keeps (key_of job) other is.2,
 )

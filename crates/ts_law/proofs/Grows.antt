@@ -98,6 +98,7 @@ module _ (h more : History) (new : (w : Written) â†’ Contains (writes more) w â†
     declared = schema_with-append h more p.head.schema is.schema is.declared;
     spells = is.spells;
     holds = holds_grows p is.holds;
+    name = is.name;
   }
 
   -- what went into both goes on being in both
@@ -132,6 +133,7 @@ holds_on_in spelled h m n f p stay is = record {
     named = (is.spells).named;
   };
   holds = is.holds;
+  name = is.name;
 }
 
 -- so it is of what went into both

@@ -22,22 +22,24 @@ use Rattle.ts_store.specs.declared.fate.Fate.{Fate}
 use Rattle.ts_store.specs.declared.journal.Entry.{Entry}
 use Rattle.ts_store.specs.Calls.{after, answer, reply_of, part_reply, length_reply, is_no_memory}
 use Rattle.ts_store.specs.Journals.{held_after}
-use Rattle.ts_model.specs.declared.commands.Command.TheVariants.{Create}
+use Rattle.ts_model.specs.declared.commands.Command.TheVariants.{Create, Consolidate}
 use Rattle.ts_model.specs.declared.commands.FrameIn.{FrameIn}
 use Rattle.ts_model.specs.declared.commands.Job.{Job}
 use Rattle.ts_model.specs.declared.answers.Outcome.{Outcome}
 use Rattle.ts_model.specs.declared.deeds.Deed.TheVariants.{Framed, Declared, Wrote, Erased}
 use Rattle.ts_model.specs.declared.states.State.{State}
 use Rattle.ts_model.specs.declared.states.NewObject.{NewObject}
-use Rattle.ts_model.specs.declared.states.State.TheVariants.{Creates, Seeks, Puts, Collects, Over}
+use Rattle.ts_model.specs.declared.states.State.TheVariants.{Creates, Seeks, Puts, Collects, Merges, Over}
 use Rattle.ts_model.specs.declared.states.Creating.TheVariants.{PutsFrame, ComparesFrame, ListsDeclared}
 use Rattle.ts_model.specs.declared.states.Seeking.TheVariants.{ListsCommits, ListsSchemas, GetsSchema, GetsFrame}
 use Rattle.ts_model.specs.declared.states.Collecting.TheVariants.{GetsVacs, GetsHeads, GetsSchemas, GetsDeletes, Fetches}
+use Rattle.ts_model.specs.declared.states.Merging.TheVariants as merging
+use Rattle.ts_commit.specs.declared.vacs.Limits.{Limits}
 use Rattle.ts_model.specs.Commands.{frame_made, create_refusal, fits}
 use Rattle.ts_model.specs.Deeds.{History}
 use Rattle.ts_model.specs.Codecs.{Codec, CodecLaws, Spelled, Tracking}
 use Rattle.ts_model.specs.Jobs.{IsFit, AreApart, job_with, key_of}
-use Rattle.ts_model.specs.States.{get_vac, vac_of, asks, frame_put, get_delete, get_head, get_schema, made_by, put_of, want_of}
+use Rattle.ts_model.specs.States.{all_of, get_vac, vac_of, asks, frame_put, get_delete, get_head, get_head_in, get_schema, made_by, put_of, want_of}
 use Rattle.ts_model.specs.Stages.{put_lease, stage_of}
 use Rattle.ts_model.specs.Driven.{MayAsk}
 use Rattle.ts_model.specs.declared.states.Stage.{Stage}
@@ -227,6 +229,14 @@ create_deed h job f x z (name.Commit frag Wrt) is = ap (λ c. option_map Wrote (
 create_deed h job f x z (name.Commit frag Del) is = ap (λ c. option_map Erased (deleted_by h job x c)) is ∙ sym (ap (λ c. option_map Erased (deleted_by h job z c)) is)
 create_deed h job f x z n is = refl
 
+-- nor in what a consolidation puts
+merge_deed : (h : History) (job : Job) (from to : ℕ) (limits : Limits) (x z : Option (List Key)) (n : Name) → job.command ≡ Consolidate from to limits → deed_of h job x n ≡ deed_of h job z n
+merge_deed h job from to limits x z name.Domain is = refl
+merge_deed h job from to limits x z (name.Schema k) is = ap (λ c. option_map Declared (declared_by h job x c)) is ∙ sym (ap (λ c. option_map Declared (declared_by h job z c)) is)
+merge_deed h job from to limits x z (name.Commit frag Wrt) is = ap (λ c. option_map Wrote (written_by h job x c)) is ∙ sym (ap (λ c. option_map Wrote (written_by h job z c)) is)
+merge_deed h job from to limits x z (name.Commit frag Del) is = ap (λ c. option_map Erased (deleted_by h job x c)) is ∙ sym (ap (λ c. option_map Erased (deleted_by h job z c)) is)
+merge_deed h job from to limits x z n is = refl
+
 -- the deed of an object whose name carries an identifier
 put_carried : (jobs : List Job) (h : History) (found : Option (List Key)) (n : Name) (bytes : List ℕ) (id : ℕ) → id_in n ≡ Some id → deed_put jobs h found n bytes ≡ deed_carried jobs h found n
 put_carried jobs h found name.Domain bytes id carries = absurd (none-some id carries)
@@ -246,10 +256,16 @@ pub record PutsAFrame (job : Job) (n : Name) (bytes : List ℕ) : Type 0 where
   named : n ≡ name.Domain
   spelled : bytes ≡ frame_object (frame_made made)
 
--- another put: its name carries the job's identifier, and a job that is no create works in a schema
+-- a job that puts is a create, it is a consolidation, or it works in a schema
+pub data Finds (past : History) (jobs : List Job) (seen : List Told) (number : ℕ) (job : Job) : Type 0 where
+  Made : (f : FrameIn) → job.command ≡ Create f → Finds past jobs seen number job
+  Merged : (from to : ℕ) (limits : Limits) → job.command ≡ Consolidate from to limits → Finds past jobs seen number job
+  Worked : (there : Schema) → Works past jobs seen number job there → Finds past jobs seen number job
+
+-- another put: its name carries the job's identifier
 pub record PutsItsOwn (past : History) (jobs : List Job) (seen : List Told) (number : ℕ) (job : Job) (n : Name) : Type 0 where
   carries : id_in n ≡ Some job.id
-  pub finds : ((f : FrameIn) × (job.command ≡ Create f)) ⊎ ((there : Schema) × Works past jobs seen number job there)
+  pub finds : Finds past jobs seen number job
 
 -- where there is nothing behind any, there is nothing
 none_then : {A B : Type 0} (o : Option A) → ◌≡◌ {A = Option B} None (option_and_then (λ a. None) o)
@@ -262,12 +278,12 @@ IsALease n = (k : Key) × (mode : LeaseMode) × (n ≡ name.Lease k mode)
 
 module _ {F : Type 0} (codec : Codec F) (spelled : Spelled) (tracks : Tracking F) (laws : CodecLaws codec spelled tracks) (opening : Held) (past : History) (jobs : List Job) (seen : List Told) (m : Held) where
   -- what stands behind a put by its end
-  aims_find : (number : ℕ) (job : Job) (objects : List NewObject) (end : Outcome) → Aims codec past jobs seen number job objects end
-      → ((f : FrameIn) × (job.command ≡ Create f)) ⊎ ((there : Schema) × Works past jobs seen number job there)
-  aims_find number job objects outcome.Created (f, creates, is, none, framed) = inl (f, creates)
-  aims_find number job objects (outcome.Evolved k) (change, frame, there, evolves, same, is, framed, sound, works) = inr (there, works)
-  aims_find number job objects (outcome.Written f) (w, frame, there, cells, writes_them, same, is, framed, lays, works) = inr (there, works)
-  aims_find number job objects (outcome.Deleted f) (text, frame, there, condition, deletes, same, is, framed, says, works) = inr (there, works)
+  aims_find : (number : ℕ) (job : Job) (objects : List NewObject) (end : Outcome) → Aims codec spelled opening past jobs seen m number job objects end → Finds past jobs seen number job
+  aims_find number job objects outcome.Created (f, creates, is, none, framed) = Made f creates
+  aims_find number job objects (outcome.Evolved k) (change, frame, there, evolves, same, is, framed, sound, works) = Worked there works
+  aims_find number job objects (outcome.Written f) (w, frame, there, cells, writes_them, same, is, no_vac, framed, lays, works) = Worked there works
+  aims_find number job objects (outcome.Deleted f) (text, frame, there, condition, deletes, same, is, framed, says, works) = Worked there works
+  aims_find number job objects (outcome.Consolidated f count) aims = let survey = aims.survey in Merged survey.from survey.to survey.limits (((aims.merges).has).surveys).merges
   aims_find number job objects (outcome.Read answer) none = absurd none
   aims_find number job objects (outcome.Refused r) none = absurd none
   aims_find number job objects outcome.OutOfMemory none = absurd none
@@ -285,7 +301,7 @@ module _ {F : Type 0} (codec : Codec F) (spelled : Spelled) (tracks : Tracking F
   put_from number job (Puts objects next end) n bytes claims asked =
       let (o, at, is) = asked_by put_of (slice_get objects next) (call.Put n bytes) asked in
       inr (record {
-        carries = ap id_in (sym (one_name o.name n o.bytes bytes is)) ∙ (aims-carry codec past jobs seen number job objects end claims.aims next o at).0;
+        carries = ap id_in (sym (one_name o.name n o.bytes bytes is)) ∙ (aims-carry codec spelled opening past jobs seen m number job objects end claims.aims next o at).0;
         finds = aims_find number job objects end claims.aims;
       })
   put_from number job (Creates ComparesFrame) n bytes claims asked = absurd (no_get name.Domain 0 _ n bytes (same_Some _ _ asked))
@@ -310,6 +326,23 @@ module _ {F : Type 0} (codec : Codec F) (spelled : Spelled) (tracks : Tracking F
       let way = claims.2.1 in
       let on = way.holds in
       let held = laws.asks r.frame on.schema way.piece (on.spells).look (want_of r (on.schema).attrs) fetch c way.way in
+      absurd (speaks_no_put c (name.Part ((way.piece).head).frag held.part) n bytes held.named (same_Some c (call.Put n bytes) asked))
+  put_from number job (Merges merging.ListsCommits) n bytes claims asked = absurd (no_listing Commits n bytes (same_Some _ _ asked))
+  put_from number job (Merges (merging.ListsSchemas c)) n bytes claims asked = absurd (no_listing Schemas n bytes (same_Some _ _ asked))
+  put_from number job (Merges (merging.GetsFrame c)) n bytes claims asked = absurd (no_get name.Domain 0 _ n bytes (same_Some _ _ asked))
+  put_from number job (Merges (merging.GetsVacs s)) n bytes claims asked =
+      let f = asked_by get_vac (slice_get s.counting _) (call.Put n bytes) asked in
+      absurd (no_get (vac_of f.0) 0 _ n bytes f.2)
+  put_from number job (Merges (merging.GetsHeads s opened)) n bytes claims asked =
+      let f = asked_by (get_head_in codec s.frame) (slice_get s.fragments _) (call.Put n bytes) asked in
+      absurd (no_get (name.Part f.0 (codec.head_part s.frame)) 0 _ n bytes f.2)
+  put_from number job (Merges (merging.GetsSchemas s opened named schemas)) n bytes claims asked =
+      let k = asked_by get_schema (slice_get named _) (call.Put n bytes) asked in
+      absurd (no_get (name.Schema k.0) 0 _ n bytes k.2)
+  put_from number job (Merges (merging.Fetches s sources schema next frag got fetch c)) n bytes claims asked =
+      let way = claims.2.1 in
+      let on = way.is.holds in
+      let held = laws.asks s.frame schema way.piece (on.spells).look (all_of s.frame schema.attrs) fetch c way.way in
       absurd (speaks_no_put c (name.Part ((way.piece).head).frag held.part) n bytes held.named (same_Some c (call.Put n bytes) asked))
   put_from number job (Over end) n bytes claims asked = absurd (none-some _ asked)
 
@@ -336,10 +369,11 @@ put_deed past jobs seen g found number job n bytes apart at fit short same (inl 
 put_deed past jobs seen g found number job n bytes apart at fit short same (inr puts) =
     by_found puts.finds ∙ sym (put_carried jobs g found n bytes job.id puts.carries ∙ carried_is jobs g found n number job apart at puts.carries)
   where
-    by_found : ((f : FrameIn) × (job.command ≡ Create f)) ⊎ ((there : Schema) × Works past jobs seen number job there) → deed_of g job (schemas_found (trace_of number seen)) n ≡ deed_of g job found n
-    by_found (inl creates) = create_deed g job creates.0 (schemas_found (trace_of number seen)) found n creates.1
-    by_found (inr has) = elim same [
-      | inl none ↦ absurd (none-some (has.1).found (sym none ∙ (has.1).is_found))
+    by_found : Finds past jobs seen number job → deed_of g job (schemas_found (trace_of number seen)) n ≡ deed_of g job found n
+    by_found (Made f creates) = create_deed g job f (schemas_found (trace_of number seen)) found n creates
+    by_found (Merged from to limits merges) = merge_deed g job from to limits (schemas_found (trace_of number seen)) found n merges
+    by_found (Worked there works) = elim same [
+      | inl none ↦ absurd (none-some works.found (sym none ∙ works.is_found))
       | inr is ↦ ap (λ k. deed_of g job k n) is
     ]
 

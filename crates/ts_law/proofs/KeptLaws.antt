@@ -16,7 +16,10 @@ use Rattle.ts_law.proofs.Frames.{aims-carry, stage_stays}
 use Rattle.ts_model.proofs.HistoryLaws.{job_of_id}
 use Rattle.ts_model.proofs.ListLemmas.{Contains-slice_get}
 use Rattle.ts_law.proofs.ListSteps.{commits_steps, schemas_steps}
-use Rattle.ts_law.proofs.PutSteps.{compare_steps, declared_steps, frame_steps, puts_steps}
+use Rattle.ts_law.proofs.PutSteps.{compare_steps, declared_steps, frame_steps, deed_steps}
+use Rattle.ts_law.proofs.MergePuts.{merge_puts_steps}
+use Rattle.ts_law.proofs.MergeSteps.{merge_commits_steps, merge_schemas_steps, merge_frame_steps, merge_vacs_steps, merge_heads_steps, merge_learn_steps}
+use Rattle.ts_law.proofs.MergeFetches.{merge_fetch_steps}
 use Rattle.ts_law.proofs.ReadSteps.{vacs_steps, framed_steps, further_steps, heads_steps, schema_steps}
 use Rattle.ts_model.proofs.Traces.{held_told-append, stage_of-other, stage_of-own}
 use Rattle.ts_model.specs.Commands.{frame_made}
@@ -25,20 +28,21 @@ use Rattle.ts_law.specs.Ends.{IsTrueEnd}
 use Rattle.ts_model.specs.Codecs.{Codec, CodecLaws, SpeaksOf, Spelled, Tracking}
 use Rattle.ts_law.specs.Fresh.{id_in}
 use Rattle.ts_model.specs.Jobs.{IsFit, job_with}
-use Rattle.ts_law.specs.Kept.{AreAllowed, Claims, IsAllowed, IsOfJobs, Kept, StageClaims}
+use Rattle.ts_law.specs.Kept.{AreAllowed, Claims, IsAllowed, IsOfJobs, Kept, StageClaims, HeldSince}
 use Rattle.ts_model.specs.Driven.{MayAsk}
 use Rattle.ts_model.specs.declared.states.Stage.{Stage}
 use Rattle.ts_model.specs.declared.states.Stage.TheVariants.{ListsLeases, PutsLease, Releases}
 use Rattle.ts_model.specs.declared.states.Stage.TheVariants as stages
 use Rattle.ts_law.proofs.LeaseSteps.{lease_is, release_is, stage_step}
-use Rattle.ts_model.specs.States.{get_vac, vac_of, asks, frame_put, get_delete, get_head, get_schema, made_by, put_of, want_of}
+use Rattle.ts_model.specs.States.{all_of, get_vac, vac_of, asks, frame_put, get_delete, get_head, get_head_in, get_schema, made_by, put_of, want_of}
 use Rattle.ts_model.specs.Stages.{put_lease, stage_of}
 use Rattle.ts_law.specs.Steps.{Advances, Comes, StageAdvances}
 use Rattle.ts_model.specs.Told.{IsReplied, Replied, Told, after_told, held_told, trace_of}
 use Rattle.ts_model.specs.declared.answers.Outcome.{Outcome}
 use Rattle.ts_model.specs.declared.commands.Job.{Job}
 use Rattle.ts_model.specs.declared.states.State.{State}
-use Rattle.ts_model.specs.declared.states.State.TheVariants.{Creates, Seeks, Puts, Collects, Over}
+use Rattle.ts_model.specs.declared.states.State.TheVariants.{Creates, Seeks, Puts, Collects, Merges, Over}
+use Rattle.ts_model.specs.declared.states.Merging.TheVariants as merging
 use Rattle.ts_model.specs.declared.states.Creating.TheVariants.{PutsFrame, ComparesFrame, ListsDeclared}
 use Rattle.ts_model.specs.declared.states.Seeking.TheVariants.{ListsCommits, ListsSchemas, GetsSchema, GetsFrame}
 use Rattle.ts_model.specs.declared.states.Collecting.TheVariants.{GetsVacs, GetsHeads, GetsSchemas, GetsDeletes, Fetches}
@@ -85,7 +89,7 @@ module _ {F : Type 0} (codec : Codec F) (spelled : Spelled) (tracks : Tracking F
   own_put number job (Creates ListsDeclared) n bytes id claims asked carried = absurd (no_listing Schemas n bytes (same_Some _ _ asked))
   own_put number job (Puts objects next end) n bytes id claims asked carried =
       let o = asked_by put_of (slice_get objects next) (call.Put n bytes) asked in
-      same_Some job.id id (sym (aims-carry codec past jobs seen number job objects end claims.aims next o.0 o.1).0 ∙ ap id_in (one_name (o.0).name n (o.0).bytes bytes o.2) ∙ carried)
+      same_Some job.id id (sym (aims-carry codec spelled opening past jobs seen m number job objects end claims.aims next o.0 o.1).0 ∙ ap id_in (one_name (o.0).name n (o.0).bytes bytes o.2) ∙ carried)
   own_put number job (Seeks ListsCommits) n bytes id claims asked carried = absurd (no_listing Commits n bytes (same_Some _ _ asked))
   own_put number job (Seeks (ListsSchemas listing)) n bytes id claims asked carried = absurd (no_listing Schemas n bytes (same_Some _ _ asked))
   own_put number job (Seeks (GetsSchema listing there)) n bytes id claims asked carried = absurd (no_get (name.Schema there) 0 (2 ^ 64 - 1) n bytes (same_Some _ _ asked))
@@ -105,6 +109,22 @@ module _ {F : Type 0} (codec : Codec F) (spelled : Spelled) (tracks : Tracking F
   own_put number job (Collects (Fetches r opened schemas next frag got fetch c)) n bytes id claims asked carried =
       let way = claims.2.1 in
       let held = laws.asks r.frame (way.holds).schema way.piece ((way.holds).spells).look (want_of r ((way.holds).schema).attrs) fetch c way.way in
+      absurd (speaks_no_put c (name.Part ((way.piece).head).frag held.part) n bytes held.named (same_Some c (call.Put n bytes) asked))
+  own_put number job (Merges merging.ListsCommits) n bytes id claims asked carried = absurd (no_listing Commits n bytes (same_Some _ _ asked))
+  own_put number job (Merges (merging.ListsSchemas c)) n bytes id claims asked carried = absurd (no_listing Schemas n bytes (same_Some _ _ asked))
+  own_put number job (Merges (merging.GetsFrame c)) n bytes id claims asked carried = absurd (no_get name.Domain 0 (2 ^ 64 - 1) n bytes (same_Some _ _ asked))
+  own_put number job (Merges (merging.GetsVacs s)) n bytes id claims asked carried =
+      let f = asked_by get_vac (slice_get s.counting (length s.vacs)) (call.Put n bytes) asked in
+      absurd (no_get (vac_of f.0) 0 (2 ^ 64 - 1) n bytes f.2)
+  own_put number job (Merges (merging.GetsHeads s opened)) n bytes id claims asked carried =
+      let f = asked_by (get_head_in codec s.frame) (slice_get s.fragments (length opened)) (call.Put n bytes) asked in
+      absurd (no_get (name.Part f.0 (codec.head_part s.frame)) 0 (2 ^ 64 - 1) n bytes f.2)
+  own_put number job (Merges (merging.GetsSchemas s opened named schemas)) n bytes id claims asked carried =
+      let k = asked_by get_schema (slice_get named (length schemas)) (call.Put n bytes) asked in
+      absurd (no_get (name.Schema k.0) 0 (2 ^ 64 - 1) n bytes k.2)
+  own_put number job (Merges (merging.Fetches s sources schema next frag got fetch c)) n bytes id claims asked carried =
+      let way = claims.2.1 in
+      let held = laws.asks s.frame schema way.piece ((way.is.holds).spells).look (all_of s.frame schema.attrs) fetch c way.way in
       absurd (speaks_no_put c (name.Part ((way.piece).head).frag held.part) n bytes held.named (same_Some c (call.Put n bytes) asked))
   own_put number job (Over end) n bytes id claims asked carried = absurd (none-some _ asked)
 
@@ -159,7 +179,7 @@ module _ {F : Type 0} (codec : Codec F) (spelled : Spelled) (tracks : Tracking F
 -- what the end of a job that was not dropped tells of the history is true
 pub end_is_true : {F : Type 0} (codec : Codec F) (spelled : Spelled) (tracks : Tracking F) (opening : Held) (past : History) (jobs : List Job) (dead : List ℕ) (seen : List Told) (m : Held)
     → Kept codec spelled tracks opening past jobs dead seen m → (number : ℕ) (job : Job) (end : Outcome) → slice_get jobs number ≡ Some job → (Contains dead number → ⊥)
-    → stage_of codec job (trace_of number seen) ≡ stages.Works (Over end) → IsTrueEnd jobs past seen number job end
+    → stage_of codec job (trace_of number seen) ≡ stages.Works (Over end) → IsTrueEnd spelled opening jobs past seen number job end
 end_is_true codec spelled tracks opening past jobs dead seen m kept number job end at alive over = subst (StageClaims codec spelled tracks opening past jobs seen m number job) over (kept.claims number job at alive)
 
 -- ---- fronts of calls
@@ -169,10 +189,20 @@ pub AreAllowed-front : {F : Type 0} (codec : Codec F) (jobs : List Job) (dead : 
 AreAllowed-front codec jobs dead seen [] b may = tt
 AreAllowed-front codec jobs dead seen (e ∷ a) b may = (may.0, AreAllowed-front codec jobs dead (seen ++ e ∷ []) a b may.1)
 
+-- so may the rest, after the front
+AreAllowed-back : {F : Type 0} (codec : Codec F) (jobs : List Job) (dead : List ℕ) (seen a b : List Told) → AreAllowed codec jobs dead seen (a ++ b) → AreAllowed codec jobs dead (seen ++ a) b
+AreAllowed-back codec jobs dead seen [] b may = subst (λ t. AreAllowed codec jobs dead t b) (sym (append-nil seen)) may
+AreAllowed-back codec jobs dead seen (e ∷ a) b may = subst (λ t. AreAllowed codec jobs dead t b) (append_assoc seen (e ∷ []) a) (AreAllowed-back codec jobs dead (seen ++ e ∷ []) a b may.1)
+
 -- the front of calls that are replied to is such
 pub Replied-front : (m : Held) (a b : List Told) → Replied m (a ++ b) → Replied m a
 Replied-front m [] b replied = tt
 Replied-front m (e ∷ a) b replied = (replied.0, Replied-front (after_told m e) a b replied.1)
+
+-- so is the rest, over what the front leaves
+Replied-back : (m : Held) (a b : List Told) → Replied m (a ++ b) → Replied (held_told m a) b
+Replied-back m [] b replied = replied
+Replied-back m (e ∷ a) b replied = Replied-back (after_told m e) a b replied.1
 
 -- ---- any call
 
@@ -183,7 +213,8 @@ module _ {F : Type 0} (codec : Codec F) (spelled : Spelled) (tracks : Tracking F
   own_step opening past jobs seen e m number job (Creates PutsFrame) comes = frame_steps codec spelled tracks opening past jobs seen e m number job laws comes
   own_step opening past jobs seen e m number job (Creates ComparesFrame) comes = compare_steps codec spelled tracks opening past jobs seen e m number job laws comes
   own_step opening past jobs seen e m number job (Creates ListsDeclared) comes = declared_steps codec spelled tracks opening past jobs seen e m number job laws comes
-  own_step opening past jobs seen e m number job (Puts objects next end) comes = puts_steps codec spelled tracks opening past jobs seen e m number job objects next end laws comes
+  own_step opening past jobs seen e m number job (Puts objects next end) comes =
+      deed_steps codec spelled tracks opening past jobs seen e m number job (merge_puts_steps codec spelled tracks laws opening past jobs seen e m number job) objects next end laws comes
   own_step opening past jobs seen e m number job (Seeks ListsCommits) comes = commits_steps codec spelled tracks opening past jobs seen e m number job laws comes
   own_step opening past jobs seen e m number job (Seeks (ListsSchemas listing)) comes = schemas_steps codec spelled tracks opening past jobs seen e m number job laws listing comes
   own_step opening past jobs seen e m number job (Seeks (GetsSchema listing there)) comes = schema_steps codec spelled tracks opening past jobs seen e m number job laws listing there comes
@@ -194,14 +225,21 @@ module _ {F : Type 0} (codec : Codec F) (spelled : Spelled) (tracks : Tracking F
   own_step opening past jobs seen e m number job (Collects (GetsDeletes r opened schemas)) comes = deletes_steps codec spelled tracks opening past jobs seen e m number job laws r opened schemas comes
   own_step opening past jobs seen e m number job (Collects (Fetches r opened schemas next frag got fetch c)) comes =
       fetch_steps codec spelled tracks opening past jobs seen e m number job r opened schemas next frag got fetch c laws comes
+  own_step opening past jobs seen e m number job (Merges merging.ListsCommits) comes = merge_commits_steps codec spelled tracks opening past jobs seen e m number job laws comes
+  own_step opening past jobs seen e m number job (Merges (merging.ListsSchemas c)) comes = merge_schemas_steps codec spelled tracks opening past jobs seen e m number job laws c comes
+  own_step opening past jobs seen e m number job (Merges (merging.GetsFrame c)) comes = merge_frame_steps codec spelled tracks opening past jobs seen e m number job laws c comes
+  own_step opening past jobs seen e m number job (Merges (merging.GetsVacs s)) comes = merge_vacs_steps codec spelled tracks opening past jobs seen e m number job laws s comes
+  own_step opening past jobs seen e m number job (Merges (merging.GetsHeads s opened)) comes = merge_heads_steps codec spelled tracks opening past jobs seen e m number job laws s opened comes
+  own_step opening past jobs seen e m number job (Merges (merging.GetsSchemas s opened named schemas)) comes = merge_learn_steps codec spelled tracks opening past jobs seen e m number job laws s opened named schemas comes
+  own_step opening past jobs seen e m number job (Merges (merging.Fetches s sources schema next frag got fetch c)) comes =
+      merge_fetch_steps codec spelled tracks opening past jobs seen e m number job s sources schema next frag got fetch c laws comes
   own_step opening past jobs seen e m number job (Over end) comes = absurd (none-some e.call comes.asked)
 
-  -- what is kept stays by a call that may come
-  pub step_kept : (opening : Held) (past : History) (jobs : List Job) (dead : List ℕ) (seen : List Told) (m : Held) (e : Told) → Kept codec spelled tracks opening past jobs dead seen m
-      → IsAllowed codec jobs dead seen e → IsReplied m e → Kept codec spelled tracks opening past jobs dead (seen ++ e ∷ []) (after_told m e)
-  step_kept opening past jobs dead seen m e kept may replied =
-      advance_kept codec spelled tracks laws opening past jobs dead seen m e kept may
-      (stage_step codec spelled tracks opening past jobs seen e m may.number may.job (own_step opening past jobs seen e m may.number may.job) (stage_of codec may.job (trace_of may.number seen)) (record {
+  -- where a call that may come leads its job
+  leads_on : (opening : Held) (past : History) (jobs : List Job) (dead : List ℕ) (seen : List Told) (m : Held) (e : Told) → Kept codec spelled tracks opening past jobs dead seen m
+      → (may : IsAllowed codec jobs dead seen e) → IsReplied m e → StageAdvances codec spelled tracks opening past jobs seen e m may.number may.job (stage_of codec may.job (trace_of may.number seen))
+  leads_on opening past jobs dead seen m e kept may replied =
+      stage_step codec spelled tracks opening past jobs seen e m may.number may.job (own_step opening past jobs seen e m may.number may.job) (stage_of codec may.job (trace_of may.number seen)) (record {
         stands = kept.stands;
         is_held = kept.is_held;
         apart = kept.apart;
@@ -212,7 +250,20 @@ module _ {F : Type 0} (codec : Codec F) (spelled : Spelled) (tracks : Tracking F
         short = may.short;
         asked = may.asked;
         claims = kept.claims may.number may.job may.is_job may.alive;
-      }))
+      })
+
+  -- what is kept stays by a call that may come
+  pub step_kept : (opening : Held) (past : History) (jobs : List Job) (dead : List ℕ) (seen : List Told) (m : Held) (e : Told) → Kept codec spelled tracks opening past jobs dead seen m
+      → IsAllowed codec jobs dead seen e → IsReplied m e → Kept codec spelled tracks opening past jobs dead (seen ++ e ∷ []) (after_told m e)
+  step_kept opening past jobs dead seen m e kept may replied = advance_kept codec spelled tracks laws opening past jobs dead seen m e kept may (leads_on opening past jobs dead seen m e kept may replied)
+
+  -- what is held stays held by calls that may come, but for leases
+  pub held_on : (opening : Held) (past : History) (jobs : List Job) (dead : List ℕ) (seen : List Told) (m : Held) (told : List Told)
+      → Kept codec spelled tracks opening past jobs dead seen m → AreAllowed codec jobs dead seen told → Replied m told → HeldSince m (held_told m told)
+  held_on opening past jobs dead seen m [] kept may replied n bytes no_lease held = held
+  held_on opening past jobs dead seen m (e ∷ told) kept may replied n bytes no_lease held =
+      held_on opening past jobs dead (seen ++ e ∷ []) (after_told m e) told (step_kept opening past jobs dead seen m e kept may.0 replied.0) may.1 replied.1 n bytes no_lease
+      ((((leads_on opening past jobs dead seen m e kept may.0 replied.0).leads).leaves).keeps n bytes no_lease held)
 
   -- what is kept stays by calls that may come
   pub all_kept : (opening : Held) (past : History) (jobs : List Job) (dead : List ℕ) (seen : List Told) (m : Held) (told : List Told)
@@ -230,3 +281,11 @@ module _ {F : Type 0} (codec : Codec F) (spelled : Spelled) (tracks : Tracking F
       all_kept opening past jobs dead seen m front kept
       (AreAllowed-front codec jobs dead seen front back (subst (AreAllowed codec jobs dead seen) parts may))
       (Replied-front m front back (subst (Replied m) parts replied))
+
+  -- what is held after the first of the calls stays held, but for leases
+  pub held_from : (opening : Held) (past : History) (jobs : List Job) (dead : List ℕ) (seen : List Told) (m : Held) (told front back : List Told)
+      → Kept codec spelled tracks opening past jobs dead seen m → AreAllowed codec jobs dead seen told → Replied m told → told ≡ front ++ back → HeldSince (held_told m front) (held_told m told)
+  held_from opening past jobs dead seen m told front back kept may replied parts =
+      subst (HeldSince (held_told m front)) (sym (ap (held_told m) parts ∙ held_told-append m front back))
+      (held_on opening past jobs dead (seen ++ front) (held_told m front) back (every_prefix opening past jobs dead seen m told front back kept may replied parts)
+      (AreAllowed-back codec jobs dead seen front back (subst (AreAllowed codec jobs dead seen) parts may)) (Replied-back m front back (subst (Replied m) parts replied)))

@@ -11,7 +11,10 @@ use Rattle.ts_schema.specs.declared.attrs.Attr.{Attr}
 use Rattle.ts_schema.specs.declared.frames.Frame.{Frame}
 use Rattle.ts_model.specs.Commands.{◌or_else◌, again_in, attr_column, cells_from, columns, count_of, dim_column, laid, laid_apart, laid_dense, laid_over, laid_sparse, or_clash, outside_in, stray, unless}
 use Rattle.ts_model.specs.Queries.{over_most, stray_bound}
+use Rattle.ts_base.specs.Held.{Held}
 use Rattle.ts_model.specs.Deeds.{History, row_at}
+use Rattle.ts_model.specs.Codecs.{Spelled}
+use Rattle.ts_model.specs.Told.{Told, history_told}
 use Rattle.ts_law.specs.Ends.{IsTrueRefusal, IsUndone}
 use Rattle.ts_model.specs.Queries.{box_of, counted_cells, most_cells}
 use Rattle.ts_model.specs.declared.answers.Refusal.{Refusal}
@@ -29,12 +32,13 @@ IsOfColumns (refusal.TooMany cells) = ⊤
 IsOfColumns _ = ⊥
 
 -- it tells the truth where the job has no deed
-pub columns_true : (h : History) (job : Job) (r : Refusal) → IsOfColumns r → IsUndone h job → IsTrueRefusal h job r
-columns_true h job (refusal.SchemaClash label) is undone = undone
-columns_true h job (refusal.Domain dim value) is undone = undone
-columns_true h job (refusal.DuplicateCell place) is undone = undone
-columns_true h job (refusal.TooMany cells) is undone = undone
-columns_true h job _ is undone = absurd is
+pub columns_true : (spelled : Spelled) (opening : Held) (jobs : List Job) (past : History) (told : List Told) (number : ℕ) (job : Job) (r : Refusal) → IsOfColumns r → IsUndone (history_told jobs past told) job
+    → IsTrueRefusal spelled opening jobs past told number job r
+columns_true spelled opening jobs past told number job (refusal.SchemaClash label) is undone = undone
+columns_true spelled opening jobs past told number job (refusal.Domain dim value) is undone = undone
+columns_true spelled opening jobs past told number job (refusal.DuplicateCell place) is undone = undone
+columns_true spelled opening jobs past told number job (refusal.TooMany cells) is undone = undone
+columns_true spelled opening jobs past told number job _ is undone = absurd is
 
 -- each refusal of this answer is one of columns
 abbrev pub FailsByColumns : {A : Type 0} → Result A Refusal → Type 0

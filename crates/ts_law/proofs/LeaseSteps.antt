@@ -22,12 +22,14 @@ use Rattle.ts_store.specs.declared.call.Reply.{Reply}
 use Rattle.ts_store.specs.declared.fate.Fate.{Fate}
 use Rattle.ts_model.specs.declared.answers.Outcome.{Outcome}
 use Rattle.ts_model.specs.declared.commands.Command.{Command}
-use Rattle.ts_model.specs.declared.commands.Command.TheVariants.{Create, Evolve, Write, Read, Delete}
+use Rattle.ts_model.specs.declared.commands.Command.TheVariants.{Create, Evolve, Write, Read, Delete, Consolidate}
 use Rattle.ts_model.specs.declared.commands.Job.{Job}
 use Rattle.ts_model.specs.declared.deeds.Deed.TheVariants.{Framed, Declared, Wrote, Erased}
 use Rattle.ts_model.specs.Commands.{frame_made}
 use Rattle.ts_model.specs.declared.states.State.{State}
-use Rattle.ts_model.specs.declared.states.State.TheVariants.{Creates, Seeks, Puts, Collects, Over}
+use Rattle.ts_model.specs.declared.states.State.TheVariants.{Creates, Seeks, Puts, Collects, Merges, Over}
+use Rattle.ts_model.specs.declared.states.Merging.{Merging}
+use Rattle.ts_model.specs.declared.states.Merging.TheVariants as merging
 use Rattle.ts_model.specs.declared.states.Creating.TheVariants.{PutsFrame, ComparesFrame, ListsDeclared}
 use Rattle.ts_model.specs.declared.states.Seeking.TheVariants.{ListsCommits, ListsSchemas, GetsSchema, GetsFrame}
 use Rattle.ts_model.specs.declared.states.Collecting.TheVariants.{GetsVacs, GetsHeads, GetsSchemas, GetsDeletes, Fetches}
@@ -37,9 +39,9 @@ use Rattle.ts_model.specs.declared.states.Stage.TheVariants as stages
 use Rattle.ts_model.specs.Codecs.{Codec, Spelled, Tracking}
 use Rattle.ts_model.specs.Deeds.{History}
 use Rattle.ts_model.specs.Driven.{MayAsk}
-use Rattle.ts_model.specs.Jobs.{frag_of_job, key_of}
+use Rattle.ts_model.specs.Jobs.{key_of}
 use Rattle.ts_law.proofs.Objects.{apart_from_lease}
-use Rattle.ts_law.proofs.VacLaws.{MarksNone, bare_stays, merged_beside, named_beside}
+use Rattle.ts_law.proofs.VacLaws.{MarksNone, unspent_beside, merged_beside, named_beside}
 use Rattle.ts_model.specs.States.{Exchange, asks, begun, goes, is_over, made_by}
 use Rattle.ts_model.specs.Stages.{after_lease, after_leases, end_at, is_release, is_removal, lease_of, list_leases, mode_of, on_verdict, put_lease, released, settled, stage_asks, stage_goes}
 use Rattle.ts_model.specs.Told.{IsReplied, Told, after_told, declared_by, deed_in, deed_of, deleted_by, history_told, schemas_found, trace_of, written_by}
@@ -49,9 +51,8 @@ use Rattle.ts_model.proofs.ListLemmas.{Contains-nil}
 use Rattle.ts_model.proofs.Traces.{deed_told_own, later_no_deed}
 use Rattle.ts_law.specs.Ends.{IsTrueEnd, IsUndone}
 use Rattle.ts_law.specs.Fresh.{id_in}
-use Rattle.ts_law.specs.Kept.{Claims, Clean, IsBefore, StageClaims}
+use Rattle.ts_law.specs.Kept.{Claims, Clean, MergeClaims, IsBefore, StageClaims}
 use Rattle.ts_law.specs.Stands.{HoldsIn, IsNoLease, Stands}
-use Rattle.ts_model.specs.States.{vac_of}
 use Rattle.ts_law.specs.Steps.{Advances, Comes, Keeps, Leads, StageAdvances, StageComes}
 use Rattle.ts_law.proofs.Effects.{Added, IsLook, PutWent, Still, keeps_still, look_history, look_leads, look_stays, put_went}
 use Rattle.ts_law.proofs.Grows.{holds_on_in}
@@ -98,7 +99,7 @@ no_lease_apart k mode n none same = subst IsNoLease same none
 
 -- the put of a lease commits nothing
 marks_lease : (m : Held) (k : Key) (mode : LeaseMode) → MarksNone m (name.Lease k mode)
-marks_lease m k mode = record { no_vac = λ g e. cc; bare = λ f e. absurd (no_wrt f e) }
+marks_lease m k mode = record { no_vac = λ g _ e. cc; bare = λ f e. absurd (no_wrt f e) }
   where
     no_wrt : (f : _) → wrt_of f ≡ name.Lease k mode → ⊥
     no_wrt f e = cc
@@ -229,10 +230,21 @@ module _ {F : Type 0} (codec : Codec F) (spelled : Spelled) (tracks : Tracking F
   abbrev Says : State F → Type 0
   Says s = Claims codec spelled tracks opening past jobs seen m number job s
 
+  -- so it is of a consolidation that has not come to its puts
+  merging_undone : (s : Merging F) → MergeClaims codec spelled tracks opening past jobs seen m number job s → IsUndone (history_told jobs past seen) job
+  merging_undone merging.ListsCommits is = is.0.undone
+  merging_undone (merging.ListsSchemas c) is = is.0.undone
+  merging_undone (merging.GetsFrame c) is = is.0.undone
+  merging_undone (merging.GetsVacs s) is = is.0.undone
+  merging_undone (merging.GetsHeads s opened) is = is.0.undone
+  merging_undone (merging.GetsSchemas s opened named schemas) is = is.0.undone
+  merging_undone (merging.Fetches s sources schema next frag got fetch c) is = is.0.undone
+
   -- a job that is not over did nothing yet
   pub going_undone : (s : State F) → is_over s ≡ false → Says s → IsUndone (history_told jobs past seen) job
   going_undone (Puts objects next end) going is = is.undone
   going_undone (Over end) going is = absurd (true≢false going)
+  going_undone (Merges s) going is = merging_undone s is
   going_undone (Creates PutsFrame) going is = is.0.undone
   going_undone (Creates ComparesFrame) going is = is.0.undone
   going_undone (Creates ListsDeclared) going is = is.0.undone
@@ -257,6 +269,7 @@ module _ {F : Type 0} (codec : Codec F) (spelled : Spelled) (tracks : Tracking F
     where
       by_command : (c : Command) → option_map (name.Lease (key_of job)) (mode_of c) ≡ Some lease → Says (begun c) → Clean m (history_told jobs past seen) job
       by_command (Read from to query) e says = says.0
+      by_command (Consolidate from to limits) e says = says.0
       by_command (Create f) e says = absurd (none-some lease e)
       by_command (Evolve change) e says = absurd (none-some lease e)
       by_command (Write w) e says = absurd (none-some lease e)
@@ -284,6 +297,7 @@ begun_on codec spelled tracks opening past jobs seen later m m' number job lease
     by_command : (c : Command) → option_map (name.Lease (key_of job)) (mode_of c) ≡ Some lease
         → Claims codec spelled tracks opening past jobs seen m number job (begun c) → Claims codec spelled tracks opening past jobs later m' number job (begun c)
     by_command (Read from to query) e says = (clean, says.1)
+    by_command (Consolidate from to limits) e says = (clean, says.1)
     by_command (Create f) e says = absurd (none-some lease e)
     by_command (Evolve change) e says = absurd (none-some lease e)
     by_command (Write w) e says = absurd (none-some lease e)
@@ -295,6 +309,7 @@ leased_deedless h job found c lease some = by_call c
   where
     by_made : (c : Command) → option_map (name.Lease (key_of job)) (mode_of c) ≡ Some lease → option_map (λ f. Framed (frame_made f)) (made_by c) ≡ None
     by_made (Read from to query) e = refl
+    by_made (Consolidate from to limits) e = refl
     by_made (Create f) e = absurd (none-some lease e)
     by_made (Evolve change) e = absurd (none-some lease e)
     by_made (Write w) e = absurd (none-some lease e)
@@ -302,6 +317,7 @@ leased_deedless h job found c lease some = by_call c
 
     by_declared : (c : Command) → option_map (name.Lease (key_of job)) (mode_of c) ≡ Some lease → option_map Declared (declared_by h job found c) ≡ None
     by_declared (Read from to query) e = refl
+    by_declared (Consolidate from to limits) e = refl
     by_declared (Create f) e = absurd (none-some lease e)
     by_declared (Evolve change) e = absurd (none-some lease e)
     by_declared (Write w) e = refl
@@ -309,6 +325,7 @@ leased_deedless h job found c lease some = by_call c
 
     by_written : (c : Command) → option_map (name.Lease (key_of job)) (mode_of c) ≡ Some lease → option_map Wrote (written_by h job found c) ≡ None
     by_written (Read from to query) e = refl
+    by_written (Consolidate from to limits) e = refl
     by_written (Create f) e = refl
     by_written (Evolve change) e = refl
     by_written (Write w) e = absurd (none-some lease e)
@@ -316,6 +333,7 @@ leased_deedless h job found c lease some = by_call c
 
     by_deleted : (c : Command) → option_map (name.Lease (key_of job)) (mode_of c) ≡ Some lease → option_map Erased (deleted_by h job found c) ≡ None
     by_deleted (Read from to query) e = refl
+    by_deleted (Consolidate from to limits) e = refl
     by_deleted (Create f) e = refl
     by_deleted (Evolve change) e = refl
     by_deleted (Write w) e = refl
@@ -340,13 +358,13 @@ leased_history past jobs seen e number job lease own is_job some =
     (deed_told_own jobs (history_told jobs past seen) seen e number job e.call own is_job refl ∙ leased_deedless (history_told jobs past seen) job (schemas_found (trace_of number seen)) e.call lease some)
 
 -- the end of a job is true by whatever reply to the removal of its lease
-released_true : (jobs : List Job) (past : History) (told : List Told) (number : ℕ) (job : Job) (k : Key) (mode : LeaseMode) (end : Outcome) (r : Reply)
-    → IsTrueEnd jobs past told number job end → IsUndone (history_told jobs past told) job → IsTrueEnd jobs past told number job (released (name.Lease k mode) end r)
-released_true jobs past told number job k mode (outcome.Refused cause) r is undone = is
-released_true jobs past told number job k mode outcome.OutOfMemory r is undone = is
-released_true jobs past told number job k mode end reply.Removed is undone = is
-released_true jobs past told number job k mode end reply.Failed is undone = undone
-released_true jobs past told number job k mode end _ is undone = tt
+released_true : (spelled : Spelled) (opening : Held) (jobs : List Job) (past : History) (told : List Told) (number : ℕ) (job : Job) (k : Key) (mode : LeaseMode) (end : Outcome) (r : Reply)
+    → IsTrueEnd spelled opening jobs past told number job end → IsUndone (history_told jobs past told) job → IsTrueEnd spelled opening jobs past told number job (released (name.Lease k mode) end r)
+released_true spelled opening jobs past told number job k mode (outcome.Refused cause) r is undone = is
+released_true spelled opening jobs past told number job k mode outcome.OutOfMemory r is undone = is
+released_true spelled opening jobs past told number job k mode end reply.Removed is undone = is
+released_true spelled opening jobs past told number job k mode end reply.Failed is undone = undone
+released_true spelled opening jobs past told number job k mode end _ is undone = tt
 
 -- ---- one call of a stage
 
@@ -383,10 +401,10 @@ module _ {F : Type 0} (codec : Codec F) (spelled : Spelled) (tracks : Tracking F
   after_listing lease _ some undone before = (some, tt, undone)
 
   -- what a stage claims that removes its lease here, by whatever reply
-  closing : (k : Key) (mode : LeaseMode) (stage : Stage F) → ((end : Outcome) → IsTrueEnd jobs past seen number job end → IsTrueEnd jobs past (seen ++ e ∷ []) number job end)
+  closing : (k : Key) (mode : LeaseMode) (stage : Stage F) → ((end : Outcome) → IsTrueEnd spelled opening jobs past seen number job end → IsTrueEnd spelled opening jobs past (seen ++ e ∷ []) number job end)
       → (IsUndone (history_told jobs past seen) job → IsUndone (history_told jobs past (seen ++ e ∷ [])) job)
-      → StageClaims codec spelled tracks opening past jobs seen m number job stage → IsTrueEnd jobs past (seen ++ e ∷ []) number job (released (name.Lease k mode) (end_at stage) e.reply)
-  closing k mode (Releases lease end) ends undone claims = released_true jobs past (seen ++ e ∷ []) number job k mode end e.reply (ends end claims.1) (undone claims.2)
+      → StageClaims codec spelled tracks opening past jobs seen m number job stage → IsTrueEnd spelled opening jobs past (seen ++ e ∷ []) number job (released (name.Lease k mode) (end_at stage) e.reply)
+  closing k mode (Releases lease end) ends undone claims = released_true spelled opening jobs past (seen ++ e ∷ []) number job k mode end e.reply (ends end claims.1) (undone claims.2)
   closing k mode _ ends undone claims = tt
 
   -- the reply to the put of a lease that is not held is not Taken
@@ -413,12 +431,12 @@ module _ {F : Type 0} (codec : Codec F) (spelled : Spelled) (tracks : Tracking F
             let (mode, named) = lease_is job lease some in
             let leads = removal_leads spelled past jobs seen e m number job c.own c.is_job c.stands job.id lease some removes in
             let others = removal_leads spelled past jobs seen e m number job c.own c.is_job c.stands (job.id + 1) lease some removes in
-            let ends : (end : Outcome) → IsTrueEnd jobs past seen number job end → IsTrueEnd jobs past (seen ++ e ∷ []) number job end =
-            λ end. end_stays past jobs seen e m (after_told m e) (job.id + 1) others.1.leaves number job end (λ same. omega (arith, same)) in
+            let ends : (end : Outcome) → IsTrueEnd spelled opening jobs past seen number job end → IsTrueEnd spelled opening jobs past (seen ++ e ∷ []) number job end =
+            λ end. end_stays spelled opening past jobs seen e m (after_told m e) (job.id + 1) others.1.leaves number job end (λ same. omega (arith, same)) in
             record {
               leads = leads.1;
               own = subst ClaimsLater (sym (release_ends codec job stage x lease some is))
-                  (subst (λ l. IsTrueEnd jobs past (seen ++ e ∷ []) number job (released l (end_at stage) e.reply)) (sym named)
+                  (subst (λ l. IsTrueEnd spelled opening jobs past (seen ++ e ∷ []) number job (released l (end_at stage) e.reply)) (sym named)
                   (closing (key_of job) mode stage ends (λ undone. subst (λ g. IsUndone g job) (sym leads.0) undone) c.claims));
             }
 
@@ -433,8 +451,7 @@ module _ {F : Type 0} (codec : Codec F) (spelled : Spelled) (tracks : Tracking F
             let clean_later : Clean (after_told m e) (history_told jobs past (seen ++ e ∷ [])) job = record {
               free = λ n carries apart. put_apart lease went n (λ same. apart (some ∙ ap Some (sym same))) ∙ clean.free n carries apart;
               undone = undone;
-              bare = bare_stays m (after_told m e) (history_told jobs past seen) (history_told jobs past (seen ++ e ∷ [])) job.id (leads.1).leaves (frag_of_job job)
-                  (λ none. put_apart lease went (vac_of (frag_of_job job)) (λ same. apart_from_lease job (vac_of (frag_of_job job)) tt (some ∙ ap Some (sym same))) ∙ none) clean.bare;
+              unspent = unspent_beside m (after_told m e) (λ n none. put_apart lease went n (λ same. apart_from_lease job n none (some ∙ ap Some (sym same)))) job.id clean.unspent;
             } in
             let before_later = begun_on codec spelled tracks opening past jobs seen (seen ++ e ∷ []) m (after_told m e) number job lease some clean_later before in (
               leads.1,

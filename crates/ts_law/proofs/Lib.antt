@@ -7,8 +7,11 @@ pub mod MergingLaw
 pub mod TakenWhole
 pub mod Grows
 pub mod VacLaws
+pub mod VacTexts
 pub mod Stays
+pub mod MergeStays
 pub mod Frames
+pub mod DeedKeys
 pub mod Spawns
 pub mod StandsLaws
 pub mod Declaring
@@ -27,6 +30,12 @@ pub mod Loading
 pub mod FetchSteps
 pub mod ListSteps
 pub mod ReadSteps
+pub mod MergePlans
+pub mod MergeSources
+pub mod MergePuts
+pub mod MergeFetches
+pub mod MergeKnows
+pub mod MergeSteps
 pub mod DeleteSteps
 pub mod KeptLaws
 pub mod Lanes
@@ -38,6 +47,8 @@ pub mod CourseGrows
 pub mod CourseCalls
 pub mod CourseReads
 pub mod CourseThere
+pub mod CourseLeased
+pub mod CourseMerges
 pub mod CourseJobs
 pub mod CutOff
 pub mod CourseStages

@@ -5,10 +5,10 @@ use Rattle.std.proofs.lemmas.Bool.{and_parts, and_from, cond_both, eqb-false, eq
 use Rattle.std.proofs.lemmas.Option.{same_Some, none-some, slice_get_within}
 use Rattle.std.proofs.lemmas.List.Elements.{All-nil, All-cons, All-head, All-tail, All-append, All-contains, All-contains_itself, All-weaker}
 use Rattle.ts_model.specs.declared.commands.Command.{Command}
-use Rattle.ts_model.specs.declared.commands.Command.TheVariants.{Create, Evolve, Write, Read, Delete}
+use Rattle.ts_model.specs.declared.commands.Command.TheVariants.{Create, Evolve, Write, Read, Delete, Consolidate}
 use Rattle.ts_model.specs.declared.commands.Job.{Job}
 use Rattle.ts_model.specs.declared.commands.Line.{Line}
-use Rattle.ts_model.specs.Commands.{fits, is_spelled_query}
+use Rattle.ts_model.specs.Commands.{are_limits, fits, is_spelled_query}
 use Rattle.ts_model.specs.Jobs.{IsFit, AreFit, IsFitLine, AreApart}
 use Rattle.ts_model.proofs.ListLemmas.{Contains-here, Contains-there, Contains-slice_get, slice_get-Contains}
 use Rattle.ts_law.specs.Fresh.{Numbered, lines_in, by_lanes, in_lane_order, ends_at, id_of, IsJobOf, AreJobsOf}
@@ -201,6 +201,10 @@ command_fits true at (Read from to query) small fit =
     let parts = and_parts (nat_lt from (2 ^ 64)) (nat_lt to (2 ^ 64) && is_spelled_query query) fit in
     let rest = and_parts (nat_lt to (2 ^ 64)) (is_spelled_query query) parts.1 in
     and_from (nat_lt from (2 ^ 64)) (nat_lt at (2 ^ 64) && is_spelled_query query) parts.0 (and_from (nat_lt at (2 ^ 64)) (is_spelled_query query) (lt-ltb at (2 ^ 64) small) rest.1)
+command_fits true at (Consolidate from to limits) small fit =
+    let parts = and_parts (nat_lt from (2 ^ 64)) (nat_lt to (2 ^ 64) && are_limits limits) fit in
+    let rest = and_parts (nat_lt to (2 ^ 64)) (are_limits limits) parts.1 in
+    and_from (nat_lt from (2 ^ 64)) (nat_lt at (2 ^ 64) && are_limits limits) parts.0 (and_from (nat_lt at (2 ^ 64)) (are_limits limits) (lt-ltb at (2 ^ 64) small) rest.1)
 command_fits true at (Create f) small fit = fit
 command_fits true at (Evolve change) small fit = fit
 command_fits true at (Write w) small fit = fit

@@ -25,7 +25,7 @@ use Rattle.ts_schema.specs.declared.schemas.Schema.{Schema}
 use Rattle.ts_schema.specs.Evolutions.{schema_at}
 use Rattle.ts_schema.specs.SchemaTexts.{schema_object}
 use Rattle.ts_model.specs.declared.commands.Command.{Command}
-use Rattle.ts_model.specs.declared.commands.Command.TheVariants.{Create, Delete, Evolve, Write, Read}
+use Rattle.ts_model.specs.declared.commands.Command.TheVariants.{Create, Consolidate, Delete, Evolve, Write, Read}
 use Rattle.ts_model.specs.declared.commands.Job.{Job}
 use Rattle.ts_model.specs.declared.deeds.Deletion.{Deletion}
 use Rattle.ts_model.specs.declared.states.Listed.{Listed}
@@ -56,7 +56,7 @@ use Rattle.ts_law.proofs.Stays.{clean_look, listed_now, near_stays}
 -- ---- what a listing of the commits finds
 
 -- a name that commits a fragment is its `.wrt`
-wrt_in-some : (n : Name) (f : FragKey) → wrt_in n ≡ Some f → n ≡ wrt_of f
+pub wrt_in-some : (n : Name) (f : FragKey) → wrt_in n ≡ Some f → n ≡ wrt_of f
 wrt_in-some name.Domain f e = absurd (none-some f e)
 wrt_in-some (name.Schema k) f e = absurd (none-some f e)
 wrt_in-some (name.Commit g kind.Wrt) f e = ap wrt_of (same_Some g f e)
@@ -264,7 +264,7 @@ module _ {F : Type 0} (codec : Codec F) (spelled : Spelled) (tracks : Tracking F
   AdvancesHere s = Advances codec spelled tracks opening past jobs seen e m number job s
 
   -- how a reply to a listing leads on
-  names_lead : (p : Prefix) (on : List Name → State F) (r : Reply) → ((names : List Name) → r ≡ reply.Names names → ClaimedAfter (on names)) → IsUndone h' job → ClaimedAfter (on_names (call.List p) on r)
+  pub names_lead : (p : Prefix) (on : List Name → State F) (r : Reply) → ((names : List Name) → r ≡ reply.Names names → ClaimedAfter (on names)) → IsUndone h' job → ClaimedAfter (on_names (call.List p) on r)
   names_lead p on (reply.Names names) found un = found names refl
   names_lead p on reply.Failed found un = un
   names_lead p on _ found un = tt
@@ -338,6 +338,7 @@ module _ {F : Type 0} (codec : Codec F) (spelled : Spelled) (tracks : Tracking F
     order = at ∙ before.since.commits.place;
   }
   has_listed keeps (Delete text) listed before s works at = works
+  has_listed keeps (Consolidate from to limits) listed before s works at = absurd before
 
   -- where the keys of the listing lead
   sought : (listing : Listed) → Stands spelled m h → Clean m' h' job → (names : List Name) → names ≡ names_under Schemas m

@@ -15,7 +15,7 @@ use Rattle.ts_base.specs.declared.names.PartBytes.{PartBytes}
 use Rattle.ts_schema.specs.Parts.{look_in}
 use Rattle.ts_schema.specs.declared.attrs.Attr.{Attr}
 use Rattle.ts_model.specs.Deeds.{History}
-use Rattle.ts_model.specs.Codecs.{Codec}
+use Rattle.ts_model.specs.Codecs.{Codec, Spelled}
 use Rattle.ts_law.specs.Fresh.{id_in}
 use Rattle.ts_law.specs.Kept.{Aims, Clean, Putting}
 use Rattle.ts_law.specs.Stands.{IsNoLease}
@@ -160,15 +160,15 @@ apart_from_lease job n none = by_mode (mode_of job.command)
     by_mode (Some mode) is = subst IsNoLease (sym (same_Some (name.Lease (key_of job) mode) n is)) none
 
 -- a job that puts nothing yet has the objects before it free, where nothing carries its identifier
-pub begins_putting : {F : Type 0} (codec : Codec F) (past : History) (jobs : List Job) (told : List Told) (n : Held) (number : ℕ) (job : Job) (objects : List NewObject) (end : Outcome)
-    → Clean n (history_told jobs past told) job → CarryAll job.id objects → 0 < length objects → Aims codec past jobs told number job objects end
-    → Putting codec past jobs told n number job objects 0 end
-begins_putting codec past jobs told n number job objects end clean carry some aims = record {
+pub begins_putting : {F : Type 0} (codec : Codec F) (spelled : Spelled) (opening : Held) (past : History) (jobs : List Job) (told : List Told) (n : Held) (number : ℕ) (job : Job) (objects : List NewObject) (end : Outcome)
+    → Clean n (history_told jobs past told) job → CarryAll job.id objects → 0 < length objects → Aims codec spelled opening past jobs told n number job objects end
+    → Putting codec spelled opening past jobs told n number job objects 0 end
+begins_putting codec spelled opening past jobs told n number job objects end clean carry some aims = record {
   held = λ i o before at. absurd (omega arith);
   short = λ i o before at. absurd (omega arith);
   free = λ i o behind at. let carries = carry i o at in clean.free o.name carries.0 (apart_from_lease job o.name carries.1);
   some = some;
   undone = clean.undone;
-  bare = clean.bare;
+  unspent = clean.unspent;
   aims = aims;
 }

@@ -15,7 +15,8 @@ use Rattle.ts_store.specs.declared.call.Call.TheVariants as call
 use Rattle.ts_store.specs.Calls.{after, is_no_memory}
 use Rattle.ts_model.specs.declared.commands.Job.{Job}
 use Rattle.ts_model.specs.declared.states.State.{State}
-use Rattle.ts_model.specs.declared.states.State.TheVariants.{Creates, Seeks, Puts, Collects, Over}
+use Rattle.ts_model.specs.declared.states.State.TheVariants.{Creates, Seeks, Puts, Collects, Merges, Over}
+use Rattle.ts_model.specs.declared.states.Merging.TheVariants as merging
 use Rattle.ts_model.specs.declared.states.Creating.TheVariants.{PutsFrame, ComparesFrame, ListsDeclared}
 use Rattle.ts_model.specs.declared.states.Seeking.TheVariants.{ListsCommits, ListsSchemas, GetsSchema, GetsFrame}
 use Rattle.ts_model.specs.declared.states.Collecting.TheVariants.{GetsVacs, GetsHeads, GetsSchemas, GetsDeletes, Fetches}
@@ -26,7 +27,7 @@ use Rattle.ts_model.specs.Codecs.{Codec, CodecLaws, SpeaksOf, Spelled, Tracking}
 use Rattle.ts_model.specs.Deeds.{History}
 use Rattle.ts_model.specs.Driven.{MayAsk}
 use Rattle.ts_model.specs.Stages.{lease_of, put_lease, stage_of}
-use Rattle.ts_model.specs.States.{asks, frame_put, get_delete, get_head, get_schema, made_by, put_of, want_of, get_vac, vac_of}
+use Rattle.ts_model.specs.States.{all_of, asks, frame_put, get_delete, get_head, get_head_in, get_schema, made_by, put_of, want_of, get_vac, vac_of}
 use Rattle.ts_model.specs.Told.{IsReplied, Replied, Told, after_told, held_told, trace_of}
 use Rattle.ts_law.specs.Fresh.{IsNewId, id_in}
 use Rattle.ts_law.specs.Kept.{AreAllowed, Claims, IsAllowed, Kept, StageClaims}
@@ -82,6 +83,22 @@ module _ {F : Type 0} (codec : Codec F) (spelled : Spelled) (tracks : Tracking F
   work_removes (Collects (Fetches r opened schemas next frag got fetch c)) n claims asked =
       let way = claims.2.1 in
       let held = laws.asks r.frame (way.holds).schema way.piece ((way.holds).spells).look (want_of r ((way.holds).schema).attrs) fetch c way.way in
+      speaks_no_removal c (name.Part ((way.piece).head).frag held.part) n held.named (same_Some c (call.Remove n) asked)
+  work_removes (Merges merging.ListsCommits) n claims asked = no_listing n Commits (same_Some _ _ asked)
+  work_removes (Merges (merging.ListsSchemas c)) n claims asked = no_listing n Schemas (same_Some _ _ asked)
+  work_removes (Merges (merging.GetsFrame c)) n claims asked = no_get n name.Domain 0 (2 ^ 64 - 1) (same_Some _ _ asked)
+  work_removes (Merges (merging.GetsVacs s)) n claims asked =
+      let f = asked_by get_vac (slice_get s.counting (length s.vacs)) (call.Remove n) asked in
+      no_get n (vac_of f.0) 0 (2 ^ 64 - 1) f.2
+  work_removes (Merges (merging.GetsHeads s opened)) n claims asked =
+      let f = asked_by (get_head_in codec s.frame) (slice_get s.fragments (length opened)) (call.Remove n) asked in
+      no_get n (name.Part f.0 (codec.head_part s.frame)) 0 (2 ^ 64 - 1) f.2
+  work_removes (Merges (merging.GetsSchemas s opened named schemas)) n claims asked =
+      let k = asked_by get_schema (slice_get named (length schemas)) (call.Remove n) asked in
+      no_get n (name.Schema k.0) 0 (2 ^ 64 - 1) k.2
+  work_removes (Merges (merging.Fetches s sources schema next frag got fetch c)) n claims asked =
+      let way = claims.2.1 in
+      let held = laws.asks s.frame schema way.piece ((way.is.holds).spells).look (all_of s.frame schema.attrs) fetch c way.way in
       speaks_no_removal c (name.Part ((way.piece).head).frag held.part) n held.named (same_Some c (call.Remove n) asked)
   work_removes (Over end) n claims asked = none-some _ asked
 

@@ -34,7 +34,7 @@ use Rattle.ts_model.specs.Jobs.{AreApart, IsFit, deletion_as, frag_of_job, key_o
 use Rattle.ts_law.specs.Kept.{Claims, Clean, Putting, Works}
 use Rattle.ts_model.specs.Pieces.{HoldsWrite, IsOrdinary}
 use Rattle.ts_model.specs.Queries.{delete_condition}
-use Rattle.ts_law.specs.Stands.{Spells, Stands}
+use Rattle.ts_law.specs.Stands.{IsUnspent, Spells, Stands}
 use Rattle.ts_model.specs.States.{vac_of}
 use Rattle.ts_law.specs.Origins.{box_in}
 use Rattle.ts_domain.specs.Boxes.{is_in_box}
@@ -64,10 +64,10 @@ use Rattle.ts_model.proofs.LaidLaws.{written_held, written_ordinary}
 use Rattle.ts_law.proofs.LaidRefusals.{FailsByColumns, columns_true, laid_fails}
 use Rattle.ts_model.proofs.Laying.{laid_follows}
 use Rattle.ts_model.proofs.ListLemmas.{Contains-here, Contains-nil, Contains-only}
-use Rattle.ts_law.proofs.Objects.{ACommit, APart, begins_putting, delete_carries, last_at, look_finds, object_count, objects_apart, objects_of, part_count, part_here, part_object, put_at, schema_carries, write_carries}
+use Rattle.ts_law.proofs.Objects.{ACommit, APart, apart_from_lease, begins_putting, delete_carries, last_at, look_finds, object_count, objects_apart, objects_of, part_count, part_here, part_object, put_at, schema_carries, write_carries}
 use Rattle.ts_law.proofs.QueryRefusals.{FailsByQuery, delete_condition_fails, query_true}
 use Rattle.ts_law.proofs.StandsLaws.{declared_last, free_from_get, keeps_put, leads_at, marks_delete, marks_part, marks_schema, marks_wrt, stands_commit, stands_delete, stands_put, stands_schema}
-use Rattle.ts_law.proofs.VacLaws.{MarksNone, bare_stays}
+use Rattle.ts_law.proofs.VacLaws.{IsBare, MarksNone, unspent_put}
 use Rattle.ts_law.proofs.Stays.{frame_stays, listed_stays, works_stays}
 use Rattle.ts_model.proofs.Traces.{deed_told_own, later_deed, later_no_deed, later_unchanged}
 use Rattle.ts_store.specs.declared.call.Call.TheVariants as call
@@ -80,12 +80,13 @@ use Rattle.ts_store.specs.declared.call.Reply.TheVariants as reply
 pub use Rattle.ts_law.proofs.CreateSteps.{frame_steps, compare_steps, declared_steps}
 
 -- a failed put of any object tells the truth, where the job has no deed
-fault_is_true : (h : History) (job : Job) (n : Name) → IsUndone h job → IsTrueRefusal h job (refusal.StoreFault (place.Name n))
-fault_is_true h job name.Domain undone = undone
-fault_is_true h job (name.Schema k) undone = inr undone
-fault_is_true h job (name.Commit f kind) undone = inr undone
-fault_is_true h job (name.Part f part) undone = undone
-fault_is_true h job (name.Lease k mode) undone = undone
+pub fault_is_true : (spelled : Spelled) (opening : Held) (jobs : List Job) (past : History) (told : List Told) (number : ℕ) (job : Job) (n : Name) → IsUndone (history_told jobs past told) job
+    → IsTrueRefusal spelled opening jobs past told number job (refusal.StoreFault (place.Name n))
+fault_is_true spelled opening jobs past told number job name.Domain undone = undone
+fault_is_true spelled opening jobs past told number job (name.Schema k) undone = inr undone
+fault_is_true spelled opening jobs past told number job (name.Commit f kind) undone = inr undone
+fault_is_true spelled opening jobs past told number job (name.Part f part) undone = undone
+fault_is_true spelled opening jobs past told number job (name.Lease k mode) undone = undone
 
 -- ---- one call
 
@@ -121,7 +122,7 @@ module _ {F : Type 0} (codec : Codec F) (spelled : Spelled) (tracks : Tracking F
   -- ---- puts
 
   -- a put of the object comes to these
-  abbrev Came : List NewObject → ℕ → Outcome → NewObject → Type 0
+  abbrev pub Came : List NewObject → ℕ → Outcome → NewObject → Type 0
   Came objects next end o = LeadsHere × ClaimsLater (putting objects (suc next) end) × ClaimsLater (refuse (refusal.StoreFault (place.Name o.name)))
 
   -- where the reply to a put leads
@@ -133,11 +134,11 @@ module _ {F : Type 0} (codec : Codec F) (spelled : Spelled) (tracks : Tracking F
   put_leads objects next end o at _ made taken failed = rw at tt
 
   -- the call is the put of the object at the place
-  put_asked : (objects : List NewObject) (next : ℕ) (end : Outcome) (o : NewObject) → slice_get objects next ≡ Some o → ComesHere (Puts objects next end) → e.call ≡ put_of o
+  pub put_asked : (objects : List NewObject) (next : ℕ) (end : Outcome) (o : NewObject) → slice_get objects next ≡ Some o → ComesHere (Puts objects next end) → e.call ≡ put_of o
   put_asked objects next end o at c = sym (same_Some (put_of o) e.call (ap (option_map put_of) (sym at) ∙ c.asked))
 
   -- a put goes on as one that adds its object does, or it changes nothing
-  puts_on : (objects : List NewObject) (next : ℕ) (end : Outcome) (o : NewObject) → slice_get objects next ≡ Some o → (c : ComesHere (Puts objects next end))
+  pub puts_on : (objects : List NewObject) (next : ℕ) (end : Outcome) (o : NewObject) → slice_get objects next ≡ Some o → (c : ComesHere (Puts objects next end))
       → ((Holds m o.name → ⊥) → m' ≡ map.insert m o.name o.bytes → e.changed ≡ true → Came objects next end o) → AdvancesHere (Puts objects next end)
   puts_on objects next end o at c added = elim (put_went m o.name o.bytes e (put_asked objects next end o at c) c.replied) [
     | Added free same_held changed said ↦
@@ -152,7 +153,7 @@ module _ {F : Type 0} (codec : Codec F) (spelled : Spelled) (tracks : Tracking F
           leads = still_leads spelled past jobs seen e m job.id c.stands same_held same_history;
           own = put_leads objects next end o at e.reply (λ made. absurd (not_made made))
               (λ was. free_from_get m o.name ((c.claims).free next o (omega arith) at) (taken was))
-              (λ _. fault_is_true h' job o.name (subst (λ g. IsUndone g job) (sym same_history) (c.claims).undone));
+              (λ _. fault_is_true spelled opening jobs past (seen ++ e ∷ []) number job o.name (subst (λ g. IsUndone g job) (sym same_history) (c.claims).undone));
         }
   ]
 
@@ -165,7 +166,7 @@ module _ {F : Type 0} (codec : Codec F) (spelled : Spelled) (tracks : Tracking F
   -- the schema of a job was put, and its end tells the truth
   schema_came : (attrs : List Attr) (end : Outcome) → ComesHere (Puts (schema_object_of job attrs ∷ []) 0 end) → SchemaFollows h (schema_of_job job attrs)
       → deed_told jobs h seen e ≡ Some (Declared (schema_of_job job attrs))
-      → (Keeps m m' h h' job.id → HasDeclared h' job attrs → IsTrueEnd jobs past (seen ++ e ∷ []) number job end) → AdvancesHere (Puts (schema_object_of job attrs ∷ []) 0 end)
+      → (Keeps m m' h h' job.id → HasDeclared h' job attrs → IsTrueEnd spelled opening jobs past (seen ++ e ∷ []) number job end) → AdvancesHere (Puts (schema_object_of job attrs ∷ []) 0 end)
   schema_came attrs end c follows deed ends = puts_on (schema_object_of job attrs ∷ []) 0 end (schema_object_of job attrs) refl c (λ free same_held changed.
       let same_history = later_deed jobs past seen e (Declared (schema_of_job job attrs)) deed changed in
       let leads = leads_at spelled past jobs seen e m job.id _ _ same_held same_history
@@ -324,7 +325,7 @@ module _ {F : Type 0} (codec : Codec F) (spelled : Spelled) (tracks : Tracking F
   -- ---- the puts of a write
 
   module _ (laws : CodecLaws codec spelled tracks) (w : WriteIn) (frame : Frame) (there : Schema) (cells : List Cell)
-      (writes_them : job.command ≡ Write w) (framed : frame_in h ≡ Some frame) (lays : laid frame there.attrs w ≡ Ok cells) (works : Works past jobs seen number job there) where
+      (writes_them : job.command ≡ Write w) (framed : frame_in h ≡ Some frame) (lays : laid frame there.attrs w ≡ Ok cells) (none : map.get m (vac_of (frag_of_job job)) ≡ None) (works : Works past jobs seen number job there) where
     -- the fragment of the write
     abbrev frag : FragKey
     frag = frag_of_job job
@@ -356,16 +357,18 @@ module _ {F : Type 0} (codec : Codec F) (spelled : Spelled) (tracks : Tracking F
     -- a part was put, and the job goes on with the next object
     part_came : (next : ℕ) (o : NewObject) (x : PartBytes) → slice_get own_objects next ≡ Some o → slice_get own_parts next ≡ Some x → o ≡ part_object frag x
         → (c : ComesHere (Puts own_objects next own_end)) → (Holds m o.name → ⊥) → m' ≡ map.insert m o.name o.bytes → h' ≡ h → IsShort o.bytes → Came own_objects next own_end o
-    part_came next o x at is same c free same_held same_history short = (leads, goes_on, fault_is_true h' job o.name undone)
+    part_came next o x at is same c free same_held same_history short = (leads, goes_on, fault_is_true spelled opening jobs past (seen ++ e ∷ []) number job o.name undone)
       where
         stands : Stands spelled (map.insert m o.name o.bytes) h
         stands = subst (λ y. (Holds m y.name → ⊥) → IsShort y.bytes → Stands spelled (map.insert m y.name y.bytes) h) (sym same)
             (λ free_part short_part. stands_put spelled m h frag x.part x.bytes free_part short_part c.stands) free short
 
+        keeps : Keeps m (map.insert m o.name o.bytes) h h job.id
+        keeps = subst (λ g. Keeps m (map.insert m o.name o.bytes) h g job.id) (append-nil h)
+            (keeps_put m h o.name o.bytes job.id [] free (subst (λ (y : NewObject). MarksNone m y.name) (sym same) (marks_part m frag x.part)) (inl (write_carries frag own_parts next o at).0) (λ k at. absurd (Contains-nil k at)))
+
         leads : LeadsHere
-        leads = leads_at spelled past jobs seen e m job.id (map.insert m o.name o.bytes) h same_held same_history stands
-            (subst (λ g. Keeps m (map.insert m o.name o.bytes) h g job.id) (append-nil h)
-            (keeps_put m h o.name o.bytes job.id [] free (subst (λ (y : NewObject). MarksNone m y.name) (sym same) (marks_part m frag x.part)) (inl (write_carries frag own_parts next o at).0) (λ k none. absurd (Contains-nil k none))))
+        leads = leads_at spelled past jobs seen e m job.id (map.insert m o.name o.bytes) h same_held same_history stands keeps
 
         undone : IsUndone h' job
         undone = subst (λ g. IsUndone g job) (sym same_history) (c.claims).undone
@@ -385,7 +388,10 @@ module _ {F : Type 0} (codec : Codec F) (spelled : Spelled) (tracks : Tracking F
         no_part : vac_of frag ≡ name.Part frag x.part → ⊥
         no_part one = cc
 
-        putting_on : Putting codec past jobs (seen ++ e ∷ []) m' number job own_objects (suc next) own_end
+        no_commit : (f : FragKey) → wrt_of f ≡ name.Part frag x.part → ⊥
+        no_commit f one = cc
+
+        putting_on : Putting codec spelled opening past jobs (seen ++ e ∷ []) m' number job own_objects (suc next) own_end
         putting_on = record {
           held = λ i y before found. let within : i ≤ next = omega arith in elim (eq-or-lt_of_le within) [
             | inl here ↦ put_now y (same_object i y here found)
@@ -398,7 +404,7 @@ module _ {F : Type 0} (codec : Codec F) (spelled : Spelled) (tracks : Tracking F
           free = λ i y behind found. got_later y.name (λ one. let here = own_apart i next y o found at one in omega arith) ((c.claims).free i y (omega arith) found);
           some = more;
           undone = undone;
-          bare = bare_stays m m' h h' job.id leads.leaves frag (got_later (vac_of frag) (λ one. no_part (one ∙ ap (λ (y : NewObject). y.name) same))) (c.claims).bare;
+          unspent = subst (λ x. IsUnspent x job.id) (sym same_held) (unspent_put m o.name o.bytes h h job.id job.id keeps (λ f one. no_commit f (one ∙ ap (λ (y : NewObject). y.name) same)) (c.claims).unspent);
           aims = (
             w,
             frame,
@@ -407,6 +413,7 @@ module _ {F : Type 0} (codec : Codec F) (spelled : Spelled) (tracks : Tracking F
             writes_them,
             refl,
             refl,
+            got_later (vac_of frag) (λ one. no_part (one ∙ ap (λ (y : NewObject). y.name) same)) none,
             ap frame_in same_history ∙ framed,
             lays,
             works_stays spelled opening past jobs seen e m m' job.id leads.leaves number job there (no_listing o (put_asked own_objects next own_end o at c)) works,
@@ -486,6 +493,10 @@ module _ {F : Type 0} (codec : Codec F) (spelled : Spelled) (tracks : Tracking F
         ∙ ap (λ f. option_map Wrote (written_in job w (Some there) f)) framed
         ∙ ap (λ r. option_map Wrote (option_map (written_as job there.key) (cells_of r))) lays
 
+    -- its fragment has no `.vac`, and that of no committed fragment names it
+    own_bare : IsUnspent m job.id → IsBare m frag
+    own_bare unspent = record { none = none; unnamed = unspent.unnamed frag refl }
+
     -- the `.wrt` was put, and the job is over
     commit_came : (c : ComesHere (Puts own_objects (length own_parts) own_end)) → (Holds m (wrt_of frag) → ⊥) → m' ≡ map.insert m (wrt_of frag) [] → h' ≡ h ++ Wrote own_write ∷ []
         → Came own_objects (length own_parts) own_end (record { name = wrt_of frag; bytes = [] })
@@ -493,9 +504,9 @@ module _ {F : Type 0} (codec : Codec F) (spelled : Spelled) (tracks : Tracking F
       where
         leads : LeadsHere
         leads = leads_at spelled past jobs seen e m job.id (map.insert m (wrt_of frag) []) (h ++ Wrote own_write ∷ []) same_held same_history
-            (stands_commit spelled m h own_write frame there own_piece free (c.claims).bare (own_follows c.fit (c.stands).history (c.claims).undone) framed works.declared
+            (stands_commit spelled m h own_write frame there own_piece free (own_bare (c.claims).unspent) (own_follows c.fit (c.stands).history (c.claims).undone) framed works.declared
             (own_ordinary c.fit (c.stands).history).dense (own_spells c) (own_holds c.fit (c.stands).history) (own_box c.fit (c.stands).history) c.stands)
-            (keeps_put m h (wrt_of frag) [] job.id (Wrote own_write ∷ []) free (marks_wrt m frag (c.claims).bare) (inl refl) (λ k own. ap (λ l. l.id) (sym (Contains-only (key_of job) k own))))
+            (keeps_put m h (wrt_of frag) [] job.id (Wrote own_write ∷ []) free (marks_wrt m frag (own_bare (c.claims).unspent)) (inl refl) (λ k own. ap (λ l. l.id) (sym (Contains-only (key_of job) k own))))
 
         no_more : nat_lt (suc (length own_parts)) (length own_objects) ≡ false
         no_more = ap (nat_lt (suc (length own_parts))) (object_count frag own_parts) ∙ le-ltb (suc (length own_parts)) (suc (length own_parts)) (omega arith)
@@ -544,28 +555,30 @@ module _ {F : Type 0} (codec : Codec F) (spelled : Spelled) (tracks : Tracking F
           | ACommit is same ↦ subst (λ k. ComesHere (Puts own_objects k own_end) → AdvancesHere (Puts own_objects k own_end)) (sym is) commit_step c
         ]
 
-  -- a job advances by each of its puts
-  pub puts_steps : (objects : List NewObject) (next : ℕ) (end : Outcome) → CodecLaws codec spelled tracks → ComesHere (Puts objects next end) → AdvancesHere (Puts objects next end)
-  puts_steps objects next outcome.Created laws c =
+  -- a job that is no consolidation advances by each of its puts
+  pub deed_steps : ((objects : List NewObject) (next : ℕ) (f : FragKey) (count : ℕ) → ComesHere (Puts objects next (outcome.Consolidated f count)) → AdvancesHere (Puts objects next (outcome.Consolidated f count)))
+      → (objects : List NewObject) (next : ℕ) (end : Outcome) → CodecLaws codec spelled tracks → ComesHere (Puts objects next end) → AdvancesHere (Puts objects next end)
+  deed_steps merges objects next outcome.Created laws c =
       let aims = (c.claims).aims in
       subst (λ os. ComesHere (Puts os next outcome.Created) → AdvancesHere (Puts os next outcome.Created)) (sym aims.2)
       (first_only (schema_object_of job (aims.0).attrs) outcome.Created (create_puts aims.0 aims.1 aims.3 aims.4) next) c
-  puts_steps objects next (outcome.Evolved k) laws c =
+  deed_steps merges objects next (outcome.Evolved k) laws c =
       let aims = (c.claims).aims in
       subst (λ l. ComesHere (Puts objects next (outcome.Evolved l)) → AdvancesHere (Puts objects next (outcome.Evolved l))) (sym aims.4)
       (subst (λ os. ComesHere (Puts os next (outcome.Evolved (key_of job))) → AdvancesHere (Puts os next (outcome.Evolved (key_of job)))) (sym aims.5)
       (first_only (schema_object_of job (evolved_attrs (aims.2).attrs aims.0)) (outcome.Evolved (key_of job)) (evolve_puts aims.0 aims.1 aims.2 aims.3 aims.6 aims.7 aims.8) next)) c
-  puts_steps objects next (outcome.Written f) laws c =
+  deed_steps merges objects next (outcome.Written f) laws c =
       let aims = (c.claims).aims in
       subst (λ g. ComesHere (Puts objects next (outcome.Written g)) → AdvancesHere (Puts objects next (outcome.Written g))) (sym aims.5)
       (subst (λ os. ComesHere (Puts os next (outcome.Written (frag_of_job job))) → AdvancesHere (Puts os next (outcome.Written (frag_of_job job)))) (sym aims.6)
-      (write_puts laws aims.0 aims.1 aims.2 aims.3 aims.4 aims.7 aims.8 aims.9 next)) c
-  puts_steps objects next (outcome.Deleted f) laws c =
+      (write_puts laws aims.0 aims.1 aims.2 aims.3 aims.4 aims.8 aims.9 (subst (λ g. map.get m (vac_of g) ≡ None) aims.5 aims.7) aims.10 next)) c
+  deed_steps merges objects next (outcome.Deleted f) laws c =
       let aims = (c.claims).aims in
       subst (λ g. ComesHere (Puts objects next (outcome.Deleted g)) → AdvancesHere (Puts objects next (outcome.Deleted g))) (sym aims.5)
       (subst (λ os. ComesHere (Puts os next (outcome.Deleted (frag_of_job job))) → AdvancesHere (Puts os next (outcome.Deleted (frag_of_job job)))) (sym aims.6)
       (first_only (delete_object_of job aims.3) (outcome.Deleted (frag_of_job job)) (delete_puts aims.0 aims.1 aims.2 aims.3 aims.4 aims.7 aims.8 aims.9) next)) c
-  puts_steps objects next _ laws c = absurd (c.claims).aims
+  deed_steps merges objects next (outcome.Consolidated f count) laws c = merges objects next f count c
+  deed_steps merges objects next _ laws c = absurd (c.claims).aims
 
 -- ---- what an evolve, a write and a delete come to, once they have the frame
 
@@ -582,7 +595,7 @@ module _ {F : Type 0} (codec : Codec F) (spelled : Spelled) (tracks : Tracking F
           → Claims codec spelled tracks opening past jobs seen m number job
           (unless_refused (puts_schema job (evolved_attrs there.attrs change) (outcome.Evolved (key_of job))) (option_map refusal.SchemaBad o))
       from None sound =
-          begins_putting codec past jobs seen m number job (schema_object_of job (evolved_attrs there.attrs change) ∷ []) (outcome.Evolved (key_of job)) clean
+          begins_putting codec spelled opening past jobs seen m number job (schema_object_of job (evolved_attrs there.attrs change) ∷ []) (outcome.Evolved (key_of job)) clean
           (schema_carries job (evolved_attrs there.attrs change)) (omega arith)
           (change, frame, there, evolves, refl, refl, framed, sound, at)
       from (Some fault) sound = clean.undone
@@ -603,9 +616,9 @@ module _ {F : Type 0} (codec : Codec F) (spelled : Spelled) (tracks : Tracking F
           subst (λ b. Claims codec spelled tracks opening past jobs seen m number job
           (cond b (Puts (write_objects codec frame there job cells) 0 (outcome.Written (frag_of_job job))) (Over (outcome.Written (frag_of_job job)))))
           (sym (lt-ltb 0 (length (objects_of (frag_of_job job) parts)) some))
-          (begins_putting codec past jobs seen m number job (write_objects codec frame there job cells) (outcome.Written (frag_of_job job)) clean (write_carries (frag_of_job job) parts) some
-          (w, frame, there, cells, writes_them, refl, refl, framed, lays, at))
-      from (Err r) lays fails = columns_true (history_told jobs past seen) job r fails clean.undone
+          (begins_putting codec spelled opening past jobs seen m number job (write_objects codec frame there job cells) (outcome.Written (frag_of_job job)) clean (write_carries (frag_of_job job) parts) some
+          (w, frame, there, cells, writes_them, refl, refl, clean.free (vac_of (frag_of_job job)) refl (apart_from_lease job (vac_of (frag_of_job job)) tt), framed, lays, at))
+      from (Err r) lays fails = columns_true spelled opening jobs past seen number job r fails clean.undone
 
   -- a delete puts its condition, or it is refused
   pub works_delete : (text : List ℕ) (listed : Listed) (frame : Frame) (there : Schema) → CodecLaws codec spelled tracks → IsFit job → AreApart jobs → Clean m (history_told jobs past seen) job
@@ -617,6 +630,6 @@ module _ {F : Type 0} (codec : Codec F) (spelled : Spelled) (tracks : Tracking F
     where
       from : (found : Result Condition Refusal) → delete_condition frame there.attrs text ≡ found → FailsByQuery found → Claims codec spelled tracks opening past jobs seen m number job (puts_delete job found)
       from (Ok condition) says fails =
-          begins_putting codec past jobs seen m number job (delete_object_of job condition ∷ []) (outcome.Deleted (frag_of_job job)) clean (delete_carries job condition) (omega arith)
+          begins_putting codec spelled opening past jobs seen m number job (delete_object_of job condition ∷ []) (outcome.Deleted (frag_of_job job)) clean (delete_carries job condition) (omega arith)
           (text, frame, there, condition, deletes, refl, refl, framed, says, at)
-      from (Err r) says fails = query_true (history_told jobs past seen) job r fails clean.undone
+      from (Err r) says fails = query_true spelled opening jobs past seen number job r fails clean.undone

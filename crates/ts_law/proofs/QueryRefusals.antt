@@ -10,7 +10,10 @@ use Rattle.ts_domain.specs.Domains.{first_bound_outside}
 use Rattle.ts_domain.specs.declared.dims.Dim.{Dim}
 use Rattle.ts_schema.specs.declared.attrs.Attr.{Attr}
 use Rattle.ts_schema.specs.declared.frames.Frame.{Frame}
+use Rattle.ts_base.specs.Held.{Held}
 use Rattle.ts_model.specs.Deeds.{History}
+use Rattle.ts_model.specs.Codecs.{Spelled}
+use Rattle.ts_model.specs.Told.{Told, history_told}
 use Rattle.ts_law.specs.Ends.{IsTrueRefusal, IsUndone}
 use Rattle.ts_model.specs.Queries.{box_of, condition_in, counted_cells, delete_condition, fields_in, filter_in, most_cells, or_refused, query_refusal, ready_in, ready_with, some_condition, unknown_in}
 use Rattle.ts_model.specs.declared.answers.Refusal.{Refusal}
@@ -27,13 +30,14 @@ IsOfQuery (refusal.Condition fault) = ⊤
 IsOfQuery _ = ⊥
 
 -- it tells the truth where the job has no deed
-pub query_true : (h : History) (job : Job) (r : Refusal) → IsOfQuery r → IsUndone h job → IsTrueRefusal h job r
-query_true h job (refusal.Domain dim value) is undone = undone
-query_true h job (refusal.TooMany cells) is undone = undone
-query_true h job refusal.DenseArray is undone = undone
-query_true h job (refusal.UnknownField field) is undone = undone
-query_true h job (refusal.Condition fault) is undone = undone
-query_true h job _ is undone = absurd is
+pub query_true : (spelled : Spelled) (opening : Held) (jobs : List Job) (past : History) (told : List Told) (number : ℕ) (job : Job) (r : Refusal) → IsOfQuery r → IsUndone (history_told jobs past told) job
+    → IsTrueRefusal spelled opening jobs past told number job r
+query_true spelled opening jobs past told number job (refusal.Domain dim value) is undone = undone
+query_true spelled opening jobs past told number job (refusal.TooMany cells) is undone = undone
+query_true spelled opening jobs past told number job refusal.DenseArray is undone = undone
+query_true spelled opening jobs past told number job (refusal.UnknownField field) is undone = undone
+query_true spelled opening jobs past told number job (refusal.Condition fault) is undone = undone
+query_true spelled opening jobs past told number job _ is undone = absurd is
 
 -- each refusal of this answer is one of a query
 abbrev pub FailsByQuery : {A : Type 0} → Result A Refusal → Type 0

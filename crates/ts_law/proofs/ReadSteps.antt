@@ -34,7 +34,7 @@ use Rattle.ts_schema.specs.SchemaTexts.{schema_object, schema_of}
 use Rattle.ts_schema.specs.Parts.{IsShort}
 use Rattle.ts_model.specs.declared.answers.Refusal.TheVariants as refusal
 use Rattle.ts_model.specs.declared.commands.Command.{Command}
-use Rattle.ts_model.specs.declared.commands.Command.TheVariants.{Create, Delete, Evolve, Write, Read}
+use Rattle.ts_model.specs.declared.commands.Command.TheVariants.{Create, Consolidate, Delete, Evolve, Write, Read}
 use Rattle.ts_model.specs.declared.commands.Job.{Job}
 use Rattle.ts_model.specs.declared.answers.Refusal.{Refusal}
 use Rattle.ts_model.specs.declared.queries.Ready.{Ready}
@@ -76,7 +76,7 @@ use Rattle.ts_law.proofs.Stays.{getting_vacs_stays, has_listed_stays, opening_st
 -- ---- the keys that heads name
 
 -- a schema that a look-up finds among heads is that of one of them
-named_from_found : (k : Key) (os : List Opened) → is_some (map.find key_cmp k (list_map (λ o. (o.head.schema, o.head.schema)) os)) ≡ true
+pub named_from_found : (k : Key) (os : List Opened) → is_some (map.find key_cmp k (list_map (λ o. (o.head.schema, o.head.schema)) os)) ≡ true
     → (o : Opened) × Contains os o × (o.head.schema ≡ k)
 named_from_found k [] found = absurd (true≢false (sym found))
 named_from_found k (o ∷ os) found = cond_both (key_eq k o.head.schema) (Some o.head.schema) (map.find key_cmp k (list_map (λ x. (x.head.schema, x.head.schema)) os))
@@ -102,7 +102,7 @@ named_by r opened k at = let named = named_apart r opened k at in (named.0, name
 -- ---- what a read knows leads on
 
 -- as many as all, where the first so many of all are they
-as_many : {X Y : Type 0} (f : X → Y) (xs : List X) (ys : List Y) → list_map f xs ≡ take (length xs) ys → length ys ≤ length xs → length xs ≡ length ys
+pub as_many : {X Y : Type 0} (f : X → Y) (xs : List X) (ys : List Y) → list_map f xs ≡ take (length xs) ys → length ys ≤ length xs → length xs ≡ length ys
 as_many f xs ys are enough = sym (length-map xs f) ∙ ap length (are ∙ take_all (length xs) ys enough)
 
 -- one item more where the first so many of all are they
@@ -130,15 +130,15 @@ module _ {F : Type 0} (codec : Codec F) (spelled : Spelled) (tracks : Tracking F
   front_at at = let grown = history_told_grows jobs past at.before (at.listing ∷ at.later) in (grown.0, ap (history_told jobs past) at.place ∙ grown.1)
 
   -- the deeds at a listing are a history
-  history_at : {p : Prefix} (at : ListedAt seen number p) → IsHistory now → IsHistory (history_told jobs past at.before)
+  pub history_at : {p : Prefix} (at : ListedAt seen number p) → IsHistory now → IsHistory (history_told jobs past at.before)
   history_at at is = let front = front_at at in IsHistory-front (history_told jobs past at.before) front.0 (subst IsHistory front.1 is)
 
   -- the frame at a listing is the frame now
-  frame_at : {p : Prefix} (at : ListedAt seen number p) (frame : Frame) → frame_in (history_told jobs past at.before) ≡ Some frame → frame_in now ≡ Some frame
+  pub frame_at : {p : Prefix} (at : ListedAt seen number p) (frame : Frame) → frame_in (history_told jobs past at.before) ≡ Some frame → frame_in now ≡ Some frame
   frame_at at frame framed = let front = front_at at in ap frame_in front.1 ∙ frame_in-append (history_told jobs past at.before) front.0 frame framed
 
   -- a schema that was there at a listing is there now
-  schema_at_listing : {p : Prefix} (at : ListedAt seen number p) (k : Key) (s : Schema) → schema_with (history_told jobs past at.before) k ≡ Some s → schema_with now k ≡ Some s
+  pub schema_at_listing : {p : Prefix} (at : ListedAt seen number p) (k : Key) (s : Schema) → schema_with (history_told jobs past at.before) k ≡ Some s → schema_with now k ≡ Some s
   schema_at_listing at k s with = let front = front_at at in ap (λ g. schema_with g k) front.1 ∙ schema_with-append (history_told jobs past at.before) front.0 k s with
 
   -- the history in which a job found its schema has a frame
@@ -310,7 +310,7 @@ module _ {F : Type 0} (codec : Codec F) (spelled : Spelled) (tracks : Tracking F
 
   -- how a reply to a get leads on
   bytes_lead : (n : Name) (on : List ℕ → State F) (r : Reply) → ((bytes : List ℕ) → r ≡ reply.Bytes bytes → ClaimedAfter (on bytes)) → (r ≡ reply.Absent → ⊥)
-      → IsTrueRefusal h' job (refusal.StoreFault (place.Name n)) → ClaimedAfter (on_bytes (get_all n) on r)
+      → IsTrueRefusal spelled opening jobs past (seen ++ e ∷ []) number job (refusal.StoreFault (place.Name n)) → ClaimedAfter (on_bytes (get_all n) on r)
   bytes_lead n on (reply.Bytes bytes) found held fault = found bytes refl
   bytes_lead n on reply.Absent found held fault = absurd (held refl)
   bytes_lead n on reply.Failed found held fault = fault
@@ -318,7 +318,7 @@ module _ {F : Type 0} (codec : Codec F) (spelled : Spelled) (tracks : Tracking F
 
   -- a get of all of a short object that is held leads on with its bytes
   pub whole_lead : (n : Name) (object : List ℕ) (on : List ℕ → State F) → e.call ≡ get_all n → IsReplied m e → map.get m n ≡ Some object → IsShort object
-      → IsTrueRefusal h' job (refusal.StoreFault (place.Name n)) → ClaimedAfter (on object) → ClaimedAfter (on_bytes (get_all n) on e.reply)
+      → IsTrueRefusal spelled opening jobs past (seen ++ e ∷ []) number job (refusal.StoreFault (place.Name n)) → ClaimedAfter (on object) → ClaimedAfter (on_bytes (get_all n) on e.reply)
   whole_lead n object on is replied held short fault goes_on =
       let tells = got m e n 0 (2 ^ 64 - 1) is replied in
       bytes_lead n on e.reply
@@ -340,6 +340,7 @@ module _ {F : Type 0} (codec : Codec F) (spelled : Spelled) (tracks : Tracking F
   works_of (Write w) listing s is = is
   works_of (Read from to query) listing s is = is.works
   works_of (Delete text) listing s is = is
+  works_of (Consolidate from to limits) listing s is = absurd is
 
   -- a get is no listing
   pub no_listing : (n : Name) → e.call ≡ get_all n → e.job ≡ Some number → e.call ≡ list_schemas → ⊥
@@ -351,7 +352,7 @@ module _ {F : Type 0} (codec : Codec F) (spelled : Spelled) (tracks : Tracking F
   -- ---- schemas
 
   -- the object of a schema that is a deed leads on with its attributes
-  schema_lead : Stands spelled m h → (k : Key) (s : Schema) (on : List Attr → State F) → schema_with h k ≡ Some s → e.call ≡ get_schema k → IsReplied m e
+  pub schema_lead : Stands spelled m h → (k : Key) (s : Schema) (on : List Attr → State F) → schema_with h k ≡ Some s → e.call ≡ get_schema k → IsReplied m e
       → IsUndone h' job → ClaimedAfter (on s.attrs) → ClaimedAfter (on_bytes (get_schema k) (λ bytes. on_read (name.Schema k) on (schema_of bytes)) e.reply)
   schema_lead stands k s on declared is replied undone goes_on =
       let held : map.get m (name.Schema k) ≡ Some (schema_object s.attrs) = stands.schemas k ∙ ap (option_map (λ x. schema_object x.attrs)) declared in
@@ -380,7 +381,7 @@ module _ {F : Type 0} (codec : Codec F) (spelled : Spelled) (tracks : Tracking F
   asks_lead : CodecLaws codec spelled tracks → Clean m' h' job → IsHistory h' → (from to : ℕ) (query : Query) (listing : Listed) (frame : Frame) (there : Schema)
       → (at : ReadsAt spelled opening past jobs (seen ++ e ∷ []) m' number job from to listing.fragments listing.counting listing.delete_names there) → frame_in (history_told jobs past ((at.works).schemas).before) ≡ Some frame
       → job.command ≡ Read from to query → (o : Result Ready Refusal) → ready_in frame there.attrs query ≡ o → FailsByQuery o → ClaimedAfter (asks_for codec from to listing frame there o)
-  asks_lead laws clean is from to query listing frame there at framed command (Err r) asked fails = query_true h' job r fails clean.undone
+  asks_lead laws clean is from to query listing frame there at framed command (Err r) asked fails = query_true spelled opening jobs past (seen ++ e ∷ []) number job r fails clean.undone
   asks_lead laws clean is from to query listing frame there at framed command (Ok ready) asked fails =
       getting_vacs_claims codec spelled tracks opening past jobs (seen ++ e ∷ []) m' number job laws clean is (reading_of from to listing frame there ready) refl (record {
         reads = record { query = query; reads = command; at = at; framed = framed; is_ready = asked };
@@ -402,6 +403,7 @@ module _ {F : Type 0} (codec : Codec F) (spelled : Spelled) (tracks : Tracking F
       (sym (frame_at codec spelled tracks opening past jobs (seen ++ e ∷ []) m' number job ((listed.works).schemas) then.0 then.1) ∙ framed) in
       subst (λ c. ClaimedAfter (works codec job c listing frame there)) (sym command)
       (asks_lead laws clean is from to query listing frame there listed (then.1 ∙ ap Some same) command (ready_in frame there.attrs query) refl (ready_fails frame there.attrs query))
+  works_lead laws fit apart clean is (Consolidate from to limits) command listing frame there framed listed = absurd listed
   works_lead laws fit apart clean is (Delete text) command listing frame there framed listed =
       works_delete codec spelled tracks opening past jobs (seen ++ e ∷ []) m' number job text listing frame there laws fit apart clean listed framed is command
 

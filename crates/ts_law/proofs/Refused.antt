@@ -34,7 +34,7 @@ use Rattle.ts_store.specs.declared.call.Reply.TheVariants as reply
 use Rattle.ts_store.specs.declared.fate.Fate.TheVariants as fate
 use Rattle.ts_store.specs.Calls.{answer, is_no_memory, length_reply, names_under, part_reply, reply_of}
 use Rattle.ts_model.specs.declared.commands.Command.{Command}
-use Rattle.ts_model.specs.declared.commands.Command.TheVariants.{Create, Evolve, Write, Read, Delete}
+use Rattle.ts_model.specs.declared.commands.Command.TheVariants.{Create, Evolve, Write, Read, Delete, Consolidate}
 use Rattle.ts_model.specs.declared.commands.FrameIn.{FrameIn}
 use Rattle.ts_model.specs.declared.commands.Job.{Job}
 use Rattle.ts_model.specs.declared.answers.Driven.TheVariants.{Done}
@@ -301,7 +301,7 @@ module _ (spelled : Spelled) (opening : Held) (jobs : List Job) (past : History)
 
     -- a refusal has its cause in the history, where it has one in the calls and their replies
     cause_found : (trace : List Exchange) → ((x : Exchange) → Contains trace x → Contains (trace_of number told) x) → (last : Exchange) → Contains trace last → (r : Refusal)
-        → IsTrueRefusal (after told) job r → IsCause codec job found trace last r → IsRefusedFor opening jobs past told number job r
+        → IsTrueRefusal spelled opening jobs past told number job r → IsCause codec job found trace last r → IsRefusedFor spelled opening jobs past told number job r
     cause_found trace among last at_last refusal.ArrayExists is_true (f, creates, there) = (f, creates, array_found trace among last at_last f there)
     cause_found trace among last at_last (refusal.NoSchema at) is_true (works, names, is, looks, none) =
         let placed_at = placed _ (among _ (subst (Contains trace) is at_last)) in
@@ -316,6 +316,7 @@ module _ (spelled : Spelled) (opening : Held) (jobs : List Job) (past : History)
     cause_found trace among last at_last (refusal.StoreFault p) is_true (speaks, failed) =
         let at = placed last (among last at_last) in
         record { call = last.call; speaks = speaks; at = made_at last last.call refl at; failed = at.replies ∙ failed; undone = failed_undone (held_told opening at.before) at.e at.said (at.replies ∙ failed) }
+    cause_found trace among last at_last (refusal.NothingToDo count) is_true is = is_true.1
     cause_found trace among last at_last (refusal.Taken n) is_true is = is_true
     cause_found trace among last at_last (refusal.Missing n) is_true is = is_true
     cause_found trace among last at_last (refusal.Damaged n at) is_true is = is_true
@@ -328,40 +329,41 @@ module _ (spelled : Spelled) (opening : Held) (jobs : List Job) (past : History)
   -- ---- refused before the first call
 
   -- a create that is refused for itself
-  create_refused : (job : Job) (made : FrameIn) (r : Refusal) → job.command ≡ Create made → create_refusal made ≡ Some r → trace_of number told ≡ [] → IsRefusedFor opening jobs past told number job r
+  create_refused : (job : Job) (made : FrameIn) (r : Refusal) → job.command ≡ Create made → create_refusal made ≡ Some r → trace_of number told ≡ [] → IsRefusedFor spelled opening jobs past told number job r
   create_refused job made r creates refused none = by_faults (domain_fault made.dims) (schema_fault made.dims made.attrs) refused
     where
       as_create : (q : Refusal) → q ≡ r → IsRefusedAs jobs past told number job q job.command
       as_create q same = subst (IsRefusedAs jobs past told number job q) (sym creates) (refused ∙ ap Some (sym same), none)
 
-      by_faults : (d : Option DomainFault) (s : Option SchemaFault) → option_or (option_map refusal.DomainBad d) (option_map refusal.SchemaBad s) ≡ Some r → IsRefusedFor opening jobs past told number job r
-      by_faults (Some fault) s is = let same = same_Some (refusal.DomainBad fault) r is in subst (IsRefusedFor opening jobs past told number job) same (as_create (refusal.DomainBad fault) same)
-      by_faults None (Some fault) is = let same = same_Some (refusal.SchemaBad fault) r is in subst (IsRefusedFor opening jobs past told number job) same (as_create (refusal.SchemaBad fault) same)
+      by_faults : (d : Option DomainFault) (s : Option SchemaFault) → option_or (option_map refusal.DomainBad d) (option_map refusal.SchemaBad s) ≡ Some r → IsRefusedFor spelled opening jobs past told number job r
+      by_faults (Some fault) s is = let same = same_Some (refusal.DomainBad fault) r is in subst (IsRefusedFor spelled opening jobs past told number job) same (as_create (refusal.DomainBad fault) same)
+      by_faults None (Some fault) is = let same = same_Some (refusal.SchemaBad fault) r is in subst (IsRefusedFor spelled opening jobs past told number job) same (as_create (refusal.SchemaBad fault) same)
       by_faults None None is = absurd (none-some r is)
 
-  before_refused : (job : Job) (r : Refusal) (c : Command) → job.command ≡ c → refused_before c ≡ Some r → trace_of number told ≡ [] → IsRefusedFor opening jobs past told number job r
+  before_refused : (job : Job) (r : Refusal) (c : Command) → job.command ≡ c → refused_before c ≡ Some r → trace_of number told ≡ [] → IsRefusedFor spelled opening jobs past told number job r
   before_refused job r (Create made) is refused none = create_refused job made r is refused none
   before_refused job r (Evolve change) is refused none = absurd (none-some r refused)
   before_refused job r (Write w) is refused none = absurd (none-some r refused)
   before_refused job r (Read from to query) is refused none = absurd (none-some r refused)
   before_refused job r (Delete text) is refused none = absurd (none-some r refused)
+  before_refused job r (Consolidate from to limits) is refused none = absurd (none-some r refused)
 
   -- ---- the end
 
   -- a job that ended refused, by the calls of its course, is refused for its cause
-  pub refused_for : {F : Type 0} (codec : Codec F) (job : Job) (r : Refusal) → IsTrueRefusal (after told) job r → IsSegment codec job (trace_of number told) (Done (outcome.Refused r)) → IsRefusedFor opening jobs past told number job r
+  pub refused_for : {F : Type 0} (codec : Codec F) (job : Job) (r : Refusal) → IsTrueRefusal spelled opening jobs past told number job r → IsSegment codec job (trace_of number told) (Done (outcome.Refused r)) → IsRefusedFor spelled opening jobs past told number job r
   refused_for codec job r is_true segment = by_refusal (refused_before job.command) refl segment.ends
     where
       found : Found
       found = segment.found
 
-      by_along : (trace : List Exchange) → ((x : Exchange) → Contains trace x → Contains (trace_of number told) x) → EndsAlong codec job found (course_of codec job found) trace (outcome.Refused r) → IsRefusedFor opening jobs past told number job r
+      by_along : (trace : List Exchange) → ((x : Exchange) → Contains trace x → Contains (trace_of number told) x) → EndsAlong codec job found (course_of codec job found) trace (outcome.Refused r) → IsRefusedFor spelled opening jobs past told number job r
       by_along trace among (last, at, cause) = cause_found codec job found trace among last (subst (λ t. Contains t last) (sym at.parts) (Contains-push at.front last)) r is_true cause
 
-      by_lease : (o : Option Name) → EndsUnder codec job found o (trace_of number told) (outcome.Refused r) → IsRefusedFor opening jobs past told number job r
+      by_lease : (o : Option Name) → EndsUnder codec job found o (trace_of number told) (outcome.Refused r) → IsRefusedFor spelled opening jobs past told number job r
       by_lease None ends = by_along (trace_of number told) (λ x at. at) ends
       by_lease (Some lease) (NotBegun none is) = cc
-      by_lease (Some lease) (NotOwn only is) = absurd (subst (IsTrueRefusal (after told) job) (one_refusal r (refusal.Taken lease) is) is_true)
+      by_lease (Some lease) (NotOwn only is) = absurd (subst (IsTrueRefusal spelled opening jobs past told number job) (one_refusal r (refusal.Taken lease) is) is_true)
       by_lease (Some lease) (Removed front said was parts put heeds ended is) = elim (was_refused lease was r said is) [
         | inl same ↦
             by_along front (λ x at. subst (λ t. Contains t x) (sym parts) (Contains-append_left front (removal lease said ∷ []) x at))
@@ -375,10 +377,10 @@ module _ (spelled : Spelled) (opening : Held) (jobs : List Job) (past : History)
               failed = at.replies ∙ failed;
               undone = failed_undone (held_told opening at.before) at.e at.said (at.replies ∙ failed);
             } in
-            subst (IsRefusedFor opening jobs past told number job) (sym is_fault) fault
+            subst (IsRefusedFor spelled opening jobs past told number job) (sym is_fault) fault
       ]
 
-      by_refusal : (o : Option Refusal) → refused_before job.command ≡ o → MayEndAs codec job found (trace_of number told) (outcome.Refused r) o → IsRefusedFor opening jobs past told number job r
+      by_refusal : (o : Option Refusal) → refused_before job.command ≡ o → MayEndAs codec job found (trace_of number told) (outcome.Refused r) o → IsRefusedFor spelled opening jobs past told number job r
       by_refusal None is ends = by_lease (lease_of job) ends
       by_refusal (Some q) is (none, inl same) = before_refused job r job.command refl (is ∙ ap Some (sym (one_refusal r q same))) none
       by_refusal (Some q) is (none, inr same) = let other : outcome.Refused r ≡ outcome.OutOfMemory = same in cc

@@ -18,12 +18,13 @@ use Rattle.ts_schema.specs.Faults.{schema_fault}
 use Rattle.ts_schema.specs.FrameTexts.{frame_object}
 use Rattle.ts_store.specs.declared.call.Call.{Call}
 use Rattle.ts_model.specs.declared.commands.Command.{Command}
-use Rattle.ts_model.specs.declared.commands.Command.TheVariants.{Create, Evolve, Write, Read, Delete}
+use Rattle.ts_model.specs.declared.commands.Command.TheVariants.{Create, Evolve, Write, Read, Delete, Consolidate}
 use Rattle.ts_model.specs.declared.commands.Job.{Job}
 use Rattle.ts_model.specs.declared.answers.Refusal.{Refusal}
 use Rattle.ts_model.specs.declared.deeds.Deed.{Deed}
 use Rattle.ts_model.specs.declared.states.State.{State}
-use Rattle.ts_model.specs.declared.states.State.TheVariants.{Creates, Seeks, Puts, Collects, Over}
+use Rattle.ts_model.specs.declared.states.State.TheVariants.{Creates, Seeks, Puts, Collects, Merges, Over}
+use Rattle.ts_model.specs.declared.states.Merging.TheVariants as merging
 use Rattle.ts_model.specs.declared.states.Creating.TheVariants.{PutsFrame, ComparesFrame, ListsDeclared}
 use Rattle.ts_model.specs.declared.states.Seeking.TheVariants.{ListsCommits, ListsSchemas, GetsSchema, GetsFrame}
 use Rattle.ts_model.specs.declared.states.Collecting.TheVariants.{GetsVacs, GetsHeads, GetsSchemas, GetsDeletes, Fetches}
@@ -33,7 +34,7 @@ use Rattle.ts_model.specs.Deeds.{History, key_in, keys}
 use Rattle.ts_model.specs.Driven.{EndsBy, MayAsk, lacks_after, lacks_from}
 use Rattle.ts_model.specs.Codecs.{Codec, CodecLaws, Spelled, Tracking}
 use Rattle.ts_model.specs.Jobs.{AreApart, key_of}
-use Rattle.ts_model.specs.States.{get_vac, vac_of, Exchange, asks, begun, frame_put, get_delete, get_head, get_schema, goes, is_over, made_by, on_made, put_of, putting, takes_memory, unless_refused, want_of, with_item}
+use Rattle.ts_model.specs.States.{all_of, get_vac, vac_of, Exchange, asks, begun, frame_put, get_delete, get_head, get_head_in, get_schema, goes, is_over, made_by, on_made, put_of, putting, takes_memory, unless_refused, want_of, with_item}
 use Rattle.ts_model.specs.Stages.{begins_at, first_stage, goes_on, is_done, lease_of, stage_of, stage_takes_memory}
 use Rattle.ts_model.specs.declared.states.Stage.{Stage}
 use Rattle.ts_model.specs.declared.states.Stage.TheVariants.{ListsLeases, PutsLease, Releases}
@@ -49,7 +50,7 @@ use Rattle.ts_model.proofs.ListLemmas.{Contains-filter_map, Contains-here, Conta
 use Rattle.ts_model.proofs.Traces.{deed_told_own, exchange_of_other, exchange_of_own, history_told-push, stage_from-append, stage_of-own, trace_of-append}
 use Rattle.ts_law.proofs.Effects.{Added, PutWent, Still, put_went}
 use Rattle.ts_law.proofs.KeptLaws.{asked_by, every_prefix, no_get, no_listing, one_name, speaks_no_put}
-use Rattle.ts_law.proofs.Spawns.{deed_in_key, frame_has_no_key}
+use Rattle.ts_law.proofs.DeedKeys.{deed_in_key, frame_has_no_key}
 use Rattle.std.specs.List.{cons_option}
 use Rattle.ts_base.specs.declared.names.Name.TheVariants as name
 use Rattle.ts_store.specs.declared.call.Call.TheVariants as call
@@ -194,6 +195,22 @@ module _ {F : Type 0} (codec : Codec F) (spelled : Spelled) (tracks : Tracking F
       let way = is.2.1 in
       let held = laws.asks r.frame (way.holds).schema way.piece ((way.holds).spells).look (want_of r ((way.holds).schema).attrs) fetch c way.way in
       absurd (speaks_no_put c (name.Part ((way.piece).head).frag held.part) n bytes held.named (same_Some c (call.Put n bytes) asked))
+  asks_frame (Merges merging.ListsCommits) n bytes takes is asked = absurd (no_listing Commits n bytes (same_Some _ _ asked))
+  asks_frame (Merges (merging.ListsSchemas c)) n bytes takes is asked = absurd (no_listing Schemas n bytes (same_Some _ _ asked))
+  asks_frame (Merges (merging.GetsFrame c)) n bytes takes is asked = absurd (no_get name.Domain 0 _ n bytes (same_Some _ _ asked))
+  asks_frame (Merges (merging.GetsVacs s)) n bytes takes is asked =
+      let f = asked_by get_vac (slice_get s.counting (length s.vacs)) (call.Put n bytes) asked in
+      absurd (no_get (vac_of f.0) 0 _ n bytes f.2)
+  asks_frame (Merges (merging.GetsHeads s opened)) n bytes takes is asked =
+      let f = asked_by (get_head_in codec s.frame) (slice_get s.fragments (length opened)) (call.Put n bytes) asked in
+      absurd (no_get (name.Part f.0 (codec.head_part s.frame)) 0 _ n bytes f.2)
+  asks_frame (Merges (merging.GetsSchemas s opened named schemas)) n bytes takes is asked =
+      let k = asked_by get_schema (slice_get named (length schemas)) (call.Put n bytes) asked in
+      absurd (no_get (name.Schema k.0) 0 _ n bytes k.2)
+  asks_frame (Merges (merging.Fetches s sources schema next frag got fetch c)) n bytes takes is asked =
+      let way = is.2.1 in
+      let held = laws.asks s.frame schema way.piece ((way.is.holds).spells).look (all_of s.frame schema.attrs) fetch c way.way in
+      absurd (speaks_no_put c (name.Part ((way.piece).head).frag held.part) n bytes held.named (same_Some c (call.Put n bytes) asked))
 
   -- a put of an object by which the job is over for want of memory changed nothing
   put_still : (s : State F) (e : Told) → takes_memory s ≡ false → Says s → asks codec job s ≡ Some e.call → IsReplied m e → goes codec job s e.reply ≡ Over outcome.OutOfMemory → e.changed ≡ false
@@ -208,7 +225,7 @@ module _ {F : Type 0} (codec : Codec F) (spelled : Spelled) (tracks : Tracking F
 
       by_made : (b : Bool) → ◌≡◌ {A = State F} (cond b (Puts objects (suc next) end) (Over end)) (Over outcome.OutOfMemory) → ⊥
       by_made true same = cc
-      by_made false same = let none : end ≡ outcome.OutOfMemory = cc in subst (Aims codec past jobs seen number job objects) none is.aims
+      by_made false same = let none : end ≡ outcome.OutOfMemory = cc in subst (Aims codec spelled opening past jobs seen m number job objects) none is.aims
 
       by_fate : (o : NewObject) → PutWent m o.name o.bytes (after_told m e) e.changed e.reply → Ends o → e.changed ≡ false
       by_fate o (Still later changed made taken) over = changed
@@ -234,6 +251,7 @@ module _ {F : Type 0} (codec : Codec F) (spelled : Spelled) (tracks : Tracking F
       by_command (Evolve change) is = is.0.undone
       by_command (Write w) is = is.0.undone
       by_command (Delete text) is = is.0.undone
+      by_command (Consolidate from to limits) is = is.0.undone
 
 -- ---- want of memory
 

@@ -1,62 +1,63 @@
 -- Jobs that begin: what is kept at the start, and when a job with a new identifier comes.
-use Rattle.std.proofs.Common.{Bool, List, None, Option, Some, [], ap, arith, cond, false, inl, inr, length, refl, subst, suc, sym, take, true, zero, ℕ, ◌++◌, ◌<◌, ◌∙◌, ◌∷◌, ◌≡◌, ◌⊎◌}
+use Rattle.std.proofs.Common.{List, None, Option, Some, [], ap, arith, cond, false, inl, inr, length, refl, subst, suc, append_assoc, sym, take, zero, ℕ, ◌++◌, ◌<◌, ◌∙◌, ◌∷◌, ◌≡◌}
 use Rattle.std.proofs.Common.{nat_eq}
 use Rattle.std.proofs.lemmas.Bool.{ne_eqb, true≢false}
 use Rattle.std.proofs.lemmas.List.{length_push}
-use Rattle.std.proofs.lemmas.List.Elements.{All-contains, All-contains_itself, All-head, All-nil, All-push, All-tail, All-weaker, Contains-append_cases, Contains-append_left}
+use Rattle.std.proofs.lemmas.List.Elements.{All-contains, All-contains_itself, All-head, All-nil, All-push, All-tail, All-weaker, Contains-append_left}
 use Rattle.std.proofs.lemmas.Option.{none-some, same_Some}
 use Rattle.std.specs.Option.{option_or}
 use Rattle.std.specs.Prelude.{All, Contains, IsSome, option_and_then, option_map, option_to_list, slice_get}
 use Rattle.ts_base.specs.Held.{Held}
-use Rattle.ts_base.specs.declared.heads.Cell.{Cell}
 use Rattle.ts_base.specs.declared.heads.Version.{Version}
 use Rattle.ts_base.specs.declared.keys.FragKey.{FragKey}
 use Rattle.ts_base.specs.declared.keys.Key.{Key}
 use Rattle.ts_base.specs.declared.names.Name.{Name}
 use Rattle.ts_base.specs.declared.names.Prefix.{Prefix}
 use Rattle.ts_base.specs.declared.names.Prefix.TheVariants.{Commits, Schemas}
-use Rattle.ts_cond.specs.Tests.{Condition}
 use Rattle.ts_domain.specs.Dims.{domain_fault}
 use Rattle.ts_domain.specs.declared.dims.DomainFault.{DomainFault}
+use Rattle.ts_law.proofs.DeedKeys.{key_told}
 use Rattle.ts_law.proofs.HeldLemmas.{Holds-from_get}
-use Rattle.ts_model.proofs.HistoryLaws.{absent_from_new, keys-append, new_from_absent}
-use Rattle.ts_model.proofs.KeyLemmas.{key_of_frag}
-use Rattle.ts_model.proofs.ListLemmas.{Contains-nil, Contains-only, filter_map-Contains, find-append, or_else, slice_get_push}
+use Rattle.ts_model.proofs.HistoryLaws.{new_from_absent}
+use Rattle.ts_model.proofs.ListLemmas.{find-append, or_else, slice_get_push}
 use Rattle.ts_model.specs.Answers.{IsAnswer}
-use Rattle.ts_model.specs.Commands.{create_refusal, frame_made, laid}
-use Rattle.ts_model.specs.Deeds.{History, IsNewKey, deletions, frame_in, key_in, keys, schema_there, schema_with, writes}
-use Rattle.ts_law.specs.Ends.{HasDeclared, IsCreated, IsTrueEnd, IsTrueRefusal, IsUndone, ListedAt}
+use Rattle.ts_model.specs.Commands.{create_refusal, frame_made}
+use Rattle.ts_model.specs.Deeds.{History, IsNewKey, deletions, frame_in, schema_there, schema_with, writes}
+use Rattle.ts_law.specs.Ends.{AreInside, FindsNothing, HasDeclared, IsCreated, IsMerged, IsPlanned, IsTrueEnd, IsTrueRefusal, IsUndone, ListedAt, attributes_with, up_to, FindsSchema}
 use Rattle.ts_model.specs.Codecs.{Codec, Spelled, Tracking}
 use Rattle.ts_law.specs.Fresh.{IsCarried, IsNewId, id_in}
-use Rattle.ts_model.specs.Jobs.{AreApart, IsFit, deletion_as, frag_of_job, job_with, key_of, looked_at, schema_of_job, written_as}
-use Rattle.ts_law.specs.Kept.{Aims, AreDeletions, AreGot, AreOpen, AreSchemas, Claims, Clean, AreChosen, GettingDeletes, GettingVacs, Fetching, Gathering, HasListed, HasLooked, IsOfJobs, Kept, LooksInto, OnWay, Opening, Putting, ReadsAt, ReadsIn, StageClaims, Works}
-use Rattle.ts_law.specs.Stands.{IsBare, Stands}
-use Rattle.ts_model.specs.States.{vac_of}
-use Rattle.ts_model.specs.States.{heads_of, begun, keys_named, made_by, unless_refused}
+use Rattle.ts_model.specs.Jobs.{AreApart, IsFit, deletion_as, job_with, key_of, looked_at, written_as}
+use Rattle.ts_law.specs.Kept.{Aims, AimsToMerge, AreDeletions, AreGot, AreOpen, AreSchemas, AreSourcesIn, ChoosesFrom, Chooses, Claims, Clean, AreChosen, GettingDeletes, GettingVacs, Fetching, Gathering, HasListed, HasLooked, HasSources, IsFetched, IsOfJobs, Kept, Learns, LooksInto, MergeClaims, Merges, OnWay, Opening, Opens, Putting, ReadsAt, ReadsIn, Since, StageClaims, Surveys, Works}
+use Rattle.ts_law.specs.Stands.{HoldsIn, IsUnspent, Stands}
+use Rattle.ts_model.specs.States.{heads_of, begun, frags_of, keys_named, schemas_named, unless_refused}
 use Rattle.ts_model.specs.Stages.{begins_at, first_stage, lease_of, stage_of}
 use Rattle.ts_model.specs.declared.states.Stage.{Stage}
 use Rattle.ts_model.specs.declared.states.Stage.TheVariants.{ListsLeases, PutsLease, Releases}
 use Rattle.ts_model.specs.declared.states.Stage.TheVariants as stages
 use Rattle.ts_law.proofs.LeaseSteps.{lease_is}
-use Rattle.ts_model.specs.Told.{Told, cells_of, condition_of, declared_by, deed_in, deed_of, deed_told, deleted_by, deleted_in, grown, held_told, history_from, history_told, is_by, schema_used, schemas_found, trace_of, written_by, written_in}
+use Rattle.ts_model.specs.Told.{Told, deed_in, deed_told, grown, held_told, history_from, history_told, is_by, schemas_found, trace_of}
 use Rattle.ts_model.specs.declared.answers.Outcome.{Outcome}
 use Rattle.ts_model.specs.declared.answers.Refusal.{Refusal}
 use Rattle.ts_model.specs.declared.commands.Command.{Command}
-use Rattle.ts_model.specs.declared.commands.Command.TheVariants.{Create, Delete, Evolve, Read, Write}
+use Rattle.ts_model.specs.declared.commands.Command.TheVariants.{Consolidate, Create, Delete, Evolve, Read, Write}
 use Rattle.ts_model.specs.declared.commands.FrameIn.{FrameIn}
 use Rattle.ts_model.specs.declared.commands.Job.{Job}
-use Rattle.ts_model.specs.declared.commands.WriteIn.{WriteIn}
-use Rattle.ts_model.specs.declared.deeds.Deed.{Deed}
-use Rattle.ts_model.specs.declared.deeds.Deed.TheVariants.{Declared, Erased, Framed, Wrote}
-use Rattle.ts_model.specs.declared.deeds.Deletion.{Deletion}
-use Rattle.ts_model.specs.declared.deeds.Written.{Written}
-use Rattle.ts_model.specs.Queries.{delete_condition}
 use Rattle.ts_model.specs.declared.states.Listed.{Listed}
 use Rattle.ts_model.specs.declared.states.NewObject.{NewObject}
 use Rattle.ts_model.specs.declared.states.Opened.{Opened}
 use Rattle.ts_model.specs.declared.states.Reading.{Reading}
 use Rattle.ts_model.specs.declared.states.State.{State}
 use Rattle.ts_model.specs.declared.states.State.TheVariants.{Creates, Seeks, Puts, Collects, Over}
+use Rattle.ts_model.specs.declared.states.State.TheVariants as states
+use Rattle.ts_model.specs.declared.states.Candidates.{Candidates}
+use Rattle.ts_model.specs.declared.states.Merging.{Merging}
+use Rattle.ts_model.specs.declared.states.Merging.TheVariants as merging
+use Rattle.ts_model.specs.declared.states.Survey.{Survey}
+use Rattle.ts_commit.specs.declared.vacs.Limits.{Limits}
+use Rattle.ts_commit.specs.declared.vacs.Planned.{Planned}
+use Rattle.ts_commit.specs.declared.vacs.Planned.TheVariants as planned
+use Rattle.ts_commit.specs.Plans.{plan_of}
+use Rattle.ts_base.specs.Names.{wrt_of}
 use Rattle.ts_model.specs.declared.states.Creating.TheVariants.{PutsFrame, ComparesFrame, ListsDeclared}
 use Rattle.ts_model.specs.declared.states.Seeking.TheVariants.{ListsCommits, ListsSchemas, GetsSchema, GetsFrame}
 use Rattle.ts_model.specs.declared.states.Collecting.TheVariants.{GetsVacs, GetsHeads, GetsSchemas, GetsDeletes, Fetches}
@@ -65,131 +66,13 @@ use Rattle.ts_schema.specs.Faults.{schema_fault}
 use Rattle.ts_schema.specs.declared.faults.SchemaFault.{SchemaFault}
 use Rattle.ts_schema.specs.declared.frames.Frame.{Frame}
 use Rattle.ts_schema.specs.declared.schemas.Schema.{Schema}
-use Rattle.ts_store.specs.declared.call.Call.{Call}
-use Rattle.ts_store.specs.declared.call.Call.TheVariants as call
-use Rattle.ts_base.specs.declared.names.CommitKind.TheVariants as kind
+use Rattle.ts_base.specs.declared.names.Place.TheVariants as place
 use Rattle.std.specs.FinMap as map
 use Rattle.ts_base.specs.declared.names.Name.TheVariants as name
 use Rattle.ts_model.specs.declared.answers.Outcome.TheVariants as outcome
 use Rattle.ts_model.specs.declared.answers.Refusal.TheVariants as refusal
 
--- ---- the keys of the deeds of jobs
-
--- what a job declares has its key
-pub declared_key_is : (h : History) (job : Job) (found : Option (List Key)) (c : Command) (s : Schema) → declared_by h job found c ≡ Some s → s.key ≡ key_of job
-declared_key_is h job found (Create f) s is = ap (λ t. t.key) (sym (same_Some (schema_of_job job f.attrs) s is))
-declared_key_is h job found (Evolve change) s is = of_used (schema_used h job found) is
-  where
-    of_used : (o : Option Schema) → option_map (λ t. schema_of_job job (evolved_attrs t.attrs change)) o ≡ Some s → s.key ≡ key_of job
-    of_used None e = absurd (none-some s e)
-    of_used (Some t) e = ap (λ t. t.key) (sym (same_Some (schema_of_job job (evolved_attrs t.attrs change)) s e))
-declared_key_is h job found (Write w) s is = absurd (none-some s is)
-declared_key_is h job found (Read from to query) s is = absurd (none-some s is)
-declared_key_is h job found (Delete text) s is = absurd (none-some s is)
-
--- what a write writes has the key of the job
-written_in_key_is : (job : Job) (v : WriteIn) (o : Option Schema) (q : Option Frame) (w : Written) → written_in job v o q ≡ Some w → w.key ≡ key_of job
-written_in_key_is job v None q w is = absurd (none-some w is)
-written_in_key_is job v (Some s) None w is = absurd (none-some w is)
-written_in_key_is job v (Some s) (Some frame) w is = of_cells (cells_of (laid frame s.attrs v)) is
-  where
-    of_cells : (o : Option (List Cell)) → option_map (written_as job s.key) o ≡ Some w → w.key ≡ key_of job
-    of_cells None e = absurd (none-some w e)
-    of_cells (Some cells) e = ap (λ v. v.key) (sym (same_Some (written_as job s.key cells) w e))
-
--- what a job writes has its key
-pub written_key_is : (h : History) (job : Job) (found : Option (List Key)) (c : Command) (w : Written) → written_by h job found c ≡ Some w → w.key ≡ key_of job
-written_key_is h job found (Create f) w is = absurd (none-some w is)
-written_key_is h job found (Evolve change) w is = absurd (none-some w is)
-written_key_is h job found (Write v) w is = written_in_key_is job v (schema_used h job found) (frame_in h) w is
-written_key_is h job found (Read from to query) w is = absurd (none-some w is)
-written_key_is h job found (Delete text) w is = absurd (none-some w is)
-
--- what a text erases has the key of the job
-deleted_in_key_is : (job : Job) (text : List ℕ) (o : Option Schema) (q : Option Frame) (x : Deletion) → deleted_in job text o q ≡ Some x → x.key ≡ key_of job
-deleted_in_key_is job text None q x is = absurd (none-some x is)
-deleted_in_key_is job text (Some s) None x is = absurd (none-some x is)
-deleted_in_key_is job text (Some s) (Some frame) x is = of_condition (condition_of (delete_condition frame s.attrs text)) is
-  where
-    of_condition : (o : Option Condition) → option_map (deletion_as job) o ≡ Some x → x.key ≡ key_of job
-    of_condition None e = absurd (none-some x e)
-    of_condition (Some condition) e = ap (λ y. y.key) (sym (same_Some (deletion_as job condition) x e))
-
--- what a job erases has its key
-deletion_key_is : (h : History) (job : Job) (found : Option (List Key)) (c : Command) (x : Deletion) → deleted_by h job found c ≡ Some x → x.key ≡ key_of job
-deletion_key_is h job found (Create f) x is = absurd (none-some x is)
-deletion_key_is h job found (Evolve change) x is = absurd (none-some x is)
-deletion_key_is h job found (Write v) x is = absurd (none-some x is)
-deletion_key_is h job found (Read from to query) x is = absurd (none-some x is)
-deletion_key_is h job found (Delete text) x is = deleted_in_key_is job text (schema_used h job found) (frame_in h) x is
-
--- what is made of something that has a key
-made_key : {A : Type 0} (make : A → Deed) (key : A → Key) (o : Option A) (own : Key) → ((a : A) → key_in (make a) ≡ Some (key a)) → ((a : A) → o ≡ Some a → key a ≡ own)
-    → (d : Deed) (k : Key) → option_map make o ≡ Some d → key_in d ≡ Some k → k ≡ own
-made_key make key None own keyed owns d k is has = absurd (none-some d is)
-made_key make key (Some a) own keyed owns d k is has = sym (same_Some (key a) k (sym (keyed a) ∙ ap key_in (same_Some (make a) d is) ∙ has)) ∙ owns a refl
-
--- a frame has no key
-pub frame_has_no_key : (o : Option FrameIn) (d : Deed) (k : Key) → option_map (λ f. Framed (frame_made f)) o ≡ Some d → key_in d ≡ Some k → ⊥
-frame_has_no_key None d k is has = none-some d is
-frame_has_no_key (Some f) d k is has = none-some k (ap key_in (same_Some (Framed (frame_made f)) d is) ∙ has)
-
--- the key of the deed of an object that a job puts is the job's
-deed_of_key : (h : History) (job : Job) (found : Option (List Key)) (n : Name) (d : Deed) (k : Key) → deed_of h job found n ≡ Some d → key_in d ≡ Some k → k ≡ key_of job
-deed_of_key h job found name.Domain d k is has = absurd (frame_has_no_key (made_by job.command) d k is has)
-deed_of_key h job found (name.Schema l) d k is has =
-    made_key Declared (λ s. s.key) (declared_by h job found job.command) (key_of job) (λ s. refl) (λ s e. declared_key_is h job found job.command s e) d k is has
-deed_of_key h job found (name.Commit f kind.Wrt) d k is has =
-    made_key Wrote (λ w. w.key) (written_by h job found job.command) (key_of job) (λ w. refl) (λ w e. written_key_is h job found job.command w e) d k is has
-deed_of_key h job found (name.Commit f kind.Del) d k is has =
-    made_key Erased (λ x. x.key) (deleted_by h job found job.command) (key_of job) (λ x. refl) (λ x e. deletion_key_is h job found job.command x e) d k is has
-deed_of_key h job found _ d k is has = absurd (none-some d is)
-
--- the key of a deed of a job's call is the job's
-pub deed_in_key : (h : History) (job : Job) (found : Option (List Key)) (c : Call) (d : Deed) (k : Key) → deed_in h job found c ≡ Some d → key_in d ≡ Some k → k ≡ key_of job
-deed_in_key h job found (call.Put n bytes) d k is has = deed_of_key h job found n d k is has
-deed_in_key h job found _ d k is has = absurd (none-some d is)
-
--- the key is that of a job
-pub record IsKeyOfJob (jobs : List Job) (k : Key) : Type 0 where
-  pub number : ℕ
-  pub job : Job
-  pub is_job : slice_get jobs number ≡ Some job
-  pub key : k ≡ key_of job
-
--- the key of a deed of a call is that of a job
-pub deed_told_key : (jobs : List Job) (h : History) (seen : List Told) (e : Told) (d : Deed) (k : Key) → deed_told jobs h seen e ≡ Some d → key_in d ≡ Some k → IsKeyOfJob jobs k
-deed_told_key jobs h seen e d k is has = of_maker e.job is
-  where
-    of_job : (number : ℕ) (o : Option Job) → slice_get jobs number ≡ o → option_and_then (λ job. deed_in h job (schemas_found (trace_of number seen)) e.call) o ≡ Some d → IsKeyOfJob jobs k
-    of_job number None at it = absurd (none-some d it)
-    of_job number (Some job) at it = record { number = number; job = job; is_job = at; key = deed_in_key h job (schemas_found (trace_of number seen)) e.call d k it has }
-
-    of_maker : (o : Option ℕ) → option_and_then (λ number. option_and_then (λ job. deed_in h job (schemas_found (trace_of number seen)) e.call) (slice_get jobs number)) o ≡ Some d → IsKeyOfJob jobs k
-    of_maker None it = absurd (none-some d it)
-    of_maker (Some number) it = of_job number (slice_get jobs number) refl it
-
--- each key that a call appends is that of a job
-grown_key : (jobs : List Job) (h : History) (seen : List Told) (e : Told) (k : Key) → Contains (keys (grown jobs h seen e)) k → IsKeyOfJob jobs k
-grown_key jobs h seen e k at = from_changed e.changed (deed_told jobs h seen e) refl at
-  where
-    from_changed : (changed : Bool) (o : Option Deed) → deed_told jobs h seen e ≡ o → Contains (keys (cond changed (option_to_list o) [])) k → IsKeyOfJob jobs k
-    from_changed false o is there = absurd (Contains-nil k there)
-    from_changed true None is there = absurd (Contains-nil k there)
-    from_changed true (Some d) is there =
-        let found = filter_map-Contains key_in (d ∷ []) k there in
-        deed_told_key jobs h seen e d k is (ap key_in (Contains-only d found.0 found.1) ∙ found.2)
-
--- each key of the history is one of those before, or that of a job
-pub key_told : (jobs : List Job) (h : History) (before seen : List Told) (k : Key) → Contains (keys (history_from jobs h before seen)) k → Contains (keys h) k ⊎ IsKeyOfJob jobs k
-key_told jobs h before [] k at = inl at
-key_told jobs h before (e ∷ seen) k at = elim (key_told jobs (h ++ grown jobs h before e) (before ++ e ∷ []) seen k at) [
-  | inl there ↦ elim (Contains-append_cases (keys h) (keys (grown jobs h before e)) k (subst (λ ks. Contains ks k) (keys-append h (grown jobs h before e)) there)) [
-    | inl first ↦ inl first
-    | inr own ↦ inr (grown_key jobs h before e k own)
-  ]
-  | inr known ↦ inr known
-]
+-- ---- keys
 
 -- no deed has the key of a job whose identifier is new
 pub new_key : (m : Held) (past : History) (jobs : List Job) (seen : List Told) (job : Job) → IsNewId m past jobs job.id → IsNewKey (history_told jobs past seen) (key_of job)
@@ -212,21 +95,21 @@ module _ {F : Type 0} (codec : Codec F) (spelled : Spelled) (tracks : Tracking F
     (clean : Clean m (history_told jobs past seen) job) where
   -- a create that is not refused puts its frame, and else no deed has its key
   create_claims : (f : FrameIn) → job.command ≡ Create f → (o q : Option Refusal) → create_refusal f ≡ option_or o q
-      → ((r : Refusal) → o ≡ Some r → IsTrueRefusal (history_told jobs past seen) job r) → ((r : Refusal) → q ≡ Some r → IsTrueRefusal (history_told jobs past seen) job r)
+      → ((r : Refusal) → o ≡ Some r → IsTrueRefusal spelled opening jobs past seen number job r) → ((r : Refusal) → q ≡ Some r → IsTrueRefusal spelled opening jobs past seen number job r)
       → Claims codec spelled tracks opening past jobs seen m number job (unless_refused (Creates PutsFrame) (option_or o q))
   create_claims f is None None sound first second = (clean, (f, is, sound))
   create_claims f is None (Some r) sound first second = second r refl
   create_claims f is (Some r) q sound first second = first r refl
 
   -- a refusal for the dimensions is true
-  domain_refusal : (f : FrameIn) (o : Option DomainFault) (r : Refusal) → option_map refusal.DomainBad o ≡ Some r → IsTrueRefusal (history_told jobs past seen) job r
+  domain_refusal : (f : FrameIn) (o : Option DomainFault) (r : Refusal) → option_map refusal.DomainBad o ≡ Some r → IsTrueRefusal spelled opening jobs past seen number job r
   domain_refusal f None r is = absurd (none-some r is)
-  domain_refusal f (Some fault) r is = subst (IsTrueRefusal (history_told jobs past seen) job) (same_Some (refusal.DomainBad fault) r is) clean.undone
+  domain_refusal f (Some fault) r is = subst (IsTrueRefusal spelled opening jobs past seen number job) (same_Some (refusal.DomainBad fault) r is) clean.undone
 
   -- a refusal for the attributes is true
-  schema_refusal : (f : FrameIn) (o : Option SchemaFault) (r : Refusal) → option_map refusal.SchemaBad o ≡ Some r → IsTrueRefusal (history_told jobs past seen) job r
+  schema_refusal : (f : FrameIn) (o : Option SchemaFault) (r : Refusal) → option_map refusal.SchemaBad o ≡ Some r → IsTrueRefusal spelled opening jobs past seen number job r
   schema_refusal f None r is = absurd (none-some r is)
-  schema_refusal f (Some fault) r is = subst (IsTrueRefusal (history_told jobs past seen) job) (same_Some (refusal.SchemaBad fault) r is) clean.undone
+  schema_refusal f (Some fault) r is = subst (IsTrueRefusal spelled opening jobs past seen number job) (same_Some (refusal.SchemaBad fault) r is) clean.undone
 
   -- the claims of where a clean job begins
   begun_claims : (c : Command) → job.command ≡ c → Claims codec spelled tracks opening past jobs seen m number job (begun c)
@@ -237,6 +120,7 @@ module _ {F : Type 0} (codec : Codec F) (spelled : Spelled) (tracks : Tracking F
   begun_claims (Write w) is = (clean, rw is tt)
   begun_claims (Read from to query) is = (clean, (from, to, query, is))
   begun_claims (Delete text) is = (clean, rw is tt)
+  begun_claims (Consolidate from to limits) is = (clean, (from, to, limits, is))
 
 -- ---- the start
 
@@ -317,13 +201,16 @@ module _ (jobs : List Job) (job : Job) where
     now : history_told jobs past seen ≡ history_told all past seen
     now = sym (history_more past seen known)
 
-    -- the history at a listing is one
-    listed_more : (prefix : Prefix) (at : ListedAt seen number prefix) → history_told jobs past at.before ≡ history_told all past at.before
-    listed_more prefix at = sym (history_more past at.before known_before)
+    -- so is that after the first calls
+    front_more : (front back : List Told) → seen ≡ front ++ back → history_told jobs past front ≡ history_told all past front
+    front_more front back parts = sym (history_more past front known_front)
       where
-        known_before : All (IsOfJobs jobs) at.before
-        known_before = All-weaker (Contains at.before) (IsOfJobs jobs)
-            (λ e there. All-contains (IsOfJobs jobs) seen e known (rw (at.place) (Contains-append_left at.before (at.listing ∷ at.later) e there))) at.before (All-contains_itself at.before)
+        known_front : All (IsOfJobs jobs) front
+        known_front = All-weaker (Contains front) (IsOfJobs jobs) (λ e there. All-contains (IsOfJobs jobs) seen e known (rw parts (Contains-append_left front back e there))) front (All-contains_itself front)
+
+    -- and that at a listing
+    listed_more : (prefix : Prefix) (at : ListedAt seen number prefix) → history_told jobs past at.before ≡ history_told all past at.before
+    listed_more prefix at = front_more at.before (at.listing ∷ at.later) at.place
 
     -- a clean job is clean among all
     clean_more : Clean m (history_told jobs past seen) j → Clean m (history_told all past seen) j
@@ -345,14 +232,22 @@ module _ (jobs : List Job) (job : Job) where
       declared = subst (λ g. schema_with g there.key ≡ Some there) now is.declared;
     }
 
+    -- no deed of the job is one among all
+    undone_more : IsUndone (history_told jobs past seen) j → IsUndone (history_told all past seen) j
+    undone_more is = subst (λ g. IsUndone g j) now is
+
+    -- what a job knows since its listing of the commits is the same among all
+    abbrev since_more : Since spelled opening past jobs seen m number → Since spelled opening past all seen m number
+    since_more is = record {
+      commits = is.commits;
+      stands = subst (Stands spelled (held_told opening (is.commits).before)) (listed_more Commits is.commits) is.stands;
+      held = is.held;
+    }
+
     -- what a read listed is the same among all
     abbrev near_more : (from to : ℕ) (fragments counting delete_names : List FragKey) → LooksInto spelled opening past jobs seen m number from to fragments counting delete_names → LooksInto spelled opening past all seen m number from to fragments counting delete_names
     near_more from to fragments counting delete_names is = record {
-      since = record {
-        commits = (is.since).commits;
-        stands = subst (Stands spelled (held_told opening ((is.since).commits).before)) (listed_more Commits (is.since).commits) (is.since).stands;
-        held = (is.since).held;
-      };
+      since = since_more is.since;
       fragments_are = is.fragments_are;
       counting_are = is.counting_are;
       deletes_are = is.deletes_are;
@@ -365,6 +260,7 @@ module _ (jobs : List Job) (job : Job) where
     has_near_more (Write w) listed is = is
     has_near_more (Read from to query) listed is = near_more from to listed.fragments listed.counting listed.delete_names is
     has_near_more (Delete text) listed is = is
+    has_near_more (Consolidate from to limits) listed is = elim is [ ]
 
     -- what a read listed, and then the schemas, is the same among all
     abbrev reads_at_more : (from to : ℕ) (fragments counting delete_names : List FragKey) (there : Schema)
@@ -384,6 +280,7 @@ module _ (jobs : List Job) (job : Job) where
     has_listed_more (Write w) listed there is = works_more there is
     has_listed_more (Read from to query) listed there is = reads_at_more from to listed.fragments listed.counting listed.delete_names there is
     has_listed_more (Delete text) listed there is = works_more there is
+    has_listed_more (Consolidate from to limits) listed there is = elim is [ ]
 
     -- what a read knows is the same among all
     abbrev reads_in_more : (r : Reading) → ReadsIn spelled opening past jobs seen m number j r → ReadsIn spelled opening past all seen m number j r
@@ -404,7 +301,7 @@ module _ (jobs : List Job) (job : Job) where
     opening_more r opened is = record {
       reads = reads_in_more r is.reads;
       are_vacs = is.are_vacs;
-      are_open = subst (λ g. AreOpen codec spelled g (held_told opening (((is.reads).at).listed).since.commits.before) r opened) (listed_more Commits (((is.reads).at).listed).since.commits) is.are_open;
+      are_open = subst (λ g. AreOpen codec spelled g (held_told opening (((is.reads).at).listed).since.commits.before) r.frame r.fragments opened) (listed_more Commits (((is.reads).at).listed).since.commits) is.are_open;
     }
 
     -- a read that gathers schemas is such among all
@@ -434,33 +331,200 @@ module _ (jobs : List Job) (job : Job) where
       found = subst (λ g. AreGot g r.from r.to (r.ready).sub (heads_of (take next opened)) got) (listed_more Commits ((((((is.deletes_found).gathers)).reads).at).listed).since.commits) is.found;
     }
 
+    -- ---- consolidations
+
+    -- what a consolidation chooses from is the same among all
+    abbrev chooses_from_more : (from to : ℕ) (fragments counting : List FragKey) → ChoosesFrom spelled opening past jobs seen m number from to fragments counting → ChoosesFrom spelled opening past all seen m number from to fragments counting
+    chooses_from_more from to fragments counting is = record {
+      since = since_more is.since;
+      fragments_are = is.fragments_are;
+      counting_are = is.counting_are;
+    }
+
+    -- a consolidation that listed the commits is such among all
+    abbrev chooses_more : (c : Candidates) → Chooses spelled opening past jobs seen m number j c → Chooses spelled opening past all seen m number j c
+    chooses_more c is = record {
+      from = is.from;
+      to = is.to;
+      limits = is.limits;
+      merges = is.merges;
+      chooses = chooses_from_more is.from is.to c.fragments c.counting is.chooses;
+    }
+
+    -- that a job found a schema is true among all
+    abbrev finds_schema_more : FindsSchema jobs past seen number j → FindsSchema all past seen number j
+    finds_schema_more is = record { schemas = is.schemas; there = is.there; holds = subst (λ g. schema_there g (looked_at j) ≡ Some is.there) (listed_more Schemas is.schemas) is.holds }
+
+    -- so is one that gets `.vac` objects
+    abbrev surveys_more : (s : Survey) → Surveys spelled opening past jobs seen m number j s → Surveys spelled opening past all seen m number j s
+    surveys_more s is = record {
+      merges = is.merges;
+      chooses = chooses_from_more s.from s.to s.fragments s.counting is.chooses;
+      found = finds_schema_more is.found;
+      framed = framed_more s.frame is.framed;
+      are_vacs = is.are_vacs;
+    }
+
+    -- one that opens fragments
+    abbrev opens_more : (s : Survey) (opened : List Opened) → Opens codec spelled opening past jobs seen m number j s opened → Opens codec spelled opening past all seen m number j s opened
+    opens_more s opened is = record {
+      surveys = surveys_more s is.surveys;
+      all_vacs = is.all_vacs;
+      are_open = subst (λ g. AreOpen codec spelled g (held_told opening ((((is.surveys).chooses).since).commits).before) s.frame s.fragments opened) (listed_more Commits (((is.surveys).chooses).since).commits) is.are_open;
+    }
+
+    -- one that gets schemas
+    abbrev learns_more : (s : Survey) (opened : List Opened) (schemas : List Schema) → Learns codec spelled opening past jobs seen m number j s opened schemas → Learns codec spelled opening past all seen m number j s opened schemas
+    learns_more s opened schemas is = record {
+      opens = opens_more s opened is.opens;
+      all_open = is.all_open;
+      gathered = subst (λ g. AreSchemas g (schemas_named opened) schemas) now is.gathered;
+    }
+
+    -- a plan is the same over a history that is the same
+    abbrev planned_more : (g h : History) → g ≡ h → (n : Held) (from to : ℕ) (limits : Limits) (plan : Planned) → IsPlanned spelled g n from to limits plan → IsPlanned spelled h n from to limits plan
+    planned_more g h same n from to limits plan is = record {
+      heads = is.heads;
+      are_heads = subst (λ x. AreInside spelled x n from to is.heads) same is.are_heads;
+      vacs = is.vacs;
+      are_vacs = is.are_vacs;
+      is = subst (λ x. plan_of is.heads is.vacs (attributes_with x) from to limits ≡ plan) same is.is;
+    }
+
+    -- a consolidation that knows its sources is such among all
+    abbrev has_sources_more : (s : Survey) (sources : List Opened) (schema : Schema)
+        → HasSources codec spelled opening past jobs seen m number j s sources schema → HasSources codec spelled opening past all seen m number j s sources schema
+    has_sources_more s sources schema is =
+        let commits = (((is.surveys).chooses).since).commits in
+        record {
+          surveys = surveys_more s is.surveys;
+          by_plan = planned_more (history_told jobs past commits.before) (history_told all past commits.before) (listed_more Commits commits) (held_told opening commits.before) s.from s.to s.limits (planned.Take (frags_of sources)) is.by_plan;
+          same_vacs = is.same_vacs;
+          heads = is.heads;
+          pieces = is.pieces;
+          are_sources = subst (λ g. AreSourcesIn codec spelled g (held_told opening commits.before) s.frame schema sources is.pieces) (listed_more Commits commits) is.are_sources;
+          declared = subst (λ g. schema_with g schema.key ≡ Some schema) now is.declared;
+        }
+
+    -- so is one that fetches them
+    abbrev merges_more : (s : Survey) (sources : List Opened) (schema : Schema) (next : ℕ) (got : List (List Version))
+        → Merges codec spelled opening past jobs seen m number j s sources schema next got → Merges codec spelled opening past all seen m number j s sources schema next got
+    merges_more s sources schema next got is = record { has = has_sources_more s sources schema is.has; got_are = is.got_are }
+
+    -- and one that puts what they are merged into
+    aims_to_merge_more : (objects : List NewObject) (f : FragKey) (count : ℕ) → AimsToMerge codec spelled opening past jobs seen m number j objects f count → AimsToMerge codec spelled opening past all seen m number j objects f count
+    aims_to_merge_more objects f count is = record {
+      survey = is.survey;
+      first = is.first;
+      others = is.others;
+      schema = is.schema;
+      got = is.got;
+      merges = merges_more is.survey (is.first ∷ is.others) is.schema (length (is.first ∷ is.others)) is.got is.merges;
+      named = is.named;
+      counted = is.counted;
+      can = is.can;
+      are = is.are;
+    }
+
+    -- what the state of a consolidation says is true among all
+    merge_claims_more : (s : Merging F) → MergeClaims codec spelled tracks opening past jobs seen m number j s → MergeClaims codec spelled tracks opening past all seen m number j s
+    merge_claims_more merging.ListsCommits is = (clean_more is.0, is.1)
+    merge_claims_more (merging.ListsSchemas c) is = (clean_more is.0, chooses_more c is.1)
+    merge_claims_more (merging.GetsFrame c) is = (clean_more is.0, chooses_more c is.1, (is.2.0, framed_more is.2.0 is.2.1), finds_schema_more is.3)
+    merge_claims_more (merging.GetsVacs s) is = (clean_more is.0, surveys_more s is.1)
+    merge_claims_more (merging.GetsHeads s opened) is = (clean_more is.0, opens_more s opened is.1)
+    merge_claims_more (merging.GetsSchemas s opened named schemas) is = (clean_more is.0, is.1, learns_more s opened schemas is.2)
+    merge_claims_more (merging.Fetches s sources schema next frag got fetch c) is =
+        let commits = (((((is.2.0).has).surveys).chooses).since).commits in (
+          clean_more is.0,
+          is.1,
+          (
+            merges_more s sources schema next got is.2.0,
+            subst (λ g. IsFetched codec spelled tracks g (held_told opening commits.before) s.frame schema frag ((is.2.0).has).pieces next fetch c) (listed_more Commits commits) is.2.1,
+          ),
+        )
+
+    -- that a consolidation found nothing to do is true among all
+    finds_nothing_more : (count : ℕ) → FindsNothing spelled opening jobs past seen number j count → FindsNothing spelled opening all past seen number j count
+    finds_nothing_more count is =
+        let before = (is.commits).before in
+        record {
+          from = is.from;
+          to = is.to;
+          limits = is.limits;
+          merges = is.merges;
+          commits = is.commits;
+          by_plan = planned_more (history_told jobs past before) (history_told all past before) (listed_more Commits is.commits) (held_told opening before) is.from is.to is.limits (planned.Nothing count) is.by_plan;
+          found = finds_schema_more is.found;
+        }
+
+    -- so is what it merged
+    merged_more : (f : FragKey) (count : ℕ) → IsMerged spelled opening jobs past seen number j f count → IsMerged spelled opening all past seen number j f count
+    merged_more f count is =
+        let before = (is.commits).before in
+        let put = is.put in
+        record {
+          from = is.from;
+          to = is.to;
+          limits = is.limits;
+          merges = is.merges;
+          commits = is.commits;
+          sources = is.sources;
+          by_plan = planned_more (history_told jobs past before) (history_told all past before) (listed_more Commits is.commits) (held_told opening before) is.from is.to is.limits (planned.Take is.sources) is.by_plan;
+          counted = is.counted;
+          found = finds_schema_more is.found;
+          own = is.own;
+          put = is.put;
+          later = is.later;
+          order = is.order;
+          committed = is.committed;
+          piece = is.piece;
+          holds = subst (λ g. HoldsIn spelled g (held_told opening (up_to put.before put.made)) f is.piece)
+              (front_more (up_to put.before put.made) put.later (put.place ∙ sym (append_assoc put.before (put.made ∷ []) put.later))) is.holds;
+          origins = is.origins;
+          merged = is.merged;
+        }
+
+    -- ---- what a job puts, and its end
+
     -- what the last put of a job makes of it is the same among all
-    aims_more : (objects : List NewObject) (end : Outcome) → Aims codec past jobs seen number j objects end → Aims codec past all seen number j objects end
+    aims_more : (objects : List NewObject) (end : Outcome) → Aims codec spelled opening past jobs seen m number j objects end → Aims codec spelled opening past all seen m number j objects end
     aims_more objects outcome.Created (f, creates, is, none, framed) = (f, creates, is, none, framed_more (frame_made f) framed)
     aims_more objects (outcome.Evolved k) (change, frame, there, evolves, same, is, framed, sound, works) =
         (change, frame, there, evolves, same, is, framed_more frame framed, sound, works_more there works)
-    aims_more objects (outcome.Written f) (w, frame, there, cells, writes_them, same, is, framed, lays, works) =
-        (w, frame, there, cells, writes_them, same, is, framed_more frame framed, lays, works_more there works)
+    aims_more objects (outcome.Written f) (w, frame, there, cells, writes_them, same, is, no_vac, framed, lays, works) =
+        (w, frame, there, cells, writes_them, same, is, no_vac, framed_more frame framed, lays, works_more there works)
     aims_more objects (outcome.Deleted f) (text, frame, there, condition, deletes, same, is, framed, says, works) =
         (text, frame, there, condition, deletes, same, is, framed_more frame framed, says, works_more there works)
+    aims_more objects (outcome.Consolidated f count) is = aims_to_merge_more objects f count is
     aims_more objects (outcome.Read answer) is = is
     aims_more objects (outcome.Refused r) is = is
     aims_more objects outcome.OutOfMemory is = is
 
     -- a job that puts is such among all
-    putting_more : (objects : List NewObject) (next : ℕ) (end : Outcome) → Putting codec past jobs seen m number j objects next end → Putting codec past all seen m number j objects next end
+    putting_more : (objects : List NewObject) (next : ℕ) (end : Outcome) → Putting codec spelled opening past jobs seen m number j objects next end → Putting codec spelled opening past all seen m number j objects next end
     putting_more objects next end is = record {
       held = is.held;
       short = is.short;
       free = is.free;
       some = is.some;
-      undone = subst (λ g. IsUndone g j) now is.undone;
-      bare = is.bare;
+      undone = undone_more is.undone;
+      unspent = is.unspent;
       aims = aims_more objects end is.aims;
     }
 
+    -- what a refusal tells is true among all
+    refusal_more : (r : Refusal) → IsTrueRefusal spelled opening jobs past seen number j r → IsTrueRefusal spelled opening all past seen number j r
+    refusal_more (refusal.Missing n) is = is
+    refusal_more (refusal.Damaged n at) is = is
+    refusal_more (refusal.Taken n) is = is
+    refusal_more (refusal.StoreFault (place.Name (name.Commit f made))) is = elim is [ inl own ↦ inl own | inr undone ↦ inr (undone_more undone) ]
+    refusal_more (refusal.StoreFault (place.Name (name.Schema k))) is = elim is [ inl own ↦ inl own | inr undone ↦ inr (undone_more undone) ]
+    refusal_more (refusal.NothingToDo count) is = (undone_more is.0, finds_nothing_more count is.1)
+    refusal_more _ is = undone_more is
+
     -- what the end of a job tells is true among all
-    end_more : (end : Outcome) → IsTrueEnd jobs past seen number j end → IsTrueEnd all past seen number j end
+    end_more : (end : Outcome) → IsTrueEnd spelled opening jobs past seen number j end → IsTrueEnd spelled opening all past seen number j end
     end_more outcome.Created is = subst (λ g. IsCreated g j) now is
     end_more (outcome.Evolved k) (same, is) = (
       same,
@@ -520,7 +584,8 @@ module _ (jobs : List Job) (job : Job) where
             (subst (λ g. IsAnswer (history_told jobs past (is.commits).before) g from to query answer) (listed_more Schemas is.schemas) is.answers);
       },
     )
-    end_more (outcome.Refused r) is = subst (λ g. IsTrueRefusal g j r) now is
+    end_more (outcome.Consolidated f count) (undone, is) = (undone_more undone, merged_more f count is)
+    end_more (outcome.Refused r) is = refusal_more r is
     end_more outcome.OutOfMemory is = is
 
     -- the claims of a job hold among all
@@ -545,6 +610,7 @@ module _ (jobs : List Job) (job : Job) where
         subst (λ g. OnWay spelled tracks g (held_told opening (((((((is.2.0).deletes_found).gathers)).reads).at).listed).since.commits.before) r frag fetch c) (listed_more Commits (((((((is.2.0).deletes_found).gathers)).reads).at).listed).since.commits) is.2.1,
       ),
     )
+    claims_more (states.Merges s) is = merge_claims_more s is
     claims_more (Over end) is = end_more end is
 
     -- the claims of its stage hold among all
@@ -552,7 +618,7 @@ module _ (jobs : List Job) (job : Job) where
     stage_more (PutsLease lease) is = ((is.0.0, claims_more (begun j.command) is.0.1), is.1)
     stage_more (ListsLeases lease) is = (is.0, claims_more (begun j.command) is.1)
     stage_more (stages.Works s) is = claims_more s is
-    stage_more (Releases lease end) is = (is.0, end_more end is.1, subst (λ g. IsUndone g j) now is.2)
+    stage_more (Releases lease end) is = (is.0, end_more end is.1, undone_more is.2)
 
   module _ {F : Type 0} (codec : Codec F) (spelled : Spelled) (tracks : Tracking F) (opening : Held) (past : History) (dead : List ℕ) (seen : List Told) (m : Held)
       (kept : Kept codec spelled tracks opening past jobs dead seen m) (is : IsNewId m past jobs job.id) where
@@ -569,14 +635,18 @@ module _ (jobs : List Job) (job : Job) where
       ]
     ]
 
-    -- its fragment is in no `.vac`
-    bare_new : IsBare m (frag_of_job job)
-    bare_new = record {
-      none = new_is_free m past job.id is.free (vac_of (frag_of_job job)) refl;
-      unnamed = λ g committed named. elim (((kept.stands).merged).known g (frag_of_job job) committed named) [
-        | inl deed ↦ absent_from_new (history_told jobs past seen) (key_of job) (new_key m past jobs seen job is)
-            (subst (Contains (keys (history_told jobs past seen))) (sym (key_of_frag (key_of job) deed.0 deed.2)) deed.1)
-        | inr object ↦ is.free (inr (object.0, object.2, object.3))
+    -- its identifier is unspent
+    unspent_new : IsUnspent m job.id
+    unspent_new = record {
+      uncommitted = λ f same committed. is.free (inr (wrt_of f, committed, ap Some same));
+      unnamed = λ f same by. elim (((kept.stands).merged).known by.0 f by.1 by.2) [
+        | inl deed ↦
+            let own : (deed.0).id ≡ job.id = ap (λ (g : FragKey). g.id) (sym deed.2) ∙ same in
+            elim (key_told jobs past [] seen deed.0 deed.1) [
+              | inl before ↦ is.free (inl (deed.0, before, own))
+              | inr told ↦ is.other told.number told.job told.is_job (sym (ap (λ (k : Key). k.id) told.key) ∙ own)
+            ]
+        | inr object ↦ is.free (inr (object.0, object.2, object.3 ∙ ap Some same))
       ];
     }
 
@@ -588,7 +658,7 @@ module _ (jobs : List Job) (job : Job) where
         begins = begun_claims codec spelled tracks opening m past all seen (length jobs) job (record {
           free = λ n carries _. new_is_free m past job.id is.free n carries;
           undone = subst (λ g. IsNewKey g (key_of job)) (sym (history_more past seen kept.known)) (new_key m past jobs seen job is);
-          bare = bare_new;
+          unspent = unspent_new;
         }) job.command refl
 
         by_lease : (o : Option Name) → lease_of job ≡ o → StageClaims codec spelled tracks opening past all seen m (length jobs) job (begins_at o (begun job.command))

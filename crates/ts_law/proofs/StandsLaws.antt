@@ -33,7 +33,9 @@ use Rattle.ts_model.specs.Deeds.{History, schema_in, deletion_in, frame_in, sche
 use Rattle.ts_model.specs.Pieces.{HoldsWrite}
 use Rattle.ts_model.specs.Codecs.{Spelled}
 use Rattle.ts_law.specs.Origins.{box_in}
-use Rattle.ts_law.specs.Stands.{IsBare, IsCommitted, IsReached, Spells, HoldsIn, Stands}
+use Rattle.ts_model.specs.States.{vac_of}
+use Rattle.ts_commit.specs.Vacs.{AreNames}
+use Rattle.ts_law.specs.Stands.{AreMerged, IsNamed, Names, Within, IsCommitted, IsReached, Spells, HoldsIn, Stands}
 use Rattle.ts_law.specs.Fresh.{id_in}
 use Rattle.ts_law.specs.Steps.{Keeps, Leads}
 use Rattle.ts_model.specs.declared.commands.Job.{Job}
@@ -42,8 +44,8 @@ use Rattle.ts_model.proofs.ListLemmas.{Contains-nil, Contains-here, Contains-onl
 use Rattle.ts_model.proofs.KeyLemmas.{frag_itself, frag_same, key_itself, key_same, same_from_tie}
 use Rattle.ts_model.proofs.HistoryLaws.{writes-append, frame_in-append, schema_with-append, IsHistory-push, no_deeds}
 use Rattle.ts_law.proofs.HeldLemmas.{Holds, Holds-from_get, get_put, get_apart, held_before, stays_held, holds_stays}
-use Rattle.ts_law.proofs.VacLaws.{MarksNone, merged_grows, named_before}
-use Rattle.ts_law.proofs.Grows.{PartsStay, own_usable, holds_on_in, holds_in_grows, ordinary_holds, origin_is}
+use Rattle.ts_law.proofs.VacLaws.{MarksNone, merged_grows, named_before, IsBare, joined_names, merged_joins}
+use Rattle.ts_law.proofs.Grows.{PartsStay, own_usable, holds_on_in, holds_in_grows, ordinary_holds, origin_is, within_on}
 
 -- ---- histories that grow
 
@@ -107,7 +109,7 @@ keeps_put m h n bytes id more free marks carries come = record {
     | inl before ↦ inl before
     | inr same ↦ inr (subst (λ p. (id_in p ≡ Some id) ⊎ (p ≡ name.Domain)) (sym same.0) carries)
   ];
-  names = named_before m n bytes free marks;
+  names = λ g f committed named. let before = named_before m n bytes free marks g f committed named in inr (g, before.0, before.1);
   more = more;
   grows = refl;
   come = come;
@@ -115,32 +117,32 @@ keeps_put m h n bytes id more free marks carries come = record {
 
 -- a name that is none of a commit marks none
 pub marks_domain : (m : Held) → MarksNone m name.Domain
-marks_domain m = record { no_vac = λ g e. cc; bare = λ f e. absurd (no_wrt f e) }
+marks_domain m = record { no_vac = λ g _ e. cc; bare = λ f e. absurd (no_wrt f e) }
   where
     no_wrt : (f : FragKey) → wrt_of f ≡ name.Domain → ⊥
     no_wrt f e = cc
 
 pub marks_schema : (m : Held) (k : Key) → MarksNone m (name.Schema k)
-marks_schema m k = record { no_vac = λ g e. cc; bare = λ f e. absurd (no_wrt f e) }
+marks_schema m k = record { no_vac = λ g _ e. cc; bare = λ f e. absurd (no_wrt f e) }
   where
     no_wrt : (f : FragKey) → wrt_of f ≡ name.Schema k → ⊥
     no_wrt f e = cc
 
 pub marks_part : (m : Held) (g : FragKey) (part : Part) → MarksNone m (name.Part g part)
-marks_part m g part = record { no_vac = λ g e. cc; bare = λ f e. absurd (no_wrt f e) }
+marks_part m g part = record { no_vac = λ g _ e. cc; bare = λ f e. absurd (no_wrt f e) }
   where
     no_wrt : (f : FragKey) → wrt_of f ≡ name.Part g part → ⊥
     no_wrt f e = cc
 
 pub marks_delete : (m : Held) (k : Key) → MarksNone m (del_of k)
-marks_delete m k = record { no_vac = λ g e. cc; bare = λ f e. absurd (no_wrt f e) }
+marks_delete m k = record { no_vac = λ g _ e. cc; bare = λ f e. absurd (no_wrt f e) }
   where
     no_wrt : (f : FragKey) → wrt_of f ≡ del_of k → ⊥
     no_wrt f e = cc
 
 -- nor does a `.wrt` of a fragment that is in no `.vac`
 pub marks_wrt : (m : Held) (f : FragKey) → IsBare m f → MarksNone m (wrt_of f)
-marks_wrt m f bare = record { no_vac = λ g e. cc; bare = λ g same. subst (IsBare m) (sym (one_frag g same)) bare }
+marks_wrt m f bare = record { no_vac = λ g _ e. cc; bare = λ g same. subst (IsBare m) (sym (one_frag g same)) bare }
   where
     one_frag : (g : FragKey) → wrt_of g ≡ wrt_of f → g ≡ f
     one_frag g same = cc
@@ -375,6 +377,10 @@ module _ (spelled : Spelled) (m : Held) (h : History) (w : Written) (frame : Fra
       named = spells.named;
     };
     holds = ordinary_holds (h ++ come) is_history w written p holds box;
+    name = (
+      record { span = omega arith; version = refl },
+      record { t1 = (follows.key).t; t2 = (follows.key).t; id = (follows.key).id; v = omega arith },
+    );
   }
 
   -- it is in its fragment
@@ -399,6 +405,86 @@ module _ (spelled : Spelled) (m : Held) (h : History) (w : Written) (frame : Fra
         (λ same. subst (IsWhole spelled (h ++ come) then_held) (sym (frag_of_wrt f own same)) (p, own_holds));
     merged = merged_grows m (wrt_of own) [] free (marks_wrt m own bare) spelled h come fresh stands.merged;
     covered = λ v at. covered_grows spelled m h (wrt_of own) [] come free stands fresh v at (λ one. subst (IsCovered spelled (h ++ come) then_held) (Contains-only w v one) own_went);
+  }
+
+-- ---- a `.vac`
+
+-- the `.vac` of a fragment that is not committed marks none
+pub marks_vac : (m : Held) (f : FragKey) → (IsCommitted m f → ⊥) → MarksNone m (vac_of f)
+marks_vac m f none = record { no_vac = λ g committed same. none (subst (IsCommitted m) (one_vac g same) committed); bare = λ g e. absurd (no_wrt g e) }
+  where
+    no_wrt : (g : FragKey) → wrt_of g ≡ vac_of f → ⊥
+    no_wrt g e = cc
+
+    one_vac : (g : FragKey) → vac_of g ≡ vac_of f → g ≡ f
+    one_vac g same = cc
+
+-- a `.vac` that is put before its fragment is committed stands for no deed
+pub stands_vac : (spelled : Spelled) (m : Held) (h : History) (f : FragKey) (bytes : List ℕ) → (Holds m (vac_of f) → ⊥) → (IsCommitted m f → ⊥) → IsShort bytes → Stands spelled m h
+    → Stands spelled (map.insert m (vac_of f) bytes) h
+stands_vac spelled m h f bytes free none short stands = subst (Stands spelled (map.insert m (vac_of f) bytes)) (append-nil h) (record {
+  history = subst IsHistory (sym (append-nil h)) stands.history;
+  frame = frame_grows spelled m h (vac_of f) bytes [] free stands (λ e. cc) refl;
+  schemas = λ k. schema_grows spelled m h (vac_of f) bytes [] free stands k (λ e. cc) (ap (λ g. schema_with g k) (append-nil h));
+  deletes = λ g. delete_grows spelled m h (vac_of f) bytes [] free stands g (λ e. cc) (ap (λ k. deletion_of k g) (append-nil h));
+  short_frame = short_frame_grows spelled m h (vac_of f) bytes [] free stands short;
+  short_schemas = short_schemas_grow spelled m h (vac_of f) bytes [] free stands short;
+  short_deletes = short_deletes_grow spelled m h (vac_of f) bytes [] free stands short;
+  whole = λ g committed. whole_grows spelled m h (vac_of f) bytes [] free stands (λ v at. absurd (Contains-nil v at)) g committed (λ e. cc);
+  merged = merged_grows m (vac_of f) bytes free (marks_vac m f none) spelled h [] (λ v at. absurd (Contains-nil v at)) stands.merged;
+  covered = λ w at. covered_grows spelled m h (vac_of f) bytes [] free stands (λ v none. absurd (Contains-nil v none)) w at (λ none. absurd (Contains-nil w none));
+})
+
+-- ---- the `.wrt` of a consolidation
+
+module _ (spelled : Spelled) (m : Held) (h : History) (f : FragKey) (free : Holds m (wrt_of f) → ⊥) (unnamed : IsNamed m f → ⊥) (names : List FragKey) (vac : Names m f names)
+    (old : (x : FragKey) → Contains names x → IsCommitted m x ⊎ IsNamed m x) (short : IsShort vac.bytes) (are_names : AreNames names) (p : Piece) (holds : HoldsIn spelled h m f p) (stands : Stands spelled m h)
+    (joins : (x : FragKey) → Contains names x → IsCommitted m x → Within spelled h m x f) where
+  -- what is held after the put
+  abbrev merged_held : Held
+  merged_held = map.insert m (wrt_of f) []
+
+  -- parts that are held stay held
+  merged_parts : (g : FragKey) → PartsStay m merged_held g
+  merged_parts g part kept e = stays_held m (wrt_of f) [] (name.Part g part) kept free e
+
+  -- one `.wrt` is of one fragment
+  merged_one : (g : FragKey) → wrt_of g ≡ wrt_of f → g ≡ f
+  merged_one g same = cc
+
+  -- the fragment holds its piece still
+  pub merged_holds : HoldsIn spelled h merged_held f p
+  merged_holds = holds_on_in spelled h m merged_held f p (merged_parts f) holds
+
+  -- the fragment of a consolidation whose `.wrt` is put stands for no deed
+  pub stands_merge : Stands spelled merged_held h
+  stands_merge = subst (Stands spelled merged_held) (append-nil h) (record {
+    history = subst IsHistory (sym (append-nil h)) stands.history;
+    frame = frame_grows spelled m h (wrt_of f) [] [] free stands (λ e. cc) refl;
+    schemas = λ k. schema_grows spelled m h (wrt_of f) [] [] free stands k (λ e. cc) (ap (λ g. schema_with g k) (append-nil h));
+    deletes = λ g. delete_grows spelled m h (wrt_of f) [] [] free stands g (λ e. cc) (ap (λ k. deletion_of k g) (append-nil h));
+    short_frame = short_frame_grows spelled m h (wrt_of f) [] [] free stands short_nothing;
+    short_schemas = short_schemas_grow spelled m h (wrt_of f) [] [] free stands short_nothing;
+    short_deletes = short_deletes_grow spelled m h (wrt_of f) [] [] free stands short_nothing;
+    whole = λ g committed. whole_grows spelled m h (wrt_of f) [] [] free stands (λ v at. absurd (Contains-nil v at)) g committed
+        (λ same. subst (λ k. IsWhole spelled k merged_held g) (sym (append-nil h)) (subst (IsWhole spelled h merged_held) (sym (merged_one g same)) (p, merged_holds)));
+    merged = subst (λ k. AreMerged spelled k merged_held) (sym (append-nil h))
+        (merged_joins m f free unnamed names vac old spelled h short are_names stands.merged (λ x named committed. within_on spelled h m merged_held x f (merged_parts x) (merged_parts f) (joins x named committed)));
+    covered = λ w at. covered_grows spelled m h (wrt_of f) [] [] free stands (λ v none. absurd (Contains-nil v none)) w at (λ none. absurd (Contains-nil w none));
+  })
+
+  -- the put keeps what others rely on
+  pub keeps_merge : (id : ℕ) → f.id ≡ id → Keeps m merged_held h h id
+  keeps_merge id carries = record {
+    keeps = λ q kept _ e. stays_held m (wrt_of f) [] q kept free e;
+    adds = λ q kept held. elim (get_before m (wrt_of f) [] q kept held) [
+      | inl before ↦ inl before
+      | inr same ↦ inr (inl (ap id_in same.0 ∙ ap Some carries))
+    ];
+    names = joined_names m f free unnamed names vac old;
+    more = [];
+    grows = sym (append-nil h);
+    come = λ k at. absurd (Contains-nil k at);
   }
 
 -- ---- a delete

@@ -4,6 +4,7 @@ use Rattle.std.proofs.lemmas.List.Elements.{Contains-append_cases, Contains-appe
 use Rattle.std.proofs.lemmas.Option.{none-some, same_Some}
 use Rattle.std.specs.Prelude.{Contains}
 use Rattle.ts_base.specs.Held.{Held}
+use Rattle.ts_base.specs.Names.{wrt_of}
 use Rattle.ts_base.specs.declared.heads.Version.{Version}
 use Rattle.ts_base.specs.declared.keys.FragKey.{FragKey}
 use Rattle.ts_base.specs.declared.keys.Key.{Key}
@@ -14,20 +15,19 @@ use Rattle.ts_model.proofs.HistoryLaws.{absent_from_new, deletions-append, frame
 use Rattle.ts_model.proofs.Traces.{schemas_found-stays}
 use Rattle.ts_model.specs.Commands.{frame_made}
 use Rattle.ts_model.specs.Deeds.{History, IsNewKey, deletions, frame_in, keys, schema_with, writes}
-use Rattle.ts_law.specs.Ends.{HasDeclared, IsTrueEnd, IsTrueRefusal, ListedAt}
+use Rattle.ts_law.specs.Ends.{FindsNothing, HasDeclared, IsMerged, IsTrueEnd, IsTrueRefusal, IsUndone, ListedAt, MadeAt, FindsSchema}
 use Rattle.ts_model.specs.Codecs.{Codec, Spelled}
 use Rattle.ts_law.specs.Fresh.{id_in}
-use Rattle.ts_model.specs.Jobs.{deletion_as, frag_of_job, key_of, schema_of_job, written_as}
+use Rattle.ts_model.specs.Jobs.{deletion_as, key_of, schema_of_job, written_as}
 use Rattle.ts_law.specs.Kept.{AreDeletions, AreSchemas, Clean, GettingDeletes, GettingVacs, Fetching, Gathering, HasListed, HasLooked, LooksInto, Opening, ReadsAt, ReadsIn, Since, Works}
 use Rattle.ts_model.specs.States.{keys_named, list_schemas}
-use Rattle.ts_model.specs.States.{vac_of}
 use Rattle.ts_law.specs.Steps.{Keeps}
-use Rattle.ts_law.proofs.VacLaws.{bare_stays}
+use Rattle.ts_law.proofs.VacLaws.{unspent_stays}
 use Rattle.ts_model.specs.Told.{Told, history_told}
 use Rattle.ts_model.specs.declared.answers.Outcome.{Outcome}
 use Rattle.ts_model.specs.declared.answers.Refusal.{Refusal}
 use Rattle.ts_model.specs.declared.commands.Command.{Command}
-use Rattle.ts_model.specs.declared.commands.Command.TheVariants.{Create, Delete, Evolve, Read, Write}
+use Rattle.ts_model.specs.declared.commands.Command.TheVariants.{Consolidate, Create, Delete, Evolve, Read, Write}
 use Rattle.ts_model.specs.declared.commands.Job.{Job}
 use Rattle.ts_model.specs.declared.deeds.Deletion.{Deletion}
 use Rattle.ts_model.specs.declared.deeds.Written.{Written}
@@ -38,6 +38,7 @@ use Rattle.ts_schema.specs.Evolutions.{evolved_attrs}
 use Rattle.ts_schema.specs.declared.attrs.Attr.{Attr}
 use Rattle.ts_schema.specs.declared.frames.Frame.{Frame}
 use Rattle.ts_schema.specs.declared.schemas.Schema.{Schema}
+use Rattle.ts_store.specs.declared.call.Call.{Call}
 use Rattle.ts_store.specs.declared.call.Call.TheVariants as call
 use Rattle.std.specs.FinMap as map
 use Rattle.ts_base.specs.declared.names.Name.TheVariants as name
@@ -90,17 +91,8 @@ module _ (m m' : Held) (h h' : History) (id : ℕ) (keeps : Keeps m m' h h' id) 
   clean_stays job other clean = record {
     free = λ n carries apart. absent_stays n job.id carries other (clean.free n carries apart);
     undone = new_stays (key_of job) other clean.undone;
-    bare = bare_stays m m' h h' id keeps (frag_of_job job) (absent_stays (vac_of (frag_of_job job)) job.id refl other) clean.bare;
+    unspent = unspent_stays m m' h h' id job.id keeps other clean.unspent;
   }
-
-  -- what a refusal tells stays
-  pub refusal_stays : (job : Job) (r : Refusal) → (job.id ≡ id → ⊥) → IsTrueRefusal h job r → IsTrueRefusal h' job r
-  refusal_stays job (refusal.Missing n) other is = is
-  refusal_stays job (refusal.Damaged n at) other is = is
-  refusal_stays job (refusal.Taken n) other is = is
-  refusal_stays job (refusal.StoreFault (place.Name (name.Commit f kind))) other is = elim is [ inl own ↦ inl own | inr undone ↦ inr (new_stays (key_of job) other undone) ]
-  refusal_stays job (refusal.StoreFault (place.Name (name.Schema k))) other is = elim is [ inl own ↦ inl own | inr undone ↦ inr (new_stays (key_of job) other undone) ]
-  refusal_stays job _ other is = new_stays (key_of job) other is
 
 -- a job that is clean is so where nothing changed
 pub clean_look : (m m' : Held) (h h' : History) (job : Job) → m' ≡ m → h' ≡ h → Clean m h job → Clean m' h' job
@@ -120,6 +112,17 @@ listed_stays seen e number prefix at = record {
 -- a listing that comes now is listed
 abbrev pub listed_now : (seen : List Told) (e : Told) (number : ℕ) (prefix : Prefix) → e.job ≡ Some number → e.call ≡ call.List prefix → ListedAt (seen ++ e ∷ []) number prefix
 listed_now seen e number prefix own lists = record { before = seen; listing = e; later = []; place = refl; own = own; lists = lists }
+
+-- a call that was made was made still
+abbrev pub made_stays : (seen : List Told) (e : Told) (number : ℕ) (c : Call) → MadeAt seen number c → MadeAt (seen ++ e ∷ []) number c
+made_stays seen e number c at = record {
+  before = at.before;
+  made = at.made;
+  later = at.later ++ e ∷ [];
+  place = ap (λ t. t ++ e ∷ []) at.place ∙ append_assoc at.before (at.made ∷ at.later) (e ∷ []);
+  own = at.own;
+  makes = at.makes;
+}
 
 -- ---- what a job found so far
 
@@ -153,6 +156,7 @@ module _ (spelled : Spelled) (opening : Held) (past : History) (jobs : List Job)
   has_near_stays (Write w) listed is = is
   has_near_stays (Read from to query) listed is = near_stays from to listed.fragments listed.counting listed.delete_names is
   has_near_stays (Delete text) listed is = is
+  has_near_stays (Consolidate from to limits) listed is = elim is [ ]
 
   -- the schema that a job works in stays
   abbrev pub works_stays : (job : Job) (there : Schema) → Unlisted → Works past jobs seen number job there → Works past jobs (seen ++ e ∷ []) number job there
@@ -184,6 +188,7 @@ module _ (spelled : Spelled) (opening : Held) (past : History) (jobs : List Job)
   has_listed_stays job (Write w) listed there unlisted is = works_stays job there unlisted is
   has_listed_stays job (Read from to query) listed there unlisted is = reads_at_stays job from to listed.fragments listed.counting listed.delete_names there unlisted is
   has_listed_stays job (Delete text) listed there unlisted is = works_stays job there unlisted is
+  has_listed_stays job (Consolidate from to limits) listed there unlisted is = elim is [ ]
 
   -- what a read knows stays
   abbrev pub reads_in_stays : (job : Job) (r : Reading) → Unlisted → ReadsIn spelled opening past jobs seen m number job r → ReadsIn spelled opening past jobs (seen ++ e ∷ []) m' number job r
@@ -252,14 +257,69 @@ module _ (spelled : Spelled) (opening : Held) (past : History) (jobs : List Job)
 
 -- ---- ends
 
-module _ (past : History) (jobs : List Job) (seen : List Told) (e : Told) (m m' : Held) (id : ℕ)
+-- that a job found a schema stays true
+abbrev pub finds_schema_stays : (past : History) (jobs : List Job) (seen : List Told) (e : Told) (number : ℕ) (job : Job) → FindsSchema jobs past seen number job → FindsSchema jobs past (seen ++ e ∷ []) number job
+finds_schema_stays past jobs seen e number job is = record { schemas = listed_stays seen e number Schemas is.schemas; there = is.there; holds = is.holds }
+
+-- that a consolidation found nothing to do stays true
+pub finds_nothing_stays : (spelled : Spelled) (opening : Held) (past : History) (jobs : List Job) (seen : List Told) (e : Told) (number : ℕ) (job : Job) (count : ℕ)
+    → FindsNothing spelled opening jobs past seen number job count → FindsNothing spelled opening jobs past (seen ++ e ∷ []) number job count
+finds_nothing_stays spelled opening past jobs seen e number job count is = record {
+  from = is.from;
+  to = is.to;
+  limits = is.limits;
+  merges = is.merges;
+  commits = listed_stays seen e number Commits is.commits;
+  by_plan = is.by_plan;
+  found = finds_schema_stays past jobs seen e number job is.found;
+}
+
+-- what a consolidation merged stays
+pub merged_stays : (spelled : Spelled) (opening : Held) (past : History) (jobs : List Job) (seen : List Told) (e : Told) (number : ℕ) (job : Job) (f : FragKey) (count : ℕ)
+    → IsMerged spelled opening jobs past seen number job f count → IsMerged spelled opening jobs past (seen ++ e ∷ []) number job f count
+merged_stays spelled opening past jobs seen e number job f count is = record {
+  from = is.from;
+  to = is.to;
+  limits = is.limits;
+  merges = is.merges;
+  commits = listed_stays seen e number Commits is.commits;
+  sources = is.sources;
+  by_plan = is.by_plan;
+  counted = is.counted;
+  found = finds_schema_stays past jobs seen e number job is.found;
+  own = is.own;
+  put = made_stays seen e number (call.Put (wrt_of f) []) is.put;
+  later = is.later;
+  order = is.order;
+  committed = is.committed;
+  piece = is.piece;
+  holds = is.holds;
+  origins = is.origins;
+  merged = is.merged;
+}
+
+module _ (spelled : Spelled) (opening : Held) (past : History) (jobs : List Job) (seen : List Told) (e : Told) (m m' : Held) (id : ℕ)
     (keeps : Keeps m m' (history_told jobs past seen) (history_told jobs past (seen ++ e ∷ [])) id) (number : ℕ) (job : Job) where
   -- a schema that was declared stays so
   pub declared_stays : (attrs : List Attr) → HasDeclared (history_told jobs past seen) job attrs → HasDeclared (history_told jobs past (seen ++ e ∷ [])) job attrs
   declared_stays attrs is = schema_stays m m' (history_told jobs past seen) (history_told jobs past (seen ++ e ∷ [])) id keeps (key_of job) (schema_of_job job attrs) is
 
+  -- a job that has no deed keeps having none by the calls of others
+  undone_stays : (job.id ≡ id → ⊥) → IsUndone (history_told jobs past seen) job → IsUndone (history_told jobs past (seen ++ e ∷ [])) job
+  undone_stays other is = new_stays m m' (history_told jobs past seen) (history_told jobs past (seen ++ e ∷ [])) id keeps (key_of job) other is
+
+  -- what a refusal tells stays true
+  pub refusal_stays : (r : Refusal) → (job.id ≡ id → ⊥) → IsTrueRefusal spelled opening jobs past seen number job r → IsTrueRefusal spelled opening jobs past (seen ++ e ∷ []) number job r
+  refusal_stays (refusal.Missing n) other is = is
+  refusal_stays (refusal.Damaged n at) other is = is
+  refusal_stays (refusal.Taken n) other is = is
+  refusal_stays (refusal.StoreFault (place.Name (name.Commit f kind))) other is = elim is [ inl own ↦ inl own | inr undone ↦ inr (undone_stays other undone) ]
+  refusal_stays (refusal.StoreFault (place.Name (name.Schema k))) other is = elim is [ inl own ↦ inl own | inr undone ↦ inr (undone_stays other undone) ]
+  refusal_stays (refusal.NothingToDo count) other is = (undone_stays other is.0, finds_nothing_stays spelled opening past jobs seen e number job count is.1)
+  refusal_stays _ other is = undone_stays other is
+
   -- what the end of a job tells stays true
-  pub end_stays : (end : Outcome) → (job.id ≡ id → ⊥) → IsTrueEnd jobs past seen number job end → IsTrueEnd jobs past (seen ++ e ∷ []) number job end
+  pub end_stays : (end : Outcome) → (job.id ≡ id → ⊥) → IsTrueEnd spelled opening jobs past seen number job end → IsTrueEnd spelled opening jobs past (seen ++ e ∷ []) number job end
   end_stays outcome.Created other is = record {
     made = is.made;
     creates = is.creates;
@@ -323,5 +383,6 @@ module _ (past : History) (jobs : List Job) (seen : List Told) (e : Told) (m m' 
       answers = is.answers;
     },
   )
-  end_stays (outcome.Refused r) other is = refusal_stays m m' (history_told jobs past seen) (history_told jobs past (seen ++ e ∷ [])) id keeps job r other is
+  end_stays (outcome.Consolidated f count) other (undone, is) = (undone_stays other undone, merged_stays spelled opening past jobs seen e number job f count is)
+  end_stays (outcome.Refused r) other is = refusal_stays r other is
   end_stays outcome.OutOfMemory other is = is

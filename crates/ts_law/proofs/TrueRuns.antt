@@ -23,7 +23,8 @@ use Rattle.ts_law.specs.Lanes.{lane_by, IsOwned, IsWithin, InTurn}
 use Rattle.ts_model.specs.Told.{Told, IsShortCall, Suits, trace_of, held_told, history_told, Replied, entries_of, schema_used, schemas_found}
 use Rattle.ts_law.specs.Ends.{IsTrueEnd}
 use Rattle.ts_model.specs.Driven.{AskedFrom, EndsBy, MayAsk}
-use Rattle.ts_model.specs.declared.commands.Command.TheVariants.{Create}
+use Rattle.ts_model.specs.declared.commands.Command.TheVariants.{Create, Consolidate}
+use Rattle.ts_commit.specs.declared.vacs.Limits.{Limits}
 use Rattle.ts_model.specs.declared.commands.FrameIn.{FrameIn}
 use Rattle.ts_model.specs.declared.states.Stage.{Stage}
 use Rattle.ts_schema.specs.declared.schemas.Schema.{Schema}
@@ -37,7 +38,7 @@ use Rattle.ts_model.proofs.ListLemmas.{Contains-nil, Contains-here, Contains-the
 use Rattle.ts_model.proofs.Traces.{exchange_of_own, exchange_of_other, stage_of-own, stage_of-other}
 use Rattle.ts_law.proofs.Fetches.{one_head}
 use Rattle.ts_law.proofs.Clipped.{true_over}
-use Rattle.ts_law.proofs.KeptLaws.{end_is_true, all_kept, every_prefix}
+use Rattle.ts_law.proofs.KeptLaws.{end_is_true, all_kept, every_prefix, held_from}
 use Rattle.ts_law.proofs.LineJobs.{AreInOrder, ids_apart, id_has_seed, jobs_fit}
 use Rattle.ts_law.proofs.Lists.{item_at}
 use Rattle.ts_law.proofs.Segments.{segment_of}
@@ -46,7 +47,7 @@ use Rattle.ts_law.proofs.Refused.{refused_for}
 use Rattle.ts_model.specs.declared.answers.Outcome.TheVariants as outcome
 use Rattle.ts_law.proofs.Spawns.{starts_kept, spawn_kept}
 use Rattle.ts_law.proofs.Journals.{journal_held}
-use Rattle.ts_law.proofs.JournalHistories.{IsALease, allowed_at, front_history, front_told, lanes_turn, put_staged}
+use Rattle.ts_law.proofs.JournalHistories.{IsALease, Made, Merged, Worked, allowed_at, front_history, front_told, lanes_turn, put_staged}
 
 -- ---- the calls are allowed
 
@@ -119,19 +120,19 @@ module _ {F : Type 0} (codec : Codec F) (spelled : Spelled) (tracks : Tracking F
       (front_history codec spelled tracks laws jobs h m told (lane_by lanes) begins may replied (lanes_turn lanes told owned in_turn) a b whole) (prefix_stands a b whole))
 
   -- what each end tells of the history is true
-  true_end : (number : ℕ) (job : Job) (end : Outcome) → slice_get jobs number ≡ Some job → slice_get results number ≡ Some (Done end) → IsTrueEnd jobs h told number job end
+  true_end : (number : ℕ) (job : Job) (end : Outcome) → slice_get jobs number ≡ Some job → slice_get results number ≡ Some (Done end) → IsTrueEnd spelled m jobs h told number job end
   true_end number job end at end_at =
       let kept = all_kept codec spelled tracks laws m h jobs [] [] m told begins may replied in
       elim (driven.driven number job (Done end) at end_at).ends [
         | inl over ↦ end_is_true codec spelled tracks m h jobs [] told (held_told m told) kept number job end at (Contains-nil number) over
-        | inr none ↦ subst (IsTrueEnd jobs h told number job) (sym none.0) tt
+        | inr none ↦ subst (IsTrueEnd spelled m jobs h told number job) (sym none.0) tt
       ]
 
-  -- a job that puts an object and is no create works in the schema that it uses
+  -- a job that puts an object and is no create and no consolidation works in the schema that it uses
   pub works_where_used : (seen back : List Told) (e : Told) → told ≡ seen ++ e ∷ back → (number : ℕ) (job : Job) → e.job ≡ Some number → slice_get jobs number ≡ Some job
-      → ((f : FrameIn) → job.command ≡ Create f → ⊥) → looked_at job ≡ job.at → (n : Name) (bytes : List ℕ) → e.call ≡ call.Put n bytes → IsNoLease n
+      → ((f : FrameIn) → job.command ≡ Create f → ⊥) → ((from to : ℕ) (limits : Limits) → job.command ≡ Consolidate from to limits → ⊥) → looked_at job ≡ job.at → (n : Name) (bytes : List ℕ) → e.call ≡ call.Put n bytes → IsNoLease n
       → (there : Schema) → schema_used (history_told jobs h seen) job (schemas_found (trace_of number seen)) ≡ Some there → Works h jobs seen number job there
-  works_where_used seen back e parts number job mine is_job no_create looks n bytes puts no_lease there uses =
+  works_where_used seen back e parts number job mine is_job no_create no_merge looks n bytes puts no_lease there uses =
       let kept = every_prefix codec spelled tracks laws m h jobs [] [] m told seen (e ∷ back) begins may replied parts in
       let allowed = allowed_at codec jobs [] seen back e (subst (AreAllowed codec jobs [] []) parts may) in
       let same_number : allowed.number ≡ number = same_Some allowed.number number (sym allowed.own ∙ mine) in
@@ -141,14 +142,14 @@ module _ {F : Type 0} (codec : Codec F) (spelled : Spelled) (tracks : Tracking F
       elim (not_leased n no_lease (put_staged codec spelled tracks laws m h jobs seen (held_told m seen) number job (state job number) n bytes (kept.claims number job is_job (Contains-nil number)) (subst (MayAsk codec job (state job number)) puts asked))) [
         | inl frame ↦ absurd (no_create frame.made frame.creates)
         | inr own ↦ elim own.finds [
-          | inl creates ↦ absurd (no_create creates.0 creates.1)
-          | inr found ↦
-              let works = found.1 in
-              let used : schema_used (history_told jobs h seen) job (schemas_found (trace_of number seen)) ≡ Some found.0 =
+          | Made f creates ↦ absurd (no_create f creates)
+          | Merged from to limits merges ↦ absurd (no_merge from to limits merges)
+          | Worked found works ↦
+              let used : schema_used (history_told jobs h seen) job (schemas_found (trace_of number seen)) ≡ Some found =
               ap (schema_used (history_told jobs h seen) job) works.is_found
               ∙ ap (option_and_then (schema_with (history_told jobs h seen))) (ap (schema_at works.found) (sym looks) ∙ works.at)
               ∙ works.declared in
-              subst (Works h jobs seen number job) (same_Some found.0 there (sym used ∙ uses)) works
+              subst (Works h jobs seen number job) (same_Some found there (sym used ∙ uses)) works
         ]
       ]
 
@@ -157,6 +158,7 @@ module _ {F : Type 0} (codec : Codec F) (spelled : Spelled) (tracks : Tracking F
   jobs_true_run = record {
     stands = prefix_stands;
     journal = journal_stands;
+    stays = λ front back parts. held_from codec spelled tracks laws m h jobs [] [] m told front back begins may replied parts;
     answers = λ number job end at end_at.
         true_over spelled m jobs h told number job end (λ g n. one_head codec spelled tracks laws g n) (λ front back parts. (every_prefix codec spelled tracks laws m h jobs [] [] m told front back begins may replied parts).stands)
         (λ short. short_undone codec spelled tracks laws h jobs m told begins may replied number job at (subst (EndsBy codec job (trace_of number told)) short (driven.driven number job (Done end) at end_at).ends))

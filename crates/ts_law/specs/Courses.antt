@@ -26,11 +26,12 @@ use Rattle.ts_schema.specs.FrameTexts.{frame_of}
 use Rattle.ts_schema.specs.SchemaTexts.{schema_of}
 use Rattle.ts_model.specs.declared.commands.Command.TheVariants.{Create, Evolve, Write, Read, Delete, Consolidate}
 use Rattle.ts_model.specs.Stops.{cuts, Uncut}
-use Rattle.ts_model.specs.States.{schemas_in, place_of, get_all, put_of, made_by, frame_put, schema_object_of, write_objects, is_own_frame, get_frame, list_schemas, list_commits, get_schema, get_delete, get_vac, counting_in, committed_in, deletes_in, meets, delete_object_of, wanted, all_of, merge_objects, Exchange}
+use Rattle.ts_model.specs.declared.states.Opened.{Opened}
+use Rattle.ts_model.specs.States.{frags_of, heads_of, opened_among, schemas_in, place_of, get_all, put_of, made_by, frame_put, schema_object_of, write_objects, is_own_frame, get_frame, list_schemas, list_commits, get_schema, get_delete, get_vac, counting_in, committed_in, deletes_in, meets, delete_object_of, wanted, all_of, merge_objects, Exchange}
 use Rattle.ts_model.specs.Stages.{lease_of, list_leases, put_lease, released}
 use Rattle.ts_lease.specs.Leases.{verdict_in}
 use Rattle.ts_lease.specs.declared.verdicts.Verdict.TheVariants.{Held}
-use Rattle.ts_model.specs.Codecs.{Codec, Asks, Breaks, is_look}
+use Rattle.ts_model.specs.Codecs.{Codec, Asks, Breaks, Takes, is_look}
 use Rattle.ts_model.specs.Jobs.{key_of, frag_of_job, refused_before, looked_at}
 use Rattle.ts_model.specs.Commands.{laid}
 use Rattle.ts_model.specs.Queries.{box_of, delete_condition}
@@ -45,7 +46,7 @@ use Rattle.ts_commit.specs.declared.vacs.Limits.{Limits}
 use Rattle.ts_commit.specs.declared.vacs.Planned.{Planned}
 use Rattle.ts_commit.specs.declared.vacs.Planned.TheVariants as planned
 use Rattle.ts_commit.specs.Plans.{is_inside, plan_of}
-use Rattle.ts_commit.specs.Selections.{is_among, names_merged}
+use Rattle.ts_commit.specs.Selections.{names_merged}
 use Rattle.ts_model.specs.Merging.{all_got, merged_with}
 use Rattle.ts_base.specs.declared.heads.Piece.{Piece}
 use Rattle.ts_base.specs.declared.heads.Version.{Version}
@@ -132,7 +133,6 @@ SaysThere found (Write w) (call.Get (name.Schema k) from len) (reply.Bytes bytes
 SaysThere found (Write w) (call.Get name.Domain from len) (reply.Bytes bytes) = IsFrameIn found.frame (frame_of bytes)
 SaysThere found (Delete text) (call.Get (name.Schema k) from len) (reply.Bytes bytes) = IsSchemaIn found.there k (schema_of bytes)
 SaysThere found (Delete text) (call.Get name.Domain from len) (reply.Bytes bytes) = IsFrameIn found.frame (frame_of bytes)
-SaysThere found (Consolidate from to limits) (call.Get name.Domain begin len) (reply.Bytes bytes) = IsFrameIn found.frame (frame_of bytes)
 SaysThere found command c r = ⊤
 
 -- a job was told bytes that spell a schema
@@ -172,7 +172,7 @@ KnowsFrame job found trace = IsGot job found trace ⊎ (IsConsolidate job.comman
 abbrev pub AreFound : Job → Found → List Exchange → Type 0
 AreFound job found trace = All (λ x. SaysThere found job.command x.call x.reply) trace
 
--- ---- the fetches of a read
+-- ---- the fetches of a job
 
 -- what a read wants of a fragment whose attributes are those of a schema, in the array that it found
 abbrev pub wanted_in : Found → ℕ → ℕ → Query → Schema → Want
@@ -184,7 +184,17 @@ wants_of found (Read from to query) s = Some (wanted_in found from to query s)
 wants_of found (Consolidate from to limits) s = Some (all_of found.frame s.attrs)
 wants_of found _ s = None
 
--- a job opened a fragment, whose head it got, in the schema that the head names and that it got too, and the fetch began so
+-- a job got the head of a fragment in an array of the frame that it found
+abbrev pub GotHead : {F : Type 0} → Codec F → Found → List Exchange → FragKey → Head → Type 0
+GotHead codec found trace f head =
+    (object : List ℕ) × Contains trace (record { call = get_all (name.Part f (codec.head_part found.frame)); reply = reply.Bytes object }) × (codec.head found.frame f object ≡ Ok head)
+
+-- the schema in which a fragment with this head is opened: by a read the one that the head names, by a consolidation one that a head names which it got
+abbrev pub IsNamedFor : {F : Type 0} → Codec F → Found → List Exchange → Command → Head → Schema → Type 0
+IsNamedFor codec found trace (Consolidate from to limits) head s = (f : FragKey) × (first : Head) × GotHead codec found trace f first × (s.key ≡ first.schema)
+IsNamedFor codec found trace _ head s = s.key ≡ head.schema
+
+-- a job opened a fragment, whose head it got, in a schema that a head names and that it got too, and the fetch began so
 pub record IsOpened {F : Type 0} (codec : Codec F) (job : Job) (found : Found) (trace : List Exchange) (frag : FragKey) (opening : Result F ℕ) : Type 0 where
   pub object : List ℕ
   pub got : Contains trace (record { call = get_all (name.Part frag (codec.head_part found.frame)); reply = reply.Bytes object })
@@ -192,7 +202,7 @@ pub record IsOpened {F : Type 0} (codec : Codec F) (job : Job) (found : Found) (
   pub reads : codec.head found.frame frag object ≡ Ok head
   pub schema : Schema
   pub schema_got : GotSchema trace schema
-  pub named : schema.key ≡ head.schema
+  pub named : IsNamedFor codec found trace job.command head schema
   pub want : Want
   pub wants : wants_of found job.command schema ≡ Some want
   pub opens : codec.opens found.frame schema frag object want ≡ opening
@@ -212,6 +222,38 @@ pub record IsUnderWay {F : Type 0} (codec : Codec F) (job : Job) (found : Found)
   pub replies : List Reply
   pub fetched : IsFetched codec trace begun asked replies fetch c
 
+-- ---- the plan of a consolidation
+
+-- a consolidation was told names by the `.vac` of a fragment
+abbrev pub GotNames : List Exchange → FragKey → List FragKey → Type 0
+GotNames trace f names = (bytes : List ℕ) × Contains trace (record { call = get_vac f; reply = reply.Bytes bytes }) × (names_of bytes ≡ Ok names)
+
+-- a job got the object with the head of a fragment, and the head is that which it spells
+abbrev pub HasOpened : {F : Type 0} → Codec F → Found → List Exchange → Opened → Type 0
+HasOpened codec found trace o =
+    Contains trace (record { call = get_all (name.Part o.frag (codec.head_part found.frame)); reply = reply.Bytes o.object }) × (codec.head found.frame o.frag o.object ≡ Ok o.head)
+
+-- a consolidation planned so, by what it was told
+-- It planned over the heads of all fragments in its interval that it listed with the commits.
+-- It knew all `.vac` objects that count, and the schemas that the heads name.
+pub record PlansBy {F : Type 0} (codec : Codec F) (job : Job) (found : Found) (trace : List Exchange) (plan : Planned) : Type 0 where
+  pub from : ℕ
+  pub to : ℕ
+  pub limits : Limits
+  pub merges : job.command ≡ Consolidate from to limits
+  pub framed : IsFramed found trace
+  pub names : List Name
+  pub listed : Contains trace (record { call = list_commits; reply = reply.Names names })
+  pub opened : List Opened
+  pub all_opened : frags_of opened ≡ filter (is_inside from to) (committed_in names)
+  pub each_opened : (o : Opened) → Contains opened o → HasOpened codec found trace o
+  pub vacs : List VacOf
+  pub all_vacs : list_map (λ v. v.frag) vacs ≡ counting_in names
+  pub each_vac : (v : VacOf) → Contains vacs v → GotNames trace v.frag v.names
+  pub attributes : Key → ℕ
+  pub counted : (o : Opened) → Contains opened o → (s : Schema) × (s.key ≡ o.head.schema) × GotSchema trace s × (attributes o.head.schema ≡ length s.attrs)
+  pub is : plan_of (heads_of opened) vacs attributes from to limits ≡ plan
+
 -- ---- which objects a job may look at
 
 -- of the names of a kind that a read listed with the commits one whose span meets the interval
@@ -229,11 +271,6 @@ IsListedInside trace from to f = (names : List Name) × Contains trace (record {
 -- a job listed a fragment with the commits whose `.vac` counts
 abbrev pub IsCountingIn : List Exchange → FragKey → Type 0
 IsCountingIn trace f = (names : List Name) × Contains trace (record { call = list_commits; reply = reply.Names names }) × Contains (counting_in names) f
-
--- a read got the head of a fragment in an array of the frame that it found
-abbrev pub GotHead : {F : Type 0} → Codec F → Found → List Exchange → FragKey → Head → Type 0
-GotHead codec found trace f head =
-    (object : List ℕ) × Contains trace (record { call = get_all (name.Part f (codec.head_part found.frame)); reply = reply.Bytes object }) × (codec.head found.frame f object ≡ Ok head)
 
 -- a job that works in a schema gets the one that holds where it looks, of those that it listed, and once it has that one the frame
 abbrev pub LooksThere : Job → List Exchange → Call → Type 0
@@ -262,8 +299,8 @@ pub data LooksForSources {F : Type 0} (codec : Codec F) (job : Job) (found : Fou
   AtOpened : (f : FragKey) → IsFramed found trace → IsListedInside trace from to f → c ≡ get_all (name.Part f (codec.head_part found.frame)) → LooksForSources codec job found trace from to c
   -- a schema that is named by a head which it got
   AtNamed : (f : FragKey) (head : Head) → IsFramed found trace → GotHead codec found trace f head → c ≡ get_schema head.schema → LooksForSources codec job found trace from to c
-  -- a get or a size for which the fetch of a fragment in the interval asks, which it began on what it got
-  InSource : (f : FragKey) (fetch : F) → IsFramed found trace → IsListedInside trace from to f → IsUnderWay codec job found trace f fetch c → IsTrue (is_look c) → LooksForSources codec job found trace from to c
+  -- a get or a size for which the fetch of a fragment asks that its plan takes
+  InSource : (chosen : List FragKey) (f : FragKey) (fetch : F) → PlansBy codec job found trace (planned.Take chosen) → Contains chosen f → IsUnderWay codec job found trace f fetch c → IsTrue (is_look c) → LooksForSources codec job found trace from to c
 
 -- the call looks at an object that the job's command reads, by what the job was told before; but for the calls of fetches it gets the whole object
 abbrev pub IsLookBy : {F : Type 0} → Codec F → Job → Found → List Exchange → Command → Call → Type 0
@@ -319,43 +356,46 @@ pub record EndsAt (looks : Looks) (before : List Exchange) (course : List Call) 
 abbrev pub refused_in : Found → Command → Option Refusal
 refused_in found command = refusal_in found.frame (found.there).attrs command
 
--- a consolidation was told names by the `.vac` of a fragment
-abbrev pub GotNames : List Exchange → FragKey → List FragKey → Type 0
-GotNames trace f names = (bytes : List ℕ) × Contains trace (record { call = get_vac f; reply = reply.Bytes bytes }) × (names_of bytes ≡ Ok names)
+-- a fetch of a fragment has all versions that were wanted: as it began, or by a reply for which it waited
+abbrev pub HasTaken : {F : Type 0} → Codec F → Job → Found → List Exchange → FragKey → List Version → Type 0
+HasTaken {F} codec job found trace f vs =
+    (fetch : F) × ((IsOpened codec job found trace f (Ok fetch) × (codec.steps fetch reply.Start ≡ Takes vs))
+    ⊎ ((x : Exchange) × IsUnderWay codec job found trace f fetch x.call × Contains trace x × (codec.steps fetch x.reply ≡ Takes vs)))
 
--- a consolidation planned so, by what it was told: over the heads of all fragments in its interval that it listed with the commits, all `.vac` objects that count, and the schemas that the heads name
-pub record PlansBy {F : Type 0} (codec : Codec F) (job : Job) (found : Found) (trace : List Exchange) (plan : Planned) : Type 0 where
-  pub from : ℕ
-  pub to : ℕ
-  pub limits : Limits
-  pub merges : job.command ≡ Consolidate from to limits
-  pub framed : IsFramed found trace
-  pub names : List Name
-  pub listed : Contains trace (record { call = list_commits; reply = reply.Names names })
-  pub heads : List Head
-  pub all_heads : list_map (λ head. head.frag) heads ≡ filter (is_inside from to) (committed_in names)
-  pub each_head : (head : Head) → Contains heads head → GotHead codec found trace head.frag head
-  pub vacs : List VacOf
-  pub all_vacs : list_map (λ v. v.frag) vacs ≡ counting_in names
-  pub each_vac : (v : VacOf) → Contains vacs v → GotNames trace v.frag v.names
-  pub attributes : Key → ℕ
-  pub counted : (head : Head) → Contains heads head → (s : Schema) × (s.key ≡ head.schema) × GotSchema trace s × (attributes head.schema ≡ length s.attrs)
-  pub is : plan_of heads vacs attributes from to limits ≡ plan
+-- of each of these fragments in turn a fetch has these versions
+abbrev pub EachTaken : {F : Type 0} → Codec F → Job → Found → List Exchange → List Opened → List (List Version) → Type 0
+EachTaken codec job found trace [] [] = ⊤
+EachTaken codec job found trace (o ∷ sources) (vs ∷ got) = HasTaken codec job found trace o.frag vs × EachTaken codec job found trace sources got
+EachTaken codec job found trace _ _ = ⊥
 
--- a consolidation merged so many fragments, those of its plan: into the piece of their heads and of the versions that it got, in the schema that they name
+-- a consolidation merged so many fragments, those of its plan: into the piece of their heads and of all their versions, in the schema that the first of them names
 pub record IsMergeBy {F : Type 0} (codec : Codec F) (job : Job) (found : Found) (trace : List Exchange) (merge : Merge) (count : ℕ) : Type 0 where
-  pub sources : List FragKey
-  pub by_plan : PlansBy codec job found trace (planned.Take sources)
-  pub counted : count ≡ length sources
+  pub chosen : List FragKey
+  pub by_plan : PlansBy codec job found trace (planned.Take chosen)
+  pub first : Opened
+  pub others : List Opened
+  pub sources : first ∷ others ≡ opened_among chosen by_plan.opened
+  pub counted : count ≡ length (first ∷ others)
   pub schema_got : GotSchema trace merge.schema
-  pub first : Head
-  pub others : List Head
-  pub heads : first ∷ others ≡ filter (λ head. is_among head.frag sources) by_plan.heads
-  pub schema_named : (merge.schema).key ≡ first.schema
+  pub schema_named : (merge.schema).key ≡ first.head.schema
   pub got : List (List Version)
-  pub one_each : length got ≡ length sources
-  pub piece : merge.piece ≡ merged_with found.frame job.id first others (all_got got)
-  pub names : merge.names ≡ names_merged by_plan.vacs sources
+  pub each_taken : EachTaken codec job found trace (first ∷ others) got
+  pub piece : merge.piece ≡ merged_with found.frame job.id first.head (heads_of others) (all_got got)
+  pub names : merge.names ≡ names_merged by_plan.vacs (frags_of (first ∷ others))
+
+-- a consolidation merged something by what it was told up to a call, before the calls after that
+pub record HasMerged {F : Type 0} (codec : Codec F) (job : Job) (found : Found) (trace : List Exchange) (merge : Merge) : Type 0 where
+  pub front : List Exchange
+  pub last : Exchange
+  pub later : List Exchange
+  pub parts : trace ≡ front ++ last ∷ later
+  pub was_told : last.reply ≢ reply.NoMemory
+  pub count : ℕ
+  pub by_told : IsMergeBy codec job found (front ++ last ∷ []) merge count
+
+-- what a job is said to have merged, it has merged
+abbrev pub MergesFound : {F : Type 0} → Codec F → Job → Found → List Exchange → Type 0
+MergesFound codec job found trace = (merge : Merge) → found.merged ≡ Some merge → HasMerged codec job found trace merge
 
 -- a part of a fragment breaks its layout at an offset: where a job opens the fragment, where the fetch begins, or by the last reply, which the fetch waited for
 abbrev pub BreaksPart : {F : Type 0} → Codec F → Job → Found → List Exchange → Exchange → FragKey → Part → ℕ → Type 0
@@ -363,9 +403,15 @@ BreaksPart {F} codec job found trace last f part at =
     ((part ≡ codec.head_part found.frame) × IsOpened codec job found trace f (Err at))
     ⊎ ((fetch : F) × ((IsOpened codec job found trace f (Ok fetch) × (codec.steps fetch reply.Start ≡ Breaks part at)) ⊎ (IsUnderWay codec job found trace f fetch last.call × (codec.steps fetch last.reply ≡ Breaks part at))))
 
--- a job in the frame that it got finds a part of a fragment broken at an offset
+-- a job may fetch a fragment: a consolidation one that its plan takes
+-- Another job may fetch any, once it got the schema that it works in and the frame.
+abbrev pub MayFetch : {F : Type 0} → Codec F → Job → Found → List Exchange → Command → FragKey → Type 0
+MayFetch codec job found trace (Consolidate from to limits) f = (chosen : List FragKey) × PlansBy codec job found trace (planned.Take chosen) × Contains chosen f
+MayFetch codec job found trace _ f = IsGot job found trace
+
+-- a job finds a part broken at an offset, of a fragment that it may fetch
 abbrev pub BreaksFetch : {F : Type 0} → Codec F → Job → Found → List Exchange → Exchange → Name → ℕ → Type 0
-BreaksFetch codec job found trace last n at = (f : FragKey) × (part : Part) × (n ≡ name.Part f part) × KnowsFrame job found trace × BreaksPart codec job found trace last f part at
+BreaksFetch codec job found trace last n at = (f : FragKey) × (part : Part) × (n ≡ name.Part f part) × MayFetch codec job found trace job.command f × BreaksPart codec job found trace last f part at
 
 -- the bytes of an object break its layout at an offset: a schema, the frame, a delete, a `.vac`, or the head of a fragment in an array of the frame that the job got
 abbrev pub BreaksAt : {F : Type 0} → Codec F → Job → Found → List Exchange → Name → List ℕ → ℕ → Type 0
@@ -392,7 +438,7 @@ abbrev pub IsCause : {F : Type 0} → Codec F → Job → Found → List Exchang
 IsCause codec job found trace last refusal.ArrayExists = (f : FrameIn) × (job.command ≡ Create f) × IsThere f last
 IsCause codec job found trace last (refusal.NoSchema at) =
     (made_by job.command ≡ None) × (names : List Name) × (last ≡ record { call = list_schemas; reply = reply.Names names }) × (at ≡ looked_at job) × (schema_at (schemas_in names) at ≡ None)
-IsCause codec job found trace last (refusal.NothingToDo count) = PlansBy codec job found trace (planned.Nothing count)
+IsCause codec job found trace last (refusal.NothingToDo count) = (found.merged ≡ None) × PlansBy codec job found trace (planned.Nothing count)
 IsCause codec job found trace last (refusal.Leased other) = IsHeldUp job last other
 IsCause codec job found trace last (refusal.Taken n) = (n ≡ name.Domain → ⊥) × (bytes : List ℕ) × (last ≡ record { call = call.Put n bytes; reply = reply.Taken })
 IsCause codec job found trace last (refusal.StoreFault p) = (p ≡ place_of last.call) × (last.reply ≡ reply.Failed)
@@ -488,4 +534,5 @@ pub record IsSegment {F : Type 0} (codec : Codec F) (job : Job) (trace : List Ex
   pub uncut : Uncut job.stop 0 trace
   pub found : Found
   pub are_found : AreFound job found trace
+  pub merges_found : MergesFound codec job found trace
   pub ends : MayComeOut codec job found trace result

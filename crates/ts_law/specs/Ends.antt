@@ -1,5 +1,5 @@
 -- What the end of a job tells of the history.
-use Rattle.std.specs.Prelude.{◌≡◌, ℕ, Bool, length, List, [], ◌∷◌, ◌++◌, Some, Ok, Contains, filter, ⊤, ◌⊎◌, map as list_map}
+use Rattle.std.specs.Prelude.{◌≡◌, ℕ, length, List, [], ◌∷◌, ◌++◌, Some, Ok, Contains, filter, ⊤, ◌⊎◌, map as list_map}
 use Rattle.std.specs.List.{list_any}
 use Rattle.std.specs.Option.{option_map_or}
 use Rattle.ts_base.specs.declared.names.Prefix.{Prefix}
@@ -41,7 +41,7 @@ use Rattle.ts_law.specs.Stands.{HoldsIn, IsCommitted, Names}
 use Rattle.ts_cond.specs.declared.query.Query.{Query}
 use Rattle.ts_cond.specs.Tests.{Condition}
 use Rattle.ts_model.specs.Queries.{delete_condition}
-use Rattle.ts_model.specs.Jobs.{key_of, frag_of_job, schema_of_job, written_as, deletion_as}
+use Rattle.ts_model.specs.Jobs.{key_of, frag_of_job, looked_at, schema_of_job, written_as, deletion_as}
 use Rattle.ts_model.specs.Deeds.{History, frame_in, writes, deletions, schema_with, schema_there, IsNewKey}
 use Rattle.ts_model.specs.Commands.{frame_made, laid}
 use Rattle.ts_model.specs.Answers.{IsAnswer}
@@ -145,6 +145,12 @@ pub record IsPlanned (spelled : Spelled) (h : History) (m : Held) (from to : ℕ
   pub are_vacs : AreAllVacs m vacs
   pub is : plan_of heads vacs (attributes_with h) from to limits ≡ plan
 
+-- a job found the schema that holds where it looks, as it listed the schemas
+pub record FindsSchema (jobs : List Job) (past : History) (told : List Told) (number : ℕ) (job : Job) : Type 0 where
+  pub schemas : ListedAt told number Schemas
+  pub there : Schema
+  pub holds : schema_there (history_told jobs past schemas.before) (looked_at job) ≡ Some there
+
 -- a job made a call at a place of what was told
 pub record MadeAt (told : List Told) (number : ℕ) (c : Call) : Type 0 where
   pub before : List Told
@@ -158,7 +164,7 @@ pub record MadeAt (told : List Told) (number : ℕ) (c : Call) : Type 0 where
 abbrev pub up_to : List Told → Told → List Told
 up_to before made = before ++ made ∷ []
 
--- a consolidation merged so many fragments into one: those that its plan takes over the commits that it listed. When it put the `.wrt`, the fragment was committed, all that went into a source and nothing else went into it, and its `.vac` named the sources, and what the `.vac` objects of these named
+-- a consolidation merged so many fragments into one of its own: those that its plan takes over the commits that it listed. Once its `.wrt` was put, just what went into a source had gone into the new fragment. The `.vac` of that one named the sources, and what the `.vac` objects of these named
 pub record IsMerged (spelled : Spelled) (opening : Held) (jobs : List Job) (past : History) (told : List Told) (number : ℕ) (job : Job) (f : FragKey) (count : ℕ) : Type 0 where
   pub from : ℕ
   pub to : ℕ
@@ -168,6 +174,8 @@ pub record IsMerged (spelled : Spelled) (opening : Held) (jobs : List Job) (past
   pub sources : List FragKey
   pub by_plan : IsPlanned spelled (history_told jobs past commits.before) (held_told opening commits.before) from to limits (planned.Take sources)
   pub counted : count ≡ length sources
+  pub found : FindsSchema jobs past told number job
+  pub own : f.id ≡ job.id
   pub put : MadeAt told number (call.Put (wrt_of f) [])
   pub later : List Told
   pub order : put.before ≡ commits.before ++ commits.listing ∷ later
@@ -185,6 +193,7 @@ pub record FindsNothing (spelled : Spelled) (opening : Held) (jobs : List Job) (
   pub merges : job.command ≡ Consolidate from to limits
   pub commits : ListedAt told number Commits
   pub by_plan : IsPlanned spelled (history_told jobs past commits.before) (held_told opening commits.before) from to limits (planned.Nothing count)
+  pub found : FindsSchema jobs past told number job
 
 -- ---- all ends
 
@@ -227,7 +236,7 @@ pub record AreClipped (spelled : Spelled) (h : History) (m : Held) (a b : ℕ) (
   pub are_heads : AreHeads spelled h m a b heads
   pub clipped_is : clipped ≡ clipped_names a b heads
 
--- what an end tells of the history and of the objects, where a map was held at the beginning: the clipped fragments of an answer are those of the objects at its listing of the commits, and a job that ended for want of memory did nothing
+-- what an end tells of the history and of the objects, where a map was held at the beginning: the clipped fragments of an answer are those of the objects at its listing of the commits, and a job that ended for want of memory has no deed
 abbrev pub IsTrueOver : Spelled → Held → List Job → History → List Told → ℕ → Job → Outcome → Type 0
 IsTrueOver spelled opening jobs past told number job (outcome.Read answer) =
     (from : ℕ) × (to : ℕ) × (query : Query) × (job.command ≡ Read from to query)

@@ -66,7 +66,7 @@ use Rattle.ts_law.specs.Stands.{HoldsIn, IsCommitted, IsNoLease, IsUnspent, Name
 use Rattle.ts_law.specs.Origins.{last_version, newest_at, wrote_in}
 use Rattle.ts_commit.specs.Selections.{has_origin, is_among, is_usable, names_merged}
 use Rattle.ts_commit.specs.declared.vacs.VacOf.{VacOf}
-use Rattle.ts_law.specs.Ends.{ListedAt, IsPlanned, IsUndone, IsTrueEnd}
+use Rattle.ts_law.specs.Ends.{FindsSchema, ListedAt, IsPlanned, IsUndone, IsTrueEnd}
 use Rattle.ts_model.specs.Deeds.{History, frame_in, writes, deletions, schema_with, schema_there}
 use Rattle.ts_model.specs.Commands.{frame_made, create_refusal, laid}
 use Rattle.ts_store.specs.declared.call.Call.TheVariants as call
@@ -237,10 +237,11 @@ pub record Chooses (spelled : Spelled) (opening : Held) (past : History) (jobs :
   pub merges : job.command ≡ Consolidate from to limits
   pub chooses : ChoosesFrom spelled opening past jobs seen m number from to c.fragments c.counting
 
--- a consolidation that has the frame, and the first of the `.vac` objects
+-- a consolidation that found a schema at its stamp and has the frame, and the first of the `.vac` objects
 pub record Surveys (spelled : Spelled) (opening : Held) (past : History) (jobs : List Job) (seen : List Told) (m : Held) (number : ℕ) (job : Job) (s : Survey) : Type 0 where
   pub merges : job.command ≡ Consolidate s.from s.to s.limits
   pub chooses : ChoosesFrom spelled opening past jobs seen m number s.from s.to s.fragments s.counting
+  pub found : FindsSchema jobs past seen number job
   pub framed : frame_in (history_told jobs past seen) ≡ Some s.frame
   pub are_vacs : AreVacs (held_told opening ((chooses.since).commits).before) s.counting s.vacs
 
@@ -381,7 +382,7 @@ abbrev pub MergeClaims : {F : Type 0} → Codec F → Spelled → Tracking F →
 MergeClaims codec spelled tracks opening past jobs seen m number job merging.ListsCommits = Clean m (history_told jobs past seen) job × ((from : ℕ) × (to : ℕ) × (limits : Limits) × (job.command ≡ Consolidate from to limits))
 MergeClaims codec spelled tracks opening past jobs seen m number job (merging.ListsSchemas c) = Clean m (history_told jobs past seen) job × Chooses spelled opening past jobs seen m number job c
 MergeClaims codec spelled tracks opening past jobs seen m number job (merging.GetsFrame c) =
-    Clean m (history_told jobs past seen) job × Chooses spelled opening past jobs seen m number job c × ((frame : Frame) × (frame_in (history_told jobs past seen) ≡ Some frame))
+    Clean m (history_told jobs past seen) job × Chooses spelled opening past jobs seen m number job c × ((frame : Frame) × (frame_in (history_told jobs past seen) ≡ Some frame)) × FindsSchema jobs past seen number job
 MergeClaims codec spelled tracks opening past jobs seen m number job (merging.GetsVacs s) = Clean m (history_told jobs past seen) job × Surveys spelled opening past jobs seen m number job s
 MergeClaims codec spelled tracks opening past jobs seen m number job (merging.GetsHeads s opened) = Clean m (history_told jobs past seen) job × Opens codec spelled opening past jobs seen m number job s opened
 MergeClaims codec spelled tracks opening past jobs seen m number job (merging.GetsSchemas s opened keys schemas) =

@@ -1,5 +1,5 @@
 -- A map of objects stands for a history.
-use Rattle.std.specs.Prelude.{◌≡◌, ◌<◌, ℕ, true, List, Some, None, option_map, Ok, IsTrue, Contains, ⊤, ◌⊎◌}
+use Rattle.std.specs.Prelude.{◌≡◌, ◌<◌, ℕ, true, List, Some, option_map, Ok, IsTrue, Contains, ⊤, ◌⊎◌}
 use Rattle.ts_base.specs.declared.keys.Key.{Key}
 use Rattle.ts_base.specs.declared.keys.FragKey.{FragKey}
 use Rattle.ts_base.specs.declared.names.Name.{Name}
@@ -10,11 +10,12 @@ use Rattle.ts_model.specs.declared.deeds.Written.{Written}
 use Rattle.ts_schema.specs.declared.frames.Frame.{Frame}
 use Rattle.ts_schema.specs.declared.schemas.Schema.{Schema}
 use Rattle.ts_commit.specs.Selections.{has_origin, is_usable}
-use Rattle.ts_commit.specs.Vacs.{names_of}
+use Rattle.ts_commit.specs.Vacs.{names_of, AreNames}
 use Rattle.ts_base.specs.Held.{Held}
 use Rattle.ts_base.specs.declared.names.CommitKind.TheVariants.{Del}
 use Rattle.ts_base.specs.Keys.{frag_of, is_within}
-use Rattle.ts_base.specs.Names.{wrt_of}
+use Rattle.ts_base.specs.Names.{wrt_of, IsSpelledFrag}
+use Rattle.ts_base.specs.Spelling.{FitsFrag}
 use Rattle.ts_schema.specs.FrameTexts.{frame_object}
 use Rattle.ts_schema.specs.SchemaTexts.{schema_object}
 use Rattle.ts_schema.specs.Parts.{Look, IsShort}
@@ -44,6 +45,10 @@ pub record Spells (spelled : Spelled) (m : Held) (frame : Frame) (s : Schema) (f
   pub short : (part : Part) (bytes : List ℕ) → look part ≡ Some bytes → IsShort bytes
   pub named : p.head.frag ≡ f
 
+-- the name of a fragment has a spelling
+abbrev pub HasName : FragKey → Type 0
+HasName f = IsSpelledFrag f × FitsFrag f
+
 -- the parts of the fragment spell the piece, and it holds writes of the history
 pub record HoldsIn (spelled : Spelled) (h : History) (m : Held) (f : FragKey) (p : Piece) : Type 0 where
   pub frame : Frame
@@ -53,6 +58,7 @@ pub record HoldsIn (spelled : Spelled) (h : History) (m : Held) (f : FragKey) (p
   pub declared : schema_with h p.head.schema ≡ Some schema
   pub spells : Spells spelled m frame schema f p
   pub holds : HoldsWrites h p
+  pub name : HasName f
 
 -- the write of the key went into the fragment
 pub record WentInto (spelled : Spelled) (h : History) (m : Held) (f : FragKey) (k : Key) : Type 0 where
@@ -91,10 +97,10 @@ IsKnown h m f = ((k : Key) × Contains (keys h) k × (f ≡ frag_of k)) ⊎ ((n 
 -- what the `.vac` objects of committed fragments tell
 pub record AreMerged (spelled : Spelled) (h : History) (m : Held) : Type 0 where
   -- each spells names, and is so short that one get can ask for all of it
-  pub reads : (g : FragKey) (bytes : List ℕ) → IsCommitted m g → map.get m (vac_of g) ≡ Some bytes → IsShort bytes × ((names : List FragKey) × (names_of bytes ≡ Ok names))
+  pub reads : (g : FragKey) (bytes : List ℕ) → IsCommitted m g → map.get m (vac_of g) ≡ Some bytes → IsShort bytes × ((names : List FragKey) × (names_of bytes ≡ Ok names) × AreNames names)
   -- all that went into a committed fragment that it names went into the one whose `.vac` it is
   pub within : (g f : FragKey) → IsCommitted m g → IsCommitted m f → DoesName m g f → Within spelled h m f g
-  -- it names no fragment that is still to come
+  -- a deed or a held object carries the identifier of each fragment that it names, so no new job has it
   pub known : (g f : FragKey) → IsCommitted m g → DoesName m g f → IsKnown h m f
   -- the committed fragments have ranks below a bound, and it names committed fragments of a lower rank alone
   pub rank : FragKey → ℕ

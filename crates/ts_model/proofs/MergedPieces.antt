@@ -82,7 +82,7 @@ key_put R P (x ∷ xs) k all own = elim (R k x) as (λ o. AllByRecursion P (matc
 ]
 
 -- a key that is put in its place leaves the others in order
-put_ascends : {K : Type 0} (R : K → K → Ordering) → IsTotalOrder R → (ks : List K) (k : K) → IsStrictlySortedBy R ks → IsStrictlySortedBy R (insert_key R ks k)
+pub put_ascends : {K : Type 0} (R : K → K → Ordering) → IsTotalOrder R → (ks : List K) (k : K) → IsStrictlySortedBy R ks → IsStrictlySortedBy R (insert_key R ks k)
 unfolding IsStrictlySortedBy
 put_ascends R total [] k up = (tt, tt)
 put_ascends {K} R total (x ∷ xs) k up = elim (R k x) as (λ o. R k x ≡ o → IsStrictlySortedBy R (match_ordering o (k ∷ x ∷ xs) (x ∷ xs) (x ∷ insert_key R xs k))) [

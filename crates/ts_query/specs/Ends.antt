@@ -9,13 +9,14 @@ use Rattle.ts_model.specs.declared.answers.Outcome.TheVariants as outcome
 use Rattle.ts_query.specs.Refusals.{refusal_text}
 use Rattle.ts_query.specs.Rows.{rows_text}
 
--- how a command ended, but for what a read shows: of that the numbers of rows and of clipped fragments
+-- how a command ended, but for what a read shows: of that the numbers of rows and of clipped fragments; of a consolidation the fragment and the number of its sources
 unfoldable pub outcome_text : Outcome → List ℕ
 outcome_text outcome.Created = codes "ok\n"
 outcome_text (outcome.Evolved key) = codes "ok\t" ++ stamp_text key ++ codes "\n"
 outcome_text (outcome.Written frag) = codes "ok\t" ++ frag_text frag ++ codes "\n"
 outcome_text (outcome.Read answer) = codes "ok\t" ++ decimal (length answer.rows) ++ codes "\t" ++ decimal (length answer.clipped) ++ codes "\n"
 outcome_text (outcome.Deleted frag) = codes "ok\t" ++ frag_text frag ++ codes "\n"
+outcome_text (outcome.Consolidated frag count) = codes "ok\t" ++ frag_text frag ++ codes "\t" ++ decimal count ++ codes "\n"
 outcome_text (outcome.Refused refusal) = codes "refused\t" ++ refusal_text refusal ++ codes "\n"
 outcome_text outcome.OutOfMemory = codes "memory\n"
 
@@ -40,6 +41,7 @@ command_name (command.Evolve change) = codes "evolve"
 command_name (command.Write cells) = codes "write"
 command_name (command.Read from to query) = codes "read"
 command_name (command.Delete text) = codes "delete"
+command_name (command.Consolidate from to limits) = codes "consolidate"
 
 -- how a command came out: its end, or that it was stopped
 unfoldable pub result_text : Option Outcome → List ℕ

@@ -57,6 +57,7 @@ refusal_text (refusal.TooMany cells) = codes "TooMany\t" ++ decimal cells
 refusal_text refusal.DenseArray = codes "DenseArray"
 refusal_text (refusal.UnknownField label) = codes "UnknownField\t" ++ label
 refusal_text (refusal.Condition fault) = codes "Condition\t" ++ condition_text fault
+refusal_text (refusal.NothingToDo eligible) = codes "NothingToDo\t" ++ decimal eligible
 refusal_text (refusal.Leased name) = codes "Leased\t" ++ name_text name
 refusal_text (refusal.Taken name) = codes "Taken\t" ++ name_text name
 refusal_text (refusal.StoreFault place) = codes "StoreFault\t" ++ place_text place

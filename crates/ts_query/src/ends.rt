@@ -81,6 +81,7 @@ fn command_name(command: &Command) -> &'static str
         Command::Write(_) => "write",
         Command::Read { .. } => "read",
         Command::Delete(_) => "delete",
+        Command::Consolidate { .. } => "consolidate",
     }
 }
 
@@ -130,6 +131,12 @@ fn print_how(text: &mut String, end: &Outcome) -> Result<(), OutOfMemory>
             let spelled = frag.spell();
             let name = spelled.text();
             write!(text, "ok\t{name}\n")?;
+            Ok(())
+        }
+        Outcome::Consolidated(frag, count) => {
+            let spelled = frag.spell();
+            let name = spelled.text();
+            write!(text, "ok\t{name}\t{count}\n")?;
             Ok(())
         }
         Outcome::Refused(refusal) => {

@@ -33,6 +33,7 @@ pub(crate) fn print_refusal(text: &mut String, refusal: &Refusal) -> Result<(), 
             print_word(text, "Condition\t")?;
             print_condition_fault(text, fault)
         }
+        Refusal::NothingToDo { eligible } => print_number(text, "NothingToDo\t", *eligible),
         Refusal::Leased(name) => print_name(text, "Leased\t", name),
         Refusal::Taken(name) => print_name(text, "Taken\t", name),
         Refusal::StoreFault(place) => print_place(text, "StoreFault\t", place),

@@ -3,6 +3,7 @@ use crate::print_outcome;
 use std::alloc::Global;
 use std::test::Fail;
 use ts_base::{CommitKind, FragKey, Key, LabelList, LeaseMode, Name, Place, Prefix};
+use ts_commit::Limits;
 use ts_cond::{CondFault, NamedBoxList, Query};
 use ts_domain::Layout;
 use ts_model::{Command, Outcome, Refusal};
@@ -88,6 +89,37 @@ fn prints_where_the_store_failed(rt: HostRuntime) -> Result<(), Fail> {
         let wanted = format!(in alloc; "0.1\tread\trefused\t{why}\n")?;
         let printed = print_outcome(alloc, 0, 1, &read(alloc), Some(&end))?;
         assert_eq!(rt; printed.as_slice(), wanted.as_bytes(), "{why}");
+    }
+    Ok(())
+}
+
+#[test]
+fn prints_what_a_consolidation_merged(rt: HostRuntime) -> Result<(), Fail> {
+    let alloc = rt.alloc();
+    let merge = Command::Consolidate {
+        from: 0,
+        to: 9,
+        limits: Limits { min: 2, max: 64 },
+    };
+    let frag = FragKey {
+        t1: 1,
+        t2: u64::MAX,
+        id: 0xab,
+        v: 1,
+    };
+    for (end, how) in [
+        (
+            Outcome::Consolidated(frag, 4096),
+            "ok\t__1_18446744073709551615_000000000000000000000000000000ab_1\t4096",
+        ),
+        (
+            Outcome::Refused(Refusal::NothingToDo { eligible: u64::MAX }),
+            "refused\tNothingToDo\t18446744073709551615",
+        ),
+    ] {
+        let wanted = format!(in alloc; "0.3\tconsolidate\t{how}\n")?;
+        let printed = print_outcome(alloc, 0, 3, &merge, Some(&end))?;
+        assert_eq!(rt; printed.as_slice(), wanted.as_bytes(), "{how}");
     }
     Ok(())
 }

@@ -2,6 +2,5 @@ pub mod BoxSlots
 pub mod Erased
 pub mod Inside
 pub mod Leads
-pub mod Merged
 pub mod Newer
 pub mod QueryLaws

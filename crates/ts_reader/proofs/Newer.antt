@@ -1,5 +1,5 @@
 -- Trees of keys: what one more of them changes, and what they hold in order; and what is true of each of the newest versions.
-use Rattle.std.proofs.Common.{◌≡◌, ℤ, Bool, not, true, false, cond, List, [], ◌∷◌, ◌++◌, length, Option, Some, map, Ordering, Less, Equal, Greater, refl, sym, ap, subst, ◌∙◌, arith}
+use Rattle.std.proofs.Common.{◌≡◌, ℤ, Bool, not, true, false, cond, List, [], ◌∷◌, length, Some, map, Ordering, Less, Equal, Greater, refl, sym, ap, subst, ◌∙◌, arith}
 use Rattle.std.specs.List.{AllByRecursion}
 use Rattle.std.specs.Ordering.{int_cmp}
 use Rattle.std.specs.Cmp.Lexicographic.{slice_cmp}

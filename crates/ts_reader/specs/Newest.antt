@@ -1,5 +1,5 @@
 -- Trees by keys, seen as finite maps, and lists by the places of a box.
-use Rattle.std.specs.Prelude.{ℤ, List, Option, cond, filter, not, map as list_map}
+use Rattle.std.specs.Prelude.{List, Option, cond, filter, not, map as list_map}
 use Rattle.std.specs.BTreeMap.{BTreeMap}
 use Rattle.std.specs.FinMap as map
 use Rattle.ts_base.specs.declared.keys.Key.{Key}

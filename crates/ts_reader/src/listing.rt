@@ -44,13 +44,20 @@ fn stamped_near(
     ensures spelled { IfOk result (All (IsSpelledAs kind)) }
 {
     let named = frags_in(alloc, kind, names)?;
-    let mut fragments = FragList::new(alloc);
-    for frag in named.into_vec() {
+    near(alloc, from, to, named)
+}
+
+// Those fragments whose span meets the interval, in their order.
+fn near(alloc: Global, from: u64, to: u64, frags: FragList) -> Result<FragList, OutOfMemory>
+    ensures { IfOk result (λ chosen. chosen ≡ filter (meets from to) frags) }
+{
+    let mut chosen = FragList::new(alloc);
+    for frag in frags.into_vec() {
         if meets(from, to, &frag) {
-            fragments.push(frag)?;
+            chosen.push(frag)?;
         }
     }
-    Ok(fragments)
+    Ok(chosen)
 }
 
 // Whether the span of a fragment meets the interval.

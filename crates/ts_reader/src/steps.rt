@@ -133,7 +133,11 @@ fn ask_collecting<P: Pieces>(
 {
     match collecting {
         Collecting::GetsVacs { reading } => Ok(vac_asked(&reading.counting, reading.vacs.len())),
-        Collecting::GetsHeads { reading, opened } => Ok(head_asked::<P>(&reading.frame, &reading.fragments, opened.len())),
+        Collecting::GetsHeads { reading, opened } => Ok(head_asked::<P>(
+            &reading.frame,
+            &reading.fragments,
+            opened.len(),
+        )),
         Collecting::GetsSchemas {
             reading: _,
             opened: _,

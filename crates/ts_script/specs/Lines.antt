@@ -92,6 +92,19 @@ delete_of common d = do
   text ← required as_str (codes "where") d
   when (has_only common (codes "where" ∷ []) d) (command.Delete text)
 
+-- the keys of a consolidation
+abbrev pub consolidate_keys : List (List ℕ)
+consolidate_keys = codes "from" ∷ codes "to" ∷ codes "min" ∷ codes "max" ∷ []
+
+-- a consolidation: optional `from` and `to`, each 0 where it is not there, and how many fragments it takes: optional `min`, which is 2 where it is not there, and `max`, which is 64
+unfoldable pub consolidate_of : List (List ℕ) → Data → Option Command
+consolidate_of common d = do
+  from ← optional unsigned 0 (codes "from") d
+  to ← optional unsigned 0 (codes "to") d
+  min ← optional unsigned_32 2 (codes "min") d
+  max ← optional unsigned_32 64 (codes "max") d
+  when (has_only common consolidate_keys d) (command.Consolidate from to (record { min = min; max = max }))
+
 -- the command of a script that has this name
 unfoldable pub command_of : List ℕ → Data → Option Command
 command_of name d =
@@ -99,7 +112,8 @@ command_of name d =
     else (if bytes_eq name (codes "evolve") then evolve_of common_keys d
     else (if bytes_eq name (codes "write") then write_of common_keys d
     else (if bytes_eq name (codes "read") then read_of common_keys d
-    else (if bytes_eq name (codes "delete") then delete_of common_keys d else None))))
+    else (if bytes_eq name (codes "delete") then delete_of common_keys d
+    else (if bytes_eq name (codes "consolidate") then consolidate_of common_keys d else None)))))
 
 -- the command whose object is the input: its own keys alone are allowed
 abbrev pub form_of : ObjectForm → Data → Option Command
@@ -107,9 +121,13 @@ form_of Create d = create_of [] d
 form_of Evolve d = evolve_of [] d
 form_of Write d = write_of [] d
 
--- a read whose interval ends at its own stamp: `to` is not there
+-- a command of this name has an interval
+abbrev pub has_interval : List ℕ → Bool
+has_interval name = bytes_eq name (codes "read") || bytes_eq name (codes "consolidate")
+
+-- a command whose interval ends at its own stamp: `to` is not there
 abbrev pub is_to_stamp : List ℕ → Data → Bool
-is_to_stamp name d = bytes_eq name (codes "read") && not (is_some (get (codes "to") d))
+is_to_stamp name d = has_interval name && not (is_some (get (codes "to") d))
 
 -- the line that an object stands for: its lane is below 8, and its command is one that there can be
 unfoldable pub line_of : Data → Option Line
@@ -122,7 +140,7 @@ line_of d = do
 
 -- the names of commands that are not built yet
 abbrev pub later_names : List (List ℕ)
-later_names = codes "consolidate" ∷ codes "vacuum" ∷ codes "unlock" ∷ codes "fragments" ∷ []
+later_names = codes "vacuum" ∷ codes "unlock" ∷ codes "fragments" ∷ []
 
 -- an object with a text under `cmd`, which names a command that is not built yet, or with a text there and a key `stop`
 unfoldable pub is_not_built : Data → Bool

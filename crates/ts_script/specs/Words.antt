@@ -1,5 +1,5 @@
 -- The words of a command line: what clap takes of them, and what they then ask for.
-use Rattle.std.specs.Prelude.{ℕ, List, [], ◌∷◌, codes, true, false, not, is_some, Bool, if◌then◌else◌, Option, Some, None, option_map, map}
+use Rattle.std.specs.Prelude.{ℕ, ◌^◌, List, [], codes, true, false, not, nat_lt, is_some, if◌then◌else◌, Option, Some, None, option_map, map}
 use Rattle.std.specs.Option.{option_map_or, unwrap_or}
 use Rattle.std.specs.Borrow.{Bor}
 use Rattle.std.specs.Str.{bytes_eq}
@@ -9,8 +9,7 @@ use Rattle.clap.specs.Faults.{fault_of}
 use Rattle.ts_domain.specs.declared.orders.Layout.{Layout}
 use Rattle.ts_domain.specs.declared.orders.Layout.TheVariants as layouts
 use Rattle.ts_cond.specs.declared.query.NamedBox.{NamedBox}
-use Rattle.ts_model.specs.declared.commands.Command.{Command}
-use Rattle.ts_model.specs.declared.commands.Command.TheVariants.{Read, Delete}
+use Rattle.ts_model.specs.declared.commands.Command.TheVariants.{Read, Delete, Consolidate}
 use Rattle.ts_model.specs.Commands.{fits}
 use Rattle.ts_script.specs.declared.words.Asked.{Asked}
 use Rattle.ts_script.specs.declared.words.Asked.TheVariants as asks
@@ -34,18 +33,22 @@ option_named name = record (new_rule name) { long = Some name }
 unfoldable pub object_app : Text → App
 object_app name = with_rule (new_app name) (option_named (codes "at"))
 
--- `read` with its interval
-unfoldable pub interval_app : App
-interval_app = with_rule (with_rule (object_app (codes "read")) (option_named (codes "from"))) (option_named (codes "to"))
+-- `read` or `consolidate`, with its interval
+unfoldable pub interval_app : Text → App
+interval_app name = with_rule (with_rule (object_app name) (option_named (codes "from"))) (option_named (codes "to"))
 
 -- `read`
 unfoldable pub read_app : App
-read_app = with_rule (with_rule (with_rule (with_rule interval_app
+read_app = with_rule (with_rule (with_rule (with_rule (interval_app (codes "read"))
     (option_named (codes "where"))) (option_named (codes "fields"))) (option_named (codes "box"))) (option_named (codes "layout"))
 
 -- `delete`, which wants a `where`
 unfoldable pub delete_app : App
 delete_app = with_rule (with_rule (new_app (codes "delete")) (option_named (codes "at"))) (record (option_named (codes "where")) { required = true })
+
+-- `consolidate`
+unfoldable pub consolidate_app : App
+consolidate_app = with_rule (with_rule (interval_app (codes "consolidate")) (option_named (codes "min"))) (option_named (codes "max"))
 
 -- `play`
 unfoldable pub play_app : App
@@ -63,7 +66,7 @@ objects_app =
 
 -- the whole command line
 unfoldable pub tilestore_app : App
-tilestore_app = with_subcommand (with_subcommand (with_subcommand objects_app read_app.top) delete_app.top) play_app.top
+tilestore_app = with_subcommand (with_subcommand (with_subcommand (with_subcommand objects_app read_app.top) delete_app.top) consolidate_app.top) play_app.top
 
 -- the command that the words name, with what was found for its options, where clap takes them
 unfoldable pub parsed : List Text → Option (Text × List Row)
@@ -78,6 +81,12 @@ value_in read given = option_map_or (λ text. option_map Some (read text)) given
 -- the number of an option, if the option is there
 abbrev pub number_in : List Row → Text → Option (Option ℕ)
 number_in rows name = value_in number_of (first_of name rows)
+
+-- the number of 32 bits of an option, or this one if the option is not there
+abbrev pub limit_in : List Row → Text → ℕ → Option ℕ
+limit_in rows name missing = do
+  given ← number_in rows name
+  when (nat_lt (unwrap_or given missing) (2 ^ 32)) (unwrap_or given missing)
 
 -- the fields that are asked for
 abbrev pub fields_in : Option Text → Option (List (List ℕ))
@@ -114,6 +123,17 @@ delete_asked rows = do
   text ← first_of (codes "where") rows
   when (fits (Delete text)) (asks.Command (record { lane = 0; command = Delete text; at = at; to_stamp = false }))
 
+-- a consolidation, which is in lane 0 and ends at its own stamp where it does not say else
+unfoldable pub consolidate_asked : List Row → Option Asked
+consolidate_asked rows = do
+  at ← number_in rows (codes "at")
+  from ← number_in rows (codes "from")
+  to ← number_in rows (codes "to")
+  min ← limit_in rows (codes "min") 2
+  max ← limit_in rows (codes "max") 64
+  command ← Some (Consolidate (unwrap_or from 0) (unwrap_or to 0) (record { min = min; max = max }))
+  when (fits command) (asks.Command (record { lane = 0; command = command; at = at; to_stamp = not (is_some to) }))
+
 -- what a command of this name asks for, with what was found for its options
 unfoldable pub asked_by : Text → List Row → Option Asked
 asked_by name rows =
@@ -122,7 +142,8 @@ asked_by name rows =
     else (if bytes_eq name (codes "write") then object_asked form.Write rows
     else (if bytes_eq name (codes "read") then read_asked rows
     else (if bytes_eq name (codes "delete") then delete_asked rows
-    else (if bytes_eq name (codes "play") then Some asks.Play else None)))))
+    else (if bytes_eq name (codes "consolidate") then consolidate_asked rows
+    else (if bytes_eq name (codes "play") then Some asks.Play else None))))))
 
 -- what the words ask for, if it is something that can be done
 unfoldable pub asked : List Text → Option Asked

@@ -3,7 +3,7 @@ ghost use Rattle.std.specs.Prelude.{◌≡◌, codes, false, IfOk};
 ghost use Rattle.clap.specs.Walk.{rule_of};
 ghost use Rattle.clap.specs.Simple.{app_of, new_app, with_rule, with_subcommand};
 ghost use Rattle.clap.specs.declared.builder.command.Command.TheViews.{out-Command};
-ghost use Rattle.ts_script.specs.Words.{option_named, object_app, interval_app, read_app, delete_app, play_app, without_name, objects_app, tilestore_app};
+ghost use Rattle.ts_script.specs.Words.{option_named, object_app, interval_app, read_app, delete_app, consolidate_app, play_app, without_name, objects_app, tilestore_app};
 
 use clap::{Arg, Command};
 use std::alloc::{AllocError, Global};
@@ -16,6 +16,7 @@ pub(crate) fn tilestore_command<'a>(alloc: Global) -> Result<Command<'a>, AllocE
     let command = objects_command(alloc)?;
     let command = with_command(command, read_command(alloc)?)?;
     let command = with_command(command, delete_command(alloc)?)?;
+    let command = with_command(command, consolidate_command(alloc)?)?;
     with_command(command, play_command(alloc))
 }
 
@@ -79,13 +80,13 @@ fn with_option<'a>(
     command.arg(option(alloc, name))
 }
 
-/// `read` with its interval.
+/// `read` or `consolidate`, with its interval.
 #[tactic(auto, unfolding(crate::specs::Words::interval_app))]
-fn interval_command<'a>(alloc: Global) -> Result<Command<'a>, AllocError>
-    ensures app { IfOk result (λ command. app_of command ≡ interval_app) }
+fn interval_command<'a>(alloc: Global, name: &'a str) -> Result<Command<'a>, AllocError>
+    ensures app { IfOk result (λ command. app_of command ≡ interval_app name.entry.now) }
     ensures local { IfOk result (λ command. (out-Command command).has_globals ≡ false) }
 {
-    let command = object_command(alloc, "read")?;
+    let command = object_command(alloc, name)?;
     let command = with_option(alloc, command, "from")?;
     with_option(alloc, command, "to")
 }
@@ -96,7 +97,7 @@ fn read_command<'a>(alloc: Global) -> Result<Command<'a>, AllocError>
     ensures app { IfOk result (λ command. app_of command ≡ read_app) }
     ensures local { IfOk result (λ command. (out-Command command).has_globals ≡ false) }
 {
-    let command = interval_command(alloc)?;
+    let command = interval_command(alloc, "read")?;
     let command = with_option(alloc, command, "where")?;
     let command = with_option(alloc, command, "fields")?;
     let command = with_option(alloc, command, "box")?;
@@ -112,6 +113,17 @@ fn delete_command<'a>(alloc: Global) -> Result<Command<'a>, AllocError>
     Command::new(alloc, "delete")
         .arg(option(alloc, "at"))?
         .arg(option(alloc, "where").required(true))
+}
+
+/// `consolidate`.
+#[tactic(auto, unfolding(crate::specs::Words::consolidate_app))]
+fn consolidate_command<'a>(alloc: Global) -> Result<Command<'a>, AllocError>
+    ensures app { IfOk result (λ command. app_of command ≡ consolidate_app) }
+    ensures local { IfOk result (λ command. (out-Command command).has_globals ≡ false) }
+{
+    let command = interval_command(alloc, "consolidate")?;
+    let command = with_option(alloc, command, "min")?;
+    with_option(alloc, command, "max")
 }
 
 /// `play`.

@@ -2,16 +2,17 @@
 ghost use Rattle.std.specs.Prelude.{◌≡◌, IsTrue};
 ghost use Rattle.std.specs.List.{list_all};
 ghost use Rattle.ts_schema.specs.FrameTexts.{is_bound};
-ghost use Rattle.ts_model.specs.Commands.{fits, is_spelled_box, is_spelled_col, is_spelled_dim, is_text};
+ghost use Rattle.ts_model.specs.Commands.{are_limits, fits, is_spelled_box, is_spelled_col, is_spelled_dim, is_text};
 ghost use Rattle.ts_script.specs.Typed.{is_typed, is_typed_col, has_value};
 
 use ts_base::ByteList;
+use ts_commit::Limits;
 use ts_cond::NamedBox;
 use ts_domain::Dim;
 use ts_model::{ColIn, Command};
 
 /// Whether the command is one that there can be: an array has a dimension and a capacity, its numbers
-/// lie in their ranges, and each column has a value. What the types of its values ensure is not tested.
+/// and limits lie in their ranges, and each column has a value. What the types of its values ensure is not tested.
 pub(crate) fn fits(command: &Command) -> bool
     requires { IsTrue (is_typed command.now) }
     ensures { result ≡ fits command.now }
@@ -34,7 +35,19 @@ pub(crate) fn fits(command: &Command) -> bool
             query,
         } => are_boxes(query.sub.as_slice()),
         Command::Delete(_) => true,
+        Command::Consolidate {
+            from: _,
+            to: _,
+            limits,
+        } => are_limits(*limits),
     }
+}
+
+/// Whether a consolidation that takes so many fragments is one that there can be.
+fn are_limits(limits: Limits) -> bool
+    ensures { result ≡ are_limits limits }
+{
+    2 <= limits.min && limits.min <= limits.max && limits.max <= 4096
 }
 
 /// Whether each dimension is one that there can be.

@@ -4,7 +4,7 @@ ghost use Rattle.serde_json.specs.View.{view};
 ghost use Rattle.ts_model.specs.Jobs.{IsFitLine};
 ghost use Rattle.ts_script.specs.Shapes.{Gives};
 ghost use Rattle.ts_script.specs.Typed.{is_typed, is_typed_query};
-ghost use Rattle.ts_script.specs.Lines.{name_of, kind_named, create_of, evolve_of, write_of, query_of, read_of, delete_of, command_of, form_of, is_to_stamp, line_of, is_not_built};
+ghost use Rattle.ts_script.specs.Lines.{name_of, kind_named, create_of, evolve_of, write_of, query_of, read_of, delete_of, consolidate_of, command_of, form_of, has_interval, is_to_stamp, line_of, is_not_built};
 
 use crate::fitting::{as_text, fits};
 use crate::json::{
@@ -15,6 +15,7 @@ use crate::words::ObjectForm;
 use serde_json::Value;
 use std::alloc::Global;
 use ts_base::{ByteList, LabelList};
+use ts_commit::Limits;
 use ts_cond::Query;
 use ts_domain::{DimList, Layout, Order};
 use ts_model::{Command, FrameIn, Line, WriteIn};
@@ -24,10 +25,16 @@ use ts_schema::{AttrList, Evolution};
 const COMMON: [&str; 3] = ["cmd", "lane", "at"];
 
 /// The commands that are not built yet.
-const LATER: [&str; 4] = ["consolidate", "vacuum", "unlock", "fragments"];
+const LATER: [&str; 3] = ["vacuum", "unlock", "fragments"];
 
 /// How many lanes there are.
 const LANES: u32 = 8;
+
+/// How many fragments a consolidation takes at least, where it does not say it.
+pub(crate) const MIN: u32 = 2;
+
+/// How many fragments a consolidation takes at most, where it does not say it.
+pub(crate) const MAX: u32 = 64;
 
 /// The number of cells in a data tile where a create does not say it.
 const CAPACITY: u32 = 10_000;
@@ -69,11 +76,18 @@ fn name_of(value: &Value) -> Option<&str>
     text_under(value, "cmd")
 }
 
-/// Whether a command of this name is a read whose interval ends at its own stamp.
+/// Whether a command of this name has an interval.
+fn has_interval(name: &str) -> bool
+    ensures { result ≡ has_interval name.now }
+{
+    name == "read" || name == "consolidate"
+}
+
+/// Whether a command of this name has an interval that ends at its own stamp.
 fn is_to_stamp(name: &str, value: &Value) -> bool
     ensures { result ≡ is_to_stamp name.now (view value.now) }
 {
-    name == "read" && value.get("to").is_none()
+    has_interval(name) && value.get("to").is_none()
 }
 
 /// Whether an object, which stands for no command, names one that is not built yet, or asks for a
@@ -104,6 +118,8 @@ fn read_command(alloc: Global, name: &str, value: &Value) -> Result<Command, For
         read_read(alloc, &COMMON, value)
     } else if name == "delete" {
         read_delete(alloc, &COMMON, value)
+    } else if name == "consolidate" {
+        read_consolidate(alloc, &COMMON, value)
     } else {
         Err(FormFault::Form)
     }
@@ -258,4 +274,21 @@ fn read_delete(alloc: Global, common: &[&str], value: &Value) -> Result<Command,
         return Err(FormFault::Form);
     }
     Ok(Command::Delete(text))
+}
+
+/// Reads a consolidation: its interval, and how many fragments it takes.
+#[tactic(auto, unfolding(crate::specs::Lines::consolidate_of))]
+fn read_consolidate(alloc: Global, common: &[&str], value: &Value) -> Result<Command, FormFault>
+    ensures gives { Gives result (consolidate_of (map (λ key. key.now) common.entry.now) (view value.now)) }
+    ensures typed { IfOk result (λ command. IsTrue (is_typed command)) }
+{
+    let from = optional(alloc, value, "from", 0)?;
+    let to = optional(alloc, value, "to", 0)?;
+    let min = optional(alloc, value, "min", MIN)?;
+    let max = optional(alloc, value, "max", MAX)?;
+    if !has_only(value, common, &["from", "to", "min", "max"]) {
+        return Err(FormFault::Form);
+    }
+    let limits = Limits { min, max };
+    Ok(Command::Consolidate { from, to, limits })
 }

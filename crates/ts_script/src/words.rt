@@ -9,17 +9,19 @@ ghost use Rattle.clap.specs.Matches.{found_of};
 ghost use Rattle.clap.specs.Simple.{subcommand_rows_of};
 ghost use Rattle.ts_script.specs.Shapes.{Gives};
 ghost use Rattle.ts_script.specs.Meanings.{IsFitAsked};
-ghost use Rattle.ts_script.specs.Words.{asked, asked_by, box_in, delete_asked, fields_in, layout_in, number_in, object_asked, read_asked, spelled};
+ghost use Rattle.ts_script.specs.Words.{asked, asked_by, box_in, consolidate_asked, delete_asked, fields_in, layout_in, limit_in, number_in, object_asked, read_asked, spelled};
 
 use crate::commands::tilestore_command;
 use crate::fitting::{as_text, fits};
 use crate::json::FormFault;
+use crate::lines::{MAX, MIN};
 use crate::options::{number_of, read_boxes, read_labels};
 use crate::values::layout_named;
 use clap::ArgMatches;
 use clap::error::ErrorKind;
 use std::alloc::{AllocError, Global};
 use ts_base::{ByteList, LabelList};
+use ts_commit::Limits;
 use ts_cond::{NamedBoxList, Query};
 use ts_domain::Layout;
 use ts_model::{Command, Line};
@@ -55,7 +57,7 @@ pub enum ObjectForm {
 /// What the words ask for, those of a command line after the program's name and the store.
 ///
 /// They are read as `clap` reads them, by one command with the subcommands `create`, `evolve`,
-/// `write`, `read`, `delete` and `play`. `Form` comes exactly where `clap` refuses them, as it does a
+/// `write`, `read`, `delete`, `consolidate` and `play`. `Form` comes exactly where `clap` refuses them, as it does a
 /// request for help too, or where the value of an option has another form.
 pub fn read_words(alloc: Global, words: &[&str]) -> Result<Asked, FormFault>
     ensures asked { Gives result (asked (spelled words.entry.now)) }
@@ -99,6 +101,8 @@ fn read_command(alloc: Global, name: &str, options: &ArgMatches<'_>) -> Result<A
         read_read(alloc, options)
     } else if name == "delete" {
         read_delete(alloc, options)
+    } else if name == "consolidate" {
+        read_consolidate(options)
     } else if name == "play" {
         Ok(Asked::Play)
     } else {
@@ -170,6 +174,33 @@ fn read_delete(alloc: Global, options: &ArgMatches<'_>) -> Result<Asked, FormFau
     }))
 }
 
+/// A consolidation.
+#[tactic(auto, unfolding(crate::specs::Words::consolidate_asked))]
+fn read_consolidate(options: &ArgMatches<'_>) -> Result<Asked, FormFault>
+    ensures asked { Gives result (consolidate_asked (rows_of (found_of options.now))) }
+    ensures fit { IfOk result IsFitAsked }
+{
+    let at = number_in(options, "at")?;
+    let from = number_in(options, "from")?;
+    let to = number_in(options, "to")?;
+    let min = limit_in(options, "min", MIN)?;
+    let max = limit_in(options, "max", MAX)?;
+    let command = Command::Consolidate {
+        from: from.unwrap_or(0),
+        to: to.unwrap_or(0),
+        limits: Limits { min, max },
+    };
+    if !fits(&command) {
+        return Err(FormFault::Form);
+    }
+    Ok(Asked::Command(Line {
+        lane: 0,
+        command,
+        at,
+        to_stamp: to.is_none(),
+    }))
+}
+
 /// The value of an option, if the option is there.
 fn text_in<'a>(options: &ArgMatches<'a>, name: &str) -> Option<&'a str>
     ensures { option_map (λ text. text.now) result ≡ first_of name.now (rows_of (found_of options.now)) }
@@ -187,6 +218,18 @@ fn number_in(options: &ArgMatches<'_>, name: &str) -> Result<Option<u64>, FormFa
     match number_of(text.as_bytes()) {
         Some(number) => Ok(Some(number)),
         None => Err(FormFault::Form),
+    }
+}
+
+/// The number of an option, or this one if the option is not there.
+fn limit_in(options: &ArgMatches<'_>, name: &str, missing: u32) -> Result<u32, FormFault>
+    ensures { Gives result (limit_in (rows_of (found_of options.now)) name.now missing) }
+{
+    let limit = number_in(options, name)?.unwrap_or(u64::from(missing));
+    if limit <= u64::from(u32::MAX) {
+        Ok(limit as u32)
+    } else {
+        Err(FormFault::Form)
     }
 }
 

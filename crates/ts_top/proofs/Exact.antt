@@ -10,7 +10,7 @@ use Rattle.ts_model.specs.declared.commands.Line.{Line}
 use Rattle.ts_model.specs.declared.answers.Driven.{Driven}
 use Rattle.ts_model.specs.declared.answers.Driven.TheVariants.{Done, Stopped}
 use Rattle.ts_model.specs.declared.answers.Outcome.{Outcome}
-use Rattle.ts_model.specs.declared.answers.Outcome.TheVariants.{Created, Evolved, Written, Deleted, Read, Refused, OutOfMemory as NoMemory}
+use Rattle.ts_model.specs.declared.answers.Outcome.TheVariants.{Created, Evolved, Written, Deleted, Read, Consolidated, Refused, OutOfMemory as NoMemory}
 use Rattle.ts_model.specs.States.{Exchange}
 use Rattle.ts_top.specs.declared.top.Stop.TheVariants.{Usage, BadScript, NoForm, ReadFault, OutOfMemory}
 use Rattle.ts_script.specs.declared.words.Asked.{Asked}
@@ -60,6 +60,7 @@ status_alone_few (Evolved k) = inl refl
 status_alone_few (Written f) = inl refl
 status_alone_few (Deleted f) = inl refl
 status_alone_few (Read answer) = inl refl
+status_alone_few (Consolidated f count) = inl refl
 
 pub printed_few : (single : Bool) (results : List (Driven Outcome)) → (status_printed single results ≡ 0) ⊎ (status_printed single results ≡ 6) ⊎ (status_printed single results ≡ 7)
 printed_few false results = inl refl

@@ -70,6 +70,12 @@ module _ (jobs : List Job) (past : History) where
     pub listed_after : (prefix : Prefix) (at : ListedAt told number prefix) → Extends (history_told jobs past a) (history_told jobs past at.before)
     listed_after prefix at = let (d, behind) = stands_after at.before at.listing at.later at.place at.own in goes_on a d at.before behind
 
+    -- among the calls of a job that did nothing the history was the one after it
+    pub between_now : (b rest : List Told) → told ≡ (a ++ b) ++ rest → history_told jobs past told ≡ history_told jobs past a → history_told jobs past (a ++ b) ≡ history_told jobs past told
+    between_now b rest place still =
+        same_history (history_told jobs past told) (history_told jobs past (a ++ b)) (subst (λ h. Extends h (history_told jobs past (a ++ b))) (sym still) (goes_on a b (a ++ b) refl))
+        (goes_on (a ++ b) rest told place)
+
     -- a call of a job that did nothing was made over the history after it
     pub made_now : (c : Call) (at : MadeAt told number c) → history_told jobs past told ≡ history_told jobs past a → history_told jobs past at.before ≡ history_told jobs past told
     made_now c at still =

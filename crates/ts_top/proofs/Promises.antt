@@ -13,6 +13,7 @@ use Rattle.ts_base.specs.declared.names.CommitKind.TheVariants.{Wrt, Del}
 use Rattle.ts_base.specs.declared.names.Name.{Name}
 use Rattle.ts_base.specs.declared.names.Name.TheVariants as name
 use Rattle.std.specs.Io.KnownBytes.{Appends}
+use Rattle.ts_commit.specs.declared.vacs.Limits.{Limits}
 use Rattle.ts_schema.specs.declared.frames.Frame.{Frame}
 use Rattle.ts_schema.specs.declared.schemas.Schema.{Schema}
 use Rattle.ts_schema.specs.Evolutions.{evolved_attrs}
@@ -26,7 +27,7 @@ use Rattle.ts_store.specs.Streams.{AppendsFront}
 use Rattle.ts_model.specs.declared.commands.Job.{Job}
 use Rattle.ts_model.specs.declared.commands.Line.{Line}
 use Rattle.ts_model.specs.declared.commands.Command.{Command}
-use Rattle.ts_model.specs.declared.commands.Command.TheVariants.{Create, Evolve, Write, Read, Delete}
+use Rattle.ts_model.specs.declared.commands.Command.TheVariants.{Create, Evolve, Write, Read, Delete, Consolidate}
 use Rattle.ts_model.specs.declared.answers.Driven.{Driven}
 use Rattle.ts_model.specs.declared.answers.Driven.TheVariants.{Done, Stopped}
 use Rattle.ts_model.specs.declared.answers.Outcome.{Outcome}
@@ -72,7 +73,8 @@ use Rattle.ts_top.specs.Runners.{run_codec, run_spelled}
 use Rattle.ts_script.specs.Script.{AreLimited}
 use Rattle.ts_top.specs.Seen.{Seen, AskFor, Stopped as HasStopped, Performed, PrintsEnds, whole, sink_failed, no_text, status_printed, Plays, ended, ran_short}
 use Rattle.ts_top.proofs.Places.{Early, Late, cancelled, fronts, goes_on, listed_after, listed_now}
-use Rattle.ts_top.proofs.RefusalsTold.{IsQuiet, calls_in, none_first, nothing_done, refusal_tells}
+use Rattle.ts_top.proofs.MergesTold.{calls_in, merged_tells}
+use Rattle.ts_top.proofs.RefusalsTold.{IsQuiet, none_first, nothing_done, refusal_tells}
 use Rattle.ts_top.specs.declared.top.Stop.{Stop}
 use Rattle.ts_top.specs.declared.top.Stop.TheVariants.{Usage, BadScript, NoForm, ReadFault, OutOfMemory}
 
@@ -102,6 +104,12 @@ deed_no_lease : (h : History) (job : Job) (found : Option (List Key)) (n : Name)
 deed_no_lease h job found (name.Lease k mode) d is = absurd (none-some d is)
 deed_no_lease h job found _ d is = tt
 
+-- the commands that do no deed
+abbrev DoesNone : Command → Type 0
+DoesNone (Read from to query) = ⊤
+DoesNone (Consolidate from to limits) = ⊤
+DoesNone _ = ⊥
+
 module _ (jobs : List Job) (past : History) (a c told : List Told) (parts : told ≡ a ++ c) (number : ℕ) (early : Early number a) where
   held_once : (at : ListedAt told number Schemas) (k : Key) (there : Schema) → IsNewKey (history_told jobs past at.before) k → schema_there (history_told jobs past at.before) k.t ≡ Some there
       → HeldOnce (history_told jobs past a) (history_told jobs past told) k there
@@ -113,10 +121,10 @@ module _ (jobs : List Job) (past : History) (a c told : List Told) (parts : told
     TellsOf end command = Tells (calls_in m lane a c) (history_told jobs past a) (history_told jobs past told) (key_of job) end command
 
     -- an end that is true of a job tells so of its command
-    end_tells : (end : Outcome) → ((from to : ℕ) (query : Query) → job.command ≡ Read from to query → history_told jobs past told ≡ history_told jobs past a)
+    end_tells : (end : Outcome) → (DoesNone job.command → history_told jobs past told ≡ history_told jobs past a)
         → (end ≡ outcome.OutOfMemory → IsUndone (history_told jobs past told) job)
-        → ((r : Refusal) → end ≡ outcome.Refused r → IsRefusedFor m jobs past told number job r × (IsQuiet r → history_told jobs past told ≡ history_told jobs past a))
-        → IsTrueEnd jobs past told number job end → TellsOf end job.command
+        → ((r : Refusal) → end ≡ outcome.Refused r → IsRefusedFor run_spelled m jobs past told number job r × (IsQuiet r → history_told jobs past told ≡ history_told jobs past a))
+        → IsTrueEnd run_spelled m jobs past told number job end → TellsOf end job.command
     end_tells outcome.Created still short cause is = subst (TellsOf outcome.Created) (sym is.creates) (is.framed, is.declared)
     end_tells (outcome.Evolved k) still short cause (same, is) =
         subst (TellsOf (outcome.Evolved k)) (sym is.evolves) (same, is.there, held_once is.schemas (key_of job) is.there is.undone is.holds, is.declared)
@@ -127,19 +135,30 @@ module _ (jobs : List Job) (past : History) (a c told : List Told) (parts : told
         subst (TellsOf (outcome.Deleted f)) (sym is.deletes)
         (same, is.there, held_once is.schemas (key_of job) is.there is.undone is.holds, is.frame, is.framed, is.condition, is.says, is.erased)
     end_tells (outcome.Read answer) still short cause (from, to, query, reads, is) =
-        let stays = still from to query reads in
+        let stays = still (subst DoesNone (sym reads) tt) in
         subst (TellsOf (outcome.Read answer)) (sym reads)
         (subst (λ h. IsAnswer h (history_told jobs past told) from to query answer) (listed_now jobs past a c told parts number early Commits is.commits stays)
         (subst (λ h. IsAnswer (history_told jobs past is.commits.before) h from to query answer) (listed_now jobs past a c told parts number early Schemas is.schemas stays) is.answers))
+    end_tells (outcome.Consolidated f count) still short cause (undone, is) =
+        let stays = still (subst DoesNone (sym is.merges) tt) in
+        subst (TellsOf (outcome.Consolidated f count)) (sym is.merges) (stays, undone, merged_tells m jobs past lane a c told parts number early stays job f count is)
     end_tells (outcome.Refused r) still short cause is = refusal_tells m jobs past lane a c told parts number early job r is (cause r refl).0 (cause r refl).1
     end_tells outcome.OutOfMemory still short cause is = short refl
 
--- a read does no deed
-no_deed_of_read : (before h : History) (k : Key) (from to : ℕ) (query : Query) (d : Deed) → IsDeedOf before h k (Read from to query) d → ⊥
-no_deed_of_read before h k from to query (Framed frame) is = is
-no_deed_of_read before h k from to query (Declared s) is = is
-no_deed_of_read before h k from to query (Wrote w) is = is
-no_deed_of_read before h k from to query (Erased e) is = is
+-- a read does no deed, nor does a consolidation
+no_deed : (before h : History) (k : Key) (c : Command) (d : Deed) → DoesNone c → IsDeedOf before h k c d → ⊥
+no_deed before h k (Create made) d none is = none
+no_deed before h k (Evolve change) d none is = none
+no_deed before h k (Write columns) d none is = none
+no_deed before h k (Delete text) d none is = none
+no_deed before h k (Read from to query) (Framed frame) none is = is
+no_deed before h k (Read from to query) (Declared s) none is = is
+no_deed before h k (Read from to query) (Wrote w) none is = is
+no_deed before h k (Read from to query) (Erased e) none is = is
+no_deed before h k (Consolidate from to limits) (Framed frame) none is = is
+no_deed before h k (Consolidate from to limits) (Declared s) none is = is
+no_deed before h k (Consolidate from to limits) (Wrote w) none is = is
+no_deed before h k (Consolidate from to limits) (Erased e) none is = is
 
 -- a job of a line is the one that is made of it at its stamp
 same_job : (gives : ℕ → Bool) (id : ℕ) (line : Line) (job : Job) → IsJobOf gives id line job → job ≡ job_from id line job.at
@@ -179,6 +198,15 @@ no_create (Evolve change) works f is = cc
 no_create (Write columns) works f is = cc
 no_create (Read from to query) works f is = works
 no_create (Delete text) works f is = cc
+no_create (Consolidate from to limits) works f is = works
+
+no_merge : (c : Command) → WorksIn c → (from to : ℕ) (limits : Limits) → c ≡ Consolidate from to limits → ⊥
+no_merge (Create f) works from to limits is = works
+no_merge (Evolve change) works from to limits is = cc
+no_merge (Write columns) works from to limits is = cc
+no_merge (Read a b query) works from to limits is = works
+no_merge (Delete text) works from to limits is = cc
+no_merge (Consolidate a b l) works from to limits is = works
 
 looks_here : (job : Job) (c : Command) → WorksIn c → looks_at job c ≡ job.at
 looks_here job (Create f) works = absurd works
@@ -186,6 +214,7 @@ looks_here job (Evolve change) works = refl
 looks_here job (Write columns) works = refl
 looks_here job (Read from to query) works = absurd works
 looks_here job (Delete text) works = refl
+looks_here job (Consolidate from to limits) works = absurd works
 
 module _ (before h : History) (job : Job) (found : Option (List Key)) where
   -- the schema that the job uses held at its stamp
@@ -565,7 +594,7 @@ module _ (gives : ℕ → Bool) (seed : ℕ) (items : List Numbered) (jobs : Lis
       let uses : schema_used (history_told jobs past seen) job (schemas_found (trace_of i seen)) ≡ Some there = ap (λ h. schema_used h job (schemas_found (trace_of i seen))) now ∙ used in
       let begins = kept_first run_codec run_spelled NeverWaits gives seed items jobs past m are order stands fresh seed_fits in
       let found = works_where_used run_codec run_spelled NeverWaits plain_laws one_lane jobs past m told results begins replied suit owned within in_turn driven
-      seen (is.late ++ b) e place i job mine is_job (no_create job.command works) looks n bytes puts
+      seen (is.late ++ b) e place i job mine is_job (no_create job.command works) (no_merge job.command works) looks n bytes puts
       (deed_no_lease (history_told jobs past a ++ front) job (schemas_found (trace_of i seen)) n d (subst (λ x. deed_in (history_told jobs past a ++ front) job (schemas_found (trace_of i seen)) x ≡ Some d) puts deed)) there uses in
       subst (λ h. HeldOnce (history_told jobs past a) h (key_of job) there) now
       (held_once jobs past a is.early seen refl i early found.schemas (key_of job) there found.undone (ap (schema_there (history_told jobs past (found.schemas).before)) (sym looks) ∙ found.holds)))
@@ -599,19 +628,17 @@ module _ (gives : ℕ → Bool) (seed : ℕ) (items : List Numbered) (jobs : Lis
       let above : Late i c = λ e among. late e (subst (λ l. Contains l e) (sym behind) (Contains-append_left c b' e among)) in
       let of_job : (front back : List Deed) (d : Deed) → deeds ≡ front ++ d ∷ back → IsDeedOf (history_told jobs past a) (history_told jobs past a ++ front) (key_of job) job.command d = λ front back d split.
       deed_is i job is_job a c b' place early below above front d (own.came front back d split) in
-      let still : (from to : ℕ) (query : Query) → job.command ≡ Read from to query → history_told jobs past a' ≡ history_told jobs past a = λ from to query reads.
-      let none : deeds ≡ [] = none_first deeds (λ back d split.
-      no_deed_of_read (history_told jobs past a) (history_told jobs past a ++ []) (key_of job) from to query d
-      (subst (λ q. IsDeedOf (history_told jobs past a) (history_told jobs past a ++ []) (key_of job) q d) reads (of_job [] back d split))) in
+      let still : DoesNone job.command → history_told jobs past a' ≡ history_told jobs past a = λ quiet.
+      let none : deeds ≡ [] = none_first deeds (λ back d split. no_deed (history_told jobs past a) (history_told jobs past a ++ []) (key_of job) job.command d quiet (of_job [] back d split)) in
       whole ∙ own.goes_on_so ∙ ap (λ l. history_told jobs past a ++ l) none ∙ append-nil (history_told jobs past a) in
       let grows_by : history_told jobs past a' ≡ history_told jobs past a ++ deeds = whole ∙ own.goes_on_so in
       let silent : trace_of i a' ≡ [] → deeds ≡ [] = silent_deeds jobs i a c a' (history_told jobs past a) grows below above own in
       let history : IsHistory (history_told jobs past a') = ((front_run (i + 1)).stands a' [] (sym (append-nil a'))).history in
-      let causes : (r : Refusal) → end ≡ outcome.Refused r → IsRefusedFor m jobs past a' i job r × (IsQuiet r → history_told jobs past a' ≡ history_told jobs past a) = λ r is.
-      let cause : IsRefusedFor m jobs past a' i job r = (front_run (i + 1)).causes i job r is_job (short_at results (i + 1) i (Done (outcome.Refused r)) (omega arith) (result_at ∙ ap (λ o. Some (Done o)) is)) in (
+      let causes : (r : Refusal) → end ≡ outcome.Refused r → IsRefusedFor run_spelled m jobs past a' i job r × (IsQuiet r → history_told jobs past a' ≡ history_told jobs past a) = λ r is.
+      let cause : IsRefusedFor run_spelled m jobs past a' i job r = (front_run (i + 1)).causes i job r is_job (short_at results (i + 1) i (Done (outcome.Refused r)) (omega arith) (result_at ∙ ap (λ o. Some (Done o)) is)) in (
         cause,
         λ quiet.
-            let none : deeds ≡ [] = nothing_done m jobs past lane a c a' grows i early job deeds grows_by history of_job silent r quiet (subst (IsTrueEnd jobs past a' i job) is is_true) cause in
+            let none : deeds ≡ [] = nothing_done m jobs past lane a c a' grows i early job deeds grows_by history of_job silent r quiet (subst (IsTrueEnd run_spelled m jobs past a' i job) is is_true) cause in
             grows_by ∙ ap (λ l. history_told jobs past a ++ l) none ∙ append-nil (history_told jobs past a),
       ) in
       let done : IsDone (calls_in m lane a c) (history_told jobs past a) (history_told jobs past a') (key_of job) end job.command =

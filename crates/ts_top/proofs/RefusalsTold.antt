@@ -13,6 +13,7 @@ use Rattle.ts_base.specs.declared.names.Name.TheVariants as name
 use Rattle.ts_base.specs.declared.names.Place.{Place}
 use Rattle.ts_base.specs.declared.names.Place.TheVariants as place
 use Rattle.ts_base.specs.declared.names.Prefix.TheVariants.{Leases, Schemas}
+use Rattle.ts_commit.specs.declared.vacs.Planned.TheVariants.{Nothing}
 use Rattle.ts_lease.specs.Leases.{verdict_in}
 use Rattle.ts_lease.specs.declared.verdicts.Verdict.TheVariants.{Held as Opposed}
 use Rattle.ts_schema.specs.declared.frames.Frame.{Frame}
@@ -21,7 +22,7 @@ use Rattle.ts_store.specs.Calls.{is_no_memory, names_under}
 use Rattle.ts_store.specs.Journals.{held_after}
 use Rattle.ts_store.specs.declared.journal.Entry.{Entry}
 use Rattle.ts_model.specs.declared.commands.Command.{Command}
-use Rattle.ts_model.specs.declared.commands.Command.TheVariants.{Create, Evolve, Write, Read, Delete}
+use Rattle.ts_model.specs.declared.commands.Command.TheVariants.{Create, Evolve, Write, Read, Delete, Consolidate}
 use Rattle.ts_model.specs.declared.commands.FrameIn.{FrameIn}
 use Rattle.ts_model.specs.declared.commands.Job.{Job}
 use Rattle.ts_model.specs.declared.answers.Refusal.{Refusal}
@@ -36,13 +37,14 @@ use Rattle.ts_model.specs.States.{get_frame, made_by, place_of}
 use Rattle.ts_model.specs.Told.{Told, entries_of, entry_of, held_told, history_told, trace_of}
 use Rattle.ts_model.proofs.HistoryLaws.{absent_from_new, frame_in-append, schemas-append}
 use Rattle.ts_model.proofs.ListLemmas.{Contains-filter_map, Contains-here, Contains-cons, Contains-nil, Contains-there, filter_map-Contains}
-use Rattle.ts_model.proofs.Traces.{held_told-append}
 use Rattle.ts_law.specs.Ends.{IsTrueRefusal, kind_of}
 use Rattle.ts_law.specs.Refusals.{FindsArray, FindsFault, FindsLease, FindsNoSchema, HasFailed, IsRefusedAs, IsRefusedFor, refusal_in}
-use Rattle.ts_law.proofs.Journals.{journal_held}
-use Rattle.ts_top.specs.Causes.{Calls, HasCause, IsOpposed, OneFailed, TellsRefusal, looks_for, own_faults}
+use Rattle.ts_top.specs.Causes.{HasCause, IsOpposed, OneFailed, TellsRefusal, looks_for, own_faults}
 use Rattle.ts_top.specs.Promise.{Extends, IsDeedOf}
-use Rattle.ts_top.proofs.Places.{Early, cancelled, goes_on, listed_now, made_now, stands_after}
+use Rattle.ts_top.specs.Merges.{Calls}
+use Rattle.ts_top.specs.Runners.{run_spelled}
+use Rattle.ts_top.proofs.MergesTold.{calls_in, divided, held_entered, plans}
+use Rattle.ts_top.proofs.Places.{Early, goes_on, listed_now, made_now}
 
 -- ---- commands that did nothing
 
@@ -144,12 +146,13 @@ module _ (before : History) (deeds : List Deed) (k : Key) (c : Command) (new : I
 -- ---- what a refusal tells
 
 -- a failed call that is true of a job tells whose deed may have come
-fault_tells : (now : History) (job : Job) (p : Place) → IsTrueRefusal now job (refusal.StoreFault p) → IsNewKey now (key_of job) ⊎ Contains (own_faults (key_of job) job.command) (refusal.StoreFault p)
-fault_tells now job (place.Name (name.Commit f kind)) (inl own) = let mine = refusal.StoreFault (place.Name (name.Commit (frag_of (key_of job)) (kind_of job.command))) in inr (rw (own.0, own.1) (Contains-here mine (refusal.StoreFault (place.Name (name.Schema (key_of job))) ∷ [])))
-fault_tells now job (place.Name (name.Commit f kind)) (inr undone) = inl undone
-fault_tells now job (place.Name (name.Schema k)) (inl own) = let mine = refusal.StoreFault (place.Name (name.Schema (key_of job))) in inr (rw own (Contains-there (refusal.StoreFault (place.Name (name.Commit (frag_of (key_of job)) (kind_of job.command)))) (mine ∷ []) mine (Contains-here mine [])))
-fault_tells now job (place.Name (name.Schema k)) (inr undone) = inl undone
-fault_tells now job _ is = inl is
+module _ (opening : Held) (jobs : List Job) (past : History) (told : List Told) (number : ℕ) where
+  fault_tells : (job : Job) (p : Place) → IsTrueRefusal run_spelled opening jobs past told number job (refusal.StoreFault p) → IsNewKey (history_told jobs past told) (key_of job) ⊎ Contains (own_faults (key_of job) job.command) (refusal.StoreFault p)
+  fault_tells job (place.Name (name.Commit f kind)) (inl own) = let mine = refusal.StoreFault (place.Name (name.Commit (frag_of (key_of job)) (kind_of job.command))) in inr (rw (own.0, own.1) (Contains-here mine (refusal.StoreFault (place.Name (name.Schema (key_of job))) ∷ [])))
+  fault_tells job (place.Name (name.Commit f kind)) (inr undone) = inl undone
+  fault_tells job (place.Name (name.Schema k)) (inl own) = let mine = refusal.StoreFault (place.Name (name.Schema (key_of job))) in inr (rw own (Contains-there (refusal.StoreFault (place.Name (name.Commit (frag_of (key_of job)) (kind_of job.command)))) (mine ∷ []) mine (Contains-here mine [])))
+  fault_tells job (place.Name (name.Schema k)) (inr undone) = inl undone
+  fault_tells job _ is = inl is
 
 -- where a command looks for its schema
 looks_same : (job : Job) (c : Command) → looks_at job c ≡ looks_for (key_of job) c
@@ -158,10 +161,7 @@ looks_same job (Evolve change) = refl
 looks_same job (Write columns) = refl
 looks_same job (Read from to query) = refl
 looks_same job (Delete text) = refl
-
--- the calls of a command, after those of the commands before it
-abbrev pub calls_in : Held → (Option ℕ → ℕ) → List Told → List Told → Calls
-calls_in m lane a c = record { opening = held_after m (entries_of lane a); entries = entries_of lane c }
+looks_same job (Consolidate from to limits) = refl
 
 module _ (m : Held) (jobs : List Job) (past : History) (lane : Option ℕ → ℕ) (a c told : List Told) (parts : told ≡ a ++ c) (number : ℕ) (early : Early number a) (job : Job) where
   -- the history before the command, and the one after it
@@ -199,11 +199,9 @@ module _ (m : Held) (jobs : List Job) (past : History) (lane : Option ℕ → �
   opposed other is =
       let at = is.leases in
       let rest : List Told = at.listing ∷ at.later in
-      let (d, behind) = stands_after jobs past a c told parts number early at.before at.listing at.later at.place at.own in
-      let split : c ≡ d ++ rest = cancelled a c (d ++ rest) (sym parts ∙ at.place ∙ ap (λ l. l ++ rest) behind ∙ append_assoc a d rest) in
+      let (d, behind, split) = divided m jobs past lane a c told parts number early at.before at.listing at.later at.place at.own in
       let (mode, has, named) = own_lease (mode_of job.command) is.own is.has in
-      let held : held_told m at.before ≡ held_after (held_after m (entries_of lane a)) (entries_of lane d) =
-      ap (held_told m) behind ∙ held_told-append m a d ∙ journal_held lane (held_told m a) d ∙ ap (λ h. held_after h (entries_of lane d)) (journal_held lane m a) in
+      let held : held_told m at.before ≡ held_after (held_after m (entries_of lane a)) (entries_of lane d) = ap (held_told m) behind ∙ held_entered m lane a d in
       let first : verdict_in (names_under Leases (held_after (held_after m (entries_of lane a)) (entries_of lane d))) (name.Lease (key_of job) mode) ≡ Opposed other =
       subst (λ n. verdict_in (names_under Leases (held_after (held_after m (entries_of lane a)) (entries_of lane d))) n ≡ Opposed other) (sym named)
       (subst (λ h. verdict_in (names_under Leases h) is.own ≡ Opposed other) held is.first) in
@@ -240,10 +238,12 @@ module _ (m : Held) (jobs : List Job) (past : History) (lane : Option ℕ → �
     array made (inr (at, s, among)) = inr (s, subst (λ h. Contains (schemas h) s) (listed_now jobs past a c told parts number early Schemas at still) among)
 
     -- a refusal of a command that did nothing has its cause in the history
-    cause_tells : (r : Refusal) → IsQuiet r → IsRefusedFor m jobs past told number job r → HasCause calls_of now (key_of job) r job.command
+    cause_tells : (r : Refusal) → IsQuiet r → IsRefusedFor run_spelled m jobs past told number job r → HasCause calls_of now (key_of job) r job.command
     cause_tells refusal.ArrayExists quiet (made, creates, found) = subst (HasCause calls_of now (key_of job) refusal.ArrayExists) (sym creates) (array made found)
     cause_tells (refusal.NoSchema at) quiet is = no_schema at job.command refl is
     cause_tells (refusal.Leased other) quiet is = leased other job.command refl is
+    cause_tells (refusal.NothingToDo count) quiet is =
+        subst (HasCause calls_of now (key_of job) (refusal.NothingToDo count)) (sym is.merges) (plans m jobs past lane a c told parts number early still is.from is.to is.limits (Nothing count) is.commits is.by_plan)
     cause_tells (refusal.StoreFault p) quiet is = absurd quiet
     cause_tells (refusal.Taken n) quiet is = absurd is
     cause_tells (refusal.Missing n) quiet is = absurd is
@@ -255,32 +255,34 @@ module _ (m : Held) (jobs : List Job) (past : History) (lane : Option ℕ → �
         by_command command same refused = subst (IsRefusedIn r) same (fault_found r refused)
 
   -- a refusal that is true of a job tells so of its command
-  pub refusal_tells : (r : Refusal) → IsTrueRefusal now job r → IsRefusedFor m jobs past told number job r → (IsQuiet r → now ≡ before) → TellsRefusal calls_of before now (key_of job) job.command r
+  pub refusal_tells : (r : Refusal) → IsTrueRefusal run_spelled m jobs past told number job r → IsRefusedFor run_spelled m jobs past told number job r → (IsQuiet r → now ≡ before) → TellsRefusal calls_of before now (key_of job) job.command r
   refusal_tells (refusal.Missing n) is cause still = is
   refusal_tells (refusal.Damaged n at) is cause still = is
   refusal_tells (refusal.Taken n) is cause still = is
-  refusal_tells (refusal.StoreFault p) is cause still = (one_failed p cause, fault_tells now job p is)
+  refusal_tells (refusal.StoreFault p) is cause still = (one_failed p cause, fault_tells m jobs past told number job p is)
+  refusal_tells (refusal.NothingToDo count) is cause still = (still tt, is.0, cause_tells (still tt) (refusal.NothingToDo count) tt cause)
   refusal_tells r is cause still = (still tt, is, cause_tells (still tt) r tt cause)
 
   -- ---- a refused command did nothing
 
   -- a command that was refused, and not for a failed call, has no deed of its key
-  undone_of : (r : Refusal) → IsQuiet r → IsTrueRefusal now job r → IsNewKey now (key_of job)
+  undone_of : (r : Refusal) → IsQuiet r → IsTrueRefusal run_spelled m jobs past told number job r → IsNewKey now (key_of job)
   undone_of (refusal.Missing n) quiet is = absurd is
   undone_of (refusal.Damaged n at) quiet is = absurd is
   undone_of (refusal.Taken n) quiet is = absurd is
   undone_of (refusal.StoreFault p) quiet is = absurd quiet
+  undone_of (refusal.NothingToDo count) quiet is = is.0
   undone_of r quiet is = is
 
   -- and it did nothing
   pub nothing_done : (deeds : List Deed) → now ≡ before ++ deeds → IsHistory now → ((front back : List Deed) (d : Deed) → deeds ≡ front ++ d ∷ back → IsDeedOf before (before ++ front) (key_of job) job.command d)
-      → (trace_of number told ≡ [] → deeds ≡ []) → (r : Refusal) → IsQuiet r → IsTrueRefusal now job r → IsRefusedFor m jobs past told number job r → deeds ≡ []
+      → (trace_of number told ≡ [] → deeds ≡ []) → (r : Refusal) → IsQuiet r → IsTrueRefusal run_spelled m jobs past told number job r → IsRefusedFor run_spelled m jobs past told number job r → deeds ≡ []
   nothing_done deeds grows history own silent r quiet is_true cause = by_command job.command refl
     where
       new : IsNewKey (before ++ deeds) (key_of job)
       new = subst (λ h. IsNewKey h (key_of job)) grows (undone_of r quiet is_true)
 
-      by_create : (made : FrameIn) → job.command ≡ Create made → (r : Refusal) → IsQuiet r → IsRefusedFor m jobs past told number job r → deeds ≡ []
+      by_create : (made : FrameIn) → job.command ≡ Create made → (r : Refusal) → IsQuiet r → IsRefusedFor run_spelled m jobs past told number job r → deeds ≡ []
       by_create made creates refusal.ArrayExists quiet (own_made, same, found) =
           let create_is : own_made ≡ made = one_create own_made made (sym same ∙ creates) in
           by_array (subst (FindsArray jobs past told number) create_is found)
@@ -297,6 +299,7 @@ module _ (m : Held) (jobs : List Job) (past : History) (lane : Option ℕ → �
               (subst (Extends (history_told jobs past at.before)) grows (goes_on jobs past at.before (at.listing ∷ at.later) told at.place)) (inr (s, among))
       by_create made creates (refusal.NoSchema at) quiet is = absurd (none-some made (sym (ap made_by (sym creates) ∙ is.works)))
       by_create made creates (refusal.Leased other) quiet is = absurd (none-some is.own (ap (λ q. option_map (name.Lease (key_of job)) (mode_of q)) (sym creates) ∙ is.has))
+      by_create made creates (refusal.NothingToDo count) quiet is = let other : Create made ≡ Consolidate is.from is.to is.limits = sym creates ∙ is.merges in cc
       by_create made creates (refusal.StoreFault p) quiet is = absurd quiet
       by_create made creates (refusal.Taken n) quiet is = absurd is
       by_create made creates (refusal.Missing n) quiet is = absurd is
@@ -309,3 +312,4 @@ module _ (m : Held) (jobs : List Job) (past : History) (lane : Option ℕ → �
       by_command (Write columns) same = no_deeds_but_create before deeds (key_of job) job.command new own (ap made_by same)
       by_command (Read from to query) same = no_deeds_but_create before deeds (key_of job) job.command new own (ap made_by same)
       by_command (Delete text) same = no_deeds_but_create before deeds (key_of job) job.command new own (ap made_by same)
+      by_command (Consolidate from to limits) same = no_deeds_but_create before deeds (key_of job) job.command new own (ap made_by same)

@@ -1,6 +1,5 @@
 -- Why a command is refused: what its refusal tells of its calls, and of the histories before and after it.
 use Rattle.std.specs.Prelude.{◌≡◌, ◌≢◌, ℕ, List, [], ◌∷◌, ◌++◌, Some, None, Contains, ◌⊎◌}
-use Rattle.ts_base.specs.Held.{Held}
 use Rattle.ts_base.specs.Keys.{frag_of}
 use Rattle.ts_base.specs.declared.keys.Key.{Key}
 use Rattle.ts_base.specs.declared.names.LeaseMode.{LeaseMode}
@@ -9,6 +8,7 @@ use Rattle.ts_base.specs.declared.names.Name.TheVariants as name
 use Rattle.ts_base.specs.declared.names.Place.{Place}
 use Rattle.ts_base.specs.declared.names.Place.TheVariants as place
 use Rattle.ts_base.specs.declared.names.Prefix.TheVariants.{Leases}
+use Rattle.ts_commit.specs.declared.vacs.Planned.TheVariants.{Nothing}
 use Rattle.ts_lease.specs.declared.verdicts.Verdict.TheVariants.{Held as Opposed}
 use Rattle.ts_lease.specs.Leases.{verdict_in}
 use Rattle.ts_store.specs.declared.fate.Fate.TheVariants as fate
@@ -18,7 +18,7 @@ use Rattle.ts_store.specs.Journals.{held_after}
 use Rattle.ts_schema.specs.declared.frames.Frame.{Frame}
 use Rattle.ts_schema.specs.declared.schemas.Schema.{Schema}
 use Rattle.ts_model.specs.declared.commands.Command.{Command}
-use Rattle.ts_model.specs.declared.commands.Command.TheVariants.{Create, Read}
+use Rattle.ts_model.specs.declared.commands.Command.TheVariants.{Create, Read, Consolidate}
 use Rattle.ts_model.specs.declared.answers.Refusal.{Refusal}
 use Rattle.ts_model.specs.declared.answers.Refusal.TheVariants as refusal
 use Rattle.ts_model.specs.Commands.{create_refusal, frame_made}
@@ -27,15 +27,11 @@ use Rattle.ts_model.specs.Stages.{mode_of}
 use Rattle.ts_model.specs.States.{place_of}
 use Rattle.ts_law.specs.Ends.{kind_of}
 use Rattle.ts_law.specs.Refusals.{refusal_in}
+use Rattle.ts_top.specs.Merges.{Calls, Plans}
 
 -- faults of a command's own puts: of its commit, and of its schema
 abbrev pub own_faults : Key → Command → List Refusal
 own_faults k command = refusal.StoreFault (place.Name (name.Commit (frag_of k) (kind_of command))) ∷ refusal.StoreFault (place.Name (name.Schema k)) ∷ []
-
--- the calls that a command made, with what was held before them
-pub record Calls : Type 0 where
-  pub opening : Held
-  pub entries : List Entry
 
 -- one of the calls failed, which speaks of this object or prefix
 abbrev pub OneFailed : Calls → Place → Type 0
@@ -52,12 +48,13 @@ abbrev pub looks_for : Key → Command → ℕ
 looks_for k (Read from to query) = to
 looks_for k _ = k.t
 
--- the cause of a refusal in a history: a create finds another frame than its own, or a schema, or is refused for itself; another command finds no schema, or a lease in its way, or is refused in the frame and the schema there
+-- the cause of a refusal in a history: a create finds another frame than its own, or a schema, or is refused for itself; another command finds no schema, or a lease in its way, or is refused in the frame and the schema there; the plan of a consolidation takes nothing, where so many fragments may be merged
 abbrev pub HasCause : Calls → History → Key → Refusal → Command → Type 0
 HasCause calls h k refusal.ArrayExists (Create made) = ((frame : Frame) × (frame_in h ≡ Some frame) × (frame ≢ frame_made made)) ⊎ ((s : Schema) × Contains (schemas h) s)
 HasCause calls h k r (Create made) = create_refusal made ≡ Some r
 HasCause calls h k (refusal.NoSchema at) command = (at ≡ looks_for k command) × (schema_there h at ≡ None)
 HasCause calls h k (refusal.Leased other) command = IsOpposed calls k command other
+HasCause calls h k (refusal.NothingToDo eligible) (Consolidate from to limits) = Plans calls h from to limits (Nothing eligible)
 HasCause calls h k r command = (there : Schema) × (schema_there h (looks_for k command) ≡ Some there) × (frame : Frame) × (frame_in h ≡ Some frame) × (refusal_in frame there.attrs command ≡ Some r)
 
 -- what a refusal tells: no object is missing, damaged or taken; where a call failed, the history has no deed of the command, but perhaps that of the put that failed; else the command did nothing, for a cause

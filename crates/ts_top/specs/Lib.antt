@@ -3,5 +3,6 @@ pub mod Notices
 pub mod Items
 pub mod Runners
 pub mod Seen
+pub mod Merges
 pub mod Causes
 pub mod Promise

@@ -15,7 +15,7 @@ use Rattle.ts_schema.specs.Evolutions.{evolved_attrs}
 use Rattle.ts_cond.specs.Tests.{Condition}
 use Rattle.ts_model.specs.declared.commands.Line.{Line}
 use Rattle.ts_model.specs.declared.commands.Command.{Command}
-use Rattle.ts_model.specs.declared.commands.Command.TheVariants.{Create, Evolve, Write, Read, Delete}
+use Rattle.ts_model.specs.declared.commands.Command.TheVariants.{Create, Evolve, Write, Read, Delete, Consolidate}
 use Rattle.ts_model.specs.declared.answers.Outcome.{Outcome}
 use Rattle.ts_model.specs.declared.answers.Outcome.TheVariants as outcome
 use Rattle.ts_model.specs.declared.answers.Driven.TheVariants.{Done}
@@ -27,8 +27,9 @@ use Rattle.ts_model.specs.Commands.{frame_made, laid}
 use Rattle.ts_model.specs.Queries.{delete_condition}
 use Rattle.ts_law.specs.Fresh.{IsFreshSeed, IsStampOf, Numbered, command_at, id_of, in_lane_order}
 use Rattle.ts_law.specs.Stands.{Stands}
-use Rattle.ts_top.specs.Causes.{Calls, TellsRefusal}
+use Rattle.ts_top.specs.Causes.{TellsRefusal}
 use Rattle.ts_top.specs.Ends.{ends_text}
+use Rattle.ts_top.specs.Merges.{Calls, Merged}
 use Rattle.ts_top.specs.Runners.{run_spelled}
 use Rattle.ts_top.specs.Seen.{Seen, AskFor}
 
@@ -40,7 +41,7 @@ Extends sooner later = (deeds : List Deed) × (later ≡ sooner ++ deeds)
 abbrev pub HeldOnce : History → History → Key → Schema → Type 0
 HeldOnce before now k schema = (once : History) × Extends before once × Extends once now × IsNewKey once k × (schema_there once k.t ≡ Some schema)
 
--- what the end of a command with the key tells of the histories before and after it; a read does nothing, so it reads the one history, and one that ran short of memory has no deed of its key
+-- what the end of a command with the key tells of the histories before and after it; a read does nothing, so it reads the one history; a consolidation does none either, and tells what it merged; one that ran short of memory has no deed of its key
 abbrev pub Tells : Calls → History → History → Key → Outcome → Command → Type 0
 Tells calls before now k (outcome.Read answer) (Read from to query) = IsAnswer now now from to query answer
 Tells calls before now k outcome.Created (Create made) = (frame_in now ≡ Some (frame_made made)) × (schema_with now k ≡ Some (record { key = k; attrs = made.attrs }))
@@ -51,6 +52,7 @@ Tells calls before now k (outcome.Written f) (Write columns) =
 Tells calls before now k (outcome.Deleted f) (Delete text) =
     (f ≡ frag_of k) × (there : Schema) × HeldOnce before now k there × (frame : Frame) × (frame_in now ≡ Some frame)
     × (condition : Condition) × (delete_condition frame there.attrs text ≡ Ok condition) × Contains (deletions now) (record { key = k; cond = condition })
+Tells calls before now k (outcome.Consolidated f count) (Consolidate from to limits) = (now ≡ before) × IsNewKey now k × Merged calls now from to limits f count
 Tells calls before now k (outcome.Refused r) command = TellsRefusal calls before now k command r
 Tells calls before now k outcome.OutOfMemory command = IsNewKey now k
 Tells calls before now k _ _ = ⊥

@@ -109,7 +109,8 @@ fn job_of(alloc: Global, seed: u64, number: u32, line: &Line, at: u64) -> Result
     })
 }
 
-// The command, whose interval ends at the stamp where that is asked for, as it can be of a read.
+// The command, whose interval ends at the stamp where that is asked for, as it can be of a read and of
+// a consolidation.
 fn ending_at(command: Command, to_stamp: bool, at: u64) -> Command
     requires fit { IsTrue (fits command) }
     ensures is { result ≡ ends_at to_stamp at command }
@@ -120,6 +121,15 @@ fn ending_at(command: Command, to_stamp: bool, at: u64) -> Command
             from,
             to: at,
             query,
+        },
+        Command::Consolidate {
+            from,
+            to: _,
+            limits,
+        } if to_stamp => Command::Consolidate {
+            from,
+            to: at,
+            limits,
         },
         command => command,
     }

@@ -47,9 +47,9 @@ module _ {P F : Type 0} (codec : Codec F) (spelled : Spelled) (tracks : Tracking
   abbrev seen : WorldView
   seen = record { past = past; jobs = jobs; told = told; held = held; journal = journal; actors = standings slots }
 
-  true_end : (number : ℕ) (job : Job) (end : Outcome) → slice_get jobs number ≡ Some job → EndsBy codec job (trace_of number told) end → IsTrueEnd jobs past told number job end
+  true_end : (number : ℕ) (job : Job) (end : Outcome) → slice_get jobs number ≡ Some job → EndsBy codec job (trace_of number told) end → IsTrueEnd spelled is.opening jobs past told number job end
   true_end number job end at (inl over) = end_is_true codec spelled tracks is.opening past jobs [] told held is.kept number job end at (Contains-nil number) over
-  true_end number job end at (inr none) = subst (IsTrueEnd jobs past told number job) (sym none.0) tt
+  true_end number job end at (inr none) = subst (IsTrueEnd spelled is.opening jobs past told number job) (sym none.0) tt
 
   -- each first part of the calls leaves objects that stand for its history
   stood : (front back : List Told) → told ≡ front ++ back → Stands spelled (held_told is.opening front) (history_told jobs past front)
@@ -65,7 +65,7 @@ module _ {P F : Type 0} (codec : Codec F) (spelled : Spelled) (tracks : Tracking
         segment = segment_of codec laws.looks job (trace_of number told) (Done end) driven;
         is_true = true_over spelled is.opening jobs past told number job end (λ g n. one_head codec spelled tracks laws g n) stood
             (λ short. short_undone codec spelled tracks laws past jobs is.opening told is.begins is.may is.replied number job at (subst (EndsBy codec job (trace_of number told)) short actor.slot_is)) tells;
-        cause = λ r same. refused_for spelled is.opening jobs past told is.replied stood number codec job r (subst (IsTrueEnd jobs past told number job) same tells)
+        cause = λ r same. refused_for spelled is.opening jobs past told is.replied stood number codec job r (subst (IsTrueEnd spelled is.opening jobs past told number job) same tells)
             (segment_of codec laws.looks job (trace_of number told) (Done (outcome.Refused r)) (subst (λ o. IsDriven codec job (trace_of number told) (Done o)) same driven));
       }
 

@@ -49,7 +49,7 @@ pub record EndsTruly {F : Type 0} (codec : Codec F) (spelled : Spelled) (opening
   pub driven : IsDriven codec job (trace_of number w.told) (Done end)
   pub segment : IsSegment codec job (trace_of number w.told) (Done end)
   pub is_true : IsTrueOver spelled opening w.jobs w.past w.told number job end
-  pub cause : (r : Refusal) → end ≡ outcome.Refused r → IsRefusedFor opening w.jobs w.past w.told number job r
+  pub cause : (r : Refusal) → end ≡ outcome.Refused r → IsRefusedFor spelled opening w.jobs w.past w.told number job r
 
 -- what holds of a world at any time
 pub record IsSound {F : Type 0} (codec : Codec F) (spelled : Spelled) (w : WorldView) : Type 0 where

@@ -1,7 +1,6 @@
 -- Where replies lead that do not let a job go on.
 use Rattle.std.proofs.Common.{◌≡◌, ◌≢◌, ◌<◌, inl, inr, None, option_map, length, ℕ, suc, ◌-◌, ◌^◌, List, Some, slice_get, refl, sym, ap, ◌∙◌}
 use Rattle.std.proofs.lemmas.Option.{slice_get_cases}
-use Rattle.ts_base.specs.declared.names.Name.{Name}
 use Rattle.ts_store.specs.declared.call.Call.{Call}
 use Rattle.ts_store.specs.declared.call.Reply.{Reply}
 use Rattle.ts_store.specs.declared.call.Reply.TheVariants as reply
@@ -18,7 +17,7 @@ use Rattle.ts_schema.specs.FrameTexts.{frame_object}
 use Rattle.ts_base.specs.declared.names.Name.TheVariants as name
 use Rattle.ts_store.specs.declared.call.Call.TheVariants as call
 use Rattle.ts_model.specs.declared.commands.Command.{Command}
-use Rattle.ts_model.specs.declared.commands.Command.TheVariants.{Create, Evolve, Write, Read, Delete}
+use Rattle.ts_model.specs.declared.commands.Command.TheVariants.{Create, Evolve, Write, Read, Delete, Consolidate}
 use Rattle.ts_writer.specs.Writing.{IsCreate, IsOver, IsPutState, IsCreateState, calls_left}
 
 -- a put that did not make its object ends the job
@@ -94,6 +93,7 @@ frame_in_other job (Evolve change) s r is made taken e = absurd is
 frame_in_other job (Write w) s r is made taken e = absurd is
 frame_in_other job (Read from to query) s r is made taken e = absurd is
 frame_in_other job (Delete text) s r is made taken e = absurd is
+frame_in_other job (Consolidate from to limits) s r is made taken e = absurd is
 
 -- so it does in the words of a create's state
 pub frame_other : {F : Type 0} (codec : Codec F) (job : Job) (s : State F) (r : Reply) → IsCreate job.command → (r ≡ reply.Made → ⊥) → (r ≡ reply.Taken → ⊥) → ((bytes : List ℕ) → s ≡ ended (call.Put name.Domain bytes) r)

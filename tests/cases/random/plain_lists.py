@@ -2,6 +2,9 @@
 
 The lists are searched from end to end for each cell, as docs/FORMATS.md says which write, delete and schema counts. Nothing here
 is taken from the program. Each script is made from a seed, which is its name.
+
+Consolidations stand among the commands. They leave the lists as they are, since no read may show anything of them. Only for what they print
+the fragments are listed too, with those that were merged.
 """
 import itertools
 import json
@@ -95,6 +98,8 @@ class Array:
         self.schemas = [((0, 1), [some_attribute(chance, "v"), some_attribute(chance, "w")])]
         self.writes = []  # (key, attributes, coordinates, row by name)
         self.deletes = []  # (key, attributes that are named, whether a row matches)
+        self.fragments = []  # (least stamp, greatest stamp, number, key of the schema)
+        self.merged = set()  # the numbers of those that were merged into another
 
     def create(self):
         types = {"x": "int8", "y": "int16"}
@@ -103,9 +108,12 @@ class Array:
         said["attrs"] = [it.declared(self.chance) for it in self.schemas[0][1]]
         return {**said, "cell_order": self.cell_order, "tile_order": self.tile_order}
 
+    def schema_there(self, at):
+        """The schema with the greatest key up to a timestamp: its key and its attributes."""
+        return max((it for it in self.schemas if it[0][0] <= at), key=lambda it: it[0])
+
     def schema_at(self, at):
-        """The attributes of the schema with the greatest key up to a timestamp."""
-        return max((it for it in self.schemas if it[0][0] <= at), key=lambda it: it[0])[1]
+        return self.schema_there(at)[1]
 
     def fields_at(self, at):
         kinds = {name: "int64" for name, *_ in self.dims}
@@ -163,7 +171,30 @@ class Array:
             said["cols"][it.name] = [row[it.name] for row in rows]
         for cell, row in zip(cells, rows):
             self.writes.append(((at, number), attributes, cell, row))
+        self.fragments.append((at, at, number, self.schema_there(at)[0]))
         return said, ["ok", f"__{at}_{at}_{number:032x}_1"]
+
+    def consolidate(self, number):
+        at = self.chance.randrange(STAMPS)
+        said, begin, end, least, most = {"cmd": "consolidate", "at": at}, 0, at, 2, 64
+        if self.chance.random() < 0.3:
+            said["from"] = begin = self.chance.randrange(STAMPS)
+        if self.chance.random() < 0.7:
+            said["to"] = end = self.chance.randrange(STAMPS)
+        if self.chance.random() < 0.3:
+            said["min"] = least = self.chance.randrange(2, 5)
+        if self.chance.random() < 0.3:
+            said["max"] = most = self.chance.randrange(least, least + 3)
+        whole = sorted(it for it in self.fragments if begin <= it[0] and it[1] <= end and it[2] not in self.merged)
+        of_schema = lambda key: [it for it in whole if it[3] == key]
+        shared = [of_schema(it[3]) for it in whole if len(of_schema(it[3])) >= least]
+        if not shared:
+            return said, ["refused", "NothingToDo", str(len(whole))]
+        taken = shared[0][:most]
+        first, last = min(it[0] for it in taken), max(it[1] for it in taken)
+        self.merged |= {it[2] for it in taken}
+        self.fragments.append((first, last, number, taken[0][3]))
+        return said, ["ok", f"__{first}_{last}_{number:032x}_1", str(len(taken))]
 
     def delete(self, number):
         at = self.chance.randrange(STAMPS)
@@ -228,6 +259,7 @@ def script_of(seed):
     array = Array(chance, dense=seed % 3 == 0)
     commands, lines = [array.create()], [["0.1", "create", "ok"]]
     ways = [array.write] * 5 + [array.read] * 4 + [array.delete] * (1 if array.dense else 3) + [array.evolve]
+    ways += [array.consolidate] * (2 if seed % 2 else 0)
     for number in range(2, COMMANDS + 2):
         said, end, *rows = chance.choice(ways)(number)
         commands.append(said)
