@@ -2,4 +2,4 @@
 use Rattle.ts_world.proofs.tests.merging.shuffle.Goals as goal
 
 pub step-requires-after_bounds : goal.step-requires-after_bounds
-step-requires-after_bounds g l c = λ κs outlives. c.some_call.ensures _
+step-requires-after_bounds g l c κs = l.some_call.ensures l.loop.world
