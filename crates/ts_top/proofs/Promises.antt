@@ -44,7 +44,6 @@ use Rattle.ts_model.specs.Queries.{delete_condition}
 use Rattle.ts_model.specs.Deeds.{History, IsHistory, IsNewKey, frame_in, schema_there}
 use Rattle.ts_model.specs.Answers.{IsAnswer}
 use Rattle.ts_model.specs.Driven.{IsDriven}
-use Rattle.ts_cond.specs.declared.query.Query.{Query}
 use Rattle.ts_base.specs.declared.names.Prefix.TheVariants.{Commits, Schemas}
 use Rattle.ts_model.specs.Jobs.{key_of, looked_at, looks_at, schema_of_job, written_as, deletion_as}
 use Rattle.ts_model.specs.Stops.{cuts}
