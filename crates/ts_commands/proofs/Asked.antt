@@ -9,8 +9,9 @@ use Rattle.ts_actor.specs.Traces.{asking}
 use Rattle.ts_actor.proofs.MachineLaws.{asks_next}
 use Rattle.ts_writer.specs.Writing.{IsCreateJob, IsCreateState, IsDeleteJob, IsEvolveJob, IsWriteJob, IsLaterState}
 use Rattle.ts_reader.specs.Reading.{IsReadJob, MayRead}
+use Rattle.ts_consolidate.specs.Merges.{IsMergeJob, MayMerge}
 use Rattle.ts_commands.specs.declared.actors.AnyActor.{AnyActor}
-use Rattle.ts_commands.specs.declared.actors.AnyActor.TheVariants.{Creator, Evolver, Writer, Deleter, Reader}
+use Rattle.ts_commands.specs.declared.actors.AnyActor.TheVariants.{Creator, Evolver, Writer, Deleter, Reader, Consolidator}
 use Rattle.ts_commands.specs.Actors.{job_of, Follows}
 
 -- the call that an actor waits for is one that its job may make where the calls before it have led
@@ -20,3 +21,4 @@ asks_it codec (Evolver a) past c follows = asks_next codec IsEvolveJob (λ job s
 asks_it codec (Writer a) past c follows = asks_next codec IsWriteJob (λ job s. IsLaterState s) a.machine.job a.machine.phase past c follows
 asks_it codec (Deleter a) past c follows = asks_next codec IsDeleteJob (λ job s. IsLaterState s) a.machine.job a.machine.phase past c follows
 asks_it codec (Reader a) past c follows = asks_next codec IsReadJob (MayRead codec) a.machine.job a.machine.phase past c follows
+asks_it codec (Consolidator a) past c follows = asks_next codec IsMergeJob (MayMerge codec) a.machine.job a.machine.phase past c follows

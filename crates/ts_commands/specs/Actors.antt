@@ -8,8 +8,9 @@ use Rattle.ts_writer.specs.Deleters as deleter
 use Rattle.ts_writer.specs.Evolvers as evolver
 use Rattle.ts_writer.specs.Writers as writer
 use Rattle.ts_reader.specs.Readers as reader
+use Rattle.ts_consolidate.specs.Consolidators as consolidator
 use Rattle.ts_commands.specs.declared.actors.AnyActor.{AnyActor}
-use Rattle.ts_commands.specs.declared.actors.AnyActor.TheVariants.{Creator, Evolver, Writer, Deleter, Reader}
+use Rattle.ts_commands.specs.declared.actors.AnyActor.TheVariants.{Creator, Evolver, Writer, Deleter, Reader, Consolidator}
 
 -- the job of an actor
 abbrev pub job_of : {P F : Type 0} → AnyActor P F → Job
@@ -18,6 +19,7 @@ job_of (Evolver a) = a.machine.job
 job_of (Writer a) = a.machine.job
 job_of (Deleter a) = a.machine.job
 job_of (Reader a) = a.machine.job
+job_of (Consolidator a) = a.machine.job
 
 -- the actor has asked for the calls of this trace, and they had these replies
 abbrev pub Follows : {P F : Type 0} → Codec F → AnyActor P F → Trace → Type 0
@@ -26,6 +28,7 @@ Follows codec (Evolver a) t = evolver.Follows codec a.machine.job a.machine.phas
 Follows codec (Writer a) t = writer.Follows codec a.machine.job a.machine.phase t
 Follows codec (Deleter a) t = deleter.Follows codec a.machine.job a.machine.phase t
 Follows codec (Reader a) t = reader.Follows codec a.machine.job a.machine.phase t
+Follows codec (Consolidator a) t = consolidator.Follows codec a.machine.job a.machine.phase t
 
 -- more than the calls that an actor still asks for, where a fetch has so many left
 abbrev pub calls_left : {P F : Type 0} → (F → ℕ) → AnyActor P F → ℕ
@@ -34,3 +37,4 @@ calls_left left (Evolver a) = evolver.calls_left a.machine.job a.machine.phase
 calls_left left (Writer a) = writer.calls_left a.machine.job a.machine.phase
 calls_left left (Deleter a) = deleter.calls_left a.machine.job a.machine.phase
 calls_left left (Reader a) = reader.calls_left left a.machine.job a.machine.phase
+calls_left left (Consolidator a) = consolidator.calls_left left a.machine.job a.machine.phase

@@ -8,6 +8,7 @@ ghost use Rattle.ts_commands.specs.Actors.{job_of, Follows, calls_left};
 use std::alloc::Global;
 use std::thread::Threads;
 use ts_actor::{Actor, Pieces, Step};
+use ts_consolidate::Consolidator;
 use ts_model::{Command, Job, Outcome};
 use ts_reader::Reader;
 use ts_store::Reply;
@@ -26,6 +27,8 @@ pub enum AnyActor<P: Pieces> {
     Deleter(Deleter<P>),
     /// One that reads.
     Reader(Reader<P>),
+    /// One that merges fragments.
+    Consolidator(Consolidator<P>),
 }
 
 impl<P: Pieces> AnyActor<P> {
@@ -41,6 +44,7 @@ impl<P: Pieces> AnyActor<P> {
             Command::Write(_) => AnyActor::Writer(Writer::of(job)),
             Command::Delete(_) => AnyActor::Deleter(Deleter::of(job)),
             Command::Read { .. } => AnyActor::Reader(Reader::of(job)),
+            Command::Consolidate { .. } => AnyActor::Consolidator(Consolidator::of(job)),
         }
     }
 }
@@ -65,6 +69,7 @@ impl<P: Pieces> Actor for AnyActor<P> {
             AnyActor::Writer(writer) => writer.next(rt, alloc, reply),
             AnyActor::Deleter(deleter) => deleter.next(rt, alloc, reply),
             AnyActor::Reader(reader) => reader.next(rt, alloc, reply),
+            AnyActor::Consolidator(consolidator) => consolidator.next(rt, alloc, reply),
         }
     }
 }

@@ -1,4 +1,8 @@
-pub mod Steps
+pub mod Folds
 pub mod Hulls
 pub mod Placed
 pub mod Merged
+pub mod Keys
+pub mod Leads
+pub mod Objects
+pub mod Sources

@@ -1,10 +1,23 @@
-//! Merging the pieces of several fragments into one, as a consolidation does.
+//! Consolidating: what the pieces of several fragments are merged into, and the machine of a job that
+//! merges them.
 #![tactic(auto)]
 
+mod candidates;
+mod consolidator;
+mod ends;
+mod fetching;
 mod heads;
 mod merging;
+mod named;
+mod planning;
+mod puts;
+mod putting;
+mod steps;
+mod surveying;
 #[cfg(test)]
 mod tests;
 mod versions;
 
+pub use consolidator::Consolidator;
 pub use merging::{Unmerged, merge_pieces};
+pub use steps::Merges;

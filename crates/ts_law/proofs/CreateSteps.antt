@@ -17,8 +17,7 @@ use Rattle.ts_model.specs.Deeds.{History, frame_in, keys}
 use Rattle.ts_law.specs.Ends.{IsUndone}
 use Rattle.ts_model.specs.Codecs.{Codec, CodecLaws, Spelled, Tracking}
 use Rattle.ts_law.specs.Fresh.{id_in}
-use Rattle.ts_model.specs.Jobs.{frag_of_job, key_of}
-use Rattle.ts_model.specs.States.{vac_of}
+use Rattle.ts_model.specs.Jobs.{key_of}
 use Rattle.ts_law.specs.Kept.{Claims, Clean}
 use Rattle.ts_model.specs.States.{ended, frame_put, get_frame, goes, is_own_frame, list_schemas, made_by, puts_first, refuse, schema_object_of, with_item}
 use Rattle.ts_law.specs.Steps.{Advances, Comes}

@@ -39,7 +39,7 @@ use Rattle.ts_model.specs.declared.states.Stage.TheVariants as stages
 use Rattle.ts_model.specs.Codecs.{Codec, Spelled, Tracking}
 use Rattle.ts_model.specs.Deeds.{History}
 use Rattle.ts_model.specs.Driven.{MayAsk}
-use Rattle.ts_model.specs.Jobs.{frag_of_job, key_of}
+use Rattle.ts_model.specs.Jobs.{key_of}
 use Rattle.ts_law.proofs.Objects.{apart_from_lease}
 use Rattle.ts_law.proofs.VacLaws.{MarksNone, unspent_beside, merged_beside, named_beside}
 use Rattle.ts_model.specs.States.{Exchange, asks, begun, goes, is_over, made_by}
@@ -53,7 +53,6 @@ use Rattle.ts_law.specs.Ends.{IsTrueEnd, IsUndone}
 use Rattle.ts_law.specs.Fresh.{id_in}
 use Rattle.ts_law.specs.Kept.{Claims, Clean, MergeClaims, IsBefore, StageClaims}
 use Rattle.ts_law.specs.Stands.{HoldsIn, IsNoLease, Stands}
-use Rattle.ts_model.specs.States.{vac_of}
 use Rattle.ts_law.specs.Steps.{Advances, Comes, Keeps, Leads, StageAdvances, StageComes}
 use Rattle.ts_law.proofs.Effects.{Added, IsLook, PutWent, Still, keeps_still, look_history, look_leads, look_stays, put_went}
 use Rattle.ts_law.proofs.Grows.{holds_on_in}

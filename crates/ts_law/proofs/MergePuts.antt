@@ -1,15 +1,14 @@
 -- The puts of a consolidation: the parts of its piece, the `.vac`, and the `.wrt`, by which its fragment joins the committed ones.
-use Rattle.std.proofs.Common.{◌≡◌, ℕ, ◌+◌, ◌-◌, ◌<◌, ◌≤◌, ◌^◌, ◌⊎◌, Bool, true, false, cond, inl, inr, List, [], ◌∷◌, ◌++◌, length, Option, Some, None, zero, suc, refl, sym, ◌∙◌, ap, subst, arith}
-use Rattle.std.specs.Prelude.{Contains, All, nat_lt, slice_get, slice_index_or, take, filter, option_map}
+use Rattle.std.proofs.Common.{◌≡◌, ℕ, ◌<◌, ◌≤◌, ◌⊎◌, true, false, cond, inl, inr, List, [], ◌∷◌, ◌++◌, length, Option, Some, None, zero, suc, refl, sym, ◌∙◌, ap, subst, arith}
+use Rattle.std.specs.Prelude.{Contains, nat_lt, slice_get, slice_index_or, option_map}
 use Rattle.std.specs.List.{list_any}
 use Rattle.std.specs.FinMap as map
 use Rattle.std.proofs.lemmas.Bool.{lt-ltb, le-ltb}
 use Rattle.std.proofs.Math.Nat.{eq-or-lt_of_le}
 use Rattle.std.proofs.lemmas.Option.{none-some, same_Some, slice_get-get_or, slice_get_within}
-use Rattle.std.proofs.lemmas.List.{append-nil, length-append, length-map}
+use Rattle.std.proofs.lemmas.List.{append-nil, length-map}
 use Rattle.ts_base.specs.declared.keys.FragKey.{FragKey}
 use Rattle.ts_base.specs.declared.names.LeaseMode.TheVariants.{Shr}
-use Rattle.ts_base.specs.declared.names.Name.{Name}
 use Rattle.ts_base.specs.declared.names.Name.TheVariants as name
 use Rattle.ts_base.specs.declared.names.PartBytes.{PartBytes}
 use Rattle.ts_base.specs.declared.names.Prefix.TheVariants.{Commits}
@@ -19,39 +18,33 @@ use Rattle.ts_base.specs.Held.{Held}
 use Rattle.ts_base.specs.Names.{wrt_of}
 use Rattle.ts_schema.specs.declared.schemas.Schema.{Schema}
 use Rattle.ts_schema.specs.Parts.{IsShort, look_in}
-use Rattle.ts_store.specs.declared.call.Call.{Call}
 use Rattle.ts_store.specs.declared.call.Call.TheVariants as call
-use Rattle.ts_commit.specs.Selections.{has_origin, is_among, names_merged}
+use Rattle.ts_commit.specs.Selections.{has_origin, names_merged}
 use Rattle.ts_commit.specs.Vacs.{vac_object}
 use Rattle.ts_model.specs.declared.answers.Outcome.{Outcome}
 use Rattle.ts_model.specs.declared.answers.Outcome.TheVariants as outcome
-use Rattle.ts_model.specs.declared.answers.Refusal.TheVariants as refusal
-use Rattle.ts_base.specs.declared.names.Place.TheVariants as place
-use Rattle.ts_model.specs.declared.commands.Command.TheVariants.{Consolidate}
 use Rattle.ts_model.specs.declared.commands.Job.{Job}
 use Rattle.ts_model.specs.declared.states.NewObject.{NewObject}
 use Rattle.ts_model.specs.declared.states.Opened.{Opened}
-use Rattle.ts_model.specs.declared.states.State.{State}
 use Rattle.ts_model.specs.declared.states.State.TheVariants.{Puts, Over}
 use Rattle.ts_model.specs.declared.states.Survey.{Survey}
 use Rattle.ts_model.specs.Codecs.{Codec, CodecLaws, Spelled, Tracking}
-use Rattle.ts_model.specs.Deeds.{History, keys}
-use Rattle.ts_model.specs.Jobs.{IsFit, key_of}
+use Rattle.ts_model.specs.Deeds.{History}
+use Rattle.ts_model.specs.Jobs.{key_of}
 use Rattle.ts_model.specs.Stages.{lease_of, mode_of}
-use Rattle.ts_model.specs.States.{can_be_named, frags_of, heads_of, merge_objects, part_objects, piece_merged, put_of, putting, refuse, vac_object_of, vac_of}
+use Rattle.ts_model.specs.States.{can_be_named, frags_of, merge_objects, part_objects, piece_merged, put_of, vac_object_of, vac_of}
 use Rattle.ts_model.specs.Told.{Told, IsShortCall, after_told, held_told, history_told}
 use Rattle.ts_model.proofs.ListLemmas.{Contains-nil}
 use Rattle.ts_model.proofs.Traces.{held_told-append}
-use Rattle.ts_law.specs.Ends.{IsMerged, IsUndone, ListedAt}
-use Rattle.ts_law.specs.Kept.{AimsToMerge, Claims, HasSources, Merges, Putting, all_taken_of}
-use Rattle.ts_law.specs.Stands.{HoldsIn, IsCommitted, IsNamed, IsNoLease, IsUnspent, Names, Spells, Stands}
+use Rattle.ts_law.specs.Ends.{IsMerged, IsUndone}
+use Rattle.ts_law.specs.Kept.{AimsToMerge, Claims, Merges, Putting}
+use Rattle.ts_law.specs.Stands.{HoldsIn, IsCommitted, IsNamed, IsUnspent, Names, Spells, Stands}
 use Rattle.ts_law.specs.Steps.{Advances, Comes, Keeps, Leads}
-use Rattle.ts_law.specs.Fresh.{id_in}
 use Rattle.ts_law.proofs.HeldLemmas.{Holds, Holds-from_get, get_apart, get_put}
 use Rattle.ts_law.proofs.LeaseSteps.{leased_history}
 use Rattle.ts_law.proofs.MergeSources.{fits, names_are, names_within, old_names, own_in, own_origins}
 use Rattle.ts_law.proofs.MergeStays.{aims_to_merge_stays, merge_carries}
-use Rattle.ts_law.proofs.Objects.{IsOnce, look_finds, part_count, part_object}
+use Rattle.ts_law.proofs.Objects.{IsOnce, look_finds, part_object}
 use Rattle.ts_law.proofs.PutSteps.{Came, fault_is_true, put_asked, puts_on}
 use Rattle.ts_law.proofs.StandsLaws.{keeps_merge, keeps_put, leads_at, marks_part, marks_vac, merged_holds, stands_merge, stands_put, stands_vac}
 use Rattle.ts_law.proofs.Stays.{finds_schema_stays, listed_stays}

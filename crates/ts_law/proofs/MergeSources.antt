@@ -1,21 +1,17 @@
 -- What a consolidation knows of its sources as it puts what they are merged into: they are committed still, and hold what they held.
-use Rattle.std.proofs.Common.{◌≡◌, ℕ, ◌<◌, ◌≤◌, ◌^◌, true, ◌&&◌, ◌||◌, inl, inr, ◌⊎◌, List, [], ◌∷◌, ◌++◌, length, Some, Result, Ok, suc, refl, sym, ◌∙◌, ap, subst, arith}
-use Rattle.std.specs.Prelude.{Contains, IsTrue, All, nat_lt, take, filter, map as list_map}
+use Rattle.std.proofs.Common.{◌≡◌, ℕ, ◌<◌, ◌^◌, true, ◌||◌, inl, inr, ◌⊎◌, List, [], ◌∷◌, ◌++◌, length, Result, Ok, suc, refl, sym, ◌∙◌, ap, subst, arith}
+use Rattle.std.specs.Prelude.{Contains, nat_lt, take}
 use Rattle.std.specs.List.{list_any}
-use Rattle.std.specs.FinMap as map
 use Rattle.std.proofs.lemmas.Bool.{and_parts, ltb-true}
-use Rattle.std.proofs.lemmas.Option.{none-some, same_Some}
 use Rattle.std.proofs.lemmas.List.{append-nil, append_assoc, take_all}
 use Rattle.std.proofs.lemmas.List.Elements.{All-contains}
 use Rattle.ts_base.specs.declared.keys.Key.{Key}
 use Rattle.ts_base.specs.declared.keys.FragKey.{FragKey}
-use Rattle.ts_base.specs.declared.heads.Head.{Head}
 use Rattle.ts_base.specs.declared.heads.Piece.{Piece}
 use Rattle.ts_base.specs.declared.heads.Version.{Version}
 use Rattle.ts_base.specs.declared.names.Name.TheVariants as name
 use Rattle.ts_base.specs.Held.{Held}
 use Rattle.ts_base.specs.Names.{wrt_of}
-use Rattle.ts_schema.specs.declared.attrs.Attr.{Attr}
 use Rattle.ts_schema.specs.declared.frames.Frame.{Frame}
 use Rattle.ts_schema.specs.declared.schemas.Schema.{Schema}
 use Rattle.ts_schema.specs.FrameTexts.{IsFrame}
@@ -30,7 +26,7 @@ use Rattle.ts_model.specs.declared.deeds.Written.{Written}
 use Rattle.ts_model.specs.declared.states.Opened.{Opened}
 use Rattle.ts_model.specs.declared.states.Survey.{Survey}
 use Rattle.ts_model.specs.Codecs.{Codec, CodecLaws, Spelled, Tracking}
-use Rattle.ts_model.specs.Consolidated.{IsConsolidated, IsSpan, IsStorable}
+use Rattle.ts_model.specs.Consolidated.{IsConsolidated, IsStorable}
 use Rattle.ts_model.specs.Deeds.{Follow, History, IsHistory, IsKey, IsNewKey, writes, schema_with}
 use Rattle.ts_model.specs.Jobs.{IsFit}
 use Rattle.ts_model.specs.Merging.{AreSources, MergesTo, all_got, merged_piece, merged_with, heads_of as piece_heads}
@@ -41,7 +37,7 @@ use Rattle.ts_model.proofs.ListLemmas.{Contains-nil, Contains-here, Contains-the
 use Rattle.ts_model.proofs.MergedFits.{sources_fit, sources_merge}
 use Rattle.ts_model.proofs.MergedPieces.{to_merged}
 use Rattle.ts_model.proofs.Traces.{history_told_grows}
-use Rattle.ts_law.specs.Kept.{AreSourcesIn, HasSources, IsSource, Merges, Since, all_taken_of}
+use Rattle.ts_law.specs.Kept.{AreSourcesIn, HasSources, IsSource, Since, all_taken_of}
 use Rattle.ts_law.specs.Origins.{HoldsWrites}
 use Rattle.ts_law.specs.Stands.{DoesName, HasName, HoldsIn, IsCommitted, IsNamed, Names, Spells, Stands, Within}
 use Rattle.ts_law.proofs.Fetches.{one_head}

@@ -1,6 +1,6 @@
 -- The text of a `.vac`: the names of a consolidation's sources are names that a `.vac` may have, and what is written of them is read again.
 use Rattle.std.proofs.Common.{◌≡◌, ℕ, ◌+◌, ◌-◌, ◌<◌, ◌≤◌, ◌^◌, Bool, true, false, cond, ◌&&◌, ◌||◌, inl, inr, ◌⊎◌, List, [], ◌∷◌, ◌++◌, length, Result, Ok, Err, refl, sym, ◌∙◌, ap, subst, arith}
-use Rattle.std.specs.Prelude.{Contains, slice_index_or, nat_eq, filter, zero, suc}
+use Rattle.std.specs.Prelude.{Contains, slice_index_or, nat_eq, filter}
 use Rattle.std.specs.BTreeSet.{insert_key}
 use Rattle.std.specs.List.{fold, list_any, flat_map, AllByRecursion}
 use Rattle.std.specs.List.Sorted.{IsStrictlySortedBy}
@@ -14,7 +14,7 @@ use Rattle.ts_base.specs.Exact.{frag_total}
 use Rattle.ts_wire.specs.Exact.{InTurn}
 use Rattle.ts_wire.specs.declared.faults.ReadFault.TheVariants as fault
 use Rattle.ts_commit.specs.declared.vacs.VacOf.{VacOf}
-use Rattle.ts_commit.specs.Selections.{in_order, is_among, is_taken, names_merged}
+use Rattle.ts_commit.specs.Selections.{in_order, is_among, names_merged}
 use Rattle.ts_commit.specs.Vacs.{AreNames, FitsName, follows, names_of, vac_object}
 use Rattle.ts_commit.proofs.LineLaws.{names_only}
 use Rattle.ts_commit.proofs.Sets.{among_merged}

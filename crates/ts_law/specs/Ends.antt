@@ -1,5 +1,5 @@
 -- What the end of a job tells of the history.
-use Rattle.std.specs.Prelude.{◌≡◌, ℕ, Bool, length, List, [], ◌∷◌, ◌++◌, Some, Ok, Contains, filter, ⊤, ◌⊎◌, map as list_map}
+use Rattle.std.specs.Prelude.{◌≡◌, ℕ, length, List, [], ◌∷◌, ◌++◌, Some, Ok, Contains, filter, ⊤, ◌⊎◌, map as list_map}
 use Rattle.std.specs.List.{list_any}
 use Rattle.std.specs.Option.{option_map_or}
 use Rattle.ts_base.specs.declared.names.Prefix.{Prefix}

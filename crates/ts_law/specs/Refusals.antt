@@ -1,5 +1,5 @@
 -- Why a job is refused: what its refusal tells of the history that the job found.
-use Rattle.std.specs.Prelude.{◌≡◌, ◌≢◌, ℕ, List, [], ◌∷◌, ◌++◌, Option, Some, None, option_map, Contains, ◌⊎◌}
+use Rattle.std.specs.Prelude.{◌≡◌, ◌≢◌, ℕ, List, [], Option, Some, None, option_map, Contains, ◌⊎◌}
 use Rattle.std.specs.Result.{result_err}
 use Rattle.ts_base.specs.Held.{Held}
 use Rattle.ts_base.specs.declared.names.Name.{Name}

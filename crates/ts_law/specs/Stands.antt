@@ -1,5 +1,5 @@
 -- A map of objects stands for a history.
-use Rattle.std.specs.Prelude.{◌≡◌, ◌<◌, ℕ, true, List, Some, None, option_map, Ok, IsTrue, Contains, ⊤, ◌⊎◌}
+use Rattle.std.specs.Prelude.{◌≡◌, ◌<◌, ℕ, true, List, Some, option_map, Ok, IsTrue, Contains, ⊤, ◌⊎◌}
 use Rattle.ts_base.specs.declared.keys.Key.{Key}
 use Rattle.ts_base.specs.declared.keys.FragKey.{FragKey}
 use Rattle.ts_base.specs.declared.names.Name.{Name}
@@ -100,7 +100,7 @@ pub record AreMerged (spelled : Spelled) (h : History) (m : Held) : Type 0 where
   pub reads : (g : FragKey) (bytes : List ℕ) → IsCommitted m g → map.get m (vac_of g) ≡ Some bytes → IsShort bytes × ((names : List FragKey) × (names_of bytes ≡ Ok names) × AreNames names)
   -- all that went into a committed fragment that it names went into the one whose `.vac` it is
   pub within : (g f : FragKey) → IsCommitted m g → IsCommitted m f → DoesName m g f → Within spelled h m f g
-  -- it names no fragment that is still to come
+  -- a deed or a held object carries the identifier of each fragment that it names, so no new job has it
   pub known : (g f : FragKey) → IsCommitted m g → DoesName m g f → IsKnown h m f
   -- the committed fragments have ranks below a bound, and it names committed fragments of a lower rank alone
   pub rank : FragKey → ℕ

@@ -108,8 +108,8 @@ pub struct Survey {
     pub to: u64,
     /// How many fragments it takes.
     pub limits: Limits,
-    /// The frame of the array.
-    pub frame: Frame,
+    /// The frame of the array. This is large, so it lies in a place of its own.
+    pub frame: Boxed<Frame>,
     /// The committed fragments in the interval, ascending.
     pub fragments: FragList,
     /// The committed fragments that have a `.vac`, ascending.
@@ -299,8 +299,9 @@ pub enum State<F> {
     },
     /// A read collects what it answers from. This is large, so it lies in a place of its own.
     Collects(Boxed<Collecting<F>>),
-    /// A consolidation seeks what it merges. This is large too.
-    Merges(Boxed<Merging<F>>),
+    /// A consolidation seeks what it merges. Such a job begins without memory, so it lies in no other
+    /// place.
+    Merges(Merging<F>),
     /// The job has ended.
     Over(Outcome),
 }

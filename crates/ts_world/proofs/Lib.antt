@@ -6,3 +6,4 @@ pub mod Calls
 pub mod Sounds
 pub mod Began
 pub mod Alone
+pub mod WorkedHistories

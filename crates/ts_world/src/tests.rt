@@ -1,6 +1,9 @@
 //! Worlds of one array over a store in memory.
+mod merging;
+
 ghost use Rattle.std.specs.Prelude.{◌≡◌, ◌<◌, ◌≤◌, ◌+◌, [], true, IfOk, IsTrue, length};
 ghost use Rattle.std.specs.List.{list_all};
+ghost use Rattle.ts_domain.specs.Dims.{IsDim};
 ghost use Rattle.ts_model.specs.declared.commands.Command.TheVariants.{Create, Evolve, Write};
 ghost use Rattle.ts_model.specs.Commands.{fits, is_spelled_attr, is_spelled_col, is_spelled_dim, is_spelled_query};
 
@@ -9,7 +12,7 @@ use std::alloc::Global;
 use std::test::Fail;
 use std::thread::Threads;
 use ts_actor::PlainPieces;
-use ts_base::{Key, Label, LabelList, OutOfMemory, Row, Val, ValType};
+use ts_base::{Key, Label, LabelList, OutOfMemory, Row, RowList, Val, ValType};
 use ts_cond::{NamedBoxList, Query};
 use ts_domain::{Dim, DimList, Layout, Order};
 use ts_model::{ColIn, ColInList, Command, FrameIn, History, Outcome, WriteIn};
@@ -48,7 +51,8 @@ fn label(name: &str) -> Result<Label, Fail> {
 
 // A dimension of the numbers from 0 to 9 in one tile.
 fn dim(name: Label) -> Dim
-    ensures { is_spelled_dim result ≡ true }
+    ensures spelled { is_spelled_dim result ≡ true }
+    ensures valid { IsDim result }
 {
     let _text = name.as_bytes();
     Dim {
@@ -101,12 +105,12 @@ fn column(alloc: Global, name: Label, value: u8) -> Result<ColIn, OutOfMemory>
     Ok(ColIn { name, values })
 }
 
-// Writes a value at 5.
-fn write(alloc: Global, value: u8) -> Result<Command, Fail>
+// Writes a value at x.
+fn write(alloc: Global, x: u8, value: u8) -> Result<Command, Fail>
     ensures { IfOk result (λ command. IsTrue (fits command)) }
 {
     let mut cols = ColInList::new(alloc);
-    cols.push(column(alloc, label("x")?, 5)?)?;
+    cols.push(column(alloc, label("x")?, x)?)?;
     cols.push(column(alloc, label("v")?, value)?)?;
     Ok(Command::Write(WriteIn {
         cols,
@@ -142,26 +146,30 @@ fn finish<R: Threads + Sync>(
     Ok(())
 }
 
-// The row of a cell at 5.
-fn row(alloc: Global, value: u8) -> Result<Row, OutOfMemory> {
+// The row of a cell.
+fn row(alloc: Global, cell: [u8; 2]) -> Result<Row, OutOfMemory> {
     let mut row = Row::new(alloc);
-    row.push(Val::Int(5))?;
-    row.push(Val::Int(i128::from(value)))?;
+    for value in cell {
+        row.push(Val::Int(i128::from(value)))?;
+    }
     Ok(row)
 }
 
-// Whether the actor read one cell, with this value.
+// Whether the actor read these cells, each once: of each its coordinate and its value.
 fn has_read(
     alloc: Global,
     world: &World<PlainPieces>,
     actor: u32,
-    value: u8,
+    cells: &[[u8; 2]],
 ) -> Result<bool, OutOfMemory> {
     let Some(Outcome::Read(answer)) = world.answer_of(actor) else {
         return Ok(false);
     };
-    let wanted = row(alloc, value)?;
-    Ok(answer.rows.len() == 1 && *answer.rows.at(0) == wanted)
+    let mut rows = RowList::new(alloc);
+    for cell in cells {
+        rows.push(row(alloc, *cell)?)?;
+    }
+    Ok(answer.rows == rows)
 }
 
 // A world with its array, made by the actor 0, and a write of 20 (identifier 2) and one of 30
@@ -172,14 +180,15 @@ fn two_writers<R: Threads + Sync>(rt: &R, alloc: Global) -> Result<World<PlainPi
 {
     let mut world = first_world(alloc);
     spawn(rt, alloc, &mut world, create(alloc)?, 1, 1)?;
-    spawn(rt, alloc, &mut world, write(alloc, 20)?, 4, 2)?;
-    spawn(rt, alloc, &mut world, write(alloc, 30)?, 4, 3)?;
+    spawn(rt, alloc, &mut world, write(alloc, 5, 20)?, 4, 2)?;
+    spawn(rt, alloc, &mut world, write(alloc, 5, 30)?, 4, 3)?;
     Ok(world)
 }
 
 // Asks for everything.
 fn everything(alloc: Global) -> Query
-    ensures { is_spelled_query result ≡ true }
+    ensures spelled { is_spelled_query result ≡ true }
+    ensures bounds { result.sub ≡ [] }
 {
     Query {
         sub: NamedBoxList::new(alloc),
@@ -222,7 +231,7 @@ fn of_equal_stamps_the_greater_identifier_is_last(rt: HostRuntime) -> Result<(),
         finish(&rt, alloc, &mut world, actor)?;
     }
     assert_eq!(rt; world.answer_of(0), Some(&Outcome::Created));
-    assert!(rt; has_read(alloc, &world, 3, 30)?);
+    assert!(rt; has_read(alloc, &world, 3, &[[5, 30]])?);
     Ok(())
 }
 
@@ -231,7 +240,7 @@ fn a_write_that_only_listed_the_schemas_is_in_no_later_one(rt: HostRuntime) -> R
     let alloc = rt.alloc();
     let mut world = first_world(alloc);
     spawn(&rt, alloc, &mut world, create(alloc)?, 1, 1)?;
-    spawn(&rt, alloc, &mut world, write(alloc, 20)?, 4, 2)?;
+    spawn(&rt, alloc, &mut world, write(alloc, 5, 20)?, 4, 2)?;
     spawn(&rt, alloc, &mut world, evolve(alloc)?, 3, 3)?;
     read(&rt, alloc, &mut world, 4)?;
     finish(&rt, alloc, &mut world, 0)?;

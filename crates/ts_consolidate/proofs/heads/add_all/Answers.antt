@@ -2,7 +2,7 @@
 use Rattle.std.proofs.Common.{arith}
 use Rattle.std.specs.BTreeSet.{insert_key}
 use Rattle.ts_base.specs.Keys.{key_cmp}
-use Rattle.ts_consolidate.proofs.Steps.{fold_next}
+use Rattle.ts_consolidate.proofs.Folds.{fold_next}
 use Rattle.ts_consolidate.proofs.heads.add_all.Goals as goal
 
 pub loop-key-preserved : goal.loop-key-preserved

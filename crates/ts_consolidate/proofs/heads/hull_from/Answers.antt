@@ -5,7 +5,7 @@ use Rattle.ts_domain.specs.declared.boxes.SubBox.{SubBox}
 use Rattle.ts_domain.specs.Boxes.{hull_of}
 use Rattle.ts_model.specs.Consolidated.{box_in}
 use Rattle.ts_model.specs.Merging.{HasBox}
-use Rattle.ts_consolidate.proofs.Steps.{fold_next}
+use Rattle.ts_consolidate.proofs.Folds.{fold_next}
 use Rattle.ts_consolidate.proofs.Hulls.{length-corner}
 use Rattle.ts_consolidate.proofs.heads.hull_from.Goals as goal
 
