@@ -50,7 +50,7 @@ abbrev pub looks_for : Key → Command → ℕ
 looks_for k (Read from to query) = to
 looks_for k _ = k.t
 
--- the cause of a refusal in a history
+-- the cause of a refusal in a history.
 -- A create finds another frame than its own, or a schema, or is refused for itself.
 -- Another command finds no schema, or a lease in its way, or is refused in the frame and the schema there.
 -- A consolidation that has nothing to do finds a schema at its stamp, and its plan takes nothing, where so many fragments may be merged.
@@ -62,7 +62,7 @@ HasCause calls h k (refusal.Leased other) command = IsOpposed calls k command ot
 HasCause calls h k (refusal.NothingToDo eligible) (Consolidate from to limits) = (there : Schema) × (schema_there h k.t ≡ Some there) × Plans calls h from to limits (Nothing eligible)
 HasCause calls h k r command = (there : Schema) × (schema_there h (looks_for k command) ≡ Some there) × (frame : Frame) × (frame_in h ≡ Some frame) × (refusal_in frame there.attrs command ≡ Some r)
 
--- what a refusal tells
+-- what a refusal tells.
 -- No object is missing, damaged or taken.
 -- Where a call failed, the history has no deed of the command, but perhaps that of the put that failed.
 -- A command that is refused else did nothing, for a cause.

@@ -32,7 +32,7 @@ pub record Plans (calls : Calls) (h : History) (from to : ℕ) (limits : Limits)
   pub parts : calls.entries ≡ front ++ back
   pub by_plan : IsPlanned run_spelled h (held_by calls front) from to limits plan
 
--- a consolidation with the key merged so many fragments into one of its own: those that its plan takes
+-- a consolidation with the key merged so many fragments into one of its own: those that its plan takes.
 -- At the end of its calls that one is committed.
 -- All that went into a source went into it, and nothing else.
 -- Its `.vac` names the sources, and what the `.vac` objects of these named.

@@ -47,7 +47,7 @@ HeldOnce before now k schema = (once : History) × Extends before once × Extend
 abbrev pub HasNoLease : Calls → Key → Command → Type 0
 HasNoLease calls k command = IfSome (mode_of command) (λ mode. map.get (held_by calls calls.entries) (name.Lease k mode) ≡ None)
 
--- what the end of a command with the key tells of the histories before and after it
+-- what the end of a command with the key tells of the histories before and after it.
 -- A read and a consolidation do no deed.
 -- A read answers by the one history; a consolidation tells what it merged.
 -- Neither leaves its lease.
@@ -88,7 +88,7 @@ pub record IsDone (calls : Calls) (before now : History) (k : Key) (end : Outcom
   pub own : (front back : List Deed) (d : Deed) → deeds ≡ front ++ d ∷ back → IsDeedOf before (before ++ front) k command d
   pub tells : Tells calls before now k end command
 
--- the command of a line was done, at a stamp of the line, by calls in the line's lane
+-- the command of a line was done, at a stamp of the line, by calls in the line's lane.
 -- Its key is that stamp, with the identifier that is made of the seed, the lane and the line's number there.
 abbrev pub IsLineDone : (ℕ → Bool) → ℕ → Calls → History → History → Numbered → Outcome → Type 0
 IsLineDone gives seed calls before now item end =
@@ -99,7 +99,7 @@ IsLineDone gives seed calls before now item end =
 abbrev pub IsStored : Held → History → Type 0
 IsStored m h = Stands run_spelled m h
 
--- what a run promises over objects and the history that they stand for
+-- what a run promises over objects and the history that they stand for.
 -- The commands that were asked for were done one after the other in lane order, with these ends.
 -- After each of them the objects stand for the history, and the store holds those after the last.
 -- What was printed is the text of the ends, with status 0 or 6, or a front of it.
@@ -125,7 +125,7 @@ pub record Promise {S : Type 0} (held : S → Option Held) (seen : Seen S) (m : 
 abbrev pub Began : {S : Type 0} → Seen S → Type 0
 Began seen = (seen.status ≡ 0) ⊎ (seen.status ≡ 5) ⊎ (seen.status ≡ 6) ⊎ (seen.journal ≡ [] → ⊥)
 
--- a run that began keeps the promise
+-- a run that began keeps the promise.
 -- Over a store that held what stands for a history the seed is to be fresh; over one that held nothing any seed will do.
 pub record Promised {S : Type 0} (held : S → Option Held) (seen : Seen S) : Type 0 where
   pub over : Began seen → (m : Held) → held seen.store ≡ Some m → (past : History) → IsStored m past → IsFreshSeed m past seen.seed → Promise held seen m past
