@@ -1,8 +1,11 @@
 -- Where the steps of fetches lead a consolidation.
-use Rattle.std.proofs.Common.{◌≡◌, ℕ, suc, zero, true, false, cond, List, [], ◌∷◌, ◌++◌, length, Some, Result, Ok, Err, drop, refl, sym, ap, ◌∙◌}
+use Rattle.std.proofs.Common.{◌≡◌, ℕ, suc, zero, true, false, cond, nat_lt, List, [], ◌∷◌, ◌++◌, length, Some, Result, Ok, Err, drop, refl, sym, ap, ◌∙◌}
 use Rattle.std.specs.Prelude.{slice_get}
 use Rattle.std.proofs.lemmas.Option.{same_Some, none-some}
 use Rattle.ts_base.specs.declared.keys.FragKey.{FragKey}
+use Rattle.ts_base.specs.declared.keys.Key.{Key}
+use Rattle.ts_base.specs.declared.names.Name.TheVariants as name
+use Rattle.ts_base.specs.declared.heads.Head.{Head}
 use Rattle.ts_base.specs.declared.heads.Piece.{Piece}
 use Rattle.ts_base.specs.declared.heads.Version.{Version}
 use Rattle.ts_commit.specs.Selections.{names_merged}
@@ -12,10 +15,11 @@ use Rattle.ts_model.specs.declared.commands.Job.{Job}
 use Rattle.ts_model.specs.declared.states.Opened.{Opened}
 use Rattle.ts_model.specs.declared.answers.Outcome.TheVariants as outcome
 use Rattle.ts_model.specs.declared.states.State.{State}
-use Rattle.ts_model.specs.declared.states.State.TheVariants.{Over}
+use Rattle.ts_model.specs.declared.states.State.TheVariants.{Merges, Over}
+use Rattle.ts_model.specs.declared.states.Merging.TheVariants.{GetsHeads}
 use Rattle.ts_model.specs.declared.states.Survey.{Survey}
 use Rattle.ts_model.specs.Codecs.{Stepped, Codec, Asks, Takes, Breaks}
-use Rattle.ts_model.specs.States.{can_be_named, frags_of, merge_objects, merging_from, piece_merged, puts_merged, putting, source_begins, source_leads}
+use Rattle.ts_model.specs.States.{after_opened, can_be_named, frags_of, merge_objects, merging_from, on_read, opening_next, piece_merged, puts_merged, putting, schemas_named, source_begins, source_leads, surveying}
 use Rattle.ts_consolidate.specs.declared.fetching.SourceStep.{SourceStep}
 use Rattle.ts_consolidate.specs.Fetching.{step_by, first_step, step_of, state_after}
 
@@ -69,3 +73,19 @@ puts_it codec job s schema got o others t frame piece frags names count frames i
 pub puts_none : {F : Type 0} (codec : Codec F) (job : Job) (s : Survey) (schema : Schema) (got : List (List Version)) (o : Opened) (others : List Opened) → can_be_named (piece_merged job s.frame o others got) ≡ false → Over outcome.OutOfMemory ≡ puts_merged codec job s schema got (o ∷ others)
 puts_none codec job s schema got o others cannot =
     sym (ap (λ b. cond b (putting (merge_objects codec s.frame schema (piece_merged job s.frame o others got) (names_merged s.vacs (frags_of (o ∷ others)))) 0 (outcome.Consolidated (piece_merged job s.frame o others got).head.frag (length (o ∷ others)))) (Over outcome.OutOfMemory)) cannot)
+
+-- ---- the survey
+
+-- where all heads are read the schemas that they name come next
+pub all_heads : {F : Type 0} (codec : Codec F) (job : Job) (s : Survey) (opened : List Opened) (keys : List Key) (schemas : List Schema) → nat_lt (length opened) (length s.fragments) ≡ false → keys ≡ schemas_named opened → schemas ≡ []
+    → surveying codec job s opened keys schemas ≡ opening_next codec job s opened
+all_heads codec job s opened keys schemas last named none =
+    ap (λ ks. surveying codec job s opened ks schemas) named ∙ ap (surveying codec job s opened (schemas_named opened)) none
+    ∙ sym (ap (λ b. cond b (Merges (GetsHeads s opened)) (surveying codec job s opened (schemas_named opened) [])) last)
+
+-- a head that is read opens its fragment
+pub head_read : {F : Type 0} (codec : Codec F) (job : Job) (s : Survey) (opened more : List Opened) (f : FragKey) (bytes : List ℕ) (head : Head) → codec.head s.frame f bytes ≡ Ok head → more ≡ opened ++ record { frag = f; head = head; object = bytes } ∷ []
+    → opening_next codec job s more ≡ after_opened codec job s opened f bytes
+head_read codec job s opened more f bytes head read is =
+    ap (opening_next codec job s) is
+    ∙ sym (ap (on_read (name.Part f (codec.head_part s.frame)) (λ h. opening_next codec job s (opened ++ record { frag = f; head = h; object = bytes } ∷ []))) read)

@@ -2,6 +2,7 @@
 //! merges them.
 #![tactic(auto)]
 
+mod bytes;
 mod candidates;
 mod consolidator;
 mod ends;

@@ -1,7 +1,5 @@
 //! Planning: which of the fragments in its interval a consolidation merges.
-ghost use Rattle.std.specs.Prelude.{◌≡◌, ◌≤◌, ◌^◌, true, All, IfOk, IsTrue, map as list_map};
-ghost use Rattle.ts_base.specs.declared.keys.Key.{Key as AnyKey};
-ghost use Rattle.ts_schema.specs.declared.schemas.Schema.{Schema as AnySchema};
+ghost use Rattle.std.specs.Prelude.{◌≡◌, ◌≤◌, ◌^◌, true, All, IfOk, map as list_map};
 ghost use Rattle.ts_model.specs.declared.states.Opened.{Opened as AnyOpened};
 ghost use Rattle.ts_model.specs.States.{attributes_among, merges_all, on_plan, plan_for};
 ghost use Rattle.ts_actor.specs.Known.{AreRising};
@@ -11,7 +9,7 @@ use crate::fetching::{Sources, merge_from};
 use std::alloc::Global;
 use std::thread::Threads;
 use ts_actor::{Pieces, heads_of, opened_among, schema_among};
-use ts_base::{CountList, Head, Key, OutOfMemory, VersionLists};
+use ts_base::{CountList, Duplicate, Head, Key, OutOfMemory, VersionLists};
 use ts_commit::{Planned, plan};
 use ts_model::{Job, Opened, OpenedList, Outcome, Refusal, State, Survey};
 use ts_schema::{Schema, SchemaList};
@@ -136,9 +134,10 @@ fn merge_all<P: Pieces, R: Threads + Sync>(
     if !are_of_schema(sources.as_slice(), schema.key) {
         return Err(OutOfMemory);
     }
+    let schema = schema.copy(alloc)?;
     let merged = Sources {
         survey,
-        schema: schema.clone()?,
+        schema,
         opened: sources,
     };
     merge_from::<P, R>(rt, alloc, job, merged, 0, VersionLists::new(alloc))
@@ -146,7 +145,7 @@ fn merge_all<P: Pieces, R: Threads + Sync>(
 
 // Whether all of these are written in the schema.
 fn are_of_schema(opened: &[Opened], schema: Key) -> bool
-    ensures { IsTrue result → All (λ (o : AnyOpened). o.head.schema ≡ schema) opened.now }
+    ensures { result ≡ true → All (λ (o : AnyOpened). o.head.schema ≡ schema) opened.now }
 {
     opened.iter().all(|one| one.head.schema == schema)
 }

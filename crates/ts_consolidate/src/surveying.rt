@@ -11,6 +11,7 @@ ghost use Rattle.ts_model.specs.States.{after_names, after_opened, after_surveye
 ghost use Rattle.ts_actor.specs.Known.{AreFirst};
 ghost use Rattle.ts_consolidate.specs.Merges.{AreCandidates, AreOpened, HaveAttrs, IsMergeJob, IsMergeState, IsSurvey, merges_left};
 
+use crate::bytes::has_object;
 use crate::candidates::candidates_of;
 use crate::ends::{damaged, ended};
 use crate::named::schemas_named;
@@ -282,6 +283,7 @@ fn after_opened<P: Pieces, R: Threads + Sync>(
     ensures may { IfOk result (IsMergeState P.codec) }
     ensures fewer { IfOk result (λ next. merges_left P.left next < 2 ^ 194 + (length survey.fragments - length opened)) }
 {
+    has_object(&bytes);
     match P::head(alloc, survey.frame.get(), frag, bytes.as_slice()) {
         Ok(head) => {
             let mut opened = opened;
