@@ -134,10 +134,11 @@ module _ (jobs : List Job) (past : History) (a c told : List Told) (parts : told
         (same, is.there, held_once is.schemas (key_of job) is.there is.undone is.holds, is.frame, is.framed, is.condition, is.says, is.erased)
     end_tells (outcome.Read answer) still stays left short cause (from, to, query, reads, is) =
         let same = (still (subst DoesNone (sym reads) tt)).0 in
-        subst (TellsOf (outcome.Read answer)) (sym reads)
-        (subst (λ h. IsAnswer h (history_told jobs past told) from to query answer) (listed_now jobs past a c told parts number early Commits is.commits same)
-        (subst (λ h. IsAnswer (history_told jobs past is.commits.before) h from to query answer) (listed_now jobs past a c told parts number early Schemas is.schemas same) is.answers),
-        subst (HasNoLease (calls_in m lane a c) (key_of job)) reads (left tt))
+        subst (TellsOf (outcome.Read answer)) (sym reads) (
+          subst (λ h. IsAnswer h (history_told jobs past told) from to query answer) (listed_now jobs past a c told parts number early Commits is.commits same)
+              (subst (λ h. IsAnswer (history_told jobs past is.commits.before) h from to query answer) (listed_now jobs past a c told parts number early Schemas is.schemas same) is.answers),
+          subst (HasNoLease (calls_in m lane a c) (key_of job)) reads (left tt),
+        )
     end_tells (outcome.Consolidated f count) still stays left short cause (undone, is) =
         let same = (still (subst DoesNone (sym is.merges) tt)).0 in
         let found = schema_found m jobs past lane a c told parts number early same job is.from is.to is.limits is.merges is.found in
