@@ -207,6 +207,8 @@ fn read<R: Threads + Sync>(
 ) -> Result<(), WorldFault>
     requires past { world.old.past ≡ [] }
     requires few { length world.old.jobs < 9 }
+    ensures past { world.new.past ≡ [] }
+    ensures few { length world.new.jobs ≤ length world.old.jobs + 1 }
 {
     spawn(
         rt,

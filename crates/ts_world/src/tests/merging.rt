@@ -49,16 +49,25 @@ fn consolidate<R: Threads + Sync>(
     spawn(rt, alloc, world, command, 3, id)
 }
 
-// A world with its array, made by the actor 0, writes of 1 at 1 and of 2 at 2 by the actors 1 and 2,
-// stamped so, and two consolidators, the actors 3 and 4. Each has its number and 1 as identifier.
-fn merged_twice<R: Threads + Sync>(rt: &R, alloc: Global) -> Result<World<PlainPieces>, Fail>
+// A world with its array, made by the actor 0, and writes of 1 at 1 and of 2 at 2 by the actors 1 and
+// 2, stamped so. Each actor has its number and 1 as its identifier.
+fn written_twice<R: Threads + Sync>(rt: &R, alloc: Global) -> Result<World<PlainPieces>, Fail>
     ensures past { IfOk result (λ world. world.past ≡ []) }
-    ensures few { IfOk result (λ world. length world.jobs ≤ 5) }
+    ensures few { IfOk result (λ world. length world.jobs ≤ 3) }
 {
     let mut world = first_world(alloc);
     spawn(rt, alloc, &mut world, create(alloc)?, 0, 1)?;
     spawn(rt, alloc, &mut world, write(alloc, 1, 1)?, 1, 2)?;
     spawn(rt, alloc, &mut world, write(alloc, 2, 2)?, 2, 3)?;
+    Ok(world)
+}
+
+// Such a world with two consolidators, the actors 3 and 4.
+fn merged_twice<R: Threads + Sync>(rt: &R, alloc: Global) -> Result<World<PlainPieces>, Fail>
+    ensures past { IfOk result (λ world. world.past ≡ []) }
+    ensures few { IfOk result (λ world. length world.jobs ≤ 5) }
+{
+    let mut world = written_twice(rt, alloc)?;
     consolidate(rt, alloc, &mut world, 4)?;
     consolidate(rt, alloc, &mut world, 5)?;
     Ok(world)
@@ -143,16 +152,21 @@ impl Dice {
     }
 }
 
-// A world of nine actors: the create; writes of 1 at 1, of 2 at 2 and of 2 at 1, stamped 1, 2 and 3;
-// two consolidators; a write of 1 at 3, stamped 3; and two readers. None has made a call.
-fn crowd<R: Threads + Sync>(rt: &R, alloc: Global) -> Result<World<PlainPieces>, Fail> {
-    let mut world = first_world(alloc);
-    spawn(rt, alloc, &mut world, create(alloc)?, 0, 1)?;
-    spawn(rt, alloc, &mut world, write(alloc, 1, 1)?, 1, 2)?;
-    spawn(rt, alloc, &mut world, write(alloc, 2, 2)?, 2, 3)?;
+// A world as above with a third write, of 2 at 1 stamped 3, and two consolidators.
+fn three_merged<R: Threads + Sync>(rt: &R, alloc: Global) -> Result<World<PlainPieces>, Fail>
+    ensures past { IfOk result (λ world. world.past ≡ []) }
+    ensures few { IfOk result (λ world. length world.jobs ≤ 6) }
+{
+    let mut world = written_twice(rt, alloc)?;
     spawn(rt, alloc, &mut world, write(alloc, 1, 2)?, 3, 4)?;
     consolidate(rt, alloc, &mut world, MERGED)?;
     consolidate(rt, alloc, &mut world, 6)?;
+    Ok(world)
+}
+
+// Such a world with a further write, of 1 at 3 stamped 3, and two readers. No actor has made a call.
+fn crowd<R: Threads + Sync>(rt: &R, alloc: Global) -> Result<World<PlainPieces>, Fail> {
+    let mut world = three_merged(rt, alloc)?;
     spawn(rt, alloc, &mut world, write(alloc, 3, 1)?, 3, FURTHER)?;
     read(rt, alloc, &mut world, 8)?;
     read(rt, alloc, &mut world, 9)?;
