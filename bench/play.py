@@ -118,9 +118,9 @@ def fragments(count, cells):
     return commands
 
 
-def in_one(cells):
-    """A create, and one write of so many cells."""
-    places = list(range(cells))
+def in_one(places):
+    """A create, and one write of the cells at these places."""
+    cells = len(places)
     return [create([dim("x", cells - 1, 1000)], [attr("v", "int64")]), {"cmd": "write", "at": 1, "cols": {"x": places, "v": places}}]
 
 
@@ -184,19 +184,24 @@ def squares(sides):
 
 
 def merges(counts, cells):
-    """How long a consolidation takes of fragments of so many cells each, beside one write of all their cells."""
-    print("fragments of %d cells\tconsolidated in ms\tgrowth\twritten at once in ms\ttimes" % cells)
+    """How long a consolidation takes of fragments of so many cells each, beside one write of all their cells: in the order in which the fragments have them, and in ascending order, which takes no sorting."""
+    print("fragments of %d cells\tconsolidated in ms\tgrowth\twritten at once in ms\ttimes\tascending in ms\ttimes" % cells)
     before = None
     for count in counts:
         written = fragments(count, cells)
         merge = {"cmd": "consolidate", "at": count + 1}
         own = median(text_of(written + [merge]), None) - median(text_of(written), None)
-        once = in_one(count * cells)
-        other = median(text_of(once), None) - median(text_of(once[:1]), None)
+        places = [place for write in written[1:] for place in write["cols"]["x"]]
+        same, ascending = one_write_ms(places), one_write_ms(sorted(places))
         growth = "" if before is None else "%.2f" % (own / before)
-        print("%d\t%.1f\t%s\t%.1f\t%.2f" % (count, own, growth, other, own / other), flush=True)
+        print("%d\t%.1f\t%s\t%.1f\t%.2f\t%.1f\t%.2f" % (count, own, growth, same, own / same, ascending, own / ascending), flush=True)
         before = own
-    print("wanted: at most 2 times one write")
+    print("wanted: at most 2 times one write of the same cells in the same order")
+
+
+def one_write_ms(places):
+    once = in_one(places)
+    return median(text_of(once), None) - median(text_of(once[:1]), None)
 
 
 def reads_of_small(count):

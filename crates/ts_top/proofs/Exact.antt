@@ -210,6 +210,7 @@ module _ {S : Type 0} (held : S → Option Held) (made : S → List Exchange →
   refused_by seen true lines (Done (Written f) ∷ []) performed all e = absurd (let none : ⊥ = omega arith in none)
   refused_by seen true lines (Done (Deleted f) ∷ []) performed all e = absurd (let none : ⊥ = omega arith in none)
   refused_by seen true lines (Done (Read answer) ∷ []) performed all e = absurd (let none : ⊥ = omega arith in none)
+  refused_by seen true lines (Done (Consolidated f count) ∷ []) performed all e = absurd (let none : ⊥ = omega arith in none)
   refused_by seen true lines (Stopped ∷ []) performed all e = absurd (let none : ⊥ = omega arith in none)
   refused_by seen true lines (Done a ∷ b ∷ rest) performed all e = absurd (let none : ⊥ = omega arith in none)
   refused_by seen true lines (Stopped ∷ b ∷ rest) performed all e = absurd (let none : ⊥ = omega arith in none)

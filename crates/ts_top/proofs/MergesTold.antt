@@ -3,20 +3,29 @@ use Rattle.std.proofs.Common.{◌≡◌, ℕ, List, [], ◌∷◌, ◌++◌, Opt
 use Rattle.std.proofs.lemmas.List.Elements.{filter_map-append}
 use Rattle.ts_base.specs.Held.{Held}
 use Rattle.ts_base.specs.declared.keys.FragKey.{FragKey}
-use Rattle.ts_base.specs.declared.names.Prefix.TheVariants.{Commits}
+use Rattle.std.specs.FinMap as map
+use Rattle.ts_base.specs.Names.{wrt_of}
+use Rattle.ts_base.specs.declared.names.Name.TheVariants as name
+use Rattle.ts_base.specs.declared.names.Prefix.TheVariants.{Commits, Schemas}
 use Rattle.ts_commit.specs.declared.vacs.Limits.{Limits}
 use Rattle.ts_commit.specs.declared.vacs.Planned.{Planned}
 use Rattle.ts_commit.specs.declared.vacs.Planned.TheVariants.{Take}
 use Rattle.ts_store.specs.Journals.{held_after}
+use Rattle.ts_schema.specs.declared.schemas.Schema.{Schema}
+use Rattle.ts_model.specs.declared.commands.Command.TheVariants.{Consolidate}
 use Rattle.ts_model.specs.declared.commands.Job.{Job}
-use Rattle.ts_model.specs.Deeds.{History}
+use Rattle.ts_model.specs.Deeds.{History, schema_there}
+use Rattle.ts_model.specs.Jobs.{key_of, looked_at, looks_at}
+use Rattle.ts_model.specs.States.{vac_of}
 use Rattle.ts_model.specs.Told.{Told, entries_of, entry_of, held_told, history_told}
 use Rattle.ts_model.proofs.Traces.{held_told-append}
-use Rattle.ts_law.specs.Ends.{AreAllVacs, AreInside, IsMerged, IsPlanned, ListedAt, attributes_with, up_to}
-use Rattle.ts_law.specs.Stands.{HoldsIn, IsCommitted, Names}
+use Rattle.ts_law.specs.Ends.{AreAllVacs, AreInside, FindsSchema, IsMerged, IsPlanned, ListedAt, attributes_with, up_to}
+use Rattle.ts_law.specs.Kept.{HeldSince}
+use Rattle.ts_law.specs.Stands.{HoldsIn}
+use Rattle.ts_law.proofs.Grows.{holds_on_in}
+use Rattle.ts_law.proofs.HeldLemmas.{Holds-from_get, bytes_there}
 use Rattle.ts_law.proofs.Journals.{journal_held}
 use Rattle.ts_commit.specs.Plans.{plan_of}
-use Rattle.ts_commit.specs.Selections.{names_merged}
 use Rattle.ts_top.specs.Merges.{Calls, Merged, Plans, held_by}
 use Rattle.ts_top.specs.Runners.{run_spelled}
 use Rattle.ts_top.proofs.Places.{Early, between_now, cancelled, listed_now, stands_after}
@@ -66,58 +75,45 @@ module _ (m : Held) (jobs : List Job) (past : History) (lane : Option ℕ → �
               (listed_now jobs past a c told parts number early Commits commits still) (ap (held_told m) at.1 ∙ held_entered m lane a d) is;
         }
 
-    module _ (job : Job) (f : FragKey) (count : ℕ) (is : IsMerged run_spelled m jobs past told number job f count) where
-      abbrev listed : List Told
-      listed = (is.commits).before
+    -- a schema that a job found at its stamp holds there in the history after it
+    pub schema_found : (job : Job) (from to : ℕ) (limits : Limits) → job.command ≡ Consolidate from to limits → FindsSchema jobs past told number job → (there : Schema) × (schema_there (history_told jobs past told) job.at ≡ Some there)
+    schema_found job from to limits merges is = (
+      is.there,
+      ap (schema_there (history_told jobs past told)) (sym (ap (looks_at job) merges)) ∙ ap (λ h. schema_there h (looked_at job)) (sym (listed_now jobs past a c told parts number early Schemas is.schemas still)) ∙ is.holds,
+    )
 
+    module _ (stays : (front back : List Told) → told ≡ front ++ back → HeldSince (held_told m front) (held_told m told)) (job : Job) (f : FragKey) (count : ℕ) (is : IsMerged run_spelled m jobs past told number job f count) where
+      -- what was told up to the put of the `.wrt`
       abbrev seen : List Told
       seen = up_to (is.put).before (is.put).made
 
-      -- the calls before the listing, and those from it to the put of the `.wrt`
-      abbrev at : (d : List Told) × (listed ≡ a ++ d) × (c ≡ d ++ (is.commits).listing ∷ (is.commits).later)
-      at = divided listed (is.commits).listing (is.commits).later (is.commits).place (is.commits).own
+      seen_is : told ≡ seen ++ (is.put).later
+      seen_is = (is.put).place ∙ sym (append_assoc (is.put).before ((is.put).made ∷ []) (is.put).later)
 
-      abbrev ahead : List Told
-      ahead = (is.commits).listing ∷ (is.later ++ (is.put).made ∷ [])
-
-      abbrev rest : List Told
-      rest = (is.put).later
-
-      seen_is : seen ≡ listed ++ ahead
-      seen_is = ap (λ l. l ++ (is.put).made ∷ []) is.order ∙ append_assoc listed ((is.commits).listing ∷ is.later) ((is.put).made ∷ [])
-
-      told_is : told ≡ seen ++ rest
-      told_is = (is.put).place ∙ sym (append_assoc (is.put).before ((is.put).made ∷ []) rest)
-
-      divides : (is.commits).listing ∷ (is.commits).later ≡ ahead ++ rest
-      divides = cancelled listed ((is.commits).listing ∷ (is.commits).later) (ahead ++ rest) (sym (is.commits).place ∙ told_is ∙ ap (λ l. l ++ rest) seen_is ∙ append_assoc listed ahead rest)
-
-      -- these are calls of the command
-      own : seen ≡ a ++ (at.0 ++ ahead)
-      own = seen_is ∙ ap (λ l. l ++ ahead) at.1 ∙ append_assoc a at.0 ahead
-
-      -- what was held after the put
-      abbrev put_held : Held
-      put_held = held_by calls_of (entries_of lane at.0 ++ entries_of lane ahead)
-
-      held : held_told m seen ≡ put_held
-      held = ap (held_told m) own ∙ held_entered m lane a (at.0 ++ ahead) ∙ ap (held_by calls_of) (filter_map-append (entry_of lane) at.0 ahead)
+      -- what was held then is held at the end of the calls
+      since : HeldSince (held_told m seen) (held_by calls_of calls_of.entries)
+      since = subst (HeldSince (held_told m seen)) (ap (held_told m) parts ∙ held_entered m lane a c) (stays seen (is.put).later seen_is)
 
       then_now : history_told jobs past seen ≡ history_told jobs past told
-      then_now = ap (history_told jobs past) own ∙ between_now jobs past a c told parts number early (at.0 ++ ahead) rest (told_is ∙ ap (λ l. l ++ rest) own) still
+      then_now =
+          let (d, behind) = stands_after jobs past a c told parts number early (is.put).before (is.put).made (is.put).later (is.put).place (is.put).own in
+          let own : seen ≡ a ++ (d ++ (is.put).made ∷ []) = ap (λ l. l ++ (is.put).made ∷ []) behind ∙ append_assoc a d ((is.put).made ∷ []) in
+          ap (history_told jobs past) own ∙ between_now jobs past a c told parts number early (d ++ (is.put).made ∷ []) (is.put).later (seen_is ∙ ap (λ l. l ++ (is.put).later) own) still
 
       -- what a job merged its command merged
-      pub merged_tells : Merged calls_of (history_told jobs past told) is.from is.to is.limits f count
-      merged_tells = record {
-        sources = is.sources;
-        plans = plans is.from is.to is.limits (Take is.sources) is.commits is.by_plan;
-        counted = is.counted;
-        more = entries_of lane ahead;
-        rest = entries_of lane rest;
-        parts = ap (entries_of lane) divides ∙ filter_map-append (entry_of lane) ahead rest;
-        committed = subst (λ x. IsCommitted x f) held is.committed;
-        piece = is.piece;
-        holds = subst (λ x. HoldsIn run_spelled (history_told jobs past told) x f is.piece) held (subst (λ h. HoldsIn run_spelled h (held_told m seen) f is.piece) then_now is.holds);
-        origins = is.origins;
-        merged = subst (λ x. Names x f (names_merged (is.by_plan).vacs is.sources)) held is.merged;
-      }
+      pub merged_tells : Merged calls_of (history_told jobs past told) (key_of job) is.from is.to is.limits f count
+      merged_tells =
+          let there : (bytes : List ℕ) × (map.get (held_told m seen) (wrt_of f) ≡ Some bytes) = bytes_there (held_told m seen) (wrt_of f) is.committed in
+          record {
+            sources = is.sources;
+            plans = plans is.from is.to is.limits (Take is.sources) is.commits is.by_plan;
+            counted = is.counted;
+            own = is.own;
+            committed = Holds-from_get (held_by calls_of calls_of.entries) (wrt_of f) there.0 (since (wrt_of f) there.0 tt there.1);
+            piece = is.piece;
+            holds =
+                holds_on_in run_spelled (history_told jobs past told) (held_told m seen) (held_by calls_of calls_of.entries) f is.piece (λ part bytes. since (name.Part f part) bytes tt)
+                (subst (λ h. HoldsIn run_spelled h (held_told m seen) f is.piece) then_now is.holds);
+            origins = is.origins;
+            vac = record { bytes = (is.merged).bytes; held = since (vac_of f) (is.merged).bytes tt (is.merged).held; reads = (is.merged).reads };
+          }

@@ -44,23 +44,25 @@ use Rattle.ts_model.specs.Queries.{delete_condition}
 use Rattle.ts_model.specs.Deeds.{History, IsHistory, IsNewKey, frame_in, schema_there}
 use Rattle.ts_model.specs.Answers.{IsAnswer}
 use Rattle.ts_model.specs.Driven.{IsDriven}
-use Rattle.ts_cond.specs.declared.query.Query.{Query}
 use Rattle.ts_base.specs.declared.names.Prefix.TheVariants.{Commits, Schemas}
 use Rattle.ts_model.specs.Jobs.{key_of, looked_at, looks_at, schema_of_job, written_as, deletion_as}
 use Rattle.ts_model.specs.Stops.{cuts}
 use Rattle.ts_model.specs.States.{Exchange, made_by}
-use Rattle.ts_model.specs.Told.{Told, entries_of, entry_of, exchange_of, trace_of, grown, deed_told, deed_in, deed_of, declared_by, written_by, written_in, deleted_by, deleted_in, schema_used, schemas_found, cells_of, condition_of, history_from, history_told, Replied, Suits}
+use Rattle.ts_model.specs.Told.{Told, entries_of, entry_of, exchange_of, held_told, trace_of, grown, deed_told, deed_in, deed_of, declared_by, written_by, written_in, deleted_by, deleted_in, schema_used, schemas_found, cells_of, condition_of, history_from, history_told, Replied, Suits}
 use Rattle.ts_model.proofs.ListLemmas.{Contains-cons, Contains-filter_map, Contains-here, Contains-nil, Contains-there, filter_map-Contains}
 use Rattle.ts_model.proofs.Traces.{exchange_of_other, exchange_of_own, history_told-append, trace_of-append}
 use Rattle.ts_law.specs.Ends.{IsTrueEnd, IsTrueOver, IsUndone, ListedAt}
 use Rattle.ts_law.specs.Refusals.{IsRefusedFor}
 use Rattle.ts_law.specs.Fresh.{IsFreshSeed, IsJobOf, AreJobsOf, Numbered, command_at, id_of, in_lane_order, job_from, lanes_of, lane_of as line_lane}
 use Rattle.ts_law.specs.Lanes.{lane_by, one_lane, IsOwned, IsWithin, IsBefore, InTurn}
-use Rattle.ts_law.specs.Runs.{AreDriven, exchanges, IsRunOver, IsTrueRun}
+use Rattle.ts_law.specs.Courses.{IsSegment}
+use Rattle.ts_law.specs.Kept.{HeldSince}
+use Rattle.ts_law.specs.Runs.{AreDriven, AreSegments, exchanges, IsRunOver, IsTrueRun}
 use Rattle.ts_law.proofs.Clipped.{true_end_of}
 use Rattle.ts_law.specs.Stands.{IsNoLease}
 use Rattle.ts_law.proofs.FirstStands.{nothing_stands, fresh_over_nothing}
 use Rattle.ts_law.proofs.Doing.{ran-no_call}
+use Rattle.ts_law.proofs.Journals.{journal_held}
 use Rattle.ts_law.proofs.KeptLaws.{Replied-front}
 use Rattle.ts_law.proofs.Lists.{item_at}
 use Rattle.ts_law.proofs.LineJobs.{AreInOrder, each_line, in_order}
@@ -68,13 +70,14 @@ use Rattle.ts_law.proofs.TrueRuns.{kept_first, true_run, works_where_used}
 use Rattle.ts_actor.specs.PlainCodec.{NeverWaits}
 use Rattle.ts_actor.specs.PlainLaws.{plain_laws}
 use Rattle.ts_top.specs.Ends.{ends_text}
-use Rattle.ts_top.specs.Promise.{HeldOnce, IsDone, IsDeedOf, IsLineDone, Tells, IsStored, Promise, Began, Promised}
+use Rattle.ts_top.specs.Promise.{HasNoLease, HeldOnce, IsDone, IsDeedOf, IsLineDone, Tells, IsStored, Promise, Began, Promised}
 use Rattle.ts_top.specs.Runners.{run_codec, run_spelled}
 use Rattle.ts_script.specs.Script.{AreLimited}
 use Rattle.ts_top.specs.Seen.{Seen, AskFor, Stopped as HasStopped, Performed, PrintsEnds, whole, sink_failed, no_text, status_printed, Plays, ended, ran_short}
 use Rattle.ts_top.proofs.Places.{Early, Late, cancelled, fronts, goes_on, listed_after, listed_now}
-use Rattle.ts_top.proofs.MergesTold.{calls_in, merged_tells}
-use Rattle.ts_top.proofs.RefusalsTold.{IsQuiet, none_first, nothing_done, refusal_tells}
+use Rattle.ts_top.proofs.LeasesTold.{EndsWell, no_lease}
+use Rattle.ts_top.proofs.MergesTold.{calls_in, merged_tells, schema_found}
+use Rattle.ts_top.proofs.RefusalsTold.{DoesNone, IsQuiet, none_first, nothing_done, refusal_tells}
 use Rattle.ts_top.specs.declared.top.Stop.{Stop}
 use Rattle.ts_top.specs.declared.top.Stop.TheVariants.{Usage, BadScript, NoForm, ReadFault, OutOfMemory}
 
@@ -104,12 +107,6 @@ deed_no_lease : (h : History) (job : Job) (found : Option (List Key)) (n : Name)
 deed_no_lease h job found (name.Lease k mode) d is = absurd (none-some d is)
 deed_no_lease h job found _ d is = tt
 
--- the commands that do no deed
-abbrev DoesNone : Command → Type 0
-DoesNone (Read from to query) = ⊤
-DoesNone (Consolidate from to limits) = ⊤
-DoesNone _ = ⊥
-
 module _ (jobs : List Job) (past : History) (a c told : List Told) (parts : told ≡ a ++ c) (number : ℕ) (early : Early number a) where
   held_once : (at : ListedAt told number Schemas) (k : Key) (there : Schema) → IsNewKey (history_told jobs past at.before) k → schema_there (history_told jobs past at.before) k.t ≡ Some there
       → HeldOnce (history_told jobs past a) (history_told jobs past told) k there
@@ -121,29 +118,34 @@ module _ (jobs : List Job) (past : History) (a c told : List Told) (parts : told
     TellsOf end command = Tells (calls_in m lane a c) (history_told jobs past a) (history_told jobs past told) (key_of job) end command
 
     -- an end that is true of a job tells so of its command
-    end_tells : (end : Outcome) → (DoesNone job.command → history_told jobs past told ≡ history_told jobs past a)
+    end_tells : (end : Outcome) → (DoesNone job.command → (history_told jobs past told ≡ history_told jobs past a) × IsNewKey (history_told jobs past told) (key_of job))
+        → ((front back : List Told) → told ≡ front ++ back → HeldSince (held_told m front) (held_told m told)) → (EndsWell end → HasNoLease (calls_in m lane a c) (key_of job) job.command)
         → (end ≡ outcome.OutOfMemory → IsUndone (history_told jobs past told) job)
         → ((r : Refusal) → end ≡ outcome.Refused r → IsRefusedFor run_spelled m jobs past told number job r × (IsQuiet r → history_told jobs past told ≡ history_told jobs past a))
         → IsTrueEnd run_spelled m jobs past told number job end → TellsOf end job.command
-    end_tells outcome.Created still short cause is = subst (TellsOf outcome.Created) (sym is.creates) (is.framed, is.declared)
-    end_tells (outcome.Evolved k) still short cause (same, is) =
+    end_tells outcome.Created still stays left short cause is = subst (TellsOf outcome.Created) (sym is.creates) (is.framed, is.declared)
+    end_tells (outcome.Evolved k) still stays left short cause (same, is) =
         subst (TellsOf (outcome.Evolved k)) (sym is.evolves) (same, is.there, held_once is.schemas (key_of job) is.there is.undone is.holds, is.declared)
-    end_tells (outcome.Written f) still short cause (same, is) =
+    end_tells (outcome.Written f) still stays left short cause (same, is) =
         subst (TellsOf (outcome.Written f)) (sym is.writes_them)
         (same, is.there, held_once is.schemas (key_of job) is.there is.undone is.holds, is.frame, is.framed, is.cells, is.lays, is.written)
-    end_tells (outcome.Deleted f) still short cause (same, is) =
+    end_tells (outcome.Deleted f) still stays left short cause (same, is) =
         subst (TellsOf (outcome.Deleted f)) (sym is.deletes)
         (same, is.there, held_once is.schemas (key_of job) is.there is.undone is.holds, is.frame, is.framed, is.condition, is.says, is.erased)
-    end_tells (outcome.Read answer) still short cause (from, to, query, reads, is) =
-        let stays = still (subst DoesNone (sym reads) tt) in
-        subst (TellsOf (outcome.Read answer)) (sym reads)
-        (subst (λ h. IsAnswer h (history_told jobs past told) from to query answer) (listed_now jobs past a c told parts number early Commits is.commits stays)
-        (subst (λ h. IsAnswer (history_told jobs past is.commits.before) h from to query answer) (listed_now jobs past a c told parts number early Schemas is.schemas stays) is.answers))
-    end_tells (outcome.Consolidated f count) still short cause (undone, is) =
-        let stays = still (subst DoesNone (sym is.merges) tt) in
-        subst (TellsOf (outcome.Consolidated f count)) (sym is.merges) (stays, undone, merged_tells m jobs past lane a c told parts number early stays job f count is)
-    end_tells (outcome.Refused r) still short cause is = refusal_tells m jobs past lane a c told parts number early job r is (cause r refl).0 (cause r refl).1
-    end_tells outcome.OutOfMemory still short cause is = short refl
+    end_tells (outcome.Read answer) still stays left short cause (from, to, query, reads, is) =
+        let same = (still (subst DoesNone (sym reads) tt)).0 in
+        subst (TellsOf (outcome.Read answer)) (sym reads) (
+          subst (λ h. IsAnswer h (history_told jobs past told) from to query answer) (listed_now jobs past a c told parts number early Commits is.commits same)
+              (subst (λ h. IsAnswer (history_told jobs past is.commits.before) h from to query answer) (listed_now jobs past a c told parts number early Schemas is.schemas same) is.answers),
+          subst (HasNoLease (calls_in m lane a c) (key_of job)) reads (left tt),
+        )
+    end_tells (outcome.Consolidated f count) still stays left short cause (undone, is) =
+        let same = (still (subst DoesNone (sym is.merges) tt)).0 in
+        let found = schema_found m jobs past lane a c told parts number early same job is.from is.to is.limits is.merges is.found in
+        subst (TellsOf (outcome.Consolidated f count)) (sym is.merges)
+        (same, undone, found.0, found.1, merged_tells m jobs past lane a c told parts number early same stays job f count is, subst (HasNoLease (calls_in m lane a c) (key_of job)) is.merges (left tt))
+    end_tells (outcome.Refused r) still stays left short cause is = refusal_tells m jobs past lane a c told parts number early job r (λ quiet. (still quiet).1) is (cause r refl).0 (cause r refl).1
+    end_tells outcome.OutOfMemory still stays left short cause is = short refl
 
 -- a read does no deed, nor does a consolidation
 no_deed : (before h : History) (k : Key) (c : Command) (d : Deed) → DoesNone c → IsDeedOf before h k c d → ⊥
@@ -432,6 +434,12 @@ short_at (x ∷ rs) zero i r less is = absurd (omega (arith, less))
 short_at (x ∷ rs) (suc n) zero r less is = is
 short_at (x ∷ rs) (suc n) (suc i) r less is = short_at rs n i r (omega (arith, less)) is
 
+-- at that place there was none
+short_there : (rs : List (Driven Outcome)) (n : ℕ) (r : Driven Outcome) → slice_get rs n ≡ Some r → slice_get (short_after rs n) n ≡ Some (Done outcome.OutOfMemory)
+short_there [] n r is = absurd (none-some r is)
+short_there (x ∷ rs) zero r is = refl
+short_there (x ∷ rs) (suc n) r is = short_there rs n r is
+
 short_cases : (rs : List (Driven Outcome)) (n i : ℕ) (r : Driven Outcome) → slice_get (short_after rs n) i ≡ Some r → ((i < n) × (slice_get rs i ≡ Some r)) ⊎ ((n ≤ i) × (Done outcome.OutOfMemory ≡ r))
 short_cases [] n i r is = absurd (none-some r is)
 short_cases (x ∷ rs) zero zero r is = inr (omega arith, same_Some (Done outcome.OutOfMemory) r is)
@@ -536,6 +544,12 @@ module _ (gives : ℕ → Bool) (seed : ℕ) (items : List Numbered) (jobs : Lis
   abbrev entered_by : ℕ → List Entry
   entered_by n = entries_of lane (calls_before n)
 
+  -- the objects stand for the history after so many commands
+  stood_by : (n : ℕ) → IsStored (held_after m (entered_by n)) (after n)
+  stood_by n =
+      subst (λ h. IsStored h (after n)) (sym (journal_held (lane_by one_lane) m (calls_before n)) ∙ journal_held lane m (calls_before n))
+      ((front_run n).stands (calls_before n) [] (sym (append-nil (calls_before n))))
+
   -- the first calls are none, and the last are all
   no_calls : calls_before 0 ≡ []
   no_calls =
@@ -601,9 +615,9 @@ module _ (gives : ℕ → Bool) (seed : ℕ) (items : List Numbered) (jobs : Lis
       deed
 
   -- a command was done between the commands before it and those after it
-  is_done : (i : ℕ) (item : Numbered) (end : Outcome) → slice_get items i ≡ Some item → slice_get results i ≡ Some (Done end)
+  is_done : AreSegments run_codec jobs results told → (i : ℕ) (item : Numbered) (end : Outcome) → slice_get items i ≡ Some item → slice_get results i ≡ Some (Done end)
       → (calls : List Entry) × (entered_by (i + 1) ≡ entered_by i ++ calls) × IsLineDone gives seed (record { opening = held_after m (entered_by i); entries = calls }) (after i) (after (i + 1)) item end
-  is_done i item end is_item result_at =
+  is_done segments i item end is_item result_at =
       let (a, b, parts, early, late) = cut i told owned in_turn in
       let (a', b', parts', early', late') = cut (i + 1) told owned in_turn in
       let apart : (x : Told) (xs : List Told) → b' ≡ x ∷ xs → Contains a x → ⊥ = λ x xs q among.
@@ -628,9 +642,11 @@ module _ (gives : ℕ → Bool) (seed : ℕ) (items : List Numbered) (jobs : Lis
       let above : Late i c = λ e among. late e (subst (λ l. Contains l e) (sym behind) (Contains-append_left c b' e among)) in
       let of_job : (front back : List Deed) (d : Deed) → deeds ≡ front ++ d ∷ back → IsDeedOf (history_told jobs past a) (history_told jobs past a ++ front) (key_of job) job.command d = λ front back d split.
       deed_is i job is_job a c b' place early below above front d (own.came front back d split) in
-      let still : DoesNone job.command → history_told jobs past a' ≡ history_told jobs past a = λ quiet.
+      let undone : IsUndone (history_told jobs past a) job = (front_run i).answers i job outcome.OutOfMemory is_job (short_there results i (Done end) result_at) in
+      let still : DoesNone job.command → (history_told jobs past a' ≡ history_told jobs past a) × IsNewKey (history_told jobs past a') (key_of job) = λ quiet.
       let none : deeds ≡ [] = none_first deeds (λ back d split. no_deed (history_told jobs past a) (history_told jobs past a ++ []) (key_of job) job.command d quiet (of_job [] back d split)) in
-      whole ∙ own.goes_on_so ∙ ap (λ l. history_told jobs past a ++ l) none ∙ append-nil (history_told jobs past a) in
+      let same : history_told jobs past a' ≡ history_told jobs past a = whole ∙ own.goes_on_so ∙ ap (λ l. history_told jobs past a ++ l) none ∙ append-nil (history_told jobs past a) in
+      (same, subst (λ h. IsNewKey h (key_of job)) (sym same) undone) in
       let grows_by : history_told jobs past a' ≡ history_told jobs past a ++ deeds = whole ∙ own.goes_on_so in
       let silent : trace_of i a' ≡ [] → deeds ≡ [] = silent_deeds jobs i a c a' (history_told jobs past a) grows below above own in
       let history : IsHistory (history_told jobs past a') = ((front_run (i + 1)).stands a' [] (sym (append-nil a'))).history in
@@ -641,9 +657,19 @@ module _ (gives : ℕ → Bool) (seed : ℕ) (items : List Numbered) (jobs : Lis
             let none : deeds ≡ [] = nothing_done m jobs past lane a c a' grows i early job deeds grows_by history of_job silent r quiet (subst (IsTrueEnd run_spelled m jobs past a' i job) is is_true) cause in
             grows_by ∙ ap (λ l. history_told jobs past a ++ l) none ∙ append-nil (history_told jobs past a),
       ) in
+      let owns : All IsOwned c = all_back IsOwned a c (all_front IsOwned (a ++ c) b' (subst (All IsOwned) place owned)) in
+      let mine : (e : Told) → Contains c e → e.job ≡ Some i = λ e among.
+      let (number, is) = All-contains IsOwned c e owns among in
+      is ∙ ap Some (let at_i : number ≡ i = omega (arith, below e among number is, above e among number is) in at_i) in
+      let suits : All Suits c = all_back Suits a c (all_front Suits (a ++ c) b' (subst (All Suits) place suit)) in
+      let none_early : trace_of i a ≡ [] = no_trace i a (λ e among is. let less = early e among i is in omega (arith, less)) in
+      let none_late : trace_of i b' ≡ [] = no_trace i b' (λ e among is. let more = late' e among i is in omega (arith, more)) in
+      let traced : trace_of i told ≡ trace_of i c =
+      ap (trace_of i) place ∙ trace_of-append i (a ++ c) b' ∙ ap (λ t. trace_of i (a ++ c) ++ t) none_late ∙ append-nil (trace_of i (a ++ c)) ∙ trace_of-append i a c ∙ ap (λ t. t ++ trace_of i c) none_early in
+      let left : EndsWell end → HasNoLease (calls_in m lane a c) (key_of job) job.command = λ well.
+      no_lease m lane a c i job mine suits end well (subst (λ t. IsSegment run_codec job t (Done end)) traced (segments i job (Done end) is_job result_at)) in
       let done : IsDone (calls_in m lane a c) (history_told jobs past a) (history_told jobs past a') (key_of job) end job.command =
-      record { deeds = deeds; goes_on = grows_by; own = of_job; tells = end_tells jobs past a c a' grows i early m lane job end still short causes is_true } in
-      let owns : All IsOwned c = all_back IsOwned a c (all_front IsOwned (a ++ c) b' (subst (All IsOwned) place owned)) in (
+      record { deeds = deeds; goes_on = grows_by; own = of_job; tells = end_tells jobs past a c a' grows i early m lane job end still (front_run (i + 1)).stays left short causes is_true } in (
         entries_of lane c,
         ap (entries_of lane) grows ∙ filter_map-append (entry_of lane) a c,
         (
@@ -715,8 +741,9 @@ module _ {S : Type 0} (held : S → Option Held) (made : S → List Exchange →
         first = (ap (history_told jobs past) none, ap (entries_of (lane_by (lanes_of items))) none);
         last = ap journal count ∙ ap (entries_of (lane_by (lanes_of items))) all ∙ run.entries;
         done = λ i item end is_item is_end.
-            is_done seen.gives seen.seed items jobs past m run.told results performed.of_lines order stands fresh seed_fits over.replied run.suit run.owned run.in_lanes.within performed.in_turn run.driven i item end is_item
+            is_done seen.gives seen.seed items jobs past m run.told results performed.of_lines order stands fresh seed_fits over.replied run.suit run.owned run.in_lanes.within performed.in_turn run.driven run.segments i item end is_item
             (ap (λ rs. slice_get rs i) are ∙ end_at ends i end is_end);
+        stood = λ i few. stood_by seen.gives seen.seed items jobs past m run.told results performed.of_lines order stands fresh seed_fits over.replied run.suit run.owned run.in_lanes.within performed.in_turn run.driven i;
         stored = (over.held, subst (IsStored (held_after m seen.journal)) (sym (ap so_far count ∙ ap (history_told jobs past) all)) stored);
         front = subst (λ rs. AppendsFront seen.out.old seen.out.new (ends_text items rs)) are (front_of (ends_text items results) (status_printed single results) prints);
         whole = λ done. subst (λ rs. Appends seen.out.old seen.out.new (ends_text items rs)) are (whole_of (ends_text items results) (status_printed single results) prints done);

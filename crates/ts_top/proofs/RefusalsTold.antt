@@ -43,7 +43,7 @@ use Rattle.ts_top.specs.Causes.{HasCause, IsOpposed, OneFailed, TellsRefusal, lo
 use Rattle.ts_top.specs.Promise.{Extends, IsDeedOf}
 use Rattle.ts_top.specs.Merges.{Calls}
 use Rattle.ts_top.specs.Runners.{run_spelled}
-use Rattle.ts_top.proofs.MergesTold.{calls_in, divided, held_entered, plans}
+use Rattle.ts_top.proofs.MergesTold.{calls_in, divided, held_entered, plans, schema_found}
 use Rattle.ts_top.proofs.Places.{Early, goes_on, listed_now, made_now}
 
 -- ---- commands that did nothing
@@ -145,14 +145,34 @@ module _ (before : History) (deeds : List Deed) (k : Key) (c : Command) (new : I
 
 -- ---- what a refusal tells
 
+-- the commands that do no deed
+abbrev pub DoesNone : Command → Type 0
+DoesNone (Read from to query) = ⊤
+DoesNone (Consolidate from to limits) = ⊤
+DoesNone _ = ⊥
+
+-- a command does no deed, or the faults of the puts of its commit and of its schema are its own
+own_commit : (k : Key) (c : Command) → DoesNone c ⊎ Contains (own_faults k c) (refusal.StoreFault (place.Name (name.Commit (frag_of k) (kind_of c))))
+own_commit k (Read from to query) = inl tt
+own_commit k (Consolidate from to limits) = inl tt
+own_commit k c = inr (Contains-here (refusal.StoreFault (place.Name (name.Commit (frag_of k) (kind_of c)))) (refusal.StoreFault (place.Name (name.Schema k)) ∷ []))
+
+own_schema : (k : Key) (c : Command) → DoesNone c ⊎ Contains (own_faults k c) (refusal.StoreFault (place.Name (name.Schema k)))
+own_schema k (Read from to query) = inl tt
+own_schema k (Consolidate from to limits) = inl tt
+own_schema k c =
+    let mine = refusal.StoreFault (place.Name (name.Schema k)) in
+    inr (Contains-there (refusal.StoreFault (place.Name (name.Commit (frag_of k) (kind_of c)))) (mine ∷ []) mine (Contains-here mine []))
+
 -- a failed call that is true of a job tells whose deed may have come
 module _ (opening : Held) (jobs : List Job) (past : History) (told : List Told) (number : ℕ) where
-  fault_tells : (job : Job) (p : Place) → IsTrueRefusal run_spelled opening jobs past told number job (refusal.StoreFault p) → IsNewKey (history_told jobs past told) (key_of job) ⊎ Contains (own_faults (key_of job) job.command) (refusal.StoreFault p)
-  fault_tells job (place.Name (name.Commit f kind)) (inl own) = let mine = refusal.StoreFault (place.Name (name.Commit (frag_of (key_of job)) (kind_of job.command))) in inr (rw (own.0, own.1) (Contains-here mine (refusal.StoreFault (place.Name (name.Schema (key_of job))) ∷ [])))
-  fault_tells job (place.Name (name.Commit f kind)) (inr undone) = inl undone
-  fault_tells job (place.Name (name.Schema k)) (inl own) = let mine = refusal.StoreFault (place.Name (name.Schema (key_of job))) in inr (rw own (Contains-there (refusal.StoreFault (place.Name (name.Commit (frag_of (key_of job)) (kind_of job.command)))) (mine ∷ []) mine (Contains-here mine [])))
-  fault_tells job (place.Name (name.Schema k)) (inr undone) = inl undone
-  fault_tells job _ is = inl is
+  fault_tells : (job : Job) (p : Place) → (DoesNone job.command → IsNewKey (history_told jobs past told) (key_of job)) → IsTrueRefusal run_spelled opening jobs past told number job (refusal.StoreFault p)
+      → IsNewKey (history_told jobs past told) (key_of job) ⊎ Contains (own_faults (key_of job) job.command) (refusal.StoreFault p)
+  fault_tells job (place.Name (name.Commit f kind)) none (inl own) = elim (own_commit (key_of job) job.command) [ inl quiet ↦ inl (none quiet) | inr among ↦ inr (rw (own.0, own.1) among) ]
+  fault_tells job (place.Name (name.Commit f kind)) none (inr undone) = inl undone
+  fault_tells job (place.Name (name.Schema k)) none (inl own) = elim (own_schema (key_of job) job.command) [ inl quiet ↦ inl (none quiet) | inr among ↦ inr (rw own among) ]
+  fault_tells job (place.Name (name.Schema k)) none (inr undone) = inl undone
+  fault_tells job _ none is = inl is
 
 -- where a command looks for its schema
 looks_same : (job : Job) (c : Command) → looks_at job c ≡ looks_for (key_of job) c
@@ -243,7 +263,8 @@ module _ (m : Held) (jobs : List Job) (past : History) (lane : Option ℕ → �
     cause_tells (refusal.NoSchema at) quiet is = no_schema at job.command refl is
     cause_tells (refusal.Leased other) quiet is = leased other job.command refl is
     cause_tells (refusal.NothingToDo count) quiet is =
-        subst (HasCause calls_of now (key_of job) (refusal.NothingToDo count)) (sym is.merges) (plans m jobs past lane a c told parts number early still is.from is.to is.limits (Nothing count) is.commits is.by_plan)
+        let found = schema_found m jobs past lane a c told parts number early still job is.from is.to is.limits is.merges is.found in
+        subst (HasCause calls_of now (key_of job) (refusal.NothingToDo count)) (sym is.merges) (found.0, found.1, plans m jobs past lane a c told parts number early still is.from is.to is.limits (Nothing count) is.commits is.by_plan)
     cause_tells (refusal.StoreFault p) quiet is = absurd quiet
     cause_tells (refusal.Taken n) quiet is = absurd is
     cause_tells (refusal.Missing n) quiet is = absurd is
@@ -255,13 +276,14 @@ module _ (m : Held) (jobs : List Job) (past : History) (lane : Option ℕ → �
         by_command command same refused = subst (IsRefusedIn r) same (fault_found r refused)
 
   -- a refusal that is true of a job tells so of its command
-  pub refusal_tells : (r : Refusal) → IsTrueRefusal run_spelled m jobs past told number job r → IsRefusedFor run_spelled m jobs past told number job r → (IsQuiet r → now ≡ before) → TellsRefusal calls_of before now (key_of job) job.command r
-  refusal_tells (refusal.Missing n) is cause still = is
-  refusal_tells (refusal.Damaged n at) is cause still = is
-  refusal_tells (refusal.Taken n) is cause still = is
-  refusal_tells (refusal.StoreFault p) is cause still = (one_failed p cause, fault_tells m jobs past told number job p is)
-  refusal_tells (refusal.NothingToDo count) is cause still = (still tt, is.0, cause_tells (still tt) (refusal.NothingToDo count) tt cause)
-  refusal_tells r is cause still = (still tt, is, cause_tells (still tt) r tt cause)
+  pub refusal_tells : (r : Refusal) → (DoesNone job.command → IsNewKey now (key_of job)) → IsTrueRefusal run_spelled m jobs past told number job r → IsRefusedFor run_spelled m jobs past told number job r → (IsQuiet r → now ≡ before)
+      → TellsRefusal calls_of before now (key_of job) job.command r
+  refusal_tells (refusal.Missing n) none is cause still = is
+  refusal_tells (refusal.Damaged n at) none is cause still = is
+  refusal_tells (refusal.Taken n) none is cause still = is
+  refusal_tells (refusal.StoreFault p) none is cause still = (one_failed p cause, fault_tells m jobs past told number job p none is)
+  refusal_tells (refusal.NothingToDo count) none is cause still = (still tt, is.0, cause_tells (still tt) (refusal.NothingToDo count) tt cause)
+  refusal_tells r none is cause still = (still tt, is, cause_tells (still tt) r tt cause)
 
   -- ---- a refused command did nothing
 

@@ -29,15 +29,17 @@ use Rattle.ts_law.specs.Ends.{kind_of}
 use Rattle.ts_law.specs.Refusals.{refusal_in}
 use Rattle.ts_top.specs.Merges.{Calls, Plans}
 
--- faults of a command's own puts: of its commit, and of its schema
+-- faults of a command's own puts by which a deed may come: of its commit, and of its schema
 abbrev pub own_faults : Key → Command → List Refusal
+own_faults k (Read from to query) = []
+own_faults k (Consolidate from to limits) = []
 own_faults k command = refusal.StoreFault (place.Name (name.Commit (frag_of k) (kind_of command))) ∷ refusal.StoreFault (place.Name (name.Schema k)) ∷ []
 
 -- one of the calls failed, which speaks of this object or prefix
 abbrev pub OneFailed : Calls → Place → Type 0
 OneFailed calls p = (e : Entry) × Contains calls.entries e × (p ≡ place_of e.call) × (e.fate ≢ fate.Done)
 
--- a lease was in the way: of those that were held after the first of the calls this one was the first that opposes the command's own
+-- a lease was in the way: of those that were held after some front of the calls this one was the first that opposes the command's own
 abbrev pub IsOpposed : Calls → Key → Command → Name → Type 0
 IsOpposed calls k command other =
     (front : List Entry) × (back : List Entry) × (calls.entries ≡ front ++ back) × (mode : LeaseMode) × (mode_of command ≡ Some mode)
@@ -48,16 +50,22 @@ abbrev pub looks_for : Key → Command → ℕ
 looks_for k (Read from to query) = to
 looks_for k _ = k.t
 
--- the cause of a refusal in a history: a create finds another frame than its own, or a schema, or is refused for itself; another command finds no schema, or a lease in its way, or is refused in the frame and the schema there; the plan of a consolidation takes nothing, where so many fragments may be merged
+-- the cause of a refusal in a history.
+-- A create finds another frame than its own, or a schema, or is refused for itself.
+-- Another command finds no schema, or a lease in its way, or is refused in the frame and the schema there.
+-- A consolidation that has nothing to do finds a schema at its stamp, and its plan takes nothing, where so many fragments may be merged.
 abbrev pub HasCause : Calls → History → Key → Refusal → Command → Type 0
 HasCause calls h k refusal.ArrayExists (Create made) = ((frame : Frame) × (frame_in h ≡ Some frame) × (frame ≢ frame_made made)) ⊎ ((s : Schema) × Contains (schemas h) s)
 HasCause calls h k r (Create made) = create_refusal made ≡ Some r
 HasCause calls h k (refusal.NoSchema at) command = (at ≡ looks_for k command) × (schema_there h at ≡ None)
 HasCause calls h k (refusal.Leased other) command = IsOpposed calls k command other
-HasCause calls h k (refusal.NothingToDo eligible) (Consolidate from to limits) = Plans calls h from to limits (Nothing eligible)
+HasCause calls h k (refusal.NothingToDo eligible) (Consolidate from to limits) = (there : Schema) × (schema_there h k.t ≡ Some there) × Plans calls h from to limits (Nothing eligible)
 HasCause calls h k r command = (there : Schema) × (schema_there h (looks_for k command) ≡ Some there) × (frame : Frame) × (frame_in h ≡ Some frame) × (refusal_in frame there.attrs command ≡ Some r)
 
--- what a refusal tells: no object is missing, damaged or taken; where a call failed, the history has no deed of the command, but perhaps that of the put that failed; else the command did nothing, for a cause
+-- what a refusal tells.
+-- No object is missing, damaged or taken.
+-- Where a call failed, the history has no deed of the command, but perhaps that of the put that failed.
+-- A command that is refused else did nothing, for a cause.
 abbrev pub TellsRefusal : Calls → History → History → Key → Command → Refusal → Type 0
 TellsRefusal calls before now k command (refusal.Missing n) = ⊥
 TellsRefusal calls before now k command (refusal.Damaged n at) = ⊥

@@ -21,27 +21,28 @@ pub record Calls : Type 0 where
   pub opening : Held
   pub entries : List Entry
 
--- what was held after the first of the calls
+-- what was held after some front of the calls
 abbrev pub held_by : Calls → List Entry → Held
 held_by calls front = held_after calls.opening front
 
--- a consolidation came to this plan: it is that of the fragments in its interval that were committed after the first of its calls
+-- a consolidation came to this plan: it is that of the fragments in its interval that were committed after some front of its calls
 pub record Plans (calls : Calls) (h : History) (from to : ℕ) (limits : Limits) (plan : Planned) : Type 0 where
   pub front : List Entry
   pub back : List Entry
   pub parts : calls.entries ≡ front ++ back
   pub by_plan : IsPlanned run_spelled h (held_by calls front) from to limits plan
 
--- a consolidation merged so many fragments into one: those that its plan takes. After more of its calls that one was committed. All that went into a source and nothing else went into it, and its `.vac` named the sources, and what the `.vac` objects of these named
-pub record Merged (calls : Calls) (h : History) (from to : ℕ) (limits : Limits) (f : FragKey) (count : ℕ) : Type 0 where
+-- a consolidation with the key merged so many fragments into one of its own: those that its plan takes.
+-- At the end of its calls that one is committed.
+-- All that went into a source went into it, and nothing else.
+-- Its `.vac` names the sources, and what the `.vac` objects of these named.
+pub record Merged (calls : Calls) (h : History) (k : Key) (from to : ℕ) (limits : Limits) (f : FragKey) (count : ℕ) : Type 0 where
   pub sources : List FragKey
   pub plans : Plans calls h from to limits (Take sources)
   pub counted : count ≡ length sources
-  pub more : List Entry
-  pub rest : List Entry
-  pub parts : plans.back ≡ more ++ rest
-  pub committed : IsCommitted (held_by calls (plans.front ++ more)) f
+  pub own : f.id ≡ k.id
+  pub committed : IsCommitted (held_by calls calls.entries) f
   pub piece : Piece
-  pub holds : HoldsIn run_spelled h (held_by calls (plans.front ++ more)) f piece
-  pub origins : (k : Key) → has_origin k piece.head ≡ list_any (has_origin k) (filter (λ head. is_among head.frag sources) (plans.by_plan).heads)
-  pub merged : Names (held_by calls (plans.front ++ more)) f (names_merged (plans.by_plan).vacs sources)
+  pub holds : HoldsIn run_spelled h (held_by calls calls.entries) f piece
+  pub origins : (w : Key) → has_origin w piece.head ≡ list_any (has_origin w) (filter (λ head. is_among head.frag sources) (plans.by_plan).heads)
+  pub vac : Names (held_by calls calls.entries) f (names_merged (plans.by_plan).vacs sources)

@@ -1,11 +1,12 @@
 -- What a run promises: what its printed text and the end of each command mean, in words of the history.
-use Rattle.std.specs.Prelude.{◌≡◌, ℕ, ◌+◌, Bool, List, [], ◌∷◌, ◌++◌, Option, Some, Ok, length, slice_get, map as list_map, All, Contains, ◌⊎◌}
+use Rattle.std.specs.Prelude.{◌≡◌, ℕ, ◌+◌, ◌≤◌, Bool, List, [], ◌∷◌, ◌++◌, Option, Some, None, Ok, length, slice_get, map as list_map, All, Contains, IfSome, ◌⊎◌}
 use Rattle.std.specs.Io.KnownBytes.{Appends}
 use Rattle.std.specs.FinMap as map
 use Rattle.ts_base.specs.Held.{Held}
 use Rattle.ts_base.specs.declared.keys.Key.{Key}
 use Rattle.ts_base.specs.declared.heads.Cell.{Cell}
 use Rattle.ts_base.specs.Keys.{frag_of}
+use Rattle.ts_base.specs.declared.names.Name.TheVariants as name
 use Rattle.ts_store.specs.declared.journal.Entry.{Entry}
 use Rattle.ts_store.specs.Journals.{held_after}
 use Rattle.ts_store.specs.Streams.{AppendsFront}
@@ -25,11 +26,12 @@ use Rattle.ts_model.specs.Deeds.{History, frame_in, schema_with, schema_there, w
 use Rattle.ts_model.specs.Answers.{IsAnswer}
 use Rattle.ts_model.specs.Commands.{frame_made, laid}
 use Rattle.ts_model.specs.Queries.{delete_condition}
+use Rattle.ts_model.specs.Stages.{mode_of}
 use Rattle.ts_law.specs.Fresh.{IsFreshSeed, IsStampOf, Numbered, command_at, id_of, in_lane_order}
 use Rattle.ts_law.specs.Stands.{Stands}
 use Rattle.ts_top.specs.Causes.{TellsRefusal}
 use Rattle.ts_top.specs.Ends.{ends_text}
-use Rattle.ts_top.specs.Merges.{Calls, Merged}
+use Rattle.ts_top.specs.Merges.{Calls, Merged, held_by}
 use Rattle.ts_top.specs.Runners.{run_spelled}
 use Rattle.ts_top.specs.Seen.{Seen, AskFor}
 
@@ -41,9 +43,17 @@ Extends sooner later = (deeds : List Deed) × (later ≡ sooner ++ deeds)
 abbrev pub HeldOnce : History → History → Key → Schema → Type 0
 HeldOnce before now k schema = (once : History) × Extends before once × Extends once now × IsNewKey once k × (schema_there once k.t ≡ Some schema)
 
--- what the end of a command with the key tells of the histories before and after it; a read does nothing, so it reads the one history; a consolidation does none either, and tells what it merged; one that ran short of memory has no deed of its key
+-- at the end of its calls no lease of a command with the key is held
+abbrev pub HasNoLease : Calls → Key → Command → Type 0
+HasNoLease calls k command = IfSome (mode_of command) (λ mode. map.get (held_by calls calls.entries) (name.Lease k mode) ≡ None)
+
+-- what the end of a command with the key tells of the histories before and after it.
+-- A read and a consolidation do no deed.
+-- A read answers by the one history; a consolidation tells what it merged.
+-- Neither leaves its lease.
+-- A command that ran short of memory has no deed of its key.
 abbrev pub Tells : Calls → History → History → Key → Outcome → Command → Type 0
-Tells calls before now k (outcome.Read answer) (Read from to query) = IsAnswer now now from to query answer
+Tells calls before now k (outcome.Read answer) (Read from to query) = IsAnswer now now from to query answer × HasNoLease calls k (Read from to query)
 Tells calls before now k outcome.Created (Create made) = (frame_in now ≡ Some (frame_made made)) × (schema_with now k ≡ Some (record { key = k; attrs = made.attrs }))
 Tells calls before now k (outcome.Evolved n) (Evolve change) = (n ≡ k) × (there : Schema) × HeldOnce before now k there × (schema_with now k ≡ Some (record { key = k; attrs = evolved_attrs there.attrs change }))
 Tells calls before now k (outcome.Written f) (Write columns) =
@@ -52,7 +62,8 @@ Tells calls before now k (outcome.Written f) (Write columns) =
 Tells calls before now k (outcome.Deleted f) (Delete text) =
     (f ≡ frag_of k) × (there : Schema) × HeldOnce before now k there × (frame : Frame) × (frame_in now ≡ Some frame)
     × (condition : Condition) × (delete_condition frame there.attrs text ≡ Ok condition) × Contains (deletions now) (record { key = k; cond = condition })
-Tells calls before now k (outcome.Consolidated f count) (Consolidate from to limits) = (now ≡ before) × IsNewKey now k × Merged calls now from to limits f count
+Tells calls before now k (outcome.Consolidated f count) (Consolidate from to limits) =
+    (now ≡ before) × IsNewKey now k × (there : Schema) × (schema_there now k.t ≡ Some there) × Merged calls now k from to limits f count × HasNoLease calls k (Consolidate from to limits)
 Tells calls before now k (outcome.Refused r) command = TellsRefusal calls before now k command r
 Tells calls before now k outcome.OutOfMemory command = IsNewKey now k
 Tells calls before now k _ _ = ⊥
@@ -77,7 +88,8 @@ pub record IsDone (calls : Calls) (before now : History) (k : Key) (end : Outcom
   pub own : (front back : List Deed) (d : Deed) → deeds ≡ front ++ d ∷ back → IsDeedOf before (before ++ front) k command d
   pub tells : Tells calls before now k end command
 
--- the command of a line was done, at a stamp of the line, by calls in the line's lane: its key is that stamp, with the identifier that is made of the seed, the lane and the line's number there
+-- the command of a line was done, at a stamp of the line, by calls in the line's lane.
+-- Its key is that stamp, with the identifier that is made of the seed, the lane and the line's number there.
 abbrev pub IsLineDone : (ℕ → Bool) → ℕ → Calls → History → History → Numbered → Outcome → Type 0
 IsLineDone gives seed calls before now item end =
     All (λ e. e.lane ≡ item.line.lane) calls.entries
@@ -87,7 +99,10 @@ IsLineDone gives seed calls before now item end =
 abbrev pub IsStored : Held → History → Type 0
 IsStored m h = Stands run_spelled m h
 
--- what a run promises over objects and the history that they stand for: the commands that were asked for were done one after the other in lane order, with these ends; the store holds what stands for the history after them; and what was printed is the text of the ends, with status 0 or 6, or a front of it
+-- what a run promises over objects and the history that they stand for.
+-- The commands that were asked for were done one after the other in lane order, with these ends.
+-- After each of them the objects stand for the history, and the store holds those after the last.
+-- What was printed is the text of the ends, with status 0 or 6, or a front of it.
 pub record Promise {S : Type 0} (held : S → Option Held) (seen : Seen S) (m : Held) (past : History) : Type 0 where
   pub lines : List Line
   pub asked : AskFor seen.words seen.input.old (Ok lines)
@@ -100,6 +115,8 @@ pub record Promise {S : Type 0} (held : S → Option Held) (seen : Seen S) (m : 
   pub last : made (length ends) ≡ seen.journal
   pub done : (i : ℕ) (item : Numbered) (end : Outcome) → slice_get (in_lane_order lines) i ≡ Some item → slice_get ends i ≡ Some end
       → (calls : List Entry) × (made (i + 1) ≡ made i ++ calls) × IsLineDone seen.gives seen.seed (record { opening = held_after m (made i); entries = calls }) (after i) (after (i + 1)) item end
+  -- after each command the objects stand for the history
+  pub stood : (i : ℕ) → i ≤ length ends → IsStored (held_after m (made i)) (after i)
   pub stored : (held seen.later ≡ Some (held_after m seen.journal)) × IsStored (held_after m seen.journal) (after (length ends))
   pub front : AppendsFront seen.out.old seen.out.new (ends_text (in_lane_order lines) (list_map Done ends))
   pub whole : (seen.status ≡ 0) ⊎ (seen.status ≡ 6) → Appends seen.out.old seen.out.new (ends_text (in_lane_order lines) (list_map Done ends))
@@ -108,7 +125,8 @@ pub record Promise {S : Type 0} (held : S → Option Held) (seen : Seen S) (m : 
 abbrev pub Began : {S : Type 0} → Seen S → Type 0
 Began seen = (seen.status ≡ 0) ⊎ (seen.status ≡ 5) ⊎ (seen.status ≡ 6) ⊎ (seen.journal ≡ [] → ⊥)
 
--- a run that began keeps the promise: over a store that held what stands for a history, where the seed is fresh, and with any seed over a store that held nothing
+-- a run that began keeps the promise.
+-- Over a store that held what stands for a history the seed is to be fresh; over one that held nothing any seed will do.
 pub record Promised {S : Type 0} (held : S → Option Held) (seen : Seen S) : Type 0 where
   pub over : Began seen → (m : Held) → held seen.store ≡ Some m → (past : History) → IsStored m past → IsFreshSeed m past seen.seed → Promise held seen m past
   pub from_nothing : Began seen → held seen.store ≡ Some map.empty → Promise held seen map.empty []

@@ -1,5 +1,6 @@
 //! Runs over stores and streams that fail, and over objects that no run left so. What a script shows
 //! stands in tests/cases.
+mod consolidations;
 mod deletes;
 mod words;
 

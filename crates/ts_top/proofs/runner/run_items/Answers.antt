@@ -1,5 +1,5 @@
 -- One more line is done.
-use Rattle.std.proofs.Common.{ℕ, ◌+◌, List, [], arith, refl, rules, sym, subst, take}
+use Rattle.std.proofs.Common.{◌+◌, List, [], arith, refl, rules, sym, subst, take}
 use Rattle.std.proofs.lemmas.Grind.{common_steps}
 use Rattle.ts_model.specs.declared.answers.Driven.{Driven}
 use Rattle.ts_model.specs.declared.answers.Outcome.{Outcome}

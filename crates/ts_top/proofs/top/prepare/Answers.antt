@@ -1,5 +1,5 @@
 -- What was read means what the whole input means.
-use Rattle.std.proofs.Common.{◌≡◌, ℕ, ◌≤◌, [], ◌∷◌, List, Bool, true, false, Option, Some, None, Result, Ok, Err, arith, refl, sym, ◌∙◌, ap, length, subst}
+use Rattle.std.proofs.Common.{◌≡◌, ℕ, ◌≤◌, [], List, Bool, true, false, Option, Some, None, Result, Ok, Err, arith, refl, sym, ◌∙◌, ap, length}
 use Rattle.std.specs.Prelude.{IfSome}
 use Rattle.std.proofs.lemmas.Bool.{true≢false}
 use Rattle.ts_store.specs.Streams.{TakesInput}

@@ -1,0 +1,111 @@
+//! Consolidations: what one leaves, calls of one that fail, and an object that one cannot use.
+
+ghost use Rattle.ts_base.specs.Names.{IsSpelled};
+
+use super::{
+    C1, READ, Second, Shown, WRITE, fails_at, frag, is_second, play_over, play_well, said,
+};
+use std::test::Fail;
+use std::thread::Threads;
+use ts_base::{ByteList, CommitKind, Name, Prefix};
+use ts_store::{MemStore, Store};
+
+/// A consolidation of what `WRITE` writes.
+const CONSOLIDATE: &str = "{'cmd':'consolidate','at':6}\n";
+
+/// What is printed of a create and of two writes.
+const WRITTEN: &str = "0.1|create|ok\n0.2|write|ok|__1_1_<2>_1\n0.3|write|ok|__1_1_<3>_1\n";
+
+// The name of the object that tells what went into a fragment.
+fn vac(id: u128) -> Name
+    ensures { IsSpelled result }
+{
+    Name::Commit(frag(id), CommitKind::Vac)
+}
+
+#[test]
+fn a_consolidation_names_its_sources_and_leaves_no_lease(rt: HostRuntime) -> Result<(), Fail> {
+    let alloc = rt.alloc();
+    let script = format!(in alloc; "{C1}{WRITE}{WRITE}{CONSOLIDATE}")?;
+    let Shown {
+        status,
+        printed,
+        journal,
+        mut store,
+    } = play_well(&rt, script.as_str())?;
+    let text = format!(in alloc; "{WRITTEN}0.4|consolidate|ok|__1_1_<4>_1|2\n")?;
+    assert_eq!(rt; status, 0);
+    assert_eq!(rt; printed, said(alloc, text.as_str())?);
+    // The put of a lease and three listings, four gets and three puts; its removal behind.
+    assert_eq!(rt; journal.len(), 24);
+    match store.get(alloc, vac(4), 14, 100) {
+        Ok(Some(bytes)) => assert_eq!(rt; bytes, said(alloc, "__1_1_<2>_1\n__1_1_<3>_1\n")?),
+        _ => assert!(rt; false, "there is the object that names the sources"),
+    }
+    match store.list(alloc, Prefix::Leases) {
+        Ok(names) => assert_eq!(rt; names.len(), 0),
+        _ => assert!(rt; false, "the leases are listed"),
+    }
+    Ok(())
+}
+
+/// The calls of a consolidation, by their places among those of a script, with the object or prefix
+/// that each speaks of.
+const CALLS: [(u64, &str); 12] = [
+    (12, "__leases/__6_6_<4>.shr"),
+    (13, "__leases/"),
+    (14, "__commits/"),
+    (15, "__schema/"),
+    (16, "__domain.tdb"),
+    (17, "__fragments/__1_1_<2>_1/plain.tdb"),
+    (18, "__fragments/__1_1_<3>_1/plain.tdb"),
+    (19, "__schema/__0_0_<1>"),
+    (20, "__fragments/__1_1_<4>_1/plain.tdb"),
+    (21, "__commits/__1_1_<4>_1.vac"),
+    (22, "__commits/__1_1_<4>_1.wrt"),
+    (23, "__leases/__6_6_<4>.shr"),
+];
+
+// Whether a call of a consolidation that fails is told, and a read behind it shows what was written.
+fn is_told<R: Threads + Sync + AllocGlobal>(
+    rt: &R,
+    call: u64,
+    whole: bool,
+    object: &str,
+) -> Result<bool, Fail> {
+    let alloc = rt.alloc();
+    let script = format!(in alloc; "{C1}{WRITE}{WRITE}{CONSOLIDATE}{READ}")?;
+    let store = MemStore::new(alloc, fails_at(alloc, call, whole)?);
+    let shown = play_over(rt, 0, script.as_str(), store)?;
+    let end = format!(in alloc; "0.4|consolidate|refused|StoreFault|{object}\n")?;
+    let text = format!(in alloc; "{WRITTEN}{end}0.5|read|ok|1|0\n5|10\n")?;
+    Ok(shown.status == 0 && shown.printed == said(alloc, text.as_str())?)
+}
+
+#[test]
+fn a_failed_call_of_a_consolidation_is_told_and_hides_nothing(rt: HostRuntime) -> Result<(), Fail> {
+    for (call, object) in CALLS {
+        assert!(rt; is_told(&rt, call, false, object)?, "{call} was not done");
+        assert!(rt; is_told(&rt, call, true, object)?, "{call} was done");
+    }
+    Ok(())
+}
+
+#[test]
+fn a_broken_list_of_sources_is_told(rt: HostRuntime) -> Result<(), Fail> {
+    let alloc = rt.alloc();
+    let script = format!(in alloc; "{C1}{WRITE}{WRITE}")?;
+    let Shown {
+        status: _,
+        printed: _,
+        journal: _,
+        mut store,
+    } = play_well(&rt, script.as_str())?;
+    store.plant(vac(2), ByteList::new(alloc))?;
+    let damaged = Second {
+        script: CONSOLIDATE,
+        text: "0.1|consolidate|refused|Damaged|__commits/__1_1_<2>_1.vac|0\n",
+    };
+    assert!(rt; is_second(&rt, store, damaged)?, "an empty list");
+    Ok(())
+}
