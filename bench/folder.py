@@ -6,7 +6,8 @@
 
 The store has 1,000 fragments of one cell each, over ten places in turn; the file of `sqlite3` has a row for each of these writes, with its place and its stamp as the key.
 A read shows one place as it is in the end. A write adds a cell, and is synced: `sqlite3` has `synchronous` at FULL. It prints the medians of what one call takes on the wall
-and of processors, and how many system calls it makes, where `strace` is there. At last it times the same read after all fragments were consolidated into one.
+and of processors, and how many system calls it makes, where `strace` is there. At last it times the same read after all fragments were consolidated into one, a vacuum of what was merged, and the
+read once more behind it.
 """
 import argparse
 import json
@@ -81,6 +82,10 @@ def medians(calls):
     return statistics.median(wall for wall, _ in took), statistics.median(used for _, used in took)
 
 
+def show(name, wall, used, system_calls):
+    print(f"{name}\t{wall * 1000:.1f} ms on the wall\t{used * 1000:.1f} ms of processors\t{system_calls} system calls", flush=True)
+
+
 def main():
     parser = argparse.ArgumentParser(description=__doc__, formatter_class=argparse.RawDescriptionHelpFormatter)
     parser.add_argument("--program", default=PROGRAM)
@@ -129,7 +134,11 @@ def main():
         Call([program, store, "consolidate", "--at", str(FRAGMENTS), "--max", str(FRAGMENTS)], None, b"consolidate\tok").run()
         merged = [Call(read, None, b"%d\t%d\n" % (PLACE, last))] * (RUNS + 1)
         wall, used = medians(merged)
-        print(f"read after a consolidation\t{wall * 1000:.1f} ms on the wall\t{used * 1000:.1f} ms of processors\t{merged[0].system_calls()} system calls")
+        show("read after a consolidation", wall, used, merged[0].system_calls())
+        wall, used = Call([program, store, "vacuum", "--at", str(FRAGMENTS)], None, b"vacuum\tok\t%d\n" % FRAGMENTS).run()
+        show("vacuum", wall, used, None)
+        wall, used = medians(merged)
+        show("read after a vacuum", wall, used, merged[0].system_calls())
 
 
 if __name__ == "__main__":

@@ -19,34 +19,37 @@ pub(crate) fn say_of_command(
         "read" => say_of_read(text, value),
         "delete" => say_of_delete(text, value),
         "consolidate" => say_of_consolidate(text, value),
+        "vacuum" => say_of_keys(text, value, "a vacuum", &[], &[]),
+        "unlock" => say_of_keys(text, value, "an unlock", &[], &[]),
+        "fragments" => say_of_keys(text, value, "fragments", &[], &[]),
         _ => {
             text.push_str("unknown command ")?;
             quote(text, name)?;
             text.push_str(
-                "; the commands are create, evolve, write, read, delete and consolidate",
+                "; the commands are create, evolve, write, read, delete, consolidate, vacuum, unlock and fragments",
             )?;
             Ok(true)
         }
     }
 }
 
-/// Complains of a key that a command does not have, and of one that it lacks.
+/// Complains of a key that this command does not have, and of a wanted one that it lacks.
 pub(crate) fn say_of_keys(
     text: &mut String,
     value: &Value,
-    known: &[&str],
+    command: &str,
+    own: &[&str],
     wanted: &[&str],
-    allowed: &str,
 ) -> Result<bool, OutOfMemory> {
     match value.as_object() {
         Some(members) => {
-            if stray_key(text, members, known, allowed)? {
+            if stray_key(text, members, command, own)? {
                 return Ok(true);
             }
         }
         None => {}
     }
-    missing_key(text, value, wanted, allowed)
+    missing_key(text, value, wanted, command, own)
 }
 
 /// Complains where a value under a key is none of these texts.
@@ -69,14 +72,7 @@ pub(crate) fn say_of_choice(
 
 // Complains of an evolve.
 fn say_of_evolve(text: &mut String, value: &Value) -> Result<bool, OutOfMemory> {
-    let allowed = "an evolve has add, drop, lane, at";
-    if say_of_keys(
-        text,
-        value,
-        &["cmd", "lane", "at", "add", "drop"],
-        &[],
-        allowed,
-    )? {
+    if say_of_keys(text, value, "an evolve", &["add", "drop"], &[])? {
         return Ok(true);
     }
     if value.get("add").is_none() && value.get("drop").is_none() {
@@ -88,9 +84,8 @@ fn say_of_evolve(text: &mut String, value: &Value) -> Result<bool, OutOfMemory> 
 
 // Complains of a write.
 fn say_of_write(text: &mut String, value: &Value) -> Result<bool, OutOfMemory> {
-    let allowed = "a write has cols, box, layout, lane, at";
-    let known = ["cmd", "lane", "at", "cols", "box", "layout"];
-    if say_of_keys(text, value, &known, &["cols"], allowed)? {
+    let own = ["cols", "box", "layout"];
+    if say_of_keys(text, value, "a write", &own, &["cols"])? {
         return Ok(true);
     }
     Ok(
@@ -108,11 +103,8 @@ fn say_of_write(text: &mut String, value: &Value) -> Result<bool, OutOfMemory> {
 
 // Complains of a read.
 fn say_of_read(text: &mut String, value: &Value) -> Result<bool, OutOfMemory> {
-    let allowed = "a read has from, to, box, where, fields, layout, lane, at";
-    let known = [
-        "cmd", "lane", "at", "from", "to", "box", "where", "fields", "layout",
-    ];
-    if say_of_keys(text, value, &known, &[], allowed)? {
+    let own = ["from", "to", "box", "where", "fields", "layout"];
+    if say_of_keys(text, value, "a read", &own, &[])? {
         return Ok(true);
     }
     Ok(
@@ -133,14 +125,7 @@ fn say_of_read(text: &mut String, value: &Value) -> Result<bool, OutOfMemory> {
 
 // Complains of a delete.
 fn say_of_delete(text: &mut String, value: &Value) -> Result<bool, OutOfMemory> {
-    let allowed = "a delete has where, lane, at";
-    if say_of_keys(
-        text,
-        value,
-        &["cmd", "lane", "at", "where"],
-        &["where"],
-        allowed,
-    )? {
+    if say_of_keys(text, value, "a delete", &["where"], &["where"])? {
         return Ok(true);
     }
     say_of_condition(text, value)
@@ -148,9 +133,8 @@ fn say_of_delete(text: &mut String, value: &Value) -> Result<bool, OutOfMemory> 
 
 // Complains of a consolidation.
 fn say_of_consolidate(text: &mut String, value: &Value) -> Result<bool, OutOfMemory> {
-    let allowed = "a consolidate has from, to, min, max, lane, at";
-    let known = ["cmd", "lane", "at", "from", "to", "min", "max"];
-    if say_of_keys(text, value, &known, &[], allowed)? {
+    let own = ["from", "to", "min", "max"];
+    if say_of_keys(text, value, "a consolidate", &own, &[])? {
         return Ok(true);
     }
     Ok(

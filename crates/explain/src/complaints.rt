@@ -10,6 +10,9 @@ pub(crate) const LABEL: &str =
 /// What a whole number is.
 pub(crate) const WHOLE: &str = "a whole number from -2^63 to 2^64 - 1 is wanted";
 
+/// The keys that every command may have.
+const COMMON: [&str; 4] = ["cmd", "lane", "at", "stop"];
+
 /// How much of a text of the script is shown.
 const SHOWN: usize = 64;
 
@@ -135,38 +138,48 @@ pub(crate) fn is_one_of(name: &str, known: &[&str]) -> bool {
     false
 }
 
-/// Complains of the first key that is none of these. `allowed` says which there are.
+/// Adds which keys a command may have: its own ones, and those of every command.
+fn list_keys(text: &mut String, command: &str, own: &[&str]) -> Result<(), OutOfMemory> {
+    write!(text, "; {command} has ")?;
+    for key in own {
+        text.push_str(*key)?;
+        text.push_str(", ")?;
+    }
+    text.push_str("lane, at, stop")?;
+    Ok(())
+}
+
+/// Complains of the first key that this command does not have.
 pub(crate) fn stray_key(
     text: &mut String,
     members: &Map<String, Value>,
-    known: &[&str],
-    allowed: &str,
+    command: &str,
+    own: &[&str],
 ) -> Result<bool, OutOfMemory> {
     for (key, _) in members.iter() {
-        if !is_one_of(key.as_str(), known) {
+        if !is_one_of(key.as_str(), &COMMON) && !is_one_of(key.as_str(), own) {
             text.push_str("unknown key ")?;
             quote(text, key.as_str())?;
-            text.push_str("; ")?;
-            text.push_str(allowed)?;
+            list_keys(text, command, own)?;
             return Ok(true);
         }
     }
     Ok(false)
 }
 
-/// Complains of the first of these keys that is not there.
+/// Complains of the first of the wanted keys of this command that is not there.
 pub(crate) fn missing_key(
     text: &mut String,
     value: &Value,
     wanted: &[&str],
-    allowed: &str,
+    command: &str,
+    own: &[&str],
 ) -> Result<bool, OutOfMemory> {
     for key in wanted {
         if value.get(*key).is_none() {
             text.push_str("no key ")?;
             quote(text, *key)?;
-            text.push_str("; ")?;
-            text.push_str(allowed)?;
+            list_keys(text, command, own)?;
             return Ok(true);
         }
     }

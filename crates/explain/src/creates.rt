@@ -15,11 +15,7 @@ const INTEGERS: [&str; 8] = [
 
 /// Complains of a create.
 pub(crate) fn say_of_create(text: &mut String, value: &Value) -> Result<bool, OutOfMemory> {
-    let allowed = "a create has kind, dims, attrs, cell_order, tile_order, capacity, lane, at";
-    let known = [
-        "cmd",
-        "lane",
-        "at",
+    let own = [
         "kind",
         "dims",
         "attrs",
@@ -27,7 +23,7 @@ pub(crate) fn say_of_create(text: &mut String, value: &Value) -> Result<bool, Ou
         "tile_order",
         "capacity",
     ];
-    if say_of_keys(text, value, &known, &["kind", "dims", "attrs"], allowed)? {
+    if say_of_keys(text, value, "a create", &own, &["kind", "dims", "attrs"])? {
         return Ok(true);
     }
     let order = "an order is \"row\" or \"col\"";

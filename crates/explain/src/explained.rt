@@ -1,7 +1,7 @@
 //! What is said of a script.
-ghost use Rattle.std.specs.Prelude.{◌≡◌, List, Result, Err, cond};
+ghost use Rattle.std.specs.Prelude.{◌≡◌, List, Result, Err};
 ghost use Rattle.ts_model.specs.declared.commands.Line.{Line as AnyLine};
-ghost use Rattle.ts_script.specs.Script.{Fault, Bad, NotBuilt, script_of};
+ghost use Rattle.ts_script.specs.Script.{Fault, Bad, script_of};
 ghost use Rattle.explain.specs.Explained.{Explains};
 
 use crate::lines::say_of_line;
@@ -20,8 +20,6 @@ const COMMAND_LIMIT: u64 = 4096;
 pub struct Explained {
     /// The number of the line, counted from 1.
     pub line: u64,
-    /// Whether the line names what is not built yet. Else it is bad.
-    pub not_built: bool,
     /// What is said of it, with its line feed.
     pub text: String,
 }
@@ -32,30 +30,20 @@ pub fn explain(alloc: Global, input: &[u8]) -> Result<Option<Explained>, OutOfMe
 {
     match read_script(alloc, input) {
         Ok(_) => Ok(None),
-        Err(ScriptFault::Bad { line }) => said(alloc, input, line, false),
-        Err(ScriptFault::NotBuilt { line }) => said(alloc, input, line, true),
+        Err(ScriptFault::Bad { line }) => said(alloc, input, line),
         Err(ScriptFault::OutOfMemory) => Err(OutOfMemory),
     }
 }
 
 // What is said of a line of a script that is no command.
-fn said(
-    alloc: Global,
-    input: &[u8],
-    line: u64,
-    not_built: bool,
-) -> Result<Option<Explained>, OutOfMemory>
-    ensures { (script : Result (List AnyLine) Fault) → script ≡ Err (cond not_built (NotBuilt line) (Bad line)) → Explains result script }
+fn said(alloc: Global, input: &[u8], line: u64) -> Result<Option<Explained>, OutOfMemory>
+    ensures { (script : Result (List AnyLine) Fault) → script ≡ Err (Bad line) → Explains result script }
 {
     let mut text = String::new(alloc);
     write!(text, "line {line}: ")?;
     say_of_input(alloc, &mut text, input, line)?;
     text.push_str("\n")?;
-    Ok(Some(Explained {
-        line,
-        not_built,
-        text,
-    }))
+    Ok(Some(Explained { line, text }))
 }
 
 // Adds what is wrong with a line of a script: that it goes past a limit, or what its bytes are.

@@ -1,13 +1,13 @@
 //! What is wrong with a line that is no command.
 
 use crate::commands::say_of_command;
-use crate::complaints::{at, complain, is_one_of, quote, unless};
+use crate::complaints::{at, complain, is_one_of, unless};
 use serde_json::{Category, Value};
 use std::alloc::Global;
 use ts_base::OutOfMemory;
 
-/// The commands that are not built yet.
-const LATER: [&str; 3] = ["vacuum", "unlock", "fragments"];
+/// The names of the points that a command may be stopped before.
+const POINTS: [&str; 3] = ["vac", "wrt", "part"];
 
 /// Adds what is wrong with the bytes of a line.
 pub(crate) fn say_of_line(
@@ -63,7 +63,7 @@ fn say_of_value(text: &mut String, value: &Value) -> Result<(), OutOfMemory> {
     }
     let Some(name) = value.get("cmd") else {
         text.push_str(
-            "no key \"cmd\"; it names the command: create, evolve, write, read, delete or consolidate",
+            "no key \"cmd\"; it names the command: create, evolve, write, read, delete, consolidate, vacuum, unlock or fragments",
         )?;
         return Ok(());
     };
@@ -71,16 +71,10 @@ fn say_of_value(text: &mut String, value: &Value) -> Result<(), OutOfMemory> {
         complain(text, at("cmd"), "the name of a command is wanted")?;
         return Ok(());
     };
-    if is_one_of(name, &LATER) {
-        quote(text, name)?;
-        text.push_str(" is not built yet")?;
-        return Ok(());
-    }
-    if value.get("stop").is_some() {
-        text.push_str("\"stop\" is not built yet")?;
-        return Ok(());
-    }
-    if say_of_command(text, name, value)? || say_of_stamp(text, value)? {
+    if say_of_command(text, name, value)?
+        || say_of_stamp(text, value)?
+        || say_of_stop(text, value)?
+    {
         return Ok(());
     }
     // (the functions above name whatever the reader refuses, so that this is for a key that they do not know yet)
@@ -113,4 +107,21 @@ fn say_of_stamp(text: &mut String, value: &Value) -> Result<bool, OutOfMemory> {
         ),
         None => Ok(false),
     }
+}
+
+// Complains of the stop.
+fn say_of_stop(text: &mut String, value: &Value) -> Result<bool, OutOfMemory> {
+    let Some(stop) = value.get("stop") else {
+        return Ok(false);
+    };
+    let is_stop = match stop.as_str() {
+        Some(point) => is_one_of(point, &POINTS),
+        None => stop.as_u64().is_some(),
+    };
+    unless(
+        text,
+        is_stop,
+        at("stop"),
+        "a stop is a whole number of calls from 0 to 2^64 - 1, \"vac\", \"wrt\" or \"part\"",
+    )
 }

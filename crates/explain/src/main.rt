@@ -1,9 +1,9 @@
 //! The program `explain`: it reads a script from standard input, by the reader of `tilestore`, and
 //! says what is wrong with the first line that is no command.
 //!
-//! Of a script it says nothing, with status 0. Else it prints one line, with the status that
-//! `tilestore` has for this script: 3 where the line is bad, and 8 where it is not built yet. Status 4
-//! is an input that cannot be read, 5 an output that takes no text, and 7 want of memory.
+//! Of a script it says nothing, with status 0. Else it prints one line, with status 3, which
+//! `tilestore` has for this script too. Status 4 is an input that cannot be read, 5 an output that
+//! takes no text, and 7 want of memory.
 #![tactic(auto)]
 
 mod boxes;
@@ -37,9 +37,6 @@ const NOT_WRITTEN: u8 = 5;
 
 /// The status of want of memory.
 const OUT_OF_MEMORY: u8 = 7;
-
-/// The status of a line that is not built yet.
-const NOT_BUILT: u8 = 8;
 
 fn main(rt: HostRuntime) -> ExitCode {
     ExitCode::from(status(&rt))
@@ -87,5 +84,5 @@ fn print<W: Write>(writer: &mut W, said: &Explained) -> u8 {
     if writer.write_all(said.text.as_bytes()).is_err() {
         return NOT_WRITTEN;
     }
-    if said.not_built { NOT_BUILT } else { BAD }
+    BAD
 }

@@ -7,13 +7,16 @@ use Rattle.ts_model.specs.declared.states.Stage.{Stage}
 use Rattle.ts_model.specs.declared.states.Stage.TheVariants.{PutsLease, ListsLeases, Works, Releases}
 use Rattle.ts_model.specs.Codecs.{Codec}
 use Rattle.ts_model.specs.States.{Exchange, asks, begun, is_over, takes_memory}
-use Rattle.ts_model.specs.Stages.{first_stage, holds_lease, lease_of, stage_asks, stage_of}
+use Rattle.ts_model.specs.Stages.{first_stage, is_release, is_removal, lease_of, may_give_up, stage_asks, stage_of}
 use Rattle.ts_model.specs.Driven.{EndsBy, lacks_from}
 use Rattle.ts_model.specs.declared.states.State.TheVariants.{Over}
 use Rattle.ts_actor.specs.declared.machine.Phase.{Phase}
 use Rattle.ts_actor.specs.declared.machine.Phase.TheVariants.{New, Going, GivesUp, Ended}
-use Rattle.ts_actor.specs.Fetches.{RemovesNothing}
+use Rattle.ts_actor.specs.Fetches.{IsWorkCall, RemovesNothing}
 use Rattle.ts_actor.specs.Traces.{Trace, asking, start}
+use Rattle.std.proofs.Common.{refl}
+use Rattle.std.specs.Option.{option_map_or}
+use Rattle.ts_store.specs.Calls.{IsSpelledCall}
 use Rattle.ts_store.specs.declared.call.Call.{Call}
 use Rattle.ts_store.specs.declared.call.Call.TheVariants as call
 use Rattle.ts_model.specs.declared.answers.Outcome.{Outcome}
@@ -30,33 +33,51 @@ IsStageOf may job (Releases lease end) = lease_of job ≡ Some lease
 abbrev pub KnowsEnds : {F : Type 0} → (Job → State F → Type 0) → Type 0
 KnowsEnds may = (job : Job) (end : Outcome) → may job (Over end)
 
--- the work of the job asks for no removal
-abbrev pub AsksNoRemoval : {F : Type 0} → Codec F → Job → Stage F → Type 0
-AsksNoRemoval codec job (Works s) = IfSome (asks codec job s) RemovesNothing
-AsksNoRemoval codec job stage = ⊤
+-- the work of the job does not ask for the removal of its lease
+abbrev pub AsksNoRelease : {F : Type 0} → Codec F → Job → Stage F → Type 0
+AsksNoRelease codec job (Works s) = IfSome (asks codec job s) (λ c. is_release job c ≡ false)
+AsksNoRelease codec job stage = ⊤
+
+-- each of these calls, which the work of such a job may make, has a spelling, and none removes the lease of the job
+abbrev pub SparesLease : (Job → Type 0) → (Job → Call → Type 0) → Type 0
+SparesLease serves calls = (job : Job) (c : Call) → serves job → calls job c → IsSpelledCall c × (is_release job c ≡ false)
+
+-- a call that removes nothing does not remove a lease
+pub none_released : (job : Job) (c : Call) → RemovesNothing c → is_release job c ≡ false
+none_released job c keeps = by_lease (lease_of job)
+  where
+    by_call : (d : Call) (lease : Name) → RemovesNothing d → is_removal d lease ≡ false
+    by_call (call.Remove n) lease none = absurd none
+    by_call (call.Put n bytes) lease none = refl
+    by_call (call.List p) lease none = refl
+    by_call (call.Get n from len) lease none = refl
+    by_call (call.Size n) lease none = refl
+
+    by_lease : (o : Option Name) → option_map_or (is_removal c) o false ≡ false
+    by_lease None = refl
+    by_lease (Some lease) = by_call c lease keeps
+
+-- work that removes nothing spares the lease
+pub work_spares : (serves : Job → Type 0) → SparesLease serves (λ job c. IsWorkCall c)
+work_spares serves job c serves_it calls = (calls.0, none_released job c calls.1)
 
 -- the job works, and memory can be wanting for what a reply leads to
 abbrev pub CanLack : {F : Type 0} → Stage F → Type 0
 CanLack (Works s) = takes_memory s ≡ true
 CanLack stage = ⊥
 
--- the job works, and is not over
-abbrev pub IsWorking : {F : Type 0} → Stage F → Type 0
-IsWorking (Works s) = is_over s ≡ false
-IsWorking stage = ⊥
-
 -- the calls have led the job to the stage, where it asks for the call that has no reply yet
 pub record IsAt {F : Type 0} (codec : Codec F) (job : Job) (stage : Stage F) (t : Trace) : Type 0 where
   pub came : stage_of codec job t.past ≡ stage
   pub asks_it : stage_asks codec job stage ≡ t.asked
   pub waits : t.asked ≢ None
-  pub no_removal : AsksNoRemoval codec job stage
+  pub no_release : AsksNoRelease codec job stage
 
 -- the job gives up its lease, for want of memory, and waits for the reply to its removal
 pub record IsGivingUp {F : Type 0} (codec : Codec F) (job : Job) (lease : Name) (t : Trace) : Type 0 where
   pub own : lease_of job ≡ Some lease
   pub asks_it : t.asked ≡ Some (call.Remove lease)
-  pub holds : holds_lease job (stage_of codec job t.past) ≡ true
+  pub may : may_give_up job (stage_of codec job t.past) ≡ true
   pub lacks : lacks_from codec job true (first_stage job) t.past ≡ true
 
 -- the job is one that the automaton is for, and the calls have led it to a stage that the automaton knows, or it gives up its lease; a new job has made none, and an ended one makes no more

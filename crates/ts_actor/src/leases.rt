@@ -1,8 +1,8 @@
 //! The lease of a job: the put of it, the verdict on the leases of a listing, and its removal.
-ghost use Rattle.std.specs.Prelude.{◌≡◌, ℕ, IfSome};
+ghost use Rattle.std.specs.Prelude.{◌≡◌, ℕ, Some, None, IfSome};
 ghost use Rattle.ts_store.specs.Calls.{IsSpelledCall};
 ghost use Rattle.ts_model.specs.declared.states.State.{State};
-ghost use Rattle.ts_model.specs.declared.states.Stage.TheVariants.{Works};
+ghost use Rattle.ts_model.specs.declared.states.Stage.TheVariants.{Works, Releases};
 ghost use Rattle.ts_model.specs.Stages.{after_lease, after_leases, lease_of, put_lease, released, settled};
 
 use crate::ends::end_by;
@@ -12,18 +12,20 @@ use ts_lease::{Verdict, decide};
 use ts_model::{Command, Job, Outcome, Refusal, Stage, State};
 use ts_store::{Call, Reply};
 
-/// The lease of a job, if it has one: reads and consolidations share the store with one another.
+/// The lease of a job, if it has one: reads and consolidations share the store with one another, and a
+/// vacuum with nobody who has one.
 pub(crate) fn lease_of(job: &Job) -> Option<Name>
     ensures { result ≡ lease_of job.now }
 {
+    let key = Key {
+        t: job.at,
+        id: job.id,
+    };
     match &job.command {
-        Command::Read { .. } | Command::Consolidate { .. } => Some(Name::Lease(
-            Key {
-                t: job.at,
-                id: job.id,
-            },
-            LeaseMode::Shr,
-        )),
+        Command::Read { .. } | Command::Consolidate { .. } => {
+            Some(Name::Lease(key, LeaseMode::Shr))
+        }
+        Command::Vacuum => Some(Name::Lease(key, LeaseMode::Exc)),
         _ => None,
     }
 }
@@ -67,18 +69,23 @@ pub(crate) fn after_lease<F: Drop>(lease: Name, reply: &Reply) -> Stage<F>
 pub(crate) fn after_leases<F: Drop>(lease: Name, begins: State<F>, reply: &Reply) -> Stage<F>
     ensures { result ≡ after_leases lease begins reply.now }
 {
+    match held_up::<F>(lease, reply) {
+        None => settled(Some(lease), begins),
+        Some(end) => Stage::Releases { lease, end },
+    }
+}
+
+// The end of a job that does not come to its work by the reply to the listing of the leases.
+fn held_up<F: Drop>(lease: Name, reply: &Reply) -> Option<Outcome>
+    ensures granted { result ≡ None → (s : State F) → after_leases lease s reply.now ≡ settled (Some lease) s }
+    ensures held { IfSome result (λ end. (s : State F) → after_leases lease s reply.now ≡ Releases lease end) }
+{
     match reply {
         Reply::Names(names) => match decide(names, lease) {
-            Verdict::Granted => settled(Some(lease), begins),
-            Verdict::Held(other) => Stage::Releases {
-                lease,
-                end: Outcome::Refused(Refusal::Leased(other)),
-            },
+            Verdict::Granted => None,
+            Verdict::Held(other) => Some(Outcome::Refused(Refusal::Leased(other))),
         },
-        other => Stage::Releases {
-            lease,
-            end: end_by(&Call::List(Prefix::Leases), other),
-        },
+        other => Some(end_by(&Call::List(Prefix::Leases), other)),
     }
 }
 

@@ -3,15 +3,15 @@ ghost use Rattle.std.specs.Prelude.{◌≡◌, ◌≢◌, ◌<◌, ◌≤◌, �
 ghost use Rattle.std.specs.Thread.{IsSync};
 ghost use Rattle.ts_store.specs.Calls.{IsSpelledCall, IsSpelledReply};
 ghost use Rattle.ts_model.specs.declared.commands.Job.{Job as AnyJob};
+ghost use Rattle.ts_store.specs.declared.call.Call.{Call as AnyCall};
 ghost use Rattle.ts_model.specs.declared.states.State.{State};
 ghost use Rattle.ts_model.specs.declared.states.State.TheVariants.{Over};
 ghost use Rattle.ts_model.specs.declared.states.Stage.TheVariants.{Works};
 ghost use Rattle.ts_model.specs.Codecs.{Codec};
-ghost use Rattle.ts_model.specs.States.{Exchange, asks, begun, goes, is_over, takes_memory};
-ghost use Rattle.ts_model.specs.Stages.{first_stage, lease_of, stage_asks, stage_goes, stage_of};
+ghost use Rattle.ts_model.specs.States.{Exchange, asks, asks_memory, begun, goes, is_over, takes_memory};
+ghost use Rattle.ts_model.specs.Stages.{first_stage, lease_of, stage_asks, stage_asks_memory, stage_goes, stage_of};
 ghost use Rattle.ts_model.specs.Driven.{EndsBy};
-ghost use Rattle.ts_actor.specs.Fetches.{IsWorkCall};
-ghost use Rattle.ts_actor.specs.Machines.{Advances, AsksNoRemoval, CanLack, Follows, GivesUpSo, IsStageOf, IsWorking, KnowsEnds, calls_left, stage_left};
+ghost use Rattle.ts_actor.specs.Machines.{Advances, AsksNoRelease, CanLack, Follows, GivesUpSo, IsStageOf, KnowsEnds, SparesLease, calls_left, stage_left};
 ghost use Rattle.ts_actor.specs.Traces.{CanCome, Expects, Trace, filled, start};
 
 use crate::actor::{Actor, Step};
@@ -47,13 +47,20 @@ pub trait Automaton {
     /// Every job may be over.
     ghost ends: { KnowsEnds may };
 
+    /// The calls that the work of a job may make.
+    ghost calls: { AnyJob → AnyCall → Type 0 };
+
+    /// Each has a spelling, and none removes the lease of the job.
+    ghost spares: { SparesLease serves calls };
+
     /// Where a job begins. It never ends for want of memory.
     fn begin(alloc: Global, job: &Job) -> State<Self::Fetch>
         requires { serves job.now }
         ensures is { result ≡ begun job.now.command }
         ensures may { may job.now result };
 
-    /// The next call of a job, or None where it is over, which takes no memory.
+    /// The next call of a job, or None where it is over. Neither the end nor the removal of an object,
+    /// whose name is at hand, takes memory.
     fn ask(
         alloc: Global,
         job: &Job,
@@ -62,11 +69,11 @@ pub trait Automaton {
         requires job { serves job.now }
         requires state { may job.now state.now }
         ensures is { IfOk result (λ call. call ≡ asks codec job.now state.now) }
-        ensures lacks { OnErr result (is_over state.now ≡ false) }
-        ensures spelled { IfOk result (λ call. IfSome call IsWorkCall) };
+        ensures lacks { OnErr result (asks_memory state.now ≡ true) }
+        ensures works { IfOk result (λ call. IfSome call (calls job.now)) };
 
     /// Where a reply leads a job. A job that makes a call has fewer of them left afterwards. The reply
-    /// to the put of an object leads on without memory.
+    /// to the put or the removal of an object leads on without memory.
     fn go<R: Threads + Sync>(
         rt: &R,
         alloc: Global,
@@ -101,7 +108,8 @@ pub enum Phase<F> {
 ///
 /// A job that has a lease puts it first, lists the leases, and works where none of them opposes its
 /// own. Its last call removes the lease, whatever end it came to, and also where there is no memory to
-/// go on.
+/// go on. That is never so between two removals of objects: a job that has removed one goes on to the
+/// last, or to a removal that is not answered `Removed`.
 #[derive(Drop)]
 pub struct Machine<K: Automaton> {
     job: Job,
@@ -252,8 +260,8 @@ fn ask_stage<K: Automaton>(
     requires serves { K.serves job.now }
     requires stage { IsStageOf K.may job.now stage.now }
     ensures is { IfOk result (λ call. call ≡ stage_asks K.codec job.now stage.now) }
-    ensures no_removal { IfOk result (λ call. AsksNoRemoval K.codec job.now stage.now) }
-    ensures lacks { OnErr result (IsWorking stage.now) }
+    ensures no_release { IfOk result (λ call. AsksNoRelease K.codec job.now stage.now) }
+    ensures lacks { OnErr result (stage_asks_memory stage.now ≡ true) }
     ensures spelled { IfOk result (λ call. IfSome call IsSpelledCall) }
 {
     match stage {
@@ -281,7 +289,19 @@ fn end_of<F: Drop>(stage: Stage<F>) -> Option<Outcome>
     ensures works { result ≡ None → (s : State F) → stage ≡ Works s → is_over s ≡ false }
 {
     match stage {
-        Stage::Works(State::Over(end)) => Some(end),
+        Stage::Works(state) => over_in(state),
+        _other => None,
+    }
+}
+
+// The end of a job whose work has come to this state, where that is over.
+#[tactic(auto, using(crate::proofs::MachineLaws::not_over_state))]
+fn over_in<F: Drop>(state: State<F>) -> Option<Outcome>
+    ensures over { IfSome result (λ end. state ≡ Over end) }
+    ensures works { result ≡ None → is_over state ≡ false }
+{
+    match state {
+        State::Over(end) => Some(end),
         _other => None,
     }
 }

@@ -10,8 +10,10 @@ use Rattle.ts_actor.proofs.MachineLaws.{asks_next}
 use Rattle.ts_writer.specs.Writing.{IsCreateJob, IsCreateState, IsDeleteJob, IsEvolveJob, IsWriteJob, IsLaterState}
 use Rattle.ts_reader.specs.Reading.{IsReadJob, MayRead}
 use Rattle.ts_consolidate.specs.Merges.{IsMergeJob, MayMerge}
+use Rattle.ts_vacuum.specs.Listing.{IsListJob, IsListState}
+use Rattle.ts_vacuum.specs.Sweeping.{IsSweepState, IsVacuumJob}
 use Rattle.ts_commands.specs.declared.actors.AnyActor.{AnyActor}
-use Rattle.ts_commands.specs.declared.actors.AnyActor.TheVariants.{Creator, Evolver, Writer, Deleter, Reader, Consolidator}
+use Rattle.ts_commands.specs.declared.actors.AnyActor.TheVariants.{Creator, Evolver, Writer, Deleter, Reader, Consolidator, Vacuum, Unlocker, Lister}
 use Rattle.ts_commands.specs.Actors.{job_of, Follows}
 
 -- the call that an actor waits for is one that its job may make where the calls before it have led
@@ -22,3 +24,6 @@ asks_it codec (Writer a) past c follows = asks_next codec IsWriteJob (λ job s. 
 asks_it codec (Deleter a) past c follows = asks_next codec IsDeleteJob (λ job s. IsLaterState s) a.machine.job a.machine.phase past c follows
 asks_it codec (Reader a) past c follows = asks_next codec IsReadJob (MayRead codec) a.machine.job a.machine.phase past c follows
 asks_it codec (Consolidator a) past c follows = asks_next codec IsMergeJob (MayMerge codec) a.machine.job a.machine.phase past c follows
+asks_it codec (Vacuum a) past c follows = asks_next codec IsVacuumJob (λ job s. IsSweepState s) a.machine.job a.machine.phase past c follows
+asks_it codec (Unlocker a) past c follows = asks_next codec IsListJob (λ job s. IsListState s) a.machine.job a.machine.phase past c follows
+asks_it codec (Lister a) past c follows = asks_next codec IsListJob (λ job s. IsListState s) a.machine.job a.machine.phase past c follows

@@ -12,6 +12,7 @@ use ts_consolidate::Consolidator;
 use ts_model::{Command, Job, Outcome};
 use ts_reader::Reader;
 use ts_store::Reply;
+use ts_vacuum::{Lister, Unlocker, Vacuum};
 use ts_writer::{Creator, Deleter, Evolver, Writer};
 
 /// An actor that does the job of a command, whichever it is, over one way to write fragments.
@@ -29,6 +30,12 @@ pub enum AnyActor<P: Pieces> {
     Reader(Reader<P>),
     /// One that merges fragments.
     Consolidator(Consolidator<P>),
+    /// One that removes the fragments that consolidations replaced.
+    Vacuum(Vacuum<P>),
+    /// One that removes leases.
+    Unlocker(Unlocker<P>),
+    /// One that lists the commits.
+    Lister(Lister<P>),
 }
 
 impl<P: Pieces> AnyActor<P> {
@@ -45,6 +52,9 @@ impl<P: Pieces> AnyActor<P> {
             Command::Delete(_) => AnyActor::Deleter(Deleter::of(job)),
             Command::Read { .. } => AnyActor::Reader(Reader::of(job)),
             Command::Consolidate { .. } => AnyActor::Consolidator(Consolidator::of(job)),
+            Command::Vacuum => AnyActor::Vacuum(Vacuum::of(job)),
+            Command::Unlock { .. } => AnyActor::Unlocker(Unlocker::of(job)),
+            Command::Fragments => AnyActor::Lister(Lister::of(job)),
         }
     }
 }
@@ -70,6 +80,9 @@ impl<P: Pieces> Actor for AnyActor<P> {
             AnyActor::Deleter(deleter) => deleter.next(rt, alloc, reply),
             AnyActor::Reader(reader) => reader.next(rt, alloc, reply),
             AnyActor::Consolidator(consolidator) => consolidator.next(rt, alloc, reply),
+            AnyActor::Vacuum(vacuum) => vacuum.next(rt, alloc, reply),
+            AnyActor::Unlocker(unlocker) => unlocker.next(rt, alloc, reply),
+            AnyActor::Lister(lister) => lister.next(rt, alloc, reply),
         }
     }
 }

@@ -3,6 +3,7 @@ ghost use Rattle.std.specs.Prelude.{◌≡◌, ◌≢◌, ◌<◌, true, None, I
 ghost use Rattle.std.specs.Thread.{IsSync};
 ghost use Rattle.ts_store.specs.Calls.{IsSpelledReply};
 ghost use Rattle.ts_actor.specs.Fetches.{IsWorkCall};
+ghost use Rattle.ts_actor.specs.Machines.{work_spares};
 ghost use Rattle.ts_model.specs.Jobs.{looked_at};
 ghost use Rattle.ts_model.specs.States.{asks, goes, merge_asks, merge_goes, takes_memory};
 ghost use Rattle.ts_consolidate.specs.Merges.{IsMergeJob, IsMergeState, IsMerging, MayMerge, merge_left, merges_left};
@@ -40,6 +41,10 @@ impl<P: Pieces> Automaton for Merges<P> {
     ghost left = { merges_left P.left };
 
     ghost ends = { λ job end. tt };
+
+    ghost calls = { λ job c. IsWorkCall c };
+
+    ghost spares = { work_spares IsMergeJob };
 
     fn begin(_alloc: Global, job: &Job) -> State<P::Fetch> {
         match &job.command {

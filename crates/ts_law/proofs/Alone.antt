@@ -17,14 +17,14 @@ use Rattle.ts_model.specs.Told.{Told, Suits, Replied, trace_of, held_told, histo
 use Rattle.ts_law.specs.Ends.{IsTrueOver}
 use Rattle.ts_law.specs.Fresh.{IsNewId}
 use Rattle.ts_law.specs.Kept.{Kept}
-use Rattle.ts_law.specs.Lanes.{lane_by, own_lane, IsOwned, IsWithin}
+use Rattle.ts_law.specs.Lanes.{lane_by, one_lane, own_lane, IsOwned, IsWithin}
 use Rattle.ts_law.specs.Refusals.{IsRefusedFor}
 use Rattle.ts_model.specs.declared.answers.Outcome.TheVariants as outcome
 use Rattle.ts_model.specs.declared.answers.Refusal.{Refusal}
 use Rattle.ts_law.specs.Runs.{AreDriven, IsTrueRun}
 use Rattle.ts_law.specs.Stands.{Stands}
 use Rattle.ts_law.proofs.Journals.{journal_held}
-use Rattle.ts_law.proofs.Lanes.{AreBy, apart_in_turn}
+use Rattle.ts_law.proofs.Lanes.{AreBy, own_in_turn}
 use Rattle.ts_law.proofs.Spawns.{starts_kept, spawn_kept}
 use Rattle.ts_law.proofs.TrueRuns.{jobs_true_run}
 
@@ -35,7 +35,7 @@ pub record IsTrueAlone (spelled : Spelled) (job : Job) (h : History) (m : Held) 
   pub causes : (r : Refusal) → result ≡ Done (outcome.Refused r) → IsRefusedFor spelled m (job ∷ []) h told 0 job r
 
 module _ {F : Type 0} (codec : Codec F) (spelled : Spelled) (tracks : Tracking F) (laws : CodecLaws codec spelled tracks) (job : Job) (h : History) (m : Held) (told : List Told) (result : Driven Outcome)
-    (stands : Stands spelled m h) (new : IsNewId m h [] job.id) (fit : IsFit job) (replied : Replied m told) (suit : All Suits told) (own : AreBy 0 told) (is : IsDriven codec job (trace_of 0 told) result) where
+    (stands : Stands spelled m h) (new : IsNewId m h m [] job.id) (fit : IsFit job) (replied : Replied m told) (suit : All Suits told) (own : AreBy 0 told) (is : IsDriven codec job (trace_of 0 told) result) where
   begins : Kept codec spelled tracks m h (job ∷ []) [] [] m
   begins = spawn_kept codec spelled tracks m h [] [] [] m job (starts_kept codec spelled tracks h m stands) fit new
 
@@ -50,7 +50,7 @@ module _ {F : Type 0} (codec : Codec F) (spelled : Spelled) (tracks : Tracking F
   run =
       jobs_true_run codec spelled tracks laws own_lane (job ∷ []) h m told (result ∷ []) begins replied suit
       (All-weaker (λ e. e.job ≡ Some 0) IsOwned (λ e mine. (0, mine)) told own)
-      (All-weaker (λ e. e.job ≡ Some 0) (IsWithin (job ∷ [])) (λ e mine number by_it. let same = same_Some 0 number (sym mine ∙ by_it) in omega (arith, same)) told own) (apart_in_turn told) driven
+      (All-weaker (λ e. e.job ≡ Some 0) (IsWithin (job ∷ [])) (λ e mine number by_it. let same = same_Some 0 number (sym mine ∙ by_it) in omega (arith, same)) told own) (own_in_turn one_lane 0 told own) driven
 
   -- a job of any new identifier and any stop, of which nothing else is asked than that there can be such a one
   pub true_alone : IsTrueAlone spelled job h m told result

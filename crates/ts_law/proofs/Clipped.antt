@@ -1,94 +1,75 @@
--- What is clipped from a read: nothing, where the fragment of each write is committed.
-use Rattle.std.proofs.Common.{◌≡◌, ℕ, List, [], ◌∷◌, ◌++◌, inl, inr, refl, sym, ◌∙◌, ap, subst}
-use Rattle.std.specs.Prelude.{Contains, filter, map as list_map}
-use Rattle.ts_base.specs.declared.keys.FragKey.{FragKey}
+-- What is clipped from a read: where no fragment is clipped no write is, and the history without its clipped writes is the history.
+use Rattle.std.proofs.Common.{◌≡◌, ℕ, Bool, true, false, cond, ◌&&◌, not, List, [], ◌∷◌, refl, sym, ◌∙◌, ap, subst}
+use Rattle.std.specs.Prelude.{Contains, filter}
+use Rattle.std.specs.List.{list_any}
+use Rattle.std.proofs.lemmas.Bool.{and_from}
+use Rattle.ts_base.specs.declared.keys.Key.{Key}
 use Rattle.ts_base.specs.declared.heads.Head.{Head}
-use Rattle.ts_base.specs.declared.heads.Piece.{Piece}
-use Rattle.ts_base.specs.declared.names.Prefix.TheVariants.{Commits}
+use Rattle.ts_base.specs.Keys.{is_within}
 use Rattle.ts_base.specs.Held.{Held}
-use Rattle.ts_store.specs.Calls.{names_under}
-use Rattle.ts_model.specs.declared.commands.Job.{Job}
-use Rattle.ts_model.specs.declared.answers.Outcome.{Outcome}
-use Rattle.ts_model.specs.declared.answers.Outcome.TheVariants as outcome
-use Rattle.ts_model.specs.Deeds.{History}
+use Rattle.ts_commit.specs.Selections.{has_origin, is_usable, usable, is_clipped, clips, clipped_names}
+use Rattle.ts_model.specs.declared.deeds.Written.{Written}
+use Rattle.ts_model.specs.declared.deeds.Deed.TheVariants.{Framed, Declared, Wrote, Erased}
+use Rattle.ts_model.specs.Deeds.{History, writes}
 use Rattle.ts_model.specs.Codecs.{Spelled}
-use Rattle.ts_model.specs.States.{committed_in, meets}
-use Rattle.ts_model.specs.Told.{Told, held_told, history_told}
-use Rattle.ts_law.specs.Ends.{AreClipped, AreHeads, IsTrueEnd, IsTrueOver, IsUndone}
-use Rattle.ts_law.specs.Stands.{HoldsIn, IsCommitted, Stands}
-use Rattle.ts_model.proofs.ListLemmas.{Contains-cons, Contains-here, Contains-nil, Contains-there}
-use Rattle.ts_law.proofs.Loading.{OneHead, none_clipped}
-use Rattle.ts_law.proofs.ListSteps.{committed_from_looked}
+use Rattle.ts_model.specs.States.{meets}
+use Rattle.ts_model.proofs.ListLemmas.{Contains-here, Contains-nil, Contains-there, Contains-filter}
+use Rattle.ts_law.specs.Ends.{AreHeads, without_clipped}
+use Rattle.ts_law.specs.Stands.{HoldsIn, Stands}
+use Rattle.ts_law.proofs.Fetches.{Contains-map}
+use Rattle.ts_law.proofs.ListSteps.{meets_of_origin}
+use Rattle.ts_law.proofs.Loading.{OneHead, has_head, same_head}
+use Rattle.ts_law.proofs.OriginLaws.{any_member, key_there}
 
--- ---- heads
+-- what is no clipped write is left
+nothing_left_out : (a b : ℕ) (heads : List Head) (h : History) → ((w : Written) → Contains (writes h) w → is_clipped a b heads w.key ≡ false) → without_clipped a b heads h ≡ h
+nothing_left_out a b heads [] all = refl
+nothing_left_out a b heads (Framed x ∷ h) all = ap (λ l. Framed x ∷ l) (nothing_left_out a b heads h all)
+nothing_left_out a b heads (Declared x ∷ h) all = ap (λ l. Declared x ∷ l) (nothing_left_out a b heads h all)
+nothing_left_out a b heads (Erased x ∷ h) all = ap (λ l. Erased x ∷ l) (nothing_left_out a b heads h all)
+nothing_left_out a b heads (Wrote w ∷ h) all =
+    ap (λ t. cond (not t) (Wrote w ∷ without_clipped a b heads h) (without_clipped a b heads h)) (all w (Contains-here w (writes h)))
+    ∙ ap (λ l. Wrote w ∷ l) (nothing_left_out a b heads h (λ v at. all v (Contains-there w (writes h) v at)))
 
-module _ (spelled : Spelled) (h : History) (m : Held) (a b : ℕ) where
-  -- a head of a fragment that is held
-  abbrev IsUsed : Head → Type 0
-  IsUsed head = (p : Piece) × HoldsIn spelled h m head.frag p × (p.head ≡ head)
+module _ (spelled : Spelled) (m : Held) (h : History) (a b : ℕ) (heads : List Head) (are : AreHeads spelled h m a b heads) (one : OneHead spelled h m) (stands : Stands spelled m h) where
+  -- a write in the interval went into a fragment whose head is among these
+  headed : (w : Written) → Contains (writes h) w → is_within a b w.key ≡ true → (head : Head) × Contains heads head × (has_origin w.key head ≡ true)
+  headed w at within =
+      let own = stands.covered w at in
+      let went = own.went in
+      let near : meets a b own.frag ≡ true = meets_of_origin spelled m h a b own.frag w.key went within in
+      let head = has_head spelled m h a b heads are one stands own.frag own.committed near in
+      let same : (went.piece).head ≡ head.0 = same_head spelled m h a b heads are one stands head.0 head.1 went.piece (subst (λ g. HoldsIn spelled h m g went.piece) (sym head.2) went.holds) in
+      (head.0, head.1, subst (λ x. has_origin w.key x ≡ true) same went.origin)
 
-  -- the heads of these fragments
-  pub record HeadsOf (frags : List FragKey) : Type 0 where
-    pub heads : List Head
-    pub frags_are : list_map (λ head. head.frag) heads ≡ frags
-    pub each : (head : Head) → Contains heads head → IsUsed head
+  -- a fragment that a clipped write went into is clipped
+  clips_with : (k : Key) → is_clipped a b heads k ≡ true → (head : Head) → Contains heads head → has_origin k head ≡ true → clips a b heads head ≡ true
+  clips_with k clipped head at origin =
+      and_from (not (is_usable a b head)) (list_any (is_clipped a b heads) head.origins) (not_usable (is_usable a b head) refl)
+      (any_member (is_clipped a b heads) head.origins k (key_there k head.origins origin) clipped)
+    where
+      kept : (s t : Bool) → s && not t ≡ true → t ≡ true → false ≡ true
+      kept true true e is = e
+      kept true false e is = is
+      kept false t e is = e
 
-  -- committed fragments have heads
-  heads_of : Stands spelled m h → (frags : List FragKey) → ((f : FragKey) → Contains frags f → IsCommitted m f) → HeadsOf frags
-  heads_of stands [] all = record { heads = []; frags_are = refl; each = λ head at. absurd (Contains-nil head at) }
-  heads_of stands (f ∷ frags) all =
-      let here = all f (Contains-here f frags) in
-      let found = stands.whole f here in
-      let rest = heads_of stands frags (λ g at. all g (Contains-there f frags g at)) in
-      let named : (found.0).head.frag ≡ f = ((found.1).spells).named in
-      let P : FragKey → Type 0 = λ g. HoldsIn spelled h m g found.0 in
-      let used : IsUsed (found.0).head =
-      (found.0, subst P (sym named) found.1, refl) in
-      record {
-        heads = (found.0).head ∷ rest.heads;
-        frags_are = ap (λ g. g ∷ list_map (λ head. head.frag) rest.heads) named ∙ ap (λ gs. f ∷ gs) rest.frags_are;
-        each = λ head at. elim (Contains-cons (found.0).head rest.heads head at) [
-          | inl same ↦ subst IsUsed same used
-          | inr later ↦ rest.each head later
-        ];
-      }
+      not_usable : (t : Bool) → is_usable a b head ≡ t → not t ≡ true
+      not_usable false e = refl
+      not_usable true e =
+          kept (is_within a b k) (list_any (has_origin k) (usable a b heads)) clipped (any_member (has_origin k) (usable a b heads) head (Contains-filter (is_usable a b) heads head at e) origin)
 
--- ---- clipped fragments
+  -- where no fragment is clipped no write is
+  no_write_clipped : clipped_names a b heads ≡ [] → (w : Written) → Contains (writes h) w → is_clipped a b heads w.key ≡ false
+  no_write_clipped none w at = by (is_within a b w.key) refl (is_clipped a b heads w.key) refl
+    where
+      by : (s : Bool) → is_within a b w.key ≡ s → (t : Bool) → is_clipped a b heads w.key ≡ t → t ≡ false
+      by s within false e = refl
+      by false within true e = sym e ∙ ap (λ t. t && not (list_any (has_origin w.key) (usable a b heads))) within
+      by true within true e =
+          let head = headed w at within in
+          let clip = clips_with w.key e head.0 head.1 head.2 in
+          absurd (Contains-nil (head.0).frag (subst (λ l. Contains l (head.0).frag) none (Contains-map (λ x. x.frag) (filter (clips a b heads) heads) head.0 (Contains-filter (clips a b heads) heads head.0 head.1 clip))))
 
--- nothing is clipped from a read of objects that stand for a history
-pub nothing_clipped : (spelled : Spelled) (h : History) (m : Held) (a b : ℕ) → OneHead spelled h m → Stands spelled m h → AreClipped spelled h m a b []
-nothing_clipped spelled h m a b one stands =
-    let frags = filter (meets a b) (committed_in (names_under Commits m)) in
-    let of = heads_of spelled h m a b stands frags (λ f at. (committed_from_looked m a b f at).0) in
-    let are : AreHeads spelled h m a b of.heads = record { frags = of.frags_are; each = of.each } in
-    record { heads = of.heads; are_heads = are; clipped_is = sym (none_clipped spelled m h a b of.heads are one stands) }
-
--- ---- ends
-
--- an end that is true of the history is true over what was held at the beginning, where each first part of the calls leaves objects that stand for its history, and where want of memory leaves nothing done
-pub true_over : (spelled : Spelled) (opening : Held) (jobs : List Job) (past : History) (told : List Told) (number : ℕ) (job : Job) (end : Outcome)
-    → ((g : History) (n : Held) → OneHead spelled g n) → ((front back : List Told) → told ≡ front ++ back → Stands spelled (held_told opening front) (history_told jobs past front))
-    → (end ≡ outcome.OutOfMemory → IsUndone (history_told jobs past told) job) → IsTrueEnd spelled opening jobs past told number job end → IsTrueOver spelled opening jobs past told number job end
-true_over spelled opening jobs past told number job (outcome.Read answer) one stands short (from, to, query, reads, is) =
-    let before = (is.commits).before in
-    let none = nothing_clipped spelled (history_told jobs past before) (held_told opening before) from to (one (history_told jobs past before) (held_told opening before)) (stands before ((is.commits).listing ∷ (is.commits).later) (is.commits).place) in
-    (from, to, query, reads, (is, subst (AreClipped spelled (history_told jobs past before) (held_told opening before) from to) (sym (is.answers).whole) none))
-true_over spelled opening jobs past told number job outcome.Created one stands short is = is
-true_over spelled opening jobs past told number job (outcome.Evolved k) one stands short is = is
-true_over spelled opening jobs past told number job (outcome.Written f) one stands short is = is
-true_over spelled opening jobs past told number job (outcome.Deleted f) one stands short is = is
-true_over spelled opening jobs past told number job (outcome.Consolidated f count) one stands short is = is
-true_over spelled opening jobs past told number job (outcome.Refused r) one stands short is = is
-true_over spelled opening jobs past told number job outcome.OutOfMemory one stands short is = short refl
-
--- and the other way round
-pub true_end_of : (spelled : Spelled) (opening : Held) (jobs : List Job) (past : History) (told : List Told) (number : ℕ) (job : Job) (end : Outcome)
-    → IsTrueOver spelled opening jobs past told number job end → IsTrueEnd spelled opening jobs past told number job end
-true_end_of spelled opening jobs past told number job (outcome.Read answer) (from, to, query, reads, is) = (from, to, query, reads, is.0)
-true_end_of spelled opening jobs past told number job outcome.Created is = is
-true_end_of spelled opening jobs past told number job (outcome.Evolved k) is = is
-true_end_of spelled opening jobs past told number job (outcome.Written f) is = is
-true_end_of spelled opening jobs past told number job (outcome.Deleted f) is = is
-true_end_of spelled opening jobs past told number job (outcome.Consolidated f count) is = is
-true_end_of spelled opening jobs past told number job (outcome.Refused r) is = is
-true_end_of spelled opening jobs past told number job outcome.OutOfMemory is = tt
+  -- so the history without its clipped writes is the history
+  pub unclipped_same : clipped_names a b heads ≡ [] → without_clipped a b heads h ≡ h
+  unclipped_same none = nothing_left_out a b heads h (no_write_clipped none)

@@ -20,11 +20,12 @@ use Rattle.ts_model.specs.declared.answers.Refusal.{Refusal}
 use Rattle.ts_model.specs.declared.states.State.{State}
 use Rattle.ts_model.specs.declared.states.NewObject.{NewObject}
 use Rattle.ts_model.specs.declared.states.State.TheVariants.{Puts, Over}
-use Rattle.ts_model.specs.declared.commands.Command.TheVariants.{Create, Evolve, Write, Read, Delete}
+use Rattle.ts_model.specs.declared.commands.Command.TheVariants.{Create, Evolve, Write, Read, Delete, Vacuum, Unlock, Fragments}
 use Rattle.ts_model.specs.Codecs.{Codec, is_look}
 use Rattle.ts_model.specs.Jobs.{key_of, frag_of_job}
-use Rattle.ts_model.specs.States.{Exchange, asks, goes, ended, refuse, part_objects, place_of, put_of, putting, on_made}
-use Rattle.ts_law.specs.Courses.{Found, Merge, SaysThere, IsGot, IsMergeBy, AreFound, IsLookOf, Looks, IsNext, lets_on, Along, EndsAlong, EndsAt, refused_in, IsCause}
+use Rattle.ts_model.specs.States.{Exchange, asks, goes, ended, list_commits, refuse, part_objects, place_of, put_of, putting, on_made}
+use Rattle.ts_law.specs.Courses.{Found, Merge, SaysThere, IsGot, IsMergeBy, AreFound, IsLookOf, Looks, IsNext, lets_on, Along, EndsAlong, EndsAt, refused_in, IsCause, RemovesBy}
+use Rattle.ts_law.proofs.CourseBacked.{removed_stays, told_among}
 use Rattle.ts_law.proofs.CourseGrows.{among_more, got_stays, merge_stays}
 use Rattle.ts_model.proofs.ListLemmas.{Contains-cons, Contains-here, Contains-there}
 use Rattle.ts_cond.specs.declared.query.Query.{Query}
@@ -128,13 +129,13 @@ dropped [] (suc i) x at = at
 dropped (y ∷ xs) (suc i) x at = Contains-there y xs x (dropped xs i x at)
 
 -- the items from the place of one on
-drop_item : {X : Type 0} (xs : List X) (i : ℕ) (x : X) → slice_get xs i ≡ Some x → drop i xs ≡ x ∷ drop (suc i) xs
+pub drop_item : {X : Type 0} (xs : List X) (i : ℕ) (x : X) → slice_get xs i ≡ Some x → drop i xs ≡ x ∷ drop (suc i) xs
 drop_item [] i x is = absurd (none-some x is)
 drop_item (y ∷ xs) zero x is = ap (λ z. z ∷ xs) (same_Some y x is)
 drop_item (y ∷ xs) (suc i) x is = drop_item xs i x is
 
 -- nothing is left past the end
-drop_past : {X : Type 0} (xs : List X) (i : ℕ) → nat_lt i (length xs) ≡ false → drop i xs ≡ []
+pub drop_past : {X : Type 0} (xs : List X) (i : ℕ) → nat_lt i (length xs) ≡ false → drop i xs ≡ []
 drop_past xs i is = drop_of_length-le xs (ltb-false i (length xs) is)
 
 -- an item at a place is one of the list
@@ -190,6 +191,9 @@ module _ {F : Type 0} (codec : Codec F) (job : Job) where
       Along (IsLookOf codec job found) seen course xs [] × ((from : ℕ) × (to : ℕ) × (query : Query) × (job.command ≡ Read from to query)) × IsGot job found whole × (refused_in found job.command ≡ None)
   EndsIn whole seen found course xs (outcome.Consolidated f count) =
       Along (IsLookOf codec job found) seen course xs [] × ((merge : Merge) × (found.merged ≡ Some merge) × (f ≡ merge.piece.head.frag) × IsMergeBy codec job found whole merge count)
+  EndsIn whole seen found course xs (outcome.Vacuumed count) = Along (IsLookOf codec job found) seen course xs [] × (job.command ≡ Vacuum) × (count ≡ length found.swept) × RemovesBy job whole found.swept found.removed
+  EndsIn whole seen found course xs (outcome.Unlocked count) = Along (IsLookOf codec job found) seen course xs [] × ((seed : ℕ) × (lane : ℕ) × (job.command ≡ Unlock seed lane)) × (count ≡ length found.leases)
+  EndsIn whole seen found course xs (outcome.Listed names) = Along (IsLookOf codec job found) seen course xs [] × (job.command ≡ Fragments) × Contains whole (record { call = list_commits; reply = reply.Names names })
 
   -- how the last calls may end along a course
   abbrev pub Ends : List Exchange → Found → List Call → List Exchange → Outcome → Type 0
@@ -203,6 +207,9 @@ module _ {F : Type 0} (codec : Codec F) (job : Job) where
   ends_along found course whole (outcome.Deleted f) h = h
   ends_along found course whole (outcome.Read answer) h = h
   ends_along found course whole (outcome.Consolidated f count) h = h
+  ends_along found course whole (outcome.Vacuumed count) h = h
+  ends_along found course whole (outcome.Unlocked count) h = h
+  ends_along found course whole (outcome.Listed names) h = h
   ends_along found course whole (outcome.Refused r) h = h
   ends_along found course whole outcome.OutOfMemory h = h
 
@@ -214,26 +221,35 @@ module _ {F : Type 0} (codec : Codec F) (job : Job) where
   Well whole found (outcome.Deleted f) = ((text : List ℕ) × (job.command ≡ Delete text)) × (f ≡ frag_of_job job) × IsGot job found whole × (refused_in found job.command ≡ None)
   Well whole found (outcome.Read answer) = ((from : ℕ) × (to : ℕ) × (query : Query) × (job.command ≡ Read from to query)) × IsGot job found whole × (refused_in found job.command ≡ None)
   Well whole found (outcome.Consolidated f count) = (merge : Merge) × (found.merged ≡ Some merge) × (f ≡ merge.piece.head.frag) × IsMergeBy codec job found whole merge count
+  Well whole found (outcome.Vacuumed count) = (job.command ≡ Vacuum) × (count ≡ length found.swept) × RemovesBy job whole found.swept found.removed
+  Well whole found (outcome.Unlocked count) = ((seed : ℕ) × (lane : ℕ) × (job.command ≡ Unlock seed lane)) × (count ≡ length found.leases)
+  Well whole found (outcome.Listed names) = (job.command ≡ Fragments) × Contains whole (record { call = list_commits; reply = reply.Names names })
   Well whole found _ = ⊥
 
   -- a job that can end well can after a call more
-  well_stays : (seen : List Exchange) (found : Found) (x : Exchange) (o : Outcome) → Well seen found o → Well (seen ++ x ∷ []) found o
+  pub well_stays : (seen : List Exchange) (found : Found) (x : Exchange) (o : Outcome) → Well seen found o → Well (seen ++ x ∷ []) found o
   well_stays seen found x outcome.Created is = is
   well_stays seen found x (outcome.Evolved k) is = (is.0, is.1, got_stays job found seen (seen ++ x ∷ []) (among_more seen x) is.2, is.3)
   well_stays seen found x (outcome.Written f) is = (is.0, is.1, got_stays job found seen (seen ++ x ∷ []) (among_more seen x) is.2, is.3)
   well_stays seen found x (outcome.Deleted f) is = (is.0, is.1, got_stays job found seen (seen ++ x ∷ []) (among_more seen x) is.2, is.3)
   well_stays seen found x (outcome.Read answer) is = (is.0, got_stays job found seen (seen ++ x ∷ []) (among_more seen x) is.1, is.2)
   well_stays seen found x (outcome.Consolidated f count) (merge, some, named, is) = (merge, some, named, merge_stays codec job found seen (seen ++ x ∷ []) merge count (among_more seen x) is)
+  well_stays seen found x (outcome.Vacuumed count) is = (is.0, is.1, removed_stays job seen (seen ++ x ∷ []) found.swept found.removed (told_among seen (seen ++ x ∷ []) (among_more seen x)) is.2)
+  well_stays seen found x (outcome.Unlocked count) is = is
+  well_stays seen found x (outcome.Listed names) is = (is.0, among_more seen x _ is.1)
   well_stays seen found x _ is = absurd is
 
   -- a job that ends well at the end of its course ends along it
-  well_ended : (seen : List Exchange) (found : Found) (course : List Call) (xs : List Exchange) (o : Outcome) → Well (seen ++ xs) found o → Along (IsLookOf codec job found) seen course xs [] → Ends seen found course xs o
+  pub well_ended : (seen : List Exchange) (found : Found) (course : List Call) (xs : List Exchange) (o : Outcome) → Well (seen ++ xs) found o → Along (IsLookOf codec job found) seen course xs [] → Ends seen found course xs o
   well_ended seen found course xs outcome.Created is along = (along, is)
   well_ended seen found course xs (outcome.Evolved k) is along = (along, is.0, is.1, is.2, is.3)
   well_ended seen found course xs (outcome.Written f) is along = (along, is.0, is.1, is.2, is.3)
   well_ended seen found course xs (outcome.Deleted f) is along = (along, is.0, is.1, is.2, is.3)
   well_ended seen found course xs (outcome.Read answer) is along = (along, is.0, is.1, is.2)
   well_ended seen found course xs (outcome.Consolidated f count) is along = (along, is)
+  well_ended seen found course xs (outcome.Vacuumed count) is along = (along, is.0, is.1, is.2)
+  well_ended seen found course xs (outcome.Unlocked count) is along = (along, is.0, is.1)
+  well_ended seen found course xs (outcome.Listed names) is along = (along, is.0, is.1)
   well_ended seen found course xs _ is along = absurd is
 
   -- a call that lets the job go on, before calls along the rest of the course
@@ -245,6 +261,9 @@ module _ {F : Type 0} (codec : Codec F) (job : Job) where
   ends_before whole seen found course rest x xs (outcome.Deleted f) on next h = ((on, (rest, next, h.0)), h.1, h.2, h.3, h.4)
   ends_before whole seen found course rest x xs (outcome.Read answer) on next h = ((on, (rest, next, h.0)), h.1, h.2, h.3)
   ends_before whole seen found course rest x xs (outcome.Consolidated f count) on next h = ((on, (rest, next, h.0)), h.1)
+  ends_before whole seen found course rest x xs (outcome.Vacuumed count) on next h = ((on, (rest, next, h.0)), h.1, h.2, h.3)
+  ends_before whole seen found course rest x xs (outcome.Unlocked count) on next h = ((on, (rest, next, h.0)), h.1, h.2)
+  ends_before whole seen found course rest x xs (outcome.Listed names) on next h = ((on, (rest, next, h.0)), h.1, h.2)
   ends_before whole seen found course rest x xs (outcome.Refused r) on next h = (h.0, at_cons (IsLookOf codec job found) seen course rest x xs h.0 on next h.1, h.2)
   ends_before whole seen found course rest x xs outcome.OutOfMemory on next (inl h) = inl (h.0, (on, (rest, next, h.1)))
   ends_before whole seen found course rest x xs outcome.OutOfMemory on next (inr h) = inr (h.0, at_cons (IsLookOf codec job found) seen course rest x xs h.0 on next h.1)

@@ -17,7 +17,7 @@ use Rattle.ts_base.specs.declared.heads.Version.{Version}
 use Rattle.ts_commit.specs.declared.vacs.Planned.{Planned}
 use Rattle.ts_commit.specs.declared.vacs.Planned.TheVariants as planned
 use Rattle.ts_model.specs.declared.commands.Command.{Command}
-use Rattle.ts_model.specs.declared.commands.Command.TheVariants.{Create, Evolve, Write, Read, Delete, Consolidate}
+use Rattle.ts_model.specs.declared.commands.Command.TheVariants.{Create, Evolve, Write, Read, Delete, Consolidate, Vacuum, Unlock, Fragments}
 use Rattle.ts_model.specs.declared.states.Opened.{Opened}
 use Rattle.ts_law.specs.Courses.{Found, Merge, MergesFound, GotHead, GotNames, GotSchema, HasOpened, HasTaken, EachTaken, IsFramed, IsKeyThere, IsGot, IsNamedFor, IsOpened, IsFetched, IsUnderWay, IsListedIn, IsListedInside, IsCountingIn, IsMergeBy, PlansBy}
 
@@ -80,6 +80,9 @@ module _ {F : Type 0} (codec : Codec F) where
   named_stays (Write w) found a b head s among same = same
   named_stays (Read from to query) found a b head s among same = same
   named_stays (Delete text) found a b head s among same = same
+  named_stays Vacuum found a b head s among same = same
+  named_stays (Unlock seed lane) found a b head s among same = same
+  named_stays Fragments found a b head s among same = same
 
   -- a fragment that was opened
   pub opened_stays : (job : Job) (found : Found) (a b : List Exchange) (frag : FragKey) (opening : Result F ℕ) → AreAmong a b → IsOpened codec job found a frag opening → IsOpened codec job found b frag opening

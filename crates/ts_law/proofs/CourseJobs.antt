@@ -27,12 +27,12 @@ use Rattle.ts_model.specs.declared.states.State.{State}
 use Rattle.ts_model.specs.declared.states.NewObject.{NewObject}
 use Rattle.ts_model.specs.declared.states.State.TheVariants.{Creates, Seeks, Over}
 use Rattle.ts_model.specs.declared.states.Stage.TheVariants.{Works}
-use Rattle.ts_base.specs.declared.names.LeaseMode.TheVariants.{Shr}
+use Rattle.ts_base.specs.declared.names.LeaseMode.TheVariants.{Exc, Shr}
 use Rattle.ts_model.proofs.Asked.{asked-push, next_call}
 use Rattle.ts_model.proofs.Lacks.{no_memory_ends}
 use Rattle.ts_model.specs.declared.states.Creating.TheVariants.{PutsFrame, ComparesFrame, ListsDeclared}
 use Rattle.ts_model.specs.declared.states.Seeking.TheVariants.{ListsCommits, ListsSchemas}
-use Rattle.ts_model.specs.declared.commands.Command.TheVariants.{Create, Evolve, Write, Read, Delete, Consolidate}
+use Rattle.ts_model.specs.declared.commands.Command.TheVariants.{Create, Evolve, Write, Read, Delete, Consolidate, Vacuum, Unlock, Fragments}
 use Rattle.ts_model.specs.Codecs.{Codec, AsksLooks}
 use Rattle.ts_model.specs.Commands.{laid, piece_of}
 use Rattle.ts_model.specs.Jobs.{key_of, frag_of_job, written_as, refused_before}
@@ -40,9 +40,10 @@ use Rattle.ts_model.specs.Stages.{first_stage, goes_on, lease_of, stage_from, st
 use Rattle.ts_model.specs.Stops.{cuts}
 use Rattle.ts_model.specs.States.{Exchange, goes, begins, begun, refuse, unless_refused, get_schema, get_frame, list_schemas, list_commits, looked_into, committed_in, deletes_in, meets, commit_of, put_of, putting, puts_cells, schema_object_of, write_objects, frame_put, is_own_frame, nothing_listed, asks_for, reading_of, puts_delete, delete_object_of}
 use Rattle.ts_model.specs.Driven.{AskedFrom, EndsBy, MayAsk}
-use Rattle.ts_law.specs.Courses.{EndsUnder, IsCutAlong, IsCutOff, Found, cell_puts, evolve_puts, course_of, IsSchemaIn, IsFrameIn, SaysThere, IsGot, AreFound, LooksThere, IsLookOf, lets_on, refused_in, IsCause, EndsAlong, MayEndAs, MergesFound, delete_puts}
+use Rattle.ts_law.specs.Courses.{EndsUnder, IsCutAlong, IsCutOff, Found, cell_puts, evolve_puts, course_of, IsSchemaIn, IsFrameIn, SaysThere, IsGot, AreFound, LooksThere, IsLookOf, lets_on, refused_in, IsCause, EndsAlong, MayEndAs, delete_puts}
 use Rattle.ts_model.proofs.ListLemmas.{Contains-nil, Contains-here, Contains-only, filter-Contains}
-use Rattle.ts_law.proofs.CourseGrows.{among_more, merged_nothing}
+use Rattle.ts_law.proofs.CourseBacked.{AreBacked, IsIdle, backed_idle}
+use Rattle.ts_law.proofs.CourseGrows.{among_more}
 use Rattle.ts_law.proofs.LaidRefusals.{IsOfColumns, FailsByColumns, laid_fails}
 use Rattle.ts_model.specs.declared.queries.Ready.{Ready}
 use Rattle.ts_cond.specs.declared.query.Query.{Query}
@@ -53,7 +54,9 @@ use Rattle.ts_law.proofs.CourseCalls.{ends_along, Ends, WorkAsks, WorkEnds, Well
 use Rattle.ts_law.proofs.CourseReads.{follows_getting_vacs, reads_on}
 use Rattle.ts_law.proofs.CourseMerges.{merge_finds}
 use Rattle.ts_law.proofs.CourseLeased.{leased_cut, leased_finds}
-use Rattle.ts_law.proofs.CutOff.{as_if, found_before, merged_before, no_calls, unmade_of}
+use Rattle.ts_law.proofs.CourseSweeps.{sweep_finds}
+use Rattle.ts_law.proofs.CourseUnlocks.{commits_finds, unlock_finds}
+use Rattle.ts_law.proofs.CutOff.{as_if, found_before, backed_before, no_calls, unmade_of}
 use Rattle.ts_law.proofs.CourseStages.{bare_asks, bare_from, same_work}
 use Rattle.ts_law.proofs.CourseThere.{no_schema, no_frame, found_as, OfBytes, schemas_found}
 use Rattle.ts_base.specs.declared.names.Name.TheVariants as name
@@ -84,7 +87,7 @@ module _ {F : Type 0} (codec : Codec F) (any : Job) where
 
   -- a job found something, and its calls from a state on say so and end along its course
   abbrev Finds : Job → List Exchange → Outcome → State F → Type 0
-  Finds job xs end s = WorkAsks codec job s xs → WorkEnds codec job s xs end → (found : Found) × AreTold job found xs end × (found.merged ≡ None)
+  Finds job xs end s = WorkAsks codec job s xs → WorkEnds codec job s xs end → (found : Found) × AreTold job found xs end × IsIdle found
 
   -- a job with another command
   abbrev pub with : Command → Job
@@ -200,25 +203,25 @@ module _ {F : Type 0} (codec : Codec F) (any : Job) where
   evolve_finds : (change : Evolution) (xs : List Exchange) (end : Outcome) → Finds (with (Evolve change)) xs end (Seeks (ListsSchemas nothing_listed))
   evolve_finds change xs end a e =
       let (there, frame, goes_on) =
-      schemas_found codec (with (Evolve change)) refl (λ found seen c look. look) (λ found r. tt) (evolve_schema change) (evolve_frame change) (λ found. evolve_puts (with (Evolve change)) found change (evolution_fault (found.frame).domain (found.there).attrs change)) [] nothing_listed
+      schemas_found codec (with (Evolve change)) tt (λ found seen c look. look) (λ found r. tt) (evolve_schema change) (evolve_frame change) (λ found. evolve_puts (with (Evolve change)) found change (evolution_fault (found.frame).domain (found.there).attrs change)) [] nothing_listed
       (λ there frame seen x xs end since got says on look. evolve_works change there frame seen x xs end got says on look (evolution_fault frame.domain there.attrs change) refl) [] xs end (λ x at. at) in
-      (found_as there frame, goes_on a e, refl)
+      (found_as there frame, goes_on a e, (refl, refl, refl))
 
   -- a write
   write_finds : (w : WriteIn) (xs : List Exchange) (end : Outcome) → Finds (with (Write w)) xs end (Seeks (ListsSchemas nothing_listed))
   write_finds w xs end a e =
       let (there, frame, goes_on) =
-      schemas_found codec (with (Write w)) refl (λ found seen c look. look) (λ found r. tt) (write_schema w) (write_frame w) (λ found. cell_puts codec (with (Write w)) found (laid found.frame (found.there).attrs w)) [] nothing_listed
+      schemas_found codec (with (Write w)) tt (λ found seen c look. look) (λ found r. tt) (write_schema w) (write_frame w) (λ found. cell_puts codec (with (Write w)) found (laid found.frame (found.there).attrs w)) [] nothing_listed
       (λ there frame seen x xs end since got says on look. write_works w there frame seen x xs end got says on look (laid frame there.attrs w) refl (laid_fails frame there.attrs w)) [] xs end (λ x at. at) in
-      (found_as there frame, goes_on a e, refl)
+      (found_as there frame, goes_on a e, (refl, refl, refl))
 
   -- a delete
   delete_finds : (text : List ℕ) (xs : List Exchange) (end : Outcome) → Finds (with (Delete text)) xs end (Seeks (ListsSchemas nothing_listed))
   delete_finds text xs end a e =
       let (there, frame, goes_on) =
-      schemas_found codec (with (Delete text)) refl (λ found seen c look. look) (λ found r. tt) (delete_schema text) (delete_frame text) (λ found. delete_puts (with (Delete text)) (delete_condition found.frame (found.there).attrs text)) [] nothing_listed
+      schemas_found codec (with (Delete text)) tt (λ found seen c look. look) (λ found r. tt) (delete_schema text) (delete_frame text) (λ found. delete_puts (with (Delete text)) (delete_condition found.frame (found.there).attrs text)) [] nothing_listed
       (λ there frame seen x xs end since got says on look. delete_works text there frame seen x xs end got says on look (delete_condition frame there.attrs text) refl (delete_condition_fails frame there.attrs text)) [] xs end (λ x at. at) in
-      (found_as there frame, goes_on a e, refl)
+      (found_as there frame, goes_on a e, (refl, refl, refl))
 
   -- the calls after those before say what a job found, and end along a course
   abbrev AreAlong : Job → List Exchange → Found → List Call → List Exchange → Outcome → Type 0
@@ -226,11 +229,11 @@ module _ {F : Type 0} (codec : Codec F) (any : Job) where
 
   -- a read
   read_finds : AsksLooks codec → (from to : ℕ) (query : Query) (before xs : List Exchange) (end : Outcome) → WorkAsks codec (with (Read from to query)) (Seeks ListsCommits) xs → WorkEnds codec (with (Read from to query)) (Seeks ListsCommits) xs end
-      → (found : Found) × AreAlong (with (Read from to query)) before found (list_commits ∷ list_schemas ∷ []) xs end × MergesFound codec (with (Read from to query)) found (before ++ xs)
-  read_finds looks from to query before [] end a e = (found_as no_schema no_frame, goes_none codec (with (Read from to query)) before (found_as no_schema no_frame) (list_commits ∷ list_schemas ∷ []) end (Seeks ListsCommits) (λ o q. cc) a e, merged_nothing codec (with (Read from to query)) (found_as no_schema no_frame) (before ++ []) refl)
+      → (found : Found) × AreAlong (with (Read from to query)) before found (list_commits ∷ list_schemas ∷ []) xs end × AreBacked codec (with (Read from to query)) found (before ++ xs)
+  read_finds looks from to query before [] end a e = (found_as no_schema no_frame, goes_none codec (with (Read from to query)) before (found_as no_schema no_frame) (list_commits ∷ list_schemas ∷ []) end (Seeks ListsCommits) (λ o q. cc) a e, backed_idle codec (with (Read from to query)) (found_as no_schema no_frame) (before ++ []) (refl, refl, refl))
   read_finds looks from to query before (x ∷ xs) end a e =
       let (there, frame, follows) = by_reply x.reply in
-      (found_as there frame, goes_by codec (with (Read from to query)) before (found_as there frame) (list_commits ∷ list_schemas ∷ []) x xs end (Seeks ListsCommits) list_commits refl (λ same. follows) a e, merged_nothing codec job (found_as there frame) (before ++ x ∷ xs) refl)
+      (found_as there frame, goes_by codec (with (Read from to query)) before (found_as there frame) (list_commits ∷ list_schemas ∷ []) x xs end (Seeks ListsCommits) list_commits refl (λ same. follows) a e, backed_idle codec job (found_as there frame) (before ++ x ∷ xs) (refl, refl, refl))
     where
       job : Job
       job = with (Read from to query)
@@ -242,7 +245,7 @@ module _ {F : Type 0} (codec : Codec F) (any : Job) where
       by_reply (reply.Names names) =
           let y : Exchange = record { call = list_commits; reply = reply.Names names } in
           let (there, frame, later) =
-          schemas_found codec job refl (λ found seen c look. inl look) (λ found r. tt) (λ found k r is. tt) (λ found r is. tt) (λ found. []) (before ++ y ∷ []) (looked_into (Read from to query) names)
+          schemas_found codec job tt (λ found seen c look. inl look) (λ found r. tt) (λ found k r is. tt) (λ found r is. tt) (λ found. []) (before ++ y ∷ []) (looked_into (Read from to query) names)
           (λ there frame seen z zs end' since got says on look. read_works looks from to query names there frame seen z zs end' (since y (Contains-push before y)) got on look (ready_in frame there.attrs query) refl (ready_fails frame there.attrs query))
           (before ++ y ∷ []) xs end (λ z at. at) in
           (there, frame, follows_on codec job before (found_as there frame) (list_commits ∷ list_schemas ∷ []) (list_schemas ∷ []) y xs end (Seeks (ListsSchemas (looked_into (Read from to query) names))) tt refl (inr refl) later)
@@ -261,7 +264,7 @@ module _ {F : Type 0} (codec : Codec F) (any : Job) where
 
     -- what a create found
     abbrev found_by : Bool → Found
-    found_by taken = record { taken = taken; there = no_schema; frame = no_frame; merged = None }
+    found_by taken = record { taken = taken; there = no_schema; frame = no_frame; merged = None; leases = []; swept = []; removed = [] }
 
     -- after a call, the first schema is put
     first_follows : (taken : Bool) (seen : List Exchange) (course : List Call) (x : Exchange) (xs : List Exchange) (end : Outcome) → SaysThere (found_by taken) (Create f) x.call x.reply → IsTrue (lets_on x.call x.reply) → Next codec creating seen (found_by taken) course x.call (put_of first_object ∷ [])
@@ -307,10 +310,10 @@ module _ {F : Type 0} (codec : Codec F) (any : Job) where
 
     -- a create
     create_finds : (xs : List Exchange) (end : Outcome) → Finds creating xs end (Creates PutsFrame)
-    create_finds [] end a e = (found_by false, goes_none codec creating [] (found_by false) (course_of codec creating (found_by false)) end (Creates PutsFrame) (λ o q. cc) a e, refl)
+    create_finds [] end a e = (found_by false, goes_none codec creating [] (found_by false) (course_of codec creating (found_by false)) end (Creates PutsFrame) (λ o q. cc) a e, (refl, refl, refl))
     create_finds (x ∷ xs) end a e =
         let (taken, follows) = by_reply x.reply in
-        (found_by taken, goes_by codec creating [] (found_by taken) (course_of codec creating (found_by taken)) x xs end (Creates PutsFrame) (frame_put f) refl (λ same. follows) a e, refl)
+        (found_by taken, goes_by codec creating [] (found_by taken) (course_of codec creating (found_by taken)) x xs end (Creates PutsFrame) (frame_put f) refl (λ same. follows) a e, (refl, refl, refl))
       where
         FrameFor : Reply → Type 0
         FrameFor r = (taken : Bool) × Follows codec creating [] (found_by taken) (course_of codec creating (found_by taken)) (record { call = frame_put f; reply = r }) xs end (goes codec creating (Creates PutsFrame) r)
@@ -328,8 +331,11 @@ module _ {F : Type 0} (codec : Codec F) (any : Job) where
   begins_finds (Evolve change) none whole end = evolve_finds change whole end
   begins_finds (Write w) none whole end = write_finds w whole end
   begins_finds (Delete text) none whole end = delete_finds text whole end
+  begins_finds (Unlock seed lane) none whole end = unlock_finds codec any seed lane whole end
+  begins_finds Fragments none whole end = commits_finds codec any whole end
   begins_finds (Read from to query) none whole end = absurd (none-some _ (sym none))
   begins_finds (Consolidate from to limits) none whole end = absurd (none-some _ (sym none))
+  begins_finds Vacuum none whole end = absurd (none-some _ (sym none))
 
   -- the ends of its work
   bare_ends : (command : Command) → lease_of (with command) ≡ None → (whole : List Exchange) (end : Outcome) → (stage_from codec (with command) (Works (begun command)) whole ≡ Works (Over end)) ⊎ (end ≡ outcome.OutOfMemory) → WorkEnds codec (with command) (begun command) whole end
@@ -338,20 +344,20 @@ module _ {F : Type 0} (codec : Codec F) (any : Job) where
 
   -- a job without a lease
   pub bare_finds : (command : Command) → lease_of (with command) ≡ None → (whole : List Exchange) (end : Outcome) → AskedFrom codec (with command) (Works (begun command)) whole
-      → (stage_from codec (with command) (Works (begun command)) whole ≡ Works (Over end)) ⊎ (end ≡ outcome.OutOfMemory) → (found : Found) × AreFound (with command) found whole × MergesFound codec (with command) found whole × MayEndAs codec (with command) found whole end (refused_before command)
+      → (stage_from codec (with command) (Works (begun command)) whole ≡ Works (Over end)) ⊎ (end ≡ outcome.OutOfMemory) → (found : Found) × AreFound (with command) found whole × AreBacked codec (with command) found whole × MayEndAs codec (with command) found whole end (refused_before command)
   bare_finds command none whole end asked ends = by_refusal (refused_before command) (bare_asks codec (with command) none (begun command) whole asked) (bare_ends command none whole end ends)
     where
       under : (found : Found) → EndsAlong codec (with command) found (course_of codec (with command) found) whole end → EndsUnder codec (with command) found (lease_of (with command)) whole end
       under found h = subst (λ o. EndsUnder codec (with command) found o whole end) (sym none) h
 
       by_refusal : (r : Option Refusal) → WorkAsks codec (with command) (unless_refused (begins command) r) whole → WorkEnds codec (with command) (unless_refused (begins command) r) whole end
-          → (found : Found) × AreFound (with command) found whole × MergesFound codec (with command) found whole × MayEndAs codec (with command) found whole end r
+          → (found : Found) × AreFound (with command) found whole × AreBacked codec (with command) found whole × MayEndAs codec (with command) found whole end r
       by_refusal None a e =
           let (found, told, merged) = begins_finds command none whole end a e in
-          (found, told.0, merged_nothing codec (with command) found whole merged, under found (ends_along codec (with command) found (course_of codec (with command) found) whole end told.1))
+          (found, told.0, backed_idle codec (with command) found whole merged, under found (ends_along codec (with command) found (course_of codec (with command) found) whole end told.1))
       by_refusal (Some r) a e =
           let over = over_ends codec (with command) (outcome.Refused r) whole end a e in
-          (found_as no_schema no_frame, subst (AreFound (with command) (found_as no_schema no_frame)) (sym over.0) (All-nil (λ x. SaysThere (found_as no_schema no_frame) command x.call x.reply)), merged_nothing codec (with command) (found_as no_schema no_frame) whole refl, over)
+          (found_as no_schema no_frame, subst (AreFound (with command) (found_as no_schema no_frame)) (sym over.0) (All-nil (λ x. SaysThere (found_as no_schema no_frame) command x.call x.reply)), backed_idle codec (with command) (found_as no_schema no_frame) whole (refl, refl, refl), over)
 
   -- how a job without a lease ended
   bare_by : (command : Command) (whole : List Exchange) (end : Outcome) → first_stage {F = F} (with command) ≡ Works (begun command) → EndsBy codec (with command) whole end
@@ -361,17 +367,20 @@ module _ {F : Type 0} (codec : Codec F) (any : Job) where
 
   -- a job of any command
   pub begun_finds : AsksLooks codec → (command : Command) (whole : List Exchange) (end : Outcome) → AskedFrom codec (with command) (first_stage (with command)) whole → EndsBy codec (with command) whole end
-      → (found : Found) × AreFound (with command) found whole × MergesFound codec (with command) found whole × MayEndAs codec (with command) found whole end (refused_before command)
-  begun_finds looks (Read from to query) whole end asked ends = leased_finds codec (with (Read from to query)) Shr refl refl (λ found c r. tt) (found_as no_schema no_frame) refl (read_finds looks from to query) whole end asked ends
-  begun_finds looks (Consolidate from to limits) whole end asked ends = leased_finds codec (with (Consolidate from to limits)) Shr refl refl (λ found c r. tt) (found_as no_schema no_frame) refl (merge_finds codec any looks from to limits) whole end asked ends
+      → (found : Found) × AreFound (with command) found whole × AreBacked codec (with command) found whole × MayEndAs codec (with command) found whole end (refused_before command)
+  begun_finds looks (Read from to query) whole end asked ends = leased_finds codec (with (Read from to query)) Shr refl refl (λ found c r. tt) (found_as no_schema no_frame) (refl, refl, refl) (read_finds looks from to query) whole end asked ends
+  begun_finds looks (Consolidate from to limits) whole end asked ends = leased_finds codec (with (Consolidate from to limits)) Shr refl refl (λ found c r. tt) (found_as no_schema no_frame) (refl, refl, refl) (merge_finds codec any looks from to limits) whole end asked ends
+  begun_finds looks Vacuum whole end asked ends = leased_finds codec (with Vacuum) Exc refl refl (λ found c r. tt) (found_as no_schema no_frame) (refl, refl, refl) (sweep_finds codec any) whole end asked ends
   begun_finds looks (Create f) whole end asked ends = bare_finds (Create f) refl whole end asked (bare_by (Create f) whole end refl ends)
   begun_finds looks (Evolve change) whole end asked ends = bare_finds (Evolve change) refl whole end asked (bare_by (Evolve change) whole end refl ends)
   begun_finds looks (Write w) whole end asked ends = bare_finds (Write w) refl whole end asked (bare_by (Write w) whole end refl ends)
   begun_finds looks (Delete text) whole end asked ends = bare_finds (Delete text) refl whole end asked (bare_by (Delete text) whole end refl ends)
+  begun_finds looks (Unlock seed lane) whole end asked ends = bare_finds (Unlock seed lane) refl whole end asked (bare_by (Unlock seed lane) whole end refl ends)
+  begun_finds looks Fragments whole end asked ends = bare_finds Fragments refl whole end asked (bare_by Fragments whole end refl ends)
 
   -- a job without a lease that its stop cuts off
   bare_cut : (command : Command) → lease_of (with command) ≡ None → first_stage {F = F} (with command) ≡ Works (begun command) → (whole : List Exchange) (c : Call) → AskedFrom codec (with command) (first_stage (with command)) whole
-      → MayAsk codec (with command) (stage_of codec (with command) whole) c → cuts any.stop (length whole) c ≡ true → (found : Found) × AreFound (with command) found whole × MergesFound codec (with command) found whole × IsCutOff codec (with command) found whole
+      → MayAsk codec (with command) (stage_of codec (with command) whole) c → cuts any.stop (length whole) c ≡ true → (found : Found) × AreFound (with command) found whole × AreBacked codec (with command) found whole × IsCutOff codec (with command) found whole
   bare_cut command none first whole c asked may cut =
       let begins : AskedFrom codec (with command) (Works (begun command)) whole = subst (λ g. AskedFrom codec (with command) g whole) first asked in
       let at : stage_of codec (with command) whole ≡ Works (work_from codec (with command) (begun command) whole) = ap (λ g. stage_from codec (with command) g whole) first ∙ bare_from codec (with command) none (begun command) whole in
@@ -382,7 +391,7 @@ module _ {F : Type 0} (codec : Codec F) (any : Job) where
       bare_from codec (with command) none (begun command) (whole ++ as_if c ∷ [])
       ∙ ap Works (work_from-push (begun command) whole (as_if c) ∙ no_memory_ends F codec (with command) (work_from codec (with command) (begun command) whole) c asks_it) in
       let (found, told, merged, ended) = bare_finds command none (whole ++ as_if c ∷ []) outcome.OutOfMemory more (inl ends) in
-      (found, found_before (with command) found whole (as_if c) told, merged_before codec (with command) found whole c merged, inl (by_refusal found (refused_before command) refl ended))
+      (found, found_before (with command) found whole (as_if c) told, backed_before codec (with command) found whole c merged, inl (by_refusal found (refused_before command) refl ended))
     where
       work_from-push : (s : State F) (xs : List Exchange) (x : Exchange) → work_from codec (with command) s (xs ++ x ∷ []) ≡ goes codec (with command) (work_from codec (with command) s xs) x.reply
       work_from-push s [] x = refl
@@ -397,10 +406,13 @@ module _ {F : Type 0} (codec : Codec F) (any : Job) where
 
   -- a job of any command that its stop cuts off
   pub begun_cut : AsksLooks codec → (command : Command) (whole : List Exchange) (c : Call) → AskedFrom codec (with command) (first_stage (with command)) whole → MayAsk codec (with command) (stage_of codec (with command) whole) c → cuts any.stop (length whole) c ≡ true
-      → (found : Found) × AreFound (with command) found whole × MergesFound codec (with command) found whole × IsCutOff codec (with command) found whole
-  begun_cut looks (Read from to query) whole c asked may cut = leased_cut codec (with (Read from to query)) Shr refl refl (λ found c r. tt) (found_as no_schema no_frame) refl (read_finds looks from to query) whole c asked may cut
-  begun_cut looks (Consolidate from to limits) whole c asked may cut = leased_cut codec (with (Consolidate from to limits)) Shr refl refl (λ found c r. tt) (found_as no_schema no_frame) refl (merge_finds codec any looks from to limits) whole c asked may cut
+      → (found : Found) × AreFound (with command) found whole × AreBacked codec (with command) found whole × IsCutOff codec (with command) found whole
+  begun_cut looks (Read from to query) whole c asked may cut = leased_cut codec (with (Read from to query)) Shr refl refl (λ found c r. tt) (found_as no_schema no_frame) (refl, refl, refl) (read_finds looks from to query) whole c asked may cut
+  begun_cut looks (Consolidate from to limits) whole c asked may cut = leased_cut codec (with (Consolidate from to limits)) Shr refl refl (λ found c r. tt) (found_as no_schema no_frame) (refl, refl, refl) (merge_finds codec any looks from to limits) whole c asked may cut
+  begun_cut looks Vacuum whole c asked may cut = leased_cut codec (with Vacuum) Exc refl refl (λ found c r. tt) (found_as no_schema no_frame) (refl, refl, refl) (sweep_finds codec any) whole c asked may cut
   begun_cut looks (Create f) whole c asked may cut = bare_cut (Create f) refl refl whole c asked may cut
   begun_cut looks (Evolve change) whole c asked may cut = bare_cut (Evolve change) refl refl whole c asked may cut
   begun_cut looks (Write w) whole c asked may cut = bare_cut (Write w) refl refl whole c asked may cut
   begun_cut looks (Delete text) whole c asked may cut = bare_cut (Delete text) refl refl whole c asked may cut
+  begun_cut looks (Unlock seed lane) whole c asked may cut = bare_cut (Unlock seed lane) refl refl whole c asked may cut
+  begun_cut looks Fragments whole c asked may cut = bare_cut Fragments refl refl whole c asked may cut

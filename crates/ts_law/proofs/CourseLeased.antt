@@ -1,5 +1,5 @@
 -- A job that works under a lease goes along its course, and ends by it.
-use Rattle.std.proofs.Common.{length, ◌∙◌, ◌⊎◌, ◌≡◌, Bool, true, false, cond, not, ◌&&◌, ◌||◌, List, [], ◌∷◌, ◌++◌, Some, None, refl, sym, ap, inl, inr, subst}
+use Rattle.std.proofs.Common.{length, ◌∙◌, ◌⊎◌, ◌≡◌, Bool, true, false, cond, ◌&&◌, ◌||◌, List, [], ◌∷◌, ◌++◌, Some, None, refl, sym, ap, inl, inr, subst}
 use Rattle.std.specs.Prelude.{option_map}
 use Rattle.std.specs.Option.{is_some, option_map_or}
 use Rattle.std.proofs.lemmas.Bool.{true≢false}
@@ -22,15 +22,16 @@ use Rattle.ts_model.specs.declared.states.State.TheVariants.{Over}
 use Rattle.ts_model.specs.Codecs.{Codec}
 use Rattle.ts_model.specs.Driven.{AskedFrom, EndsBy, MayAsk, lacks_after, lacks_from}
 use Rattle.ts_model.specs.Jobs.{key_of, refused_before}
-use Rattle.ts_model.specs.Stages.{after_lease, after_leases, begins_at, end_at, first_stage, goes_on, holds_lease, is_done, is_leased, is_release, is_removal, lease_of, list_leases, mode_of, on_verdict, put_lease, released, releases, settled, stage_asks, stage_from, stage_goes, stage_of, stage_takes_memory}
-use Rattle.ts_model.specs.States.{Exchange, begun, end_by, refuse}
+use Rattle.ts_model.specs.Stages.{after_lease, after_leases, begins_at, end_at, first_stage, goes_on, holds_lease, is_leased, is_release, is_removal, lease_of, mode_of, on_verdict, put_lease, released, releases, settled, stage_asks, stage_asks_memory, stage_from, stage_goes, stage_of, stage_takes_memory}
+use Rattle.ts_model.specs.States.{Exchange, begun, end_by, list_leases, refuse}
 use Rattle.ts_model.specs.Stops.{cuts}
 use Rattle.ts_model.proofs.Lacks.{lacks-push, other_goes}
-use Rattle.ts_law.specs.Courses.{Along, AreFound, EndsAlong, EndsUnder, FindsOpposed, Found, HasPut, HeedsLeases, IsCutOff, IsLookOf, LeaseEnds, MayEndAs, MergesFound, NotBegun, NotOwn, Removed, SaysThere, course_by, course_of, removal, under_lease}
+use Rattle.ts_model.proofs.Asked.{gives_up_held}
+use Rattle.ts_law.specs.Courses.{Along, AreFound, EndsAlong, EndsUnder, FindsOpposed, Found, HasPut, HeedsLeases, IsCutOff, IsLookOf, LeaseEnds, MayEndAs, NotBegun, NotOwn, Removed, SaysThere, course_by, course_of, removal, under_lease}
 use Rattle.ts_law.proofs.CourseCalls.{Ends, WorkAsks, WorkEnds, ends_along, ends_cons, follows_ended, follows_refused, work_from}
-use Rattle.ts_law.proofs.CourseGrows.{merged_nothing, merged_stays}
+use Rattle.ts_law.proofs.CourseBacked.{AreBacked, IsIdle, backed_idle, backed_stays}
 use Rattle.ts_law.proofs.CourseStages.{Closed, IsWas, Open, OpenAsks, Split, open-push, open_from, releasing_asks, settled_leased, split, work_open, work_was}
-use Rattle.ts_law.proofs.CutOff.{as_if, found_before, last_same, merged_before, no_calls, Unmade, unmade_of}
+use Rattle.ts_law.proofs.CutOff.{as_if, found_before, last_same, backed_before, no_calls, Unmade, unmade_of}
 use Rattle.ts_law.proofs.KeptLaws.{no_removal}
 use Rattle.ts_law.proofs.LeaseSteps.{release_is}
 use Rattle.ts_base.specs.declared.names.Name.TheVariants as name
@@ -44,8 +45,8 @@ not_taken : reply.NoMemory ≡ reply.Taken → ⊥
 not_taken e = cc
 
 -- a job that has a lease, says nothing of what it finds where it makes calls, and whose calls at its work go along its course
-module _ {F : Type 0} (codec : Codec F) (job : Job) (mode : LeaseMode) (leased : mode_of job.command ≡ Some mode) (unrefused : refused_before job.command ≡ None) (silent : (found : Found) (c : Call) (r : Reply) → SaysThere found job.command c r) (none_found : Found) (none_merged : none_found.merged ≡ None)
-    (work_finds : (before xs : List Exchange) (end : Outcome) → WorkAsks codec job (begun job.command) xs → WorkEnds codec job (begun job.command) xs end → (found : Found) × (AreFound job found xs × Ends codec job before found (course_by codec job found job.command) xs end) × MergesFound codec job found (before ++ xs)) where
+module _ {F : Type 0} (codec : Codec F) (job : Job) (mode : LeaseMode) (leased : mode_of job.command ≡ Some mode) (unrefused : refused_before job.command ≡ None) (silent : (found : Found) (c : Call) (r : Reply) → SaysThere found job.command c r) (none_found : Found) (none_idle : IsIdle none_found)
+    (work_finds : (before xs : List Exchange) (end : Outcome) → WorkAsks codec job (begun job.command) xs → WorkEnds codec job (begun job.command) xs end → (found : Found) × (AreFound job found xs × Ends codec job before found (course_by codec job found job.command) xs end) × AreBacked codec job found (before ++ xs)) where
   -- its lease
   abbrev own_lease : Name
   own_lease = name.Lease (key_of job) mode
@@ -69,8 +70,8 @@ module _ {F : Type 0} (codec : Codec F) (job : Job) (mode : LeaseMode) (leased :
   removes r = ap (λ o. option_map_or (is_removal (call.Remove own_lease)) o false) some ∙ (name_decides own_lease own_lease).1 refl
 
   -- memory can be wanting after a call that does not remove the lease
-  lacks_other : (before : Bool) (stage : Stage F) (x : Exchange) → is_release job x.call ≡ false → lacks_after codec job before stage x ≡ (stage_takes_memory stage || not (is_done (stage_goes codec job stage x.reply)))
-  lacks_other before stage x other = ap (λ b. cond b before (stage_takes_memory stage || not (is_done (cond b (releases stage (lease_of job) x.reply) (stage_goes codec job stage x.reply))))) other
+  lacks_other : (before : Bool) (stage : Stage F) (x : Exchange) → is_release job x.call ≡ false → lacks_after codec job before stage x ≡ (stage_takes_memory stage || stage_asks_memory (stage_goes codec job stage x.reply))
+  lacks_other before stage x other = ap (λ b. cond b before (stage_takes_memory stage || stage_asks_memory (cond b (releases stage (lease_of job) x.reply) (stage_goes codec job stage x.reply)))) other
 
   -- the put of it, with its reply
   abbrev lease_put : Reply → Exchange
@@ -80,8 +81,8 @@ module _ {F : Type 0} (codec : Codec F) (job : Job) (mode : LeaseMode) (leased :
   abbrev leases_listed : Reply → Exchange
   leases_listed r = record { call = list_leases; reply = r }
 
-  -- after the listing of the leases memory can be wanting where the job goes on
-  lacks_two : (y : Exchange) → is_release job y.call ≡ false → lacks_from codec job true (PutsLease own_lease) (lease_put reply.Made ∷ y ∷ []) ≡ not (is_done {F = F} (after_leases own_lease (begun job.command) y.reply))
+  -- after the listing of the leases memory can be wanting where the next call asks memory
+  lacks_two : (y : Exchange) → is_release job y.call ≡ false → lacks_from codec job true (PutsLease own_lease) (lease_put reply.Made ∷ y ∷ []) ≡ stage_asks_memory {F = F} (after_leases own_lease (begun job.command) y.reply)
   lacks_two y other =
       let first : goes_on codec job (PutsLease own_lease) (lease_put reply.Made) ≡ ListsLeases own_lease = other_goes codec job (PutsLease own_lease) (lease_put reply.Made) put_other in
       let before = lacks_after codec job true (PutsLease own_lease) (lease_put reply.Made) in
@@ -97,10 +98,10 @@ module _ {F : Type 0} (codec : Codec F) (job : Job) (mode : LeaseMode) (leased :
 
   -- something was found, and the calls up to the removal of the lease may come to this end
   abbrev ComesTo : List Exchange → Outcome → Type 0
-  ComesTo front was = (found : Found) × AreFound job found front × EndsAlong codec job found (leased_course found) front was × MergesFound codec job found front
+  ComesTo front was = (found : Found) × AreFound job found front × EndsAlong codec job found (leased_course found) front was × AreBacked codec job found front
 
   -- an end along the course is one
-  comes_to : (found : Found) (front : List Exchange) (was : Outcome) → AreFound job found front × Ends codec job [] found (leased_course found) front was → MergesFound codec job found front → ComesTo front was
+  comes_to : (found : Found) (front : List Exchange) (was : Outcome) → AreFound job found front × Ends codec job [] found (leased_course found) front was → AreBacked codec job found front → ComesTo front was
   comes_to found front was h merged = (found, h.0, ends_along codec job found (leased_course found) front was h.1, merged)
 
   -- where a listing of the leases showed one that opposes its own, it was the last call, the lease is removed next, and no memory was wanting
@@ -179,13 +180,13 @@ module _ {F : Type 0} (codec : Codec F) (job : Job) (mode : LeaseMode) (leased :
           comes_to found (lease_put reply.Made ∷ y ∷ []) was (
             All-cons (λ z. SaysThere found job.command z.call z.reply) (lease_put reply.Made) (y ∷ []) (silent found (put_lease own_lease) reply.Made) told.0,
             ends_cons codec job [] found (leased_course found) (list_leases ∷ works_course found) (lease_put reply.Made) (y ∷ []) was refl (inr refl) told.1,
-          ) (merged_nothing codec job found (lease_put reply.Made ∷ y ∷ []) none_merged))
+          ) (backed_idle codec job found (lease_put reply.Made ∷ y ∷ []) none_idle))
           (λ more another (put, others, same, opposes).
           let same_names : others ≡ names = one_names (lease_put reply.Made) put others more [] same in
           let held : verdict.Held other ≡ verdict.Held another = sym is ∙ ap (λ ns. verdict_in ns own_lease) (sym same_names) ∙ opposes in
           let one : other ≡ another = cc in
           let last : more ≡ [] = cc in
-          (last, at ∙ ap (λ o. Releases own_lease (outcome.Refused (refusal.Leased o))) one, lacks_two y list_other ∙ ap (λ g. not (is_done g)) at)))
+          (last, at ∙ ap (λ o. Releases own_lease (outcome.Refused (refusal.Leased o))) one, lacks_two y list_other ∙ ap stage_asks_memory at)))
   after_list r ys asked =
       let none = releasing_asks codec job own_lease some (end_by list_leases r) ys asked in
       subst (λ t. Began (lease_put reply.Made ∷ leases_listed r ∷ t)) (sym none)
@@ -196,7 +197,7 @@ module _ {F : Type 0} (codec : Codec F) (job : Job) (mode : LeaseMode) (leased :
       comes_to found (lease_put reply.Made ∷ leases_listed r ∷ []) was (
         All-cons (λ z. SaysThere found job.command z.call z.reply) (lease_put reply.Made) (leases_listed r ∷ []) (silent found (put_lease own_lease) reply.Made) told.0,
         ends_cons codec job [] found (leased_course found) (list_leases ∷ works_course found) (lease_put reply.Made) (leases_listed r ∷ []) was refl (inr refl) told.1,
-      ) (merged_nothing codec job found (lease_put reply.Made ∷ leases_listed r ∷ []) none_merged))
+      ) (backed_idle codec job found (lease_put reply.Made ∷ leases_listed r ∷ []) none_idle))
       (none_listed (lease_put reply.Made ∷ leases_listed r ∷ [])
       (λ put names more same.
       let one : leases_listed r ≡ leases_listed (reply.Names names) = cc in
@@ -213,7 +214,7 @@ module _ {F : Type 0} (codec : Codec F) (job : Job) (mode : LeaseMode) (leased :
       comes_to found (lease_put reply.Made ∷ []) was (
         All-cons (λ z. SaysThere found job.command z.call z.reply) (lease_put reply.Made) [] (silent found (put_lease own_lease) reply.Made) (All-nil (λ z. SaysThere found job.command z.call z.reply)),
         subst (Ends codec job [] found (leased_course found) (lease_put reply.Made ∷ [])) (sym none) (inl (list_leases ∷ works_course found, (refl, (list_leases ∷ works_course found, inr refl, refl)))),
-      ) (merged_nothing codec job found (lease_put reply.Made ∷ []) none_merged))
+      ) (backed_idle codec job found (lease_put reply.Made ∷ []) none_idle))
       (none_listed (lease_put reply.Made ∷ []) (λ put names more same. cc))
   after_put reply.Made (y ∷ ys) (asked, other, rest) =
       subst (λ c. Began (lease_put reply.Made ∷ record { call = c; reply = y.reply } ∷ ys)) (same_Some list_leases y.call asked) (after_list y.reply ys rest)
@@ -226,7 +227,7 @@ module _ {F : Type 0} (codec : Codec F) (job : Job) (mode : LeaseMode) (leased :
       (λ was is_was.
       let found = none_found in
       comes_to found (lease_put r ∷ []) was
-      (follows_ended codec job [] found (leased_course found) (list_leases ∷ works_course found) (put_lease own_lease) r [] was tt (silent found (put_lease own_lease) r) (inr refl) tt (of_was (end_by (put_lease own_lease) r) was is_was)) (merged_nothing codec job found (lease_put r ∷ []) none_merged))
+      (follows_ended codec job [] found (leased_course found) (list_leases ∷ works_course found) (put_lease own_lease) r [] was tt (silent found (put_lease own_lease) r) (inr refl) tt (of_was (end_by (put_lease own_lease) r) was is_was)) (backed_idle codec job found (lease_put r ∷ []) none_idle))
       (none_listed (lease_put r ∷ []) (λ put names more same. cc)))
 
   -- the calls before the removal of the lease
@@ -237,20 +238,20 @@ module _ {F : Type 0} (codec : Codec F) (job : Job) (mode : LeaseMode) (leased :
   -- a lease that is not put is not removed
   none_before : MayAsk codec job (PutsLease own_lease) (call.Remove own_lease) → ⊥
   none_before (inl asked) = no_removal own_lease own_lease [] (sym (same_Some (put_lease own_lease) (call.Remove own_lease) asked))
-  none_before (inr gives_up) = true≢false (sym gives_up.1 ∙ ap (λ o. is_some o && false) some)
+  none_before (inr gives_up) = true≢false (sym (gives_up_held {F = F} job (PutsLease own_lease) gives_up.1) ∙ ap (λ o. is_some o && false) some)
 
   -- nor does a job that is over make a call
   none_over : (end : Outcome) (c : Call) → MayAsk codec job (Works (Over end)) c → ⊥
   none_over end c (inl asked) = none-some c asked
-  none_over end c (inr gives_up) = true≢false (sym gives_up.1 ∙ ap (λ o. is_some o && false) some)
+  none_over end c (inr gives_up) = true≢false (sym (gives_up_held {F = F} job (Works (Over end)) gives_up.1) ∙ ap (λ o. is_some o && false) some)
 
   -- where its lease is removed at the end of its calls, the job may end so
   removed_ends : (front : List Exchange) (r : Reply) (was end : Outcome) → HasPut own_lease front → HeedsLeases own_lease front was → ComesTo front was → end ≡ released own_lease was r
-      → (found : Found) × AreFound job found (front ++ removal own_lease r ∷ []) × MergesFound codec job found (front ++ removal own_lease r ∷ []) × LeaseEnds codec job found own_lease (front ++ removal own_lease r ∷ []) end
+      → (found : Found) × AreFound job found (front ++ removal own_lease r ∷ []) × AreBacked codec job found (front ++ removal own_lease r ∷ []) × LeaseEnds codec job found own_lease (front ++ removal own_lease r ∷ []) end
   removed_ends front r was end put heeds (found, told, ended, merged) is = (
     found,
     All-push (λ z. SaysThere found job.command z.call z.reply) front (removal own_lease r) told (silent found (call.Remove own_lease) r),
-    merged_stays codec job found front (removal own_lease r ∷ []) merged,
+    backed_stays codec job found front (removal own_lease r ∷ []) merged,
     Removed front r was refl put heeds (subst (λ course. EndsAlong codec job found course front was) (sym (course_is found)) ended) is,
   )
 
@@ -276,7 +277,7 @@ module _ {F : Type 0} (codec : Codec F) (job : Job) (mode : LeaseMode) (leased :
 
   -- the job ends as one may that has a lease
   pub leased_finds : (whole : List Exchange) (end : Outcome) → AskedFrom codec job (first_stage job) whole → EndsBy codec job whole end
-      → (found : Found) × AreFound job found whole × MergesFound codec job found whole × MayEndAs codec job found whole end (refused_before job.command)
+      → (found : Found) × AreFound job found whole × AreBacked codec job found whole × MayEndAs codec job found whole end (refused_before job.command)
   leased_finds whole end asked ends =
       let (found, told, merged, ended) = by_split (split codec job own_lease some (PutsLease own_lease) whole (subst (λ g. AskedFrom codec job g whole) first_is asked)) in
       (found, told, merged, subst (MayEndAs codec job found whole end) (sym unrefused) (subst (λ o. EndsUnder codec job found o whole end) (sym some) ended))
@@ -295,7 +296,7 @@ module _ {F : Type 0} (codec : Codec F) (job : Job) (mode : LeaseMode) (leased :
       not_held g held over = true≢false (sym held ∙ ap is_leased over)
 
       Comes : List Exchange → Type 0
-      Comes front = (found : Found) × AreFound job found front × MergesFound codec job found front × LeaseEnds codec job found own_lease front end
+      Comes front = (found : Found) × AreFound job found front × AreBacked codec job found front × LeaseEnds codec job found own_lease front end
 
       taken_ends : (front : List Exchange) → front ≡ lease_put reply.Taken ∷ [] → led_to front ≡ g_of front → EndsLed front end → end ≡ outcome.Refused (refusal.Taken own_lease)
       taken_ends front is same (inl over) = one_end (outcome.Refused (refusal.Taken own_lease)) end (sym (ap g_of is) ∙ sym same ∙ over)
@@ -309,8 +310,8 @@ module _ {F : Type 0} (codec : Codec F) (job : Job) (mode : LeaseMode) (leased :
       at_first front is (inr short) = short.0
 
       by_open : (front : List Exchange) → led_to front ≡ g_of front → EndsLed front end → Began front → Comes front
-      by_open front same e (NoCall none) = (none_found, quiet front, merged_nothing codec job none_found front none_merged, NotBegun none (at_first front none e))
-      by_open front same e (WasTaken is) = (none_found, quiet front, merged_nothing codec job none_found front none_merged, NotOwn is (taken_ends front is same e))
+      by_open front same e (NoCall none) = (none_found, quiet front, backed_idle codec job none_found front none_idle, NotBegun none (at_first front none e))
+      by_open front same e (WasTaken is) = (none_found, quiet front, backed_idle codec job none_found front none_idle, NotOwn is (taken_ends front is same e))
       by_open front same (inl over) (HeldLease put held comes heeds) = absurd (not_held (g_of front) held (sym same ∙ over))
       by_open front same (inr short) (HeldLease put held comes heeds) = absurd (true≢false (sym (ap is_leased same ∙ held) ∙ short.1))
 
@@ -319,7 +320,7 @@ module _ {F : Type 0} (codec : Codec F) (job : Job) (mode : LeaseMode) (leased :
           let before = lacks_from codec job true (PutsLease own_lease) front in
           let here = led_to front in
           let x = removal own_lease r in
-          sym (lacks-push codec job true (PutsLease own_lease) front x ∙ ap (λ b. cond b before (stage_takes_memory here || not (is_done (goes_on codec job here x)))) (removes r)) ∙ lacks
+          sym (lacks-push codec job true (PutsLease own_lease) front x ∙ ap (λ b. cond b before (stage_takes_memory here || stage_asks_memory (goes_on codec job here x))) (removes r)) ∙ lacks
 
       by_closed : (front : List Exchange) (r : Reply) → MayAsk codec job (g_of front) (call.Remove own_lease) → led_to (front ++ removal own_lease r ∷ []) ≡ Works (Over (released own_lease (end_at (g_of front)) r))
           → EndsLed (front ++ removal own_lease r ∷ []) end → Began front → Comes (front ++ removal own_lease r ∷ [])
@@ -337,7 +338,7 @@ module _ {F : Type 0} (codec : Codec F) (job : Job) (mode : LeaseMode) (leased :
 
   -- the job is cut off by its stop
   pub leased_cut : (whole : List Exchange) (c : Call) → AskedFrom codec job (first_stage job) whole → MayAsk codec job (stage_of codec job whole) c → cuts job.stop (length whole) c ≡ true
-      → (found : Found) × AreFound job found whole × MergesFound codec job found whole × IsCutOff codec job found whole
+      → (found : Found) × AreFound job found whole × AreBacked codec job found whole × IsCutOff codec job found whole
   leased_cut whole c asked asks_it cut = by_split (split codec job own_lease some (PutsLease own_lease) whole (subst (λ g. AskedFrom codec job g whole) first_is asked))
     where
       may : MayAsk codec job (led_to whole) c
@@ -347,7 +348,7 @@ module _ {F : Type 0} (codec : Codec F) (job : Job) (mode : LeaseMode) (leased :
       g_of front = open_from codec job own_lease some (PutsLease own_lease) front
 
       Cut : Type 0
-      Cut = (found : Found) × AreFound job found whole × MergesFound codec job found whole × IsCutOff codec job found whole
+      Cut = (found : Found) × AreFound job found whole × AreBacked codec job found whole × IsCutOff codec job found whole
 
       along_course : (found : Found) (course : List Call) → course_of codec job found ≡ course → (left : List Call) → Along (IsLookOf codec job found) [] course whole left → Along (IsLookOf codec job found) [] (course_of codec job found) whole left
       along_course found course is left h = subst (λ k. Along (IsLookOf codec job found) [] k whole left) (sym is) h
@@ -371,12 +372,12 @@ module _ {F : Type 0} (codec : Codec F) (job : Job) (mode : LeaseMode) (leased :
             }),
           )
 
-      cut_along : (x : Exchange) → x ≡ as_if c → (found : Found) → AreFound job found (whole ++ x ∷ []) → EndsAlong codec job found (leased_course found) (whole ++ x ∷ []) outcome.OutOfMemory → MergesFound codec job found (whole ++ x ∷ []) → Heeds (whole ++ x ∷ []) → Cut
+      cut_along : (x : Exchange) → x ≡ as_if c → (found : Found) → AreFound job found (whole ++ x ∷ []) → EndsAlong codec job found (leased_course found) (whole ++ x ∷ []) outcome.OutOfMemory → AreBacked codec job found (whole ++ x ∷ []) → Heeds (whole ++ x ∷ []) → Cut
       cut_along x is found told ended merged heeds =
           let u : Unmade (IsLookOf codec job found) (leased_course found) whole c = unmade_of (IsLookOf codec job found) (leased_course found) whole c (subst (λ y. EndsAlong codec job found (leased_course found) (whole ++ y ∷ []) outcome.OutOfMemory) is ended) in (
             found,
             found_before job found whole x told,
-            merged_before codec job found whole c (subst (λ y. MergesFound codec job found (whole ++ y ∷ [])) is merged),
+            backed_before codec job found whole c (subst (λ y. AreBacked codec job found (whole ++ y ∷ [])) is merged),
             inl (record {
               begins = unrefused;
               left = u.0;

@@ -45,6 +45,7 @@ use Rattle.ts_model.proofs.KeyLemmas.{key_itself, key_same}
 use Rattle.ts_model.proofs.ListLemmas.{Contains-cons, Contains-here, Contains-nil, Contains-only, Contains-there, filter-Contains, find-Some, find_member}
 use Rattle.ts_law.specs.Courses.{AreFound, AtFrame, AtNamed, AtNames, AtOpened, BreaksPart, EachTaken, Found, GotNames, GotSchema, HasOpened, HasTaken, InSource, IsCause, IsConsolidate, IsFramed, IsKeyThere, IsListedInside, IsLookBy, IsLookOf, IsMergeBy, IsNamedFor, IsOpened, IsUnderWay, LooksForSources, MayFetch, Merge, MergesFound, PlansBy, SaysThere, lets_on, merge_puts, wants_of}
 use Rattle.ts_law.proofs.CourseCalls.{Ends, Follows, Goes, Well, WorkAsks, WorkEnds, follows_ended, follows_none, follows_on, follows_putting, follows_refused, goes_by, goes_none, item_in, lets_bytes, lets_length, lets_memory, look_leaves, parts_apart, puts_go}
+use Rattle.ts_law.proofs.CourseBacked.{AreBacked}
 use Rattle.ts_law.proofs.CourseGrows.{AreAmong, among_more, each_stays, merged_nothing, names_stay, schema_stays, way_stays}
 use Rattle.ts_law.proofs.CourseReads.{fetched_on}
 use Rattle.ts_law.proofs.CourseThere.{no_frame, no_schema}
@@ -62,7 +63,7 @@ use Rattle.ts_model.specs.declared.states.Merging.TheVariants as merging
 -- ---- lists
 
 -- the first so many of all are all of them
-all_of_them : {X Y : Type 0} (f : X → Y) (xs : List X) (ys : List Y) → list_map f xs ≡ take (length xs) ys → nat_lt (length xs) (length ys) ≡ false → list_map f xs ≡ ys
+pub all_of_them : {X Y : Type 0} (f : X → Y) (xs : List X) (ys : List Y) → list_map f xs ≡ take (length xs) ys → nat_lt (length xs) (length ys) ≡ false → list_map f xs ≡ ys
 all_of_them f xs ys are enough = are ∙ take_all (length xs) ys (ltb-false (length xs) (length ys) enough)
 
 -- the items behind one
@@ -71,7 +72,7 @@ behind [] x rest = refl
 behind (y ∷ before) x rest = behind before x rest
 
 -- with an item more there is one more
-one_longer : {X : Type 0} (xs : List X) (x : X) → length (xs ++ x ∷ []) ≡ suc (length xs)
+pub one_longer : {X : Type 0} (xs : List X) (x : X) → length (xs ++ x ∷ []) ≡ suc (length xs)
 one_longer [] x = refl
 one_longer (y ∷ xs) x = ap suc (one_longer xs x)
 
@@ -97,7 +98,7 @@ module _ {F : Type 0} (codec : Codec F) (job : Job) (looks : AsksLooks codec) (f
 
   -- what a consolidation found in an array of a frame: what it merged is what it came to put
   abbrev found_in : Frame → Option Merge → Found
-  found_in frame merged = record { taken = false; there = no_schema; frame = frame; merged = merged }
+  found_in frame merged = record { taken = false; there = no_schema; frame = frame; merged = merged; leases = []; swept = []; removed = [] }
 
   -- a look for sources is one of the job
   for_sources : (found : Found) (seen : List Exchange) (c : Call) → LooksForSources codec job found seen from to c → IsLookOf codec job found seen c
@@ -663,7 +664,7 @@ module _ {F : Type 0} (codec : Codec F) (any : Job) (looks : AsksLooks codec) (f
 
   -- what it found
   abbrev found_so : Frame → Option Merge → Found
-  found_so frame merged = record { taken = false; there = no_schema; frame = frame; merged = merged }
+  found_so frame merged = record { taken = false; there = no_schema; frame = frame; merged = merged; leases = []; swept = []; removed = [] }
 
   -- where it came to no puts it merged nothing
   nothing_so : (trace : List Exchange) → MergesFound codec merging_job (found_so no_frame None) trace
@@ -734,7 +735,7 @@ module _ {F : Type 0} (codec : Codec F) (any : Job) (looks : AsksLooks codec) (f
       by_key declared None holds = (
         no_frame,
         None,
-        rw holds (follows_refused codec merging_job seen (found_so no_frame None) (list_schemas ∷ []) [] (record { call = list_schemas; reply = reply.Names declared }) xs end (refusal.NoSchema (looked_at merging_job)) tt (inr refl) (refl, declared, refl, refl, holds)),
+        rw holds (follows_refused codec merging_job seen (found_so no_frame None) (list_schemas ∷ []) [] (record { call = list_schemas; reply = reply.Names declared }) xs end (refusal.NoSchema (looked_at merging_job)) tt (inr refl) (tt, declared, refl, refl, holds)),
         rw holds (λ a. nothing_so (seen ++ record { call = list_schemas; reply = reply.Names declared } ∷ xs)),
       )
 
@@ -744,11 +745,11 @@ module _ {F : Type 0} (codec : Codec F) (any : Job) (looks : AsksLooks codec) (f
 
   -- a consolidation goes along its course, and ends by it
   pub merge_finds : (before xs : List Exchange) (end : Outcome) → WorkAsks codec merging_job (Merges merging.ListsCommits) xs → WorkEnds codec merging_job (Merges merging.ListsCommits) xs end
-      → (found : Found) × (AreFound merging_job found xs × Ends codec merging_job before found (list_commits ∷ list_schemas ∷ merge_puts codec found.frame found.merged) xs end) × MergesFound codec merging_job found (before ++ xs)
-  merge_finds before [] end a e = (found_so no_frame None, goes_none codec merging_job before (found_so no_frame None) (list_commits ∷ list_schemas ∷ []) end (Merges merging.ListsCommits) (λ o q. cc) a e, nothing_so (before ++ []))
+      → (found : Found) × (AreFound merging_job found xs × Ends codec merging_job before found (list_commits ∷ list_schemas ∷ merge_puts codec found.frame found.merged) xs end) × AreBacked codec merging_job found (before ++ xs)
+  merge_finds before [] end a e = (found_so no_frame None, goes_none codec merging_job before (found_so no_frame None) (list_commits ∷ list_schemas ∷ []) end (Merges merging.ListsCommits) (λ o q. cc) a e, (nothing_so (before ++ []), (inl refl, inl refl)))
   merge_finds before (x ∷ xs) end a e =
       let (frame, merged, follows, merges) = by_reply x.reply in
-      (found_so frame merged, goes_by codec merging_job before (found_so frame merged) (list_commits ∷ list_schemas ∷ merge_puts codec frame merged) x xs end (Merges merging.ListsCommits) list_commits refl (λ same. follows) a e, merged_by codec merging_job (found_so frame merged) before x xs (Merges merging.ListsCommits) list_commits refl merges a)
+      (found_so frame merged, goes_by codec merging_job before (found_so frame merged) (list_commits ∷ list_schemas ∷ merge_puts codec frame merged) x xs end (Merges merging.ListsCommits) list_commits refl (λ same. follows) a e, (merged_by codec merging_job (found_so frame merged) before x xs (Merges merging.ListsCommits) list_commits refl merges a, (inl refl, inl refl)))
     where
       CommitsFor : Reply → Type 0
       CommitsFor r = (frame : Frame) × (merged : Option Merge)

@@ -17,7 +17,7 @@ use Rattle.ts_model.specs.Codecs.{Codec}
 use Rattle.ts_model.specs.Driven.{AskedFrom, MayAsk}
 use Rattle.ts_model.specs.States.{Exchange, goes}
 use Rattle.ts_model.specs.Stages.{end_at, is_leased, is_release, is_removal, lease_of, released, settled, stage_asks, stage_from, stage_goes}
-use Rattle.ts_model.proofs.Asked.{next_call}
+use Rattle.ts_model.proofs.Asked.{gives_up_held, next_call}
 use Rattle.ts_model.proofs.Lacks.{bare_goes, other_goes, release_ends}
 use Rattle.ts_law.specs.Courses.{removal}
 use Rattle.ts_law.proofs.CourseCalls.{WorkAsks, WorkEnds, work_from}
@@ -71,7 +71,7 @@ module _ {F : Type 0} (codec : Codec F) (job : Job) where
     pub over_asks : (end : Outcome) (xs : List Exchange) → AskedFrom codec job (Works (Over end)) xs → xs ≡ []
     over_asks end [] asked = refl
     over_asks end (x ∷ xs) (inl asked, more) = absurd (none-some x.call asked)
-    over_asks end (x ∷ xs) (inr gives_up, more) = absurd (no_lease (is_some (lease_of job)) gives_up.1)
+    over_asks end (x ∷ xs) (inr gives_up, more) = absurd (no_lease (is_some (lease_of job)) (gives_up_held {F = F} job (Works (Over end)) gives_up.1))
       where
         no_lease : (b : Bool) → (b && false) ≡ true → ⊥
         no_lease true is = true≢false (sym is)

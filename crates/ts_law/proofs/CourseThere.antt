@@ -18,8 +18,9 @@ use Rattle.ts_model.specs.declared.states.State.TheVariants.{Seeks}
 use Rattle.ts_model.specs.declared.states.Seeking.TheVariants.{ListsSchemas, GetsSchema, GetsFrame}
 use Rattle.ts_model.specs.Codecs.{Codec}
 use Rattle.ts_model.specs.Jobs.{looked_at}
-use Rattle.ts_model.specs.States.{Exchange, goes, ended, get_schema, get_frame, list_schemas, schemas_in, made_by, works as comes_to}
+use Rattle.ts_model.specs.States.{Exchange, goes, ended, get_schema, get_frame, list_schemas, schemas_in, works as comes_to}
 use Rattle.ts_law.specs.Courses.{Found, IsSchemaIn, IsFrameIn, SaysThere, GotSchema, IsKeyThere, IsGot, LooksThere, IsLookOf, lets_on}
+use Rattle.ts_law.specs.Refusals.{WorksInSchema}
 use Rattle.ts_model.specs.declared.states.Listed.{Listed}
 use Rattle.ts_law.proofs.CourseCalls.{Goes, Follows, follows_on, follows_refused, follows_ended, goes_none, goes_by}
 use Rattle.ts_law.proofs.CourseGrows.{AreAmong, among_more, schema_stays, key_stays}
@@ -40,14 +41,14 @@ no_frame = record { dense = false; domain = []; cell = order.Row; tile = order.R
 
 -- what a job found that works in a schema of an array with a frame
 abbrev pub found_as : Schema → Frame → Found
-found_as there frame = record { taken = false; there = there; frame = frame; merged = None }
+found_as there frame = record { taken = false; there = there; frame = frame; merged = None; leases = []; swept = []; removed = [] }
 
 -- what bytes say, if a reply has any
 abbrev pub OfBytes : (List ℕ → Type 0) → Reply → Type 0
 OfBytes P (reply.Bytes bytes) = P bytes
 OfBytes P r = ⊤
 
-module _ {F : Type 0} (codec : Codec F) (job : Job) (no_create : made_by job.command ≡ None)
+module _ {F : Type 0} (codec : Codec F) (job : Job) (works : WorksInSchema job.command)
     (may_look : (found : Found) (seen : List Exchange) (c : Call) → LooksThere job seen c → IsLookOf codec job found seen c)
     (says_list : (found : Found) (r : Reply) → SaysThere found job.command list_schemas r)
     (says_schema : (found : Found) (k : Key) (r : Reply) → OfBytes (λ bytes. IsSchemaIn found.there k (schema_of bytes)) r → SaysThere found job.command (get_schema k) r)
@@ -183,7 +184,7 @@ module _ {F : Type 0} (codec : Codec F) (job : Job) (no_create : made_by job.com
         no_schema,
         no_frame,
         rw is (follows_refused codec job seen (found_as no_schema no_frame) (list_schemas ∷ tail (found_as no_schema no_frame)) (tail (found_as no_schema no_frame)) (record { call = list_schemas; reply = reply.Names names }) xs end
-            (refusal.NoSchema (looked_at job)) (says_list (found_as no_schema no_frame) (reply.Names names)) (inr refl) (no_create, names, refl, refl, is)),
+            (refusal.NoSchema (looked_at job)) (says_list (found_as no_schema no_frame) (reply.Names names)) (inr refl) (works, names, refl, refl, is)),
       )
 
       by_reply : (r : Reply) → ListedFor r

@@ -36,7 +36,7 @@ use Rattle.ts_model.proofs.HistoryLaws.{frame_facts, keys-append}
 use Rattle.ts_model.proofs.ListLemmas.{Contains-nil}
 use Rattle.ts_law.proofs.Objects.{begins_putting, schema_carries}
 use Rattle.ts_law.proofs.StandsLaws.{first_deed, frame_held, keeps_put, leads_at, marks_domain, stands_frame}
-use Rattle.ts_law.proofs.VacLaws.{unspent_put}
+use Rattle.ts_law.proofs.Spent.{put_commits, unspent_on}
 use Rattle.ts_base.specs.declared.keys.FragKey.{FragKey}
 use Rattle.ts_base.specs.Names.{wrt_of}
 use Rattle.ts_law.proofs.Stays.{clean_look}
@@ -45,6 +45,7 @@ use Rattle.std.specs.FinMap as map
 use Rattle.ts_base.specs.declared.names.Name.TheVariants as name
 use Rattle.ts_model.specs.declared.answers.Outcome.TheVariants as outcome
 use Rattle.ts_model.specs.declared.answers.Refusal.TheVariants as refusal
+use Rattle.ts_store.specs.declared.call.Call.TheVariants as call
 use Rattle.ts_store.specs.declared.call.Reply.TheVariants as reply
 
 -- ---- what stays clean
@@ -54,17 +55,18 @@ undone_more : (h g : History) (job : Job) → keys g ≡ [] → IsUndone h job �
 undone_more h g job none undone =
     subst (λ ks. IsTrue (not (list_any (key_eq (key_of job)) ks))) (sym (keys-append h g ∙ ap (λ ks. keys h ++ ks) none ∙ append-nil (keys h))) undone
 
+-- a `.wrt` is no frame
+no_frame : (f : FragKey) → wrt_of f ≡ name.Domain → ⊥
+no_frame f e = cc
+
 -- the frame carries no identifier
-clean_after_frame : (m : Held) (h : History) (frame : Frame) (bytes : List ℕ) (job : Job) → (Holds m name.Domain → ⊥) → Clean m h job → Clean (map.insert m name.Domain bytes) (h ++ Framed frame ∷ []) job
-clean_after_frame m h frame bytes job free clean = record {
-  free = λ n carries apart. get_apart m name.Domain bytes n (λ same. none-some job.id (ap id_in (sym same) ∙ carries)) ∙ clean.free n carries apart;
-  undone = undone_more h (Framed frame ∷ []) job refl clean.undone;
-  unspent = unspent_put m name.Domain bytes h (h ++ Framed frame ∷ []) job.id job.id
-      (keeps_put m h name.Domain bytes job.id (Framed frame ∷ []) free (marks_domain m) (inr refl) (λ k none. absurd (Contains-nil k none))) (λ f e. no_frame f e) clean.unspent;
+clean_after_frame : (opening : Held) (past : History) (jobs : List Job) (seen : List Told) (e : Told) (m m' : Held) (frame : Frame) (bytes : List ℕ) (job : Job) → e.call ≡ call.Put name.Domain bytes → m' ≡ map.insert m name.Domain bytes
+    → history_told jobs past (seen ++ e ∷ []) ≡ history_told jobs past seen ++ Framed frame ∷ [] → Clean opening past jobs seen m job → Clean opening past jobs (seen ++ e ∷ []) m' job
+clean_after_frame opening past jobs seen e m m' frame bytes job is same_held same_history clean = record {
+  free = λ n carries apart. ap (λ x. map.get x n) same_held ∙ get_apart m name.Domain bytes n (λ same. none-some job.id (ap id_in (sym same) ∙ carries)) ∙ clean.free n carries apart;
+  undone = subst (λ g. IsUndone g job) (sym same_history) (undone_more (history_told jobs past seen) (Framed frame ∷ []) job refl clean.undone);
+  unspent = unspent_on opening past seen e job.id (put_commits e job.id name.Domain bytes is no_frame) clean.unspent;
 }
-  where
-    no_frame : (f : FragKey) → wrt_of f ≡ name.Domain → ⊥
-    no_frame f e = cc
 
 -- all of a short object is got
 got_whole : (whole : List ℕ) → IsShort whole → part_of 0 (2 ^ 64 - 1) whole ≡ whole
@@ -122,18 +124,18 @@ module _ {F : Type 0} (codec : Codec F) (spelled : Spelled) (tracks : Tracking F
       deed_told_own jobs h seen e number job (frame_put f) own at is ∙ ap (λ c. option_map (λ g. Framed (frame_made g)) (made_by c)) creates
 
   -- a create that is to put its first schema, once its frame is there
-  puts_first_claims : (f : FrameIn) → job.command ≡ Create f → create_refusal f ≡ None → Clean m' h' job → frame_in h' ≡ Some (frame_made f)
+  puts_first_claims : (f : FrameIn) → job.command ≡ Create f → create_refusal f ≡ None → Clean opening past jobs (seen ++ e ∷ []) m' job → frame_in h' ≡ Some (frame_made f)
       → ClaimsLater (Puts (schema_object_of job f.attrs ∷ []) 0 outcome.Created)
   puts_first_claims f creates sound clean framed =
       begins_putting codec spelled opening past jobs (seen ++ e ∷ []) m' number job (schema_object_of job f.attrs ∷ []) outcome.Created clean
       (schema_carries job f.attrs) (omega arith) (f, creates, refl, sound, framed)
 
   -- the put of the frame advances a create
-  frame_step : (f : FrameIn) → job.command ≡ Create f → create_refusal f ≡ None → Clean m h job → ComesHere (Creates PutsFrame) → AdvancesHere (Creates PutsFrame)
+  frame_step : (f : FrameIn) → job.command ≡ Create f → create_refusal f ≡ None → Clean opening past jobs seen m job → ComesHere (Creates PutsFrame) → AdvancesHere (Creates PutsFrame)
   frame_step f creates sound clean c = elim (put_went m name.Domain (frame_object (frame_made f)) e is c.replied) [
     | Added free same_held changed said ↦
         let same_history = later_deed jobs past seen e (Framed (frame_made f)) (frame_deed f creates c.own c.is_job is) changed in
-        let clean_later = clean_look _ m' _ h' job same_held same_history (clean_after_frame m h (frame_made f) (frame_object (frame_made f)) job free clean) in
+        let clean_later = clean_after_frame opening past jobs seen e m m' (frame_made f) (frame_object (frame_made f)) job is same_held same_history clean in
         record {
           leads = leads_at spelled past jobs seen e m job.id _ _ same_held same_history
               (stands_frame spelled m h (frame_made f) free (created_frame f fit sound) (subst IsShortCall is c.short) c.stands)
@@ -145,7 +147,7 @@ module _ {F : Type 0} (codec : Codec F) (spelled : Spelled) (tracks : Tracking F
         }
     | Still same_held still not_made taken ↦
         let same_history = later_unchanged jobs past seen e still in
-        let clean_later = clean_look m m' h h' job same_held same_history clean in
+        let clean_later = clean_look opening past jobs seen e m m' job same_held still clean in
         record {
           leads = still_leads spelled past jobs seen e m job.id c.stands same_held same_history;
           own = frame_leads f creates e.reply (λ made. absurd (not_made made))
@@ -190,7 +192,7 @@ module _ {F : Type 0} (codec : Codec F) (spelled : Spelled) (tracks : Tracking F
       (sym (got_whole (frame_object frame) short) ∙ sym told ∙ sym ((bytes_eq-Decides (frame_object (frame_made f)) bytes).0 own))
 
   -- the get of the frame that is there advances a create
-  compare_step : (f : FrameIn) → job.command ≡ Create f → create_refusal f ≡ None → Clean m h job → (frame : Frame) → frame_in h ≡ Some frame → ComesHere (Creates ComparesFrame) → AdvancesHere (Creates ComparesFrame)
+  compare_step : (f : FrameIn) → job.command ≡ Create f → create_refusal f ≡ None → Clean opening past jobs seen m job → (frame : Frame) → frame_in h ≡ Some frame → ComesHere (Creates ComparesFrame) → AdvancesHere (Creates ComparesFrame)
   compare_step f creates sound clean frame framed c = record {
     leads = still_leads spelled past jobs seen e m job.id c.stands looked.0 same_history;
     own = compare_leads f creates e.reply
@@ -208,8 +210,8 @@ module _ {F : Type 0} (codec : Codec F) (spelled : Spelled) (tracks : Tracking F
       same_history : h' ≡ h
       same_history = later_unchanged jobs past seen e looked.1
 
-      clean_later : Clean m' h' job
-      clean_later = clean_look m m' h h' job looked.0 same_history clean
+      clean_later : Clean opening past jobs (seen ++ e ∷ []) m' job
+      clean_later = clean_look opening past jobs seen e m m' job looked.0 looked.1 clean
 
       held : map.get m name.Domain ≡ Some (frame_object frame)
       held = (c.stands).frame ∙ ap (option_map frame_object) framed
@@ -240,7 +242,7 @@ module _ {F : Type 0} (codec : Codec F) (spelled : Spelled) (tracks : Tracking F
   declared_leads f creates _ puts undone = tt
 
   -- the listing of the schemas advances a create
-  declared_step : (f : FrameIn) → job.command ≡ Create f → create_refusal f ≡ None → frame_in h ≡ Some (frame_made f) → Clean m h job → ComesHere (Creates ListsDeclared) → AdvancesHere (Creates ListsDeclared)
+  declared_step : (f : FrameIn) → job.command ≡ Create f → create_refusal f ≡ None → frame_in h ≡ Some (frame_made f) → Clean opening past jobs seen m job → ComesHere (Creates ListsDeclared) → AdvancesHere (Creates ListsDeclared)
   declared_step f creates sound framed clean c = record {
     leads = still_leads spelled past jobs seen e m job.id c.stands looked.0 same_history;
     own = declared_leads f creates e.reply (puts_first_claims f creates sound clean_later (ap frame_in same_history ∙ framed)) clean_later.undone;
@@ -252,8 +254,8 @@ module _ {F : Type 0} (codec : Codec F) (spelled : Spelled) (tracks : Tracking F
       same_history : h' ≡ h
       same_history = later_unchanged jobs past seen e looked.1
 
-      clean_later : Clean m' h' job
-      clean_later = clean_look m m' h h' job looked.0 same_history clean
+      clean_later : Clean opening past jobs (seen ++ e ∷ []) m' job
+      clean_later = clean_look opening past jobs seen e m m' job looked.0 looked.1 clean
 
   -- a create advances by the listing of the schemas
   pub declared_steps : CodecLaws codec spelled tracks → ComesHere (Creates ListsDeclared) → AdvancesHere (Creates ListsDeclared)

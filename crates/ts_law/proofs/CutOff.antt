@@ -1,12 +1,13 @@
 -- A job that its stop cuts off would have made one more call.
 use Rattle.std.proofs.Common.{◌≡◌, ◌⊎◌, List, [], ◌∷◌, ◌++◌, Some, refl, sym, ◌∙◌, ap, inl, inr, subst, append_assoc}
 use Rattle.std.proofs.lemmas.List.{append-nil}
-use Rattle.std.proofs.lemmas.List.Elements.{All-pop}
+use Rattle.std.proofs.lemmas.List.Elements.{All-pop, Contains-push_cases}
 use Rattle.ts_store.specs.declared.call.Call.{Call}
 use Rattle.ts_model.specs.declared.commands.Job.{Job}
 use Rattle.ts_model.specs.Codecs.{Codec}
 use Rattle.ts_model.specs.States.{Exchange}
 use Rattle.ts_law.specs.Courses.{Found, MergesFound, SaysThere, AreFound, Looks, IsNext, Along, EndsAt}
+use Rattle.ts_law.proofs.CourseBacked.{AreBacked, AreTold, swept_stays}
 use Rattle.ts_store.specs.declared.call.Reply.TheVariants as reply
 
 -- ---- a job that is cut off
@@ -90,10 +91,21 @@ last_apart (y ∷ trace) (z ∷ front) later x last e = elim (last_apart trace f
     tails same = cc
 
 -- what was merged was merged before a call that was not made
-pub merged_before : {F : Type 0} (codec : Codec F) (job : Job) (found : Found) (trace : List Exchange) (c : Call) → MergesFound codec job found (trace ++ as_if c ∷ []) → MergesFound codec job found trace
+merged_before : {F : Type 0} (codec : Codec F) (job : Job) (found : Found) (trace : List Exchange) (c : Call) → MergesFound codec job found (trace ++ as_if c ∷ []) → MergesFound codec job found trace
 merged_before codec job found trace c merges merge some =
     let has = merges merge some in
     elim (last_apart trace has.front has.later (as_if c) has.last has.parts) [
       | inl same ↦ absurd (has.was_told (ap (λ (x : Exchange). x.reply) same))
       | inr (rest, is) ↦ record { front = has.front; last = has.last; later = rest; parts = is; was_told = has.was_told; count = has.count; by_told = has.by_told }
     ]
+
+-- what was told was told before a call that was not made
+told_before : (trace : List Exchange) (c : Call) → AreTold (trace ++ as_if c ∷ []) trace
+told_before trace c x tells at = elim (Contains-push_cases trace (as_if c) x at) [
+  | inl before ↦ before
+  | inr same ↦ absurd (tells (ap (λ (y : Exchange). y.reply) (sym same)))
+]
+
+-- so is what a job is said to have merged or to remove
+pub backed_before : {F : Type 0} (codec : Codec F) (job : Job) (found : Found) (trace : List Exchange) (c : Call) → AreBacked codec job found (trace ++ as_if c ∷ []) → AreBacked codec job found trace
+backed_before codec job found trace c (merges, sweeps) = (merged_before codec job found trace c merges, swept_stays job found (trace ++ as_if c ∷ []) trace (told_before trace c) sweeps)

@@ -15,7 +15,7 @@ use Rattle.ts_model.specs.Jobs.{deletion_as, key_of, schema_of_job, written_as}
 use Rattle.ts_model.specs.States.{made_by}
 use Rattle.ts_model.specs.Told.{Told, cells_of, condition_of, declared_by, deed_in, deed_of, deed_told, deleted_by, deleted_in, grown, history_from, schema_used, schemas_found, trace_of, written_by, written_in}
 use Rattle.ts_model.specs.declared.commands.Command.{Command}
-use Rattle.ts_model.specs.declared.commands.Command.TheVariants.{Consolidate, Create, Delete, Evolve, Read, Write}
+use Rattle.ts_model.specs.declared.commands.Command.TheVariants.{Consolidate, Create, Delete, Evolve, Fragments, Read, Vacuum, Unlock, Write}
 use Rattle.ts_model.specs.declared.commands.FrameIn.{FrameIn}
 use Rattle.ts_model.specs.declared.commands.Job.{Job}
 use Rattle.ts_model.specs.declared.commands.WriteIn.{WriteIn}
@@ -44,6 +44,9 @@ declared_key_is h job found (Write w) s is = absurd (none-some s is)
 declared_key_is h job found (Read from to query) s is = absurd (none-some s is)
 declared_key_is h job found (Delete text) s is = absurd (none-some s is)
 declared_key_is h job found (Consolidate from to limits) s is = absurd (none-some s is)
+declared_key_is h job found Vacuum s is = absurd (none-some s is)
+declared_key_is h job found (Unlock seed lane) s is = absurd (none-some s is)
+declared_key_is h job found Fragments s is = absurd (none-some s is)
 
 -- what a write writes has the key of the job
 written_in_key_is : (job : Job) (v : WriteIn) (o : Option Schema) (q : Option Frame) (w : Written) → written_in job v o q ≡ Some w → w.key ≡ key_of job
@@ -63,6 +66,9 @@ written_key_is h job found (Write v) w is = written_in_key_is job v (schema_used
 written_key_is h job found (Read from to query) w is = absurd (none-some w is)
 written_key_is h job found (Delete text) w is = absurd (none-some w is)
 written_key_is h job found (Consolidate from to limits) w is = absurd (none-some w is)
+written_key_is h job found Vacuum w is = absurd (none-some w is)
+written_key_is h job found (Unlock seed lane) w is = absurd (none-some w is)
+written_key_is h job found Fragments w is = absurd (none-some w is)
 
 -- what a text erases has the key of the job
 deleted_in_key_is : (job : Job) (text : List ℕ) (o : Option Schema) (q : Option Frame) (x : Deletion) → deleted_in job text o q ≡ Some x → x.key ≡ key_of job
@@ -82,6 +88,9 @@ deletion_key_is h job found (Write v) x is = absurd (none-some x is)
 deletion_key_is h job found (Read from to query) x is = absurd (none-some x is)
 deletion_key_is h job found (Delete text) x is = deleted_in_key_is job text (schema_used h job found) (frame_in h) x is
 deletion_key_is h job found (Consolidate from to limits) x is = absurd (none-some x is)
+deletion_key_is h job found Vacuum x is = absurd (none-some x is)
+deletion_key_is h job found (Unlock seed lane) x is = absurd (none-some x is)
+deletion_key_is h job found Fragments x is = absurd (none-some x is)
 
 -- what is made of something that has a key
 made_key : {A : Type 0} (make : A → Deed) (key : A → Key) (o : Option A) (own : Key) → ((a : A) → key_in (make a) ≡ Some (key a)) → ((a : A) → o ≡ Some a → key a ≡ own)

@@ -87,7 +87,7 @@ module _ {F : Type 0} (codec : Codec F) (spelled : Spelled) (tracks : Tracking F
       record {
         gathers = record {
           reads = record { query = reads.query; reads = reads.reads; at = reads.at; framed = reads.framed; is_ready = reads.is_ready };
-          chosen = record { each = chosen.each; usable = chosen.usable; covered = chosen.covered; unclipped = chosen.unclipped };
+          chosen = record { heads = chosen.heads; are_heads = chosen.are_heads; clipped_is = chosen.clipped_is; each = chosen.each; usable = chosen.usable; covered = chosen.covered };
           gathered = gathers.gathered;
         };
         all_schemas = is.all_schemas;
@@ -107,7 +107,7 @@ module _ {F : Type 0} (codec : Codec F) (spelled : Spelled) (tracks : Tracking F
       let next = asked_of get_delete (slice_get r.delete_names (length r.deletions)) e.call comes.asked in
       let f = next.0 in
       let n = name.Commit f Del in
-      let look = looked spelled past jobs seen e m job (get_delete f) next.2 tt comes.stands comes.replied comes.claims.0 in
+      let look = looked spelled opening past jobs seen e m job (get_delete f) next.2 tt comes.stands comes.replied comes.claims.0 in
       let unlisted = no_listing codec spelled tracks opening past jobs seen e m number job n next.2 in
       let claims = comes.claims.1 in
       let deed = listed_deed r.from r.to r.fragments r.counting r.delete_names (((((claims.gathers)).reads).at).listed) f (Contains-slice_get r.delete_names (length r.deletions) f next.1) in

@@ -1,6 +1,7 @@
 -- The calls of fetches: each leads to another call, to the next fragment, or to the answer of the read.
-use Rattle.std.proofs.Common.{◌≡◌, ℕ, suc, zero, ◌+◌, ◌-◌, ◌≤◌, true, ◌⊎◌, inl, inr, List, [], ◌∷◌, ◌++◌, Option, Some, None, Ok, length, length-drop, take, drop, arith, refl, sym, ◌∙◌, ap, subst}
+use Rattle.std.proofs.Common.{◌≡◌, ℕ, suc, zero, ◌+◌, ◌-◌, ◌≤◌, Bool, true, false, not, ◌&&◌, ◌⊎◌, inl, inr, List, [], ◌∷◌, ◌++◌, Option, Some, None, Ok, length, length-drop, take, drop, arith, refl, sym, ◌∙◌, ap, subst}
 use Rattle.std.specs.Prelude.{Contains, slice_get, option_map, map as list_map}
+use Rattle.std.specs.Cmp.{both_ways}
 use Rattle.std.specs.List.{list_any}
 use Rattle.std.specs.FinMap as map
 use Rattle.std.proofs.lemmas.Bool.{true≢false}
@@ -13,6 +14,7 @@ use Rattle.ts_base.specs.declared.names.Name.{Name}
 use Rattle.ts_base.specs.declared.names.Name.TheVariants as name
 use Rattle.ts_base.specs.declared.names.Part.{Part}
 use Rattle.ts_base.specs.declared.names.Place.TheVariants as place
+use Rattle.ts_base.specs.declared.heads.Head.{Head}
 use Rattle.ts_base.specs.declared.heads.Version.{Version}
 use Rattle.ts_base.specs.declared.heads.Piece.{Piece}
 use Rattle.ts_base.specs.Keys.{is_within}
@@ -29,6 +31,7 @@ use Rattle.ts_store.specs.Calls.{answer, reply_of, is_no_memory, part_of, part_r
 use Rattle.ts_model.specs.declared.commands.Job.{Job}
 use Rattle.ts_model.specs.declared.deeds.Deletion.{Deletion}
 use Rattle.ts_model.specs.declared.deeds.Written.{Written}
+use Rattle.ts_model.specs.declared.answers.Answer.{Answer}
 use Rattle.ts_model.specs.declared.answers.Refusal.TheVariants as refusal
 use Rattle.ts_model.specs.declared.states.Opened.{Opened}
 use Rattle.ts_model.specs.declared.states.Reading.{Reading}
@@ -36,26 +39,28 @@ use Rattle.ts_model.specs.declared.states.State.{State}
 use Rattle.ts_model.specs.declared.states.State.TheVariants.{Collects}
 use Rattle.ts_model.specs.declared.states.Collecting.TheVariants.{Fetches}
 use Rattle.ts_model.specs.Deeds.{History, IsHistory, deletions, writes, schema_with, schema_there, attrs_with}
+use Rattle.ts_model.specs.Answers.{IsAnswer}
 use Rattle.ts_model.specs.Codecs.{Codec, Spelled, Tracking, CodecLaws, OpensWell, GoesWell, Stepped, IsToldOf, SpeaksOf}
 use Rattle.ts_model.specs.Codecs.Stepped.{Asks, Takes, Breaks}
 use Rattle.ts_model.specs.Jobs.{looks_at}
-use Rattle.ts_commit.specs.Selections.{has_origin, is_usable}
+use Rattle.ts_commit.specs.Selections.{has_origin, is_clipped, is_usable, usable}
 use Rattle.ts_law.specs.Stands.{HoldsIn}
-use Rattle.ts_model.specs.States.{heads_of, known_schema, known_attrs, want_of, ended, fetch_leads, fetch_begins, fetches_one, fetching, after_fetched}
+use Rattle.ts_model.specs.States.{answer_of, heads_of, known_schema, known_attrs, want_of, ended, fetch_leads, fetch_begins, fetches_one, fetching, after_fetched}
 use Rattle.ts_law.specs.Kept.{AreGot, Clean, GettingDeletes, Gathering, Fetching, Claims}
 use Rattle.ts_model.specs.Told.{Told, IsReplied, after_told, held_told, history_told}
-use Rattle.ts_law.specs.Ends.{IsTrueRefusal}
+use Rattle.ts_law.specs.Ends.{IsAnswerOver, IsTrueRefusal, without_clipped}
 use Rattle.ts_law.specs.Steps.{Comes, Advances}
-use Rattle.ts_model.proofs.ListLemmas.{Contains-slice_get, take_next}
+use Rattle.ts_model.proofs.ListLemmas.{Contains-slice_get, filter-Contains, take_next}
 use Rattle.ts_model.proofs.HistoryLaws.{IsHistory-front, deletions-append, schema_with-append}
 use Rattle.ts_law.proofs.DeletesGot.{all_deletions, deleted_in}
 use Rattle.ts_model.proofs.Traces.{history_told_grows}
 use Rattle.ts_law.proofs.Effects.{IsLook, look_stays, look_history, look_leads}
 use Rattle.ts_law.proofs.Stays.{clean_look, fetching_stays}
-use Rattle.ts_law.proofs.Fetches.{Contains-map, got_more, knows, knows_attrs, one_head}
-use Rattle.ts_law.proofs.OriginLaws.{any_member}
+use Rattle.ts_law.proofs.Clipped.{unclipped_same}
+use Rattle.ts_law.proofs.Fetches.{Contains-map, got_more, knows, knows_attrs, map-Contains, one_head}
+use Rattle.ts_law.proofs.OriginLaws.{any_member, member_any}
 use Rattle.ts_law.proofs.TakenLaws.{newest_taken, none_taken}
-use Rattle.ts_law.proofs.ReadingLaw.{answer_is, last_is_all}
+use Rattle.ts_law.proofs.ReadingLaw.{answer_left}
 
 -- ---- where a list is dropped up to a place
 
@@ -80,7 +85,7 @@ begins_now jobs past seen before listing later place = let grown = history_told_
 -- ---- what a read claims while it fetches
 
 module _ {F : Type 0} (codec : Codec F) (spelled : Spelled) (tracks : Tracking F) (laws : CodecLaws codec spelled tracks)
-    (opening : Held) (past : History) (jobs : List Job) (seen : List Told) (m : Held) (number : ℕ) (job : Job) (clean : Clean m (history_told jobs past seen) job)
+    (opening : Held) (past : History) (jobs : List Job) (seen : List Told) (m : Held) (number : ℕ) (job : Job) (clean : Clean opening past jobs seen m job)
     (r : Reading) (opened : List Opened) (schemas : List Schema) (deletes_found : GettingDeletes codec spelled opening past jobs seen m number job r opened schemas) (all_deletes : length r.deletions ≡ length r.delete_names) where
   -- what the read gathered
   abbrev gathers : Gathering codec spelled opening past jobs seen m number job r opened schemas
@@ -156,7 +161,29 @@ module _ {F : Type 0} (codec : Codec F) (spelled : Spelled) (tracks : Tracking F
   abbrev used_open : (o : Opened) → Contains opened o → IsUsed o.frag
   used_open o at =
       let opens = (gathers.chosen).each o at in
-      record { piece = opens.piece; holds = opens.holds; same_frame = opens.same_frame; usable = subst (λ head. is_usable r.from r.to head ≡ true) opens.head ((gathers.chosen).usable o at) }
+      let can = (filter-Contains (is_usable r.from r.to) (gathers.chosen).heads o.head ((gathers.chosen).usable o at)).1 in
+      record { piece = opens.piece; holds = opens.holds; same_frame = opens.same_frame; usable = subst (λ head. is_usable r.from r.to head ≡ true) opens.head can }
+
+  -- just the writes in the interval that are not clipped went into one of the open fragments
+  headed : (k : Key) → is_within r.from r.to k ≡ true → list_any (has_origin k) (heads_of opened) ≡ not (is_clipped r.from r.to (gathers.chosen).heads k)
+  headed k within = both_ways (list_any (has_origin k) (heads_of opened)) (not (is_clipped r.from r.to (gathers.chosen).heads k))
+      (λ some.
+      let head = member_any (has_origin k) (heads_of opened) some in
+      let o = map-Contains (λ x. x.head) opened head.0 head.1 in
+      let can = (gathers.chosen).usable o.0 o.1 in
+      let origin = any_member (has_origin k) (usable r.from r.to (gathers.chosen).heads) (o.0).head can (subst (λ x. has_origin k x ≡ true) (sym o.2) head.2) in
+      ap (λ t. not (is_within r.from r.to k && not t)) origin ∙ none (is_within r.from r.to k))
+      (λ left.
+      let o = (gathers.chosen).covered k within (not_false (is_clipped r.from r.to (gathers.chosen).heads k) left) in
+      any_member (has_origin k) (heads_of opened) (o.0).head (Contains-map (λ x. x.head) opened o.0 o.1) o.2)
+    where
+      none : (t : Bool) → not (t && false) ≡ true
+      none true = refl
+      none false = refl
+
+      not_false : (t : Bool) → not t ≡ true → t ≡ false
+      not_false false e = refl
+      not_false true e = sym e
 
   module _ (is_g : IsHistory g) (is_h : IsHistory h) where
     -- the history now begins with that at the listing of the commits
@@ -171,19 +198,46 @@ module _ {F : Type 0} (codec : Codec F) (spelled : Spelled) (tracks : Tracking F
     deletions_grow : (x : Deletion) → Contains (deletions g) x → Contains (deletions h) x
     deletions_grow x at = subst (λ y. Contains (deletions y) x) (sym from_g.1) (rw (deletions-append g from_g.0) (Contains-append_left (deletions g) (deletions from_g.0) x at))
 
-    -- a write in the interval went into one of the open fragments
-    opened_with : (w : Written) → Contains (writes g) w → is_within r.from r.to w.key ≡ true → (o : Opened) × Contains opened o × (has_origin w.key o.head ≡ true)
-    opened_with w at within = (gathers.chosen).covered w at within
-
-    -- so it is an origin in one of the heads
-    headed : (w : Written) → Contains (writes g) w → is_within r.from r.to w.key ≡ true → list_any (has_origin w.key) (heads_of opened) ≡ true
-    headed w at within = let o = opened_with w at within in any_member (has_origin w.key) (heads_of opened) (o.0).head (Contains-map (λ x. x.head) opened o.0 o.1) o.2
-
     -- what the read knows of schemas
-    known_to : (w : Written) → Contains (writes g) w → is_within r.from r.to w.key ≡ true → known_attrs r schemas w.schema ≡ attrs_with g w.schema
-    known_to w at within =
-        let o = opened_with w at within in
+    known_to : (w : Written) → Contains (writes g) w → is_within r.from r.to w.key ≡ true → is_clipped r.from r.to (gathers.chosen).heads w.key ≡ false → known_attrs r schemas w.schema ≡ attrs_with g w.schema
+    known_to w at within left =
+        let o = (gathers.chosen).covered w.key within left in
         knows_attrs codec spelled g h then r opened schemas grows ((((gathers).reads).at).works).declared (gathers.chosen).each gathers.gathered deletes_found.all_schemas w is_g at o.0 o.1 o.2
+
+    -- the heads of the fragments that were listed
+    abbrev heads : List Head
+    heads = (gathers.chosen).heads
+
+    -- the answer of a read that got these versions
+    abbrev answered : List Version → Answer
+    answered got = answer_of r schemas got
+
+    -- the history at the listing of the schemas
+    abbrev later : History
+    later = history_told jobs past (((((gathers).reads).at).works).schemas).before
+
+    -- what was got of all fragments is the answer over the objects at the listing
+    answer_over : (got : List Version) → AreGot g r.from r.to (r.ready).sub (heads_of opened) got → IsAnswerOver spelled g then later r.from r.to ((gathers).reads).query (answered got)
+    answer_over got are =
+        let reads = (gathers).reads in
+        let one = one_head codec spelled tracks laws g then in
+        let stands = (((reads.at).listed).since).stands in
+        let are_heads = (gathers.chosen).are_heads in
+        let clipped_is = (gathers.chosen).clipped_is in
+        let is : IsAnswer (without_clipped r.from r.to heads g) later r.from r.to reads.query (answered got) =
+        answer_left g r.from r.to heads (heads_of opened) headed (r.ready).sub got are r schemas refl known_to
+        (deleted_in spelled opening past jobs seen m number r.from r.to r.fragments r.counting r.delete_names (reads.at).listed is_h deletions_grow r.deletions deletes_found.deletions all_deletes)
+        (all_deletions spelled opening past jobs seen m number r.from r.to r.fragments r.counting r.delete_names (reads.at).listed is_h deletions_grow r.deletions deletes_found.deletions all_deletes)
+        later reads.query reads.framed
+        (subst (λ command. schema_there later (looks_at job command) ≡ Some r.there) reads.reads ((reads.at).works).holds)
+        reads.is_ready in
+        record {
+          heads = heads;
+          are_heads = are_heads;
+          clipped_is = clipped_is;
+          is = is;
+          whole = λ none. subst (λ x. IsAnswer x later r.from r.to reads.query (answered got)) (unclipped_same spelled then g r.from r.to heads are_heads one stands (sym clipped_is ∙ none)) is;
+        }
 
     -- after the last fragment the answer is that of the history
     end_claims : (next : ℕ) (got : List Version) → drop next opened ≡ [] → IsFound next got → Holds (fetching codec r opened schemas next [] got)
@@ -196,18 +250,7 @@ module _ {F : Type 0} (codec : Codec F) (spelled : Spelled) (tracks : Tracking F
           r.to,
           reads.query,
           reads.reads,
-          record {
-            commits = ((reads.at).listed).since.commits;
-            schemas = ((reads.at).works).schemas;
-            between = (reads.at).between;
-            order = (reads.at).order;
-            answers = answer_is g r.from r.to (r.ready).sub got (λ c inside. are.inside c inside ∙ last_is_all g r.from r.to (heads_of opened) headed c) are.outside r schemas refl known_to
-                (deleted_in spelled opening past jobs seen m number r.from r.to r.fragments r.counting r.delete_names (reads.at).listed is_h deletions_grow r.deletions deletes_found.deletions all_deletes)
-                (all_deletions spelled opening past jobs seen m number r.from r.to r.fragments r.counting r.delete_names (reads.at).listed is_h deletions_grow r.deletions deletes_found.deletions all_deletes)
-                (history_told jobs past (((reads.at).works).schemas).before) reads.query reads.framed
-                (subst (λ command. schema_there (history_told jobs past (((reads.at).works).schemas).before) (looks_at job command) ≡ Some r.there) reads.reads ((reads.at).works).holds)
-                reads.is_ready (gathers.chosen).unclipped;
-          },
+          record { commits = ((reads.at).listed).since.commits; schemas = ((reads.at).works).schemas; between = (reads.at).between; order = (reads.at).order; answers = answer_over got are },
         )
 
     -- a fragment in its schema, which the read knows, is opened
@@ -313,7 +356,7 @@ module _ {F : Type 0} (codec : Codec F) (spelled : Spelled) (tracks : Tracking F
 
 -- a read that fetches the fragments from a place on claims what is true
 pub fetching_claims : {F : Type 0} (codec : Codec F) (spelled : Spelled) (tracks : Tracking F) (opening : Held) (past : History) (jobs : List Job) (seen : List Told) (m : Held) (number : ℕ) (job : Job)
-    (r : Reading) (opened : List Opened) (schemas : List Schema) (next : ℕ) (got : List Version) → CodecLaws codec spelled tracks → Clean m (history_told jobs past seen) job
+    (r : Reading) (opened : List Opened) (schemas : List Schema) (next : ℕ) (got : List Version) → CodecLaws codec spelled tracks → Clean opening past jobs seen m job
     → (fetches : Fetching codec spelled opening past jobs seen m number job r opened schemas next got)
     → IsHistory (history_told jobs past (((((((fetches.deletes_found).gathers)).reads).at).listed).since.commits).before) → IsHistory (history_told jobs past seen)
     → Claims codec spelled tracks opening past jobs seen m number job (fetching codec r opened schemas next (drop next opened) got)
@@ -370,9 +413,9 @@ module _ {F : Type 0} (codec : Codec F) (spelled : Spelled) (tracks : Tracking F
       let is : e.call ≡ c = sym (same_Some c e.call comes.asked) in
       let look : IsLook e.call = subst IsLook (sym is) (speaks_look c (name.Part ((way.piece).head).frag asks.part) asks.named) in
       let leads = look_leads spelled past jobs seen e m job.id comes.stands look comes.replied in
-      let same_held = (look_stays m e look comes.replied).0 in
+      let (same_held, still) = look_stays m e look comes.replied in
       let same_history = look_history jobs past seen e m look comes.replied in
-      let clean = clean_look m (after_told m e) (history_told jobs past seen) (history_told jobs past (seen ++ e ∷ [])) job same_held same_history comes.claims.0 in
+      let clean = clean_look opening past jobs seen e m (after_told m e) job same_held still comes.claims.0 in
       let later = fetching_stays spelled opening past jobs seen e m (after_told m e) job.id leads.leaves number codec job r opened schemas next got
       (λ own lists. subst (λ x. SpeaksOf x (name.Part ((way.piece).head).frag asks.part)) (sym is ∙ lists) asks.named) fetches in
       let spells = (way.holds).spells in

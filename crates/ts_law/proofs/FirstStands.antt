@@ -16,7 +16,7 @@ use Rattle.ts_model.specs.declared.answers.Outcome.{Outcome}
 use Rattle.ts_model.specs.Codecs.{Codec, Spelled, Tracking, CodecLaws}
 use Rattle.ts_law.specs.Stands.{Stands}
 use Rattle.ts_law.specs.Fresh.{IsFreshSeed, Numbered, AreJobsOf}
-use Rattle.ts_law.specs.Lanes.{IsOwned, IsWithin, InTurn}
+use Rattle.ts_law.specs.Lanes.{one_lane, IsOwned, IsWithin, InTurn}
 use Rattle.ts_model.specs.Told.{Told, Suits, Replied}
 use Rattle.ts_law.specs.Runs.{AreDriven, IsTrueRun}
 use Rattle.ts_model.proofs.ListLemmas.{Contains-nil}
@@ -50,7 +50,6 @@ nothing_stands spelled = record {
   merged = record {
     reads = λ g bytes committed e. absurd (none_held (wrt_of g) committed);
     within = λ g f by committed named. absurd (none_held (wrt_of g) by);
-    known = λ g f by named. absurd (none_held (wrt_of g) by);
     rank = λ f. 0;
     top = 0;
     below = λ f committed. absurd (none_held (wrt_of f) committed);
@@ -62,12 +61,13 @@ nothing_stands spelled = record {
 -- each seed is fresh over nothing
 pub fresh_over_nothing : (seed : ℕ) → IsFreshSeed nothing [] seed
 fresh_over_nothing seed id upper (inl (k, at, is)) = Contains-nil k at
-fresh_over_nothing seed id upper (inr (n, held, is)) = none_held n held
+fresh_over_nothing seed id upper (inr (inl (n, held, is))) = none_held n held
+fresh_over_nothing seed id upper (inr (inr (f, (g, committed, names), is))) = none_held (wrt_of g) committed
 
 -- a run over nothing is true of the empty history
 pub true_from_nothing : {F : Type 0} (codec : Codec F) (spelled : Spelled) (tracks : Tracking F) → CodecLaws codec spelled tracks
     → (gives : ℕ → Bool) (seed : ℕ) (items : List Numbered) (lanes : ℕ → ℕ) (jobs : List Job) (told : List Told) (results : List (Driven Outcome))
     → AreJobsOf gives seed items jobs → AreInOrder items → seed < 2 ^ 64
-    → Replied nothing told → All Suits told → All IsOwned told → All (IsWithin jobs) told → InTurn lanes told → AreDriven codec jobs results told → IsTrueRun spelled lanes jobs [] nothing told results
+    → Replied nothing told → All Suits told → All IsOwned told → All (IsWithin jobs) told → InTurn one_lane told → AreDriven codec jobs results told → IsTrueRun spelled lanes jobs [] nothing told results
 true_from_nothing codec spelled tracks laws gives seed items lanes jobs told results are order seed_fits replied suit owned within in_turn driven =
     true_run codec spelled tracks laws gives seed items lanes jobs [] nothing told results are order (nothing_stands spelled) (fresh_over_nothing seed) seed_fits replied suit owned within in_turn driven

@@ -1,14 +1,17 @@
 -- The claims of a job stay by the calls of others.
-use Rattle.std.proofs.Common.{List, Some, ap, [], subst, sym, ℕ, ◌++◌, ◌∷◌, ◌≡◌}
+use Rattle.std.proofs.Common.{List, Some, ap, [], inl, inr, subst, sym, ℕ, ◌++◌, ◌∷◌, ◌≡◌}
 use Rattle.ts_base.specs.Held.{Held}
 use Rattle.ts_law.proofs.Objects.{CarryAll, delete_carries, schema_carries, write_carries}
 use Rattle.ts_law.proofs.Stays.{absent_stays, clean_stays, end_stays, getting_deletes_stays, fetching_stays, frame_stays, getting_vacs_stays, gathering_stays, has_listed_stays, has_near_stays, new_stays, opening_stays, works_stays}
 use Rattle.ts_model.specs.Commands.{frame_made, piece_of}
-use Rattle.ts_model.specs.Deeds.{History, frame_in}
+use Rattle.ts_model.specs.Deeds.{History, IsHistory, frame_in}
 use Rattle.ts_model.specs.Codecs.{Codec, Spelled, Tracking}
 use Rattle.ts_model.specs.Jobs.{frag_of_job, key_of, written_as}
 use Rattle.ts_law.specs.Kept.{Aims, Claims, Clean, Putting, StageClaims}
-use Rattle.ts_law.specs.Fresh.{id_in}
+use Rattle.ts_law.specs.Fresh.{id_in, DoesCommit, IsSpent}
+use Rattle.ts_law.specs.Stands.{IsCommitted}
+use Rattle.ts_base.specs.declared.keys.FragKey.{FragKey}
+use Rattle.ts_law.proofs.SweepStays.{sweep_claims_stay, vacuuming_stays}
 use Rattle.ts_law.proofs.LeaseSteps.{lease_is}
 use Rattle.ts_law.proofs.MergeStays.{aims_to_merge_stays, merge_carries, merge_claims_stay}
 use Rattle.ts_model.specs.declared.states.Stage.{Stage}
@@ -17,13 +20,14 @@ use Rattle.ts_model.specs.declared.states.Stage.TheVariants as stages
 use Rattle.ts_model.specs.States.{begun, list_schemas, piece_merged, frags_of, vac_of}
 use Rattle.ts_commit.specs.Selections.{names_merged}
 use Rattle.ts_law.specs.Steps.{Keeps}
-use Rattle.ts_law.proofs.VacLaws.{unspent_stays}
+use Rattle.ts_law.proofs.UnlockSteps.{unlocking_stays}
+use Rattle.ts_law.proofs.Spent.{unspent_on}
 use Rattle.ts_model.specs.Told.{Told, after_told, history_told}
 use Rattle.ts_model.specs.declared.answers.Outcome.{Outcome}
 use Rattle.ts_model.specs.declared.commands.Job.{Job}
 use Rattle.ts_model.specs.declared.states.NewObject.{NewObject}
 use Rattle.ts_model.specs.declared.states.State.{State}
-use Rattle.ts_model.specs.declared.states.State.TheVariants.{Creates, Seeks, Puts, Collects, Merges, Over}
+use Rattle.ts_model.specs.declared.states.State.TheVariants.{Creates, Seeks, Puts, Collects, Merges, Lists, Sweeps, Removes, Over}
 use Rattle.ts_model.specs.declared.states.Creating.TheVariants.{PutsFrame, ComparesFrame, ListsDeclared}
 use Rattle.ts_model.specs.declared.states.Seeking.TheVariants.{ListsCommits, ListsSchemas, GetsSchema, GetsFrame}
 use Rattle.ts_model.specs.declared.states.Collecting.TheVariants.{GetsVacs, GetsHeads, GetsSchemas, GetsDeletes, Fetches}
@@ -48,6 +52,9 @@ aims-carry codec spelled opening past jobs seen m number job objects (outcome.Co
     let piece = piece_merged job (aims.survey).frame aims.first aims.others aims.got in
     subst (CarryAll job.id) (sym aims.are) (merge_carries piece.head.frag (codec.parts (aims.survey).frame aims.schema piece) (names_merged (aims.survey).vacs (frags_of (aims.first ∷ aims.others))))
 aims-carry codec spelled opening past jobs seen m number job objects (outcome.Read answer) none = absurd none
+aims-carry codec spelled opening past jobs seen m number job objects (outcome.Vacuumed count) none = absurd none
+aims-carry codec spelled opening past jobs seen m number job objects (outcome.Unlocked count) none = absurd none
+aims-carry codec spelled opening past jobs seen m number job objects (outcome.Listed names) none = absurd none
 aims-carry codec spelled opening past jobs seen m number job objects (outcome.Refused r) none = absurd none
 aims-carry codec spelled opening past jobs seen m number job objects outcome.OutOfMemory none = absurd none
 
@@ -60,14 +67,15 @@ module _ {F : Type 0} (codec : Codec F) (spelled : Spelled) (tracks : Tracking F
   framed_stays : (frame : Frame) → frame_in (history_told jobs past seen) ≡ Some frame → frame_in (history_told jobs past (seen ++ e ∷ [])) ≡ Some frame
   framed_stays = frame_stays m (after_told m e) (history_told jobs past seen) (history_told jobs past (seen ++ e ∷ [])) id keeps
 
-  module _ (other : job.id ≡ id → ⊥) (apart : e.job ≡ Some number → ⊥) where
+  module _ (other : job.id ≡ id → ⊥) (apart : e.job ≡ Some number → ⊥) (not_spent : DoesCommit e job.id → ⊥)
+      (none_back : (f : FragKey) → IsSpent opening past seen f.id → IsCommitted (after_told m e) f → IsCommitted m f) (history : IsHistory (history_told jobs past (seen ++ e ∷ []))) where
     -- the call lists nothing for the job
     unlisted : e.job ≡ Some number → e.call ≡ list_schemas → ⊥
     unlisted own lists = apart own
 
     -- the job stays clean
-    cleans : Clean m (history_told jobs past seen) job → Clean (after_told m e) (history_told jobs past (seen ++ e ∷ [])) job
-    cleans = clean_stays m (after_told m e) (history_told jobs past seen) (history_told jobs past (seen ++ e ∷ [])) id keeps job other
+    cleans : Clean opening past jobs seen m job → Clean opening past jobs (seen ++ e ∷ []) (after_told m e) job
+    cleans = clean_stays opening past jobs seen e m (after_told m e) id keeps job other not_spent
 
     -- what the last put of a job makes of it stays
     aims_stays : (objects : List NewObject) (end : Outcome) → Aims codec spelled opening past jobs seen m number job objects end → Aims codec spelled opening past jobs (seen ++ e ∷ []) (after_told m e) number job objects end
@@ -91,6 +99,9 @@ module _ {F : Type 0} (codec : Codec F) (spelled : Spelled) (tracks : Tracking F
         (text, frame, there, condition, deletes, same, is, framed_stays frame framed, says, works_stays spelled opening past jobs seen e m (after_told m e) id keeps number job there unlisted works)
     aims_stays objects (outcome.Consolidated f count) is = aims_to_merge_stays spelled opening past jobs seen e m (after_told m e) id keeps number codec job objects f count is
     aims_stays objects (outcome.Read answer) is = is
+    aims_stays objects (outcome.Vacuumed count) is = is
+    aims_stays objects (outcome.Unlocked count) is = is
+    aims_stays objects (outcome.Listed names) is = is
     aims_stays objects (outcome.Refused r) is = is
     aims_stays objects outcome.OutOfMemory is = is
 
@@ -104,7 +115,7 @@ module _ {F : Type 0} (codec : Codec F) (spelled : Spelled) (tracks : Tracking F
           (aims-carry codec spelled opening past jobs seen m number job objects end is.aims i o at).0 other (is.free i o from at);
       some = is.some;
       undone = new_stays m (after_told m e) (history_told jobs past seen) (history_told jobs past (seen ++ e ∷ [])) id keeps (key_of job) other is.undone;
-      unspent = unspent_stays m (after_told m e) (history_told jobs past seen) (history_told jobs past (seen ++ e ∷ [])) id job.id keeps other is.unspent;
+      unspent = unspent_on opening past seen e job.id not_spent is.unspent;
       aims = aims_stays objects end is.aims;
     }
 
@@ -133,28 +144,38 @@ module _ {F : Type 0} (codec : Codec F) (spelled : Spelled) (tracks : Tracking F
       ),
     )
     claims_stay_at (Merges s) is = merge_claims_stay spelled opening past jobs seen e m (after_told m e) id keeps number codec tracks job cleans s is
+    claims_stay_at Lists is = (cleans is.0, is.1)
+    claims_stay_at (Sweeps s) is = sweep_claims_stay spelled opening past jobs seen e m (after_told m e) id keeps none_back number job cleans s is
+    claims_stay_at (Removes names next end) is = elim is [
+      | inl unlocking ↦ inl (unlocking_stays opening past jobs seen e m (after_told m e) number job names next end cleans unlocking)
+      | inr vacuuming ↦ inr (vacuuming_stays spelled opening past jobs seen e m (after_told m e) id keeps none_back number job history names next end vacuuming (cleans vacuuming.clean))
+    ]
     claims_stay_at (Over end) is = end_stays spelled opening past jobs seen e m (after_told m e) id keeps number job end other is
 
 -- the claims of a job stay by a call of another
 pub claims_stay : {F : Type 0} (codec : Codec F) (spelled : Spelled) (tracks : Tracking F) (opening : Held) (past : History) (jobs : List Job) (seen : List Told) (e : Told) (m : Held) (id : ℕ)
     → Keeps m (after_told m e) (history_told jobs past seen) (history_told jobs past (seen ++ e ∷ [])) id → (number : ℕ) (job : Job) (s : State F)
-    → (job.id ≡ id → ⊥) → (e.job ≡ Some number → ⊥) → Claims codec spelled tracks opening past jobs seen m number job s
+    → (job.id ≡ id → ⊥) → (e.job ≡ Some number → ⊥) → (DoesCommit e job.id → ⊥)
+    → ((f : FragKey) → IsSpent opening past seen f.id → IsCommitted (after_told m e) f → IsCommitted m f) → IsHistory (history_told jobs past (seen ++ e ∷ []))
+    → Claims codec spelled tracks opening past jobs seen m number job s
     → Claims codec spelled tracks opening past jobs (seen ++ e ∷ []) (after_told m e) number job s
-claims_stay codec spelled tracks opening past jobs seen e m id keeps number job s other apart is = claims_stay_at codec spelled tracks opening past jobs seen e m id keeps number job other apart s is
+claims_stay codec spelled tracks opening past jobs seen e m id keeps number job s other apart not_spent none_back history is = claims_stay_at codec spelled tracks opening past jobs seen e m id keeps number job other apart not_spent none_back history s is
 
 -- so do the claims of its stage
 pub stage_stays : {F : Type 0} (codec : Codec F) (spelled : Spelled) (tracks : Tracking F) (opening : Held) (past : History) (jobs : List Job) (seen : List Told) (e : Told) (m : Held) (id : ℕ)
     → Keeps m (after_told m e) (history_told jobs past seen) (history_told jobs past (seen ++ e ∷ [])) id → (number : ℕ) (job : Job) (stage : Stage F)
-    → (job.id ≡ id → ⊥) → (e.job ≡ Some number → ⊥) → StageClaims codec spelled tracks opening past jobs seen m number job stage
+    → (job.id ≡ id → ⊥) → (e.job ≡ Some number → ⊥) → (DoesCommit e job.id → ⊥)
+    → ((f : FragKey) → IsSpent opening past seen f.id → IsCommitted (after_told m e) f → IsCommitted m f) → IsHistory (history_told jobs past (seen ++ e ∷ []))
+    → StageClaims codec spelled tracks opening past jobs seen m number job stage
     → StageClaims codec spelled tracks opening past jobs (seen ++ e ∷ []) (after_told m e) number job stage
-stage_stays codec spelled tracks opening past jobs seen e m id keeps number job (PutsLease lease) other apart is =
+stage_stays codec spelled tracks opening past jobs seen e m id keeps number job (PutsLease lease) other apart not_spent none_back history is =
     let (mode, named) = lease_is job lease is.0.0 in (
-      (is.0.0, claims_stay codec spelled tracks opening past jobs seen e m id keeps number job (begun job.command) other apart is.0.1),
+      (is.0.0, claims_stay codec spelled tracks opening past jobs seen e m id keeps number job (begun job.command) other apart not_spent none_back history is.0.1),
       absent_stays m (after_told m e) (history_told jobs past seen) (history_told jobs past (seen ++ e ∷ [])) id keeps lease job.id (ap id_in named) other is.1,
     )
-stage_stays codec spelled tracks opening past jobs seen e m id keeps number job (ListsLeases lease) other apart is = (is.0, claims_stay codec spelled tracks opening past jobs seen e m id keeps number job (begun job.command) other apart is.1)
-stage_stays codec spelled tracks opening past jobs seen e m id keeps number job (stages.Works s) other apart is = claims_stay codec spelled tracks opening past jobs seen e m id keeps number job s other apart is
-stage_stays codec spelled tracks opening past jobs seen e m id keeps number job (Releases lease end) other apart is = (
+stage_stays codec spelled tracks opening past jobs seen e m id keeps number job (ListsLeases lease) other apart not_spent none_back history is = (is.0, claims_stay codec spelled tracks opening past jobs seen e m id keeps number job (begun job.command) other apart not_spent none_back history is.1)
+stage_stays codec spelled tracks opening past jobs seen e m id keeps number job (stages.Works s) other apart not_spent none_back history is = claims_stay codec spelled tracks opening past jobs seen e m id keeps number job s other apart not_spent none_back history is
+stage_stays codec spelled tracks opening past jobs seen e m id keeps number job (Releases lease end) other apart not_spent none_back history is = (
   is.0,
   end_stays spelled opening past jobs seen e m (after_told m e) id keeps number job end other is.1,
   new_stays m (after_told m e) (history_told jobs past seen) (history_told jobs past (seen ++ e ∷ [])) id keeps (key_of job) other is.2,

@@ -1,14 +1,13 @@
 -- What pieces hold as the history grows, and what an ordinary piece holds.
-use Rattle.std.proofs.Common.{◌≡◌, ℕ, ℤ, Bool, true, false, cond, not, ◌||◌, ◌&&◌, List, [], ◌∷◌, ◌++◌, Option, Some, None, refl, sym, ◌∙◌, ap, subst, arith}
+use Rattle.std.proofs.Common.{◌≡◌, ℕ, ℤ, Bool, true, false, cond, ◌||◌, List, [], ◌∷◌, ◌++◌, Option, Some, None, refl, sym, ◌∙◌, ap, subst, arith}
 use Rattle.std.specs.Prelude.{Contains, filter, option_and_then}
 use Rattle.std.specs.List.{list_any}
 use Rattle.std.specs.List.Sorted.{IsStrictlySortedBy}
-use Rattle.std.proofs.lemmas.Bool.{and_from, true≢false}
+use Rattle.std.proofs.lemmas.Bool.{true≢false}
 use Rattle.std.proofs.lemmas.List.{append-nil}
 use Rattle.std.proofs.lemmas.List.Elements.{Contains-append_left}
 use Rattle.std.proofs.lemmas.Option.{same_Some, none-some}
 use Rattle.ts_base.specs.declared.keys.Key.{Key}
-use Rattle.ts_base.specs.declared.heads.Head.{Head}
 use Rattle.ts_base.specs.declared.keys.FragKey.{FragKey}
 use Rattle.ts_base.specs.declared.heads.Piece.{Piece}
 use Rattle.ts_base.specs.declared.heads.Version.{Version}
@@ -18,7 +17,7 @@ use Rattle.ts_base.specs.declared.names.Part.{Part}
 use Rattle.ts_base.specs.declared.names.Name.TheVariants as name
 use Rattle.std.specs.FinMap as map
 use Rattle.ts_domain.specs.Boxes.{is_in_box}
-use Rattle.ts_commit.specs.Selections.{has_origin, is_usable, keeps_last, lies_in, meets}
+use Rattle.ts_commit.specs.Selections.{has_origin, keeps_last, meets}
 use Rattle.ts_model.specs.declared.deeds.Written.{Written}
 use Rattle.ts_model.specs.declared.deeds.Deed.{Deed}
 use Rattle.ts_model.specs.declared.deeds.Deed.TheVariants.{Framed, Declared, Wrote, Erased}
@@ -238,13 +237,3 @@ piece_box frame w boxed dense c = let box = boxed dense in box.each c ∙ (λ i.
 -- the fragment of a write in the interval meets it
 pub meets_of_within : (from to : ℕ) (k : Key) → is_within from to k ≡ true → meets from to (frag_of k) ≡ true
 meets_of_within from to k within = grind arith
-
--- a read of an interval that has a write can use the fragment of that write alone: its span is one timestamp
-pub own_usable : (a b : ℕ) (k : Key) (head : Head) → head.frag ≡ frag_of k → is_within a b k ≡ true → is_usable a b head ≡ true
-own_usable a b k head named within =
-    subst (λ f. meets a b f && (not (keeps_last head) || lies_in a b f) ≡ true) (sym named)
-    (and_from (meets a b (frag_of k)) (not (keeps_last head) || lies_in a b (frag_of k)) (meets_of_within a b k within) (or_second (not (keeps_last head)) (lies_in a b (frag_of k)) within))
-  where
-    or_second : (s t : Bool) → t ≡ true → s || t ≡ true
-    or_second true t e = refl
-    or_second false t e = e

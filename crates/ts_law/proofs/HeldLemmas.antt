@@ -1,11 +1,12 @@
--- What is held after a put, and which names a listing tells.
-use Rattle.std.proofs.Common.{◌≡◌, ℕ, true, false, cond, ◌⊎◌, inl, inr, List, Option, Some, None, refl, sym, ◌∙◌, ap, subst}
+-- What is held after a put and after a removal, and which names a listing tells.
+use Rattle.std.proofs.Common.{◌≡◌, ℕ, Bool, true, false, cond, ◌⊎◌, inl, inr, List, Option, Some, None, refl, sym, ◌∙◌, ap, subst}
 use Rattle.std.specs.Prelude.{Contains, IsTrue}
 use Rattle.std.specs.List.{list_any}
 use Rattle.std.specs.Ordering.{eq_by_cmp}
 use Rattle.std.specs.Option.{is_some}
 use Rattle.std.specs.FinMap as map
 use Rattle.std.proofs.lemmas.Bool.{true≢false, cond-true, cond-false}
+use Rattle.std.proofs.lemmas.Option.{none-some}
 use Rattle.std.proofs.lemmas.Cmp.{eq_by_cmp_equiv}
 use Rattle.std.proofs.lemmas.List.Folds.{Any-from_list_any}
 use Rattle.std.proofs.lemmas.Map.Views.{list_any-from_Contains}
@@ -14,7 +15,9 @@ use Rattle.ts_base.specs.declared.names.Prefix.{Prefix}
 use Rattle.ts_base.specs.Names.{name_cmp, is_under}
 use Rattle.ts_base.specs.Held.{Held}
 use Rattle.ts_base.specs.Exact.{name_total, name_exact}
-use Rattle.ts_store.specs.Calls.{names_under}
+use Rattle.ts_store.specs.Calls.{after, names_under, took_effect}
+use Rattle.ts_store.specs.declared.fate.Fate.{Fate}
+use Rattle.ts_store.specs.declared.call.Call.TheVariants as call
 use Rattle.ts_model.proofs.ListLemmas.{Contains-filter, filter-Contains}
 use Rattle.ts_model.proofs.KeyLemmas.{same_from_tie, tie_itself, no_tie}
 
@@ -73,3 +76,26 @@ holds_stays m n bytes q free held = elim (map.get m q) as (λ o. map.get m q ≡
   | None ↦ λ none. absurd (true≢false (sym held ∙ ap is_some none))
   | Some kept ↦ λ e. Holds-from_get (map.insert m n bytes) q kept (stays_held m n bytes q kept free e)
 ] refl
+
+-- ---- a removal
+
+-- a choice by a test of two maps that agree on a name
+pub agree : (b : Bool) (x y m : Held) (n : Name) → map.get x n ≡ map.get m n → map.get y n ≡ map.get m n → map.get (cond b x y) n ≡ map.get m n
+agree true x y m n first second = first
+agree false x y m n first second = second
+
+-- a removal leaves the other objects as they were
+pub removal_apart : (m : Held) (n : Name) (f : Fate) (q : Name) → (q ≡ n → ⊥) → map.get (after m (call.Remove n) f) q ≡ map.get m q
+removal_apart m n f q apart = agree (took_effect f) (map.remove m n) m m q (map.get-remove name_total m n q ∙ cond-false _ _ _ (no_tie name_total name_exact q n apart)) refl
+
+-- what is held after a removal was held before it
+pub removal_before : (m : Held) (n : Name) (f : Fate) (q : Name) (bytes : List ℕ) → map.get (after m (call.Remove n) f) q ≡ Some bytes → map.get m q ≡ Some bytes
+removal_before m n f q bytes held = by_effect (took_effect f) held
+  where
+    by_tie : (b : Bool) → cond b None (map.get m q) ≡ Some bytes → map.get m q ≡ Some bytes
+    by_tie true e = absurd (none-some bytes e)
+    by_tie false e = e
+
+    by_effect : (b : Bool) → map.get (cond b (map.remove m n) m) q ≡ Some bytes → map.get m q ≡ Some bytes
+    by_effect true e = by_tie _ (sym (map.get-remove name_total m n q) ∙ e)
+    by_effect false e = e

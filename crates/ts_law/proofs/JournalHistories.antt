@@ -3,14 +3,14 @@ use Rattle.std.proofs.Common.{◌≡◌, ℕ, Bool, true, false, cond, ◌⊎◌
 use Rattle.std.specs.Prelude.{IsTrue, All, ⊤, option_map, option_and_then, option_to_list, nat_eq}
 use Rattle.std.specs.Result.{result_ok}
 use Rattle.std.specs.List.{cons_option}
-use Rattle.std.proofs.lemmas.Bool.{cases_eq, eq-eqb, ne_eqb, true≢false}
+use Rattle.std.proofs.lemmas.Bool.{eq-eqb, ne_eqb, true≢false}
 use Rattle.std.proofs.lemmas.Option.{same_Some, none-some}
 use Rattle.std.proofs.lemmas.List.{append-nil}
 use Rattle.std.proofs.lemmas.List.Elements.{All-nil, All-cons, All-head, All-tail, All-contains, Contains-append_right, filter_map-append}
 use Rattle.ts_base.specs.declared.keys.Key.{Key}
 use Rattle.ts_base.specs.declared.names.Name.{Name}
 use Rattle.ts_base.specs.declared.names.CommitKind.TheVariants.{Wrt, Del}
-use Rattle.ts_base.specs.declared.names.Prefix.TheVariants.{Commits, Leases, Schemas}
+use Rattle.ts_base.specs.declared.names.Prefix.TheVariants.{Commits, Fragment, Leases, Schemas}
 use Rattle.ts_base.specs.declared.names.LeaseMode.{LeaseMode}
 use Rattle.ts_base.specs.Held.{Held}
 use Rattle.ts_schema.specs.FrameTexts.{frame_object, frame_of}
@@ -29,17 +29,18 @@ use Rattle.ts_model.specs.declared.answers.Outcome.{Outcome}
 use Rattle.ts_model.specs.declared.deeds.Deed.TheVariants.{Framed, Declared, Wrote, Erased}
 use Rattle.ts_model.specs.declared.states.State.{State}
 use Rattle.ts_model.specs.declared.states.NewObject.{NewObject}
-use Rattle.ts_model.specs.declared.states.State.TheVariants.{Creates, Seeks, Puts, Collects, Merges, Over}
+use Rattle.ts_model.specs.declared.states.State.TheVariants.{Creates, Seeks, Puts, Collects, Merges, Lists, Sweeps, Removes, Over}
 use Rattle.ts_model.specs.declared.states.Creating.TheVariants.{PutsFrame, ComparesFrame, ListsDeclared}
 use Rattle.ts_model.specs.declared.states.Seeking.TheVariants.{ListsCommits, ListsSchemas, GetsSchema, GetsFrame}
 use Rattle.ts_model.specs.declared.states.Collecting.TheVariants.{GetsVacs, GetsHeads, GetsSchemas, GetsDeletes, Fetches}
 use Rattle.ts_model.specs.declared.states.Merging.TheVariants as merging
+use Rattle.ts_model.specs.declared.states.Sweeping.TheVariants as sweeping
 use Rattle.ts_commit.specs.declared.vacs.Limits.{Limits}
 use Rattle.ts_model.specs.Commands.{frame_made, create_refusal, fits}
 use Rattle.ts_model.specs.Deeds.{History}
 use Rattle.ts_model.specs.Codecs.{Codec, CodecLaws, Spelled, Tracking}
 use Rattle.ts_model.specs.Jobs.{IsFit, AreApart, job_with, key_of}
-use Rattle.ts_model.specs.States.{all_of, get_vac, vac_of, asks, frame_put, get_delete, get_head, get_head_in, get_schema, made_by, put_of, want_of}
+use Rattle.ts_model.specs.States.{all_of, get_vac, list_parts, vac_of, asks, frame_put, get_delete, get_head, get_head_in, get_schema, made_by, put_of, want_of}
 use Rattle.ts_model.specs.Stages.{put_lease, stage_of}
 use Rattle.ts_model.specs.Driven.{MayAsk}
 use Rattle.ts_model.specs.declared.states.Stage.{Stage}
@@ -53,11 +54,13 @@ use Rattle.ts_model.proofs.Traces.{exchange_of_own, exchange_of_other, deed_told
 use Rattle.ts_law.specs.Fresh.{id_in}
 use Rattle.ts_law.specs.Histories.{found_by, deed_carried, deed_put, deed_entered, grown_by, history_by, history_of}
 use Rattle.ts_law.specs.Lanes.{lane_by, IsOwned, IsBefore, InTurn}
-use Rattle.ts_law.specs.Kept.{AreAllowed, Aims, Claims, IsAllowed, Kept, StageClaims, Works}
+use Rattle.ts_law.specs.Kept.{AreAllowed, Aims, Claims, IsAllowed, Kept, MayCome, StageClaims, Works}
 use Rattle.ts_law.proofs.Declaring.{created_frame, frame_again}
 use Rattle.ts_law.proofs.Frames.{aims-carry}
 use Rattle.ts_law.proofs.Journals.{journal_held}
-use Rattle.ts_law.proofs.KeptLaws.{one_name, no_listing, no_removal, no_get, asked_by, speaks_no_put, every_prefix, Replied-front}
+use Rattle.ts_law.proofs.UnlockSteps.{own_listing_no_put}
+use Rattle.ts_law.proofs.KeptLaws.{one_name, no_listing, no_removal, no_get, asked_by, speaks_no_put, Coming, coming, Replied-front}
+use Rattle.ts_law.proofs.Leasing.{by_job}
 use Rattle.ts_base.specs.declared.names.Name.TheVariants as name
 use Rattle.ts_store.specs.declared.call.Call.TheVariants as call
 use Rattle.ts_store.specs.declared.call.Reply.TheVariants as reply
@@ -116,14 +119,6 @@ found_kinds c r = inl (λ x. refl)
 found_quiet : (c : Call) (r : Reply) (x : Option (List Key)) → is_no_memory r ≡ true → found_in x c r ≡ x
 found_quiet (call.List Schemas) (reply.Names names) x none = cc
 found_quiet c r x none = refl
-
--- the call was made by the job, or it was not
-by_job : (number : ℕ) (o : Option ℕ) → (o ≡ Some number) ⊎ (o ≡ Some number → ⊥)
-by_job number None = inr (λ same. none-some number same)
-by_job number (Some other) = elim (cases_eq other number) [
-  | inl same ↦ inl (ap Some same)
-  | inr apart ↦ inr (λ same. apart (same_Some other number same))
-]
 
 module _ (lane : Option ℕ → ℕ) where
   -- the call is the job's own, where it is made in its lane
@@ -285,6 +280,9 @@ module _ {F : Type 0} (codec : Codec F) (spelled : Spelled) (tracks : Tracking F
   aims_find number job objects (outcome.Deleted f) (text, frame, there, condition, deletes, same, is, framed, says, works) = Worked there works
   aims_find number job objects (outcome.Consolidated f count) aims = let survey = aims.survey in Merged survey.from survey.to survey.limits (((aims.merges).has).surveys).merges
   aims_find number job objects (outcome.Read answer) none = absurd none
+  aims_find number job objects (outcome.Vacuumed count) none = absurd none
+  aims_find number job objects (outcome.Unlocked count) none = absurd none
+  aims_find number job objects (outcome.Listed names) none = absurd none
   aims_find number job objects (outcome.Refused r) none = absurd none
   aims_find number job objects outcome.OutOfMemory none = absurd none
 
@@ -344,6 +342,18 @@ module _ {F : Type 0} (codec : Codec F) (spelled : Spelled) (tracks : Tracking F
       let on = way.is.holds in
       let held = laws.asks s.frame schema way.piece (on.spells).look (all_of s.frame schema.attrs) fetch c way.way in
       absurd (speaks_no_put c (name.Part ((way.piece).head).frag held.part) n bytes held.named (same_Some c (call.Put n bytes) asked))
+  put_from number job (Sweeps sweeping.ListsCommits) n bytes claims asked = absurd (no_listing Commits n bytes (same_Some _ _ asked))
+  put_from number job (Sweeps (sweeping.ListsSchemas s)) n bytes claims asked = absurd (no_listing Schemas n bytes (same_Some _ _ asked))
+  put_from number job (Sweeps (sweeping.GetsVacs s)) n bytes claims asked =
+      let f = asked_by get_vac (slice_get s.counting _) (call.Put n bytes) asked in
+      absurd (no_get (vac_of f.0) 0 _ n bytes f.2)
+  put_from number job (Sweeps (sweeping.ListsParts s set listed)) n bytes claims asked =
+      let f = asked_by list_parts (slice_get set _) (call.Put n bytes) asked in
+      absurd (no_listing (Fragment f.0) n bytes f.2)
+  put_from number job Lists n bytes claims asked = absurd (own_listing_no_put job.command n bytes claims.1 asked)
+  put_from number job (Removes names next end) n bytes claims asked =
+      let q = asked_by call.Remove (slice_get names next) (call.Put n bytes) asked in
+      absurd (no_removal q.0 n bytes q.2)
   put_from number job (Over end) n bytes claims asked = absurd (none-some _ asked)
 
   -- a put of a job in whatever stage: of a frame, of its own object, or of its lease
@@ -379,39 +389,25 @@ put_deed past jobs seen g found number job n bytes apart at fit short same (inr 
 
 -- ---- the journal
 
--- a call in the midst of calls that may come
-pub allowed_at : {F : Type 0} (codec : Codec F) (jobs : List Job) (seen front back : List Told) (e : Told) → AreAllowed codec jobs [] seen (front ++ e ∷ back) → IsAllowed codec jobs [] (seen ++ front) e
-allowed_at codec jobs seen [] back e may = subst (λ t. IsAllowed codec jobs [] t e) (sym (append-nil seen)) may.0
-allowed_at codec jobs seen (d ∷ front) back e may = subst (λ t. IsAllowed codec jobs [] t e) (append_assoc seen (d ∷ []) front) (allowed_at codec jobs (seen ++ d ∷ []) front back e may.1)
-
 -- a call in the midst of calls that are replied to
 replied_at : (m : Held) (front back : List Told) (e : Told) → Replied m (front ++ e ∷ back) → IsReplied (held_told m front) e
 replied_at m [] back e replied = replied.0
 replied_at m (d ∷ front) back e replied = replied_at (after_told m d) front back e replied.1
 
 module _ {F : Type 0} (codec : Codec F) (spelled : Spelled) (tracks : Tracking F) (laws : CodecLaws codec spelled tracks) (jobs : List Job) (past : History) (m : Held) (told : List Told) (lane : Option ℕ → ℕ)
-    (begins : Kept codec spelled tracks m past jobs [] [] m) (may : AreAllowed codec jobs [] [] told) (replied : Replied m told) (turns : AreInTurn lane told) where
+    (last : List ℕ) (begins : Kept codec spelled tracks m past jobs [] [] m) (may : AreAllowed codec jobs [] last [] told) (replied : Replied m told) (turns : AreInTurn lane told) where
   module _ (seen back : List Told) (e : Told) (parts : told ≡ seen ++ e ∷ back) (g : History) where
-    -- what is kept before the call
-    kept : Kept codec spelled tracks m past jobs [] seen (held_told m seen)
-    kept = every_prefix codec spelled tracks laws m past jobs [] [] m told seen (e ∷ back) begins may replied parts
-
-    -- the call is that of a job
-    allowed : IsAllowed codec jobs [] seen e
-    allowed = allowed_at codec jobs [] seen back e (subst (AreAllowed codec jobs [] []) parts may)
+    -- what stood before the call
+    comes : Coming codec spelled tracks laws m past jobs seen (held_told m seen) e
+    comes = coming codec spelled tracks laws m past jobs [] last [] m told seen back e begins may replied parts
 
     -- its reply
     answered : IsReplied (held_told m seen) e
     answered = replied_at m seen back e (subst (Replied m) parts replied)
 
-    -- what the job found its lane found
-    found_then : (schemas_found (trace_of allowed.number seen) ≡ None) ⊎ (schemas_found (trace_of allowed.number seen) ≡ found_by m (lane (Some allowed.number)) None (entries_of lane seen))
-    found_then =
-        found_same lane allowed.number m None None seen (Replied-front m seen (e ∷ back) (subst (Replied m) parts replied)) (turns seen back e allowed.number parts allowed.own) (inl refl)
-
-    -- the deed of the call
-    deed_same : deed_told jobs g seen e ≡ deed_entered jobs g (found_by m (lane e.job) None (entries_of lane seen)) e.call
-    deed_same =
+    -- the deed of a call of a job
+    own_deed : IsAllowed codec jobs comes.dead seen e → deed_told jobs g seen e ≡ deed_entered jobs g (found_by m (lane e.job) None (entries_of lane seen)) e.call
+    own_deed allowed =
         deed_told_own jobs g seen e allowed.number allowed.job e.call allowed.own allowed.is_job refl
         ∙ by_call e.call refl
         ∙ ap (λ o. deed_entered jobs g (found_by m (lane o) None (entries_of lane seen)) e.call) (sym allowed.own)
@@ -419,22 +415,37 @@ module _ {F : Type 0} (codec : Codec F) (spelled : Spelled) (tracks : Tracking F
         found : Option (List Key)
         found = found_by m (lane (Some allowed.number)) None (entries_of lane seen)
 
+        -- what the job found its lane found
+        found_then : (schemas_found (trace_of allowed.number seen) ≡ None) ⊎ (schemas_found (trace_of allowed.number seen) ≡ found)
+        found_then =
+            found_same lane allowed.number m None None seen (Replied-front m seen (e ∷ back) (subst (Replied m) parts replied)) (turns seen back e allowed.number parts allowed.own) (inl refl)
+
         by_put : (n : Name) (bytes : List ℕ) → e.call ≡ call.Put n bytes → (PutsAFrame allowed.job n bytes ⊎ PutsItsOwn past jobs seen allowed.number allowed.job n) ⊎ IsALease n → deed_of g allowed.job (schemas_found (trace_of allowed.number seen)) n ≡ deed_put jobs g found n bytes
         by_put n bytes is (inl puts) =
-            put_deed past jobs seen g found allowed.number allowed.job n bytes kept.apart allowed.is_job
-            (All-contains IsFit jobs allowed.job kept.fit (Contains-slice_get jobs allowed.number allowed.job allowed.is_job)) (subst IsShortCall is allowed.short) found_then puts
+            put_deed past jobs seen g found allowed.number allowed.job n bytes (comes.kept).apart allowed.is_job
+            (All-contains IsFit jobs allowed.job (comes.kept).fit (Contains-slice_get jobs allowed.number allowed.job allowed.is_job)) (subst IsShortCall is allowed.short) found_then puts
         by_put n bytes is (inr lease) =
             let Same : Name → Type 0 = λ k. deed_of g allowed.job (schemas_found (trace_of allowed.number seen)) k ≡ deed_put jobs g found k bytes in
             subst Same (sym lease.2) (none_then (job_with jobs (lease.0).id))
 
-        by_call : (c : Call) → e.call ≡ c → deed_in g allowed.job (schemas_found (trace_of allowed.number seen)) c ≡ deed_entered jobs g (found_by m (lane (Some allowed.number)) None (entries_of lane seen)) c
+        by_call : (c : Call) → e.call ≡ c → deed_in g allowed.job (schemas_found (trace_of allowed.number seen)) c ≡ deed_entered jobs g found c
         by_call (call.Put n bytes) is =
             by_put n bytes is (put_staged codec spelled tracks laws m past jobs seen (held_told m seen) allowed.number allowed.job (stage_of codec allowed.job (trace_of allowed.number seen)) n bytes
-            (kept.claims allowed.number allowed.job allowed.is_job allowed.alive) (subst (MayAsk codec allowed.job (stage_of codec allowed.job (trace_of allowed.number seen))) is allowed.asked))
+            ((comes.kept).claims allowed.number allowed.job allowed.is_job allowed.alive) (subst (MayAsk codec allowed.job (stage_of codec allowed.job (trace_of allowed.number seen))) is allowed.asked))
         by_call (call.Remove n) is = refl
         by_call (call.List p) is = refl
         by_call (call.Get n from len) is = refl
         by_call (call.Size n) is = refl
+
+    -- the deed of any call
+    deed_same : deed_told jobs g seen e ≡ deed_entered jobs g (found_by m (lane e.job) None (entries_of lane seen)) e.call
+    deed_same = by_maker comes.may
+      where
+        by_maker : MayCome codec jobs comes.dead seen e → deed_told jobs g seen e ≡ deed_entered jobs g (found_by m (lane e.job) None (entries_of lane seen)) e.call
+        by_maker (inl allowed) = own_deed allowed
+        by_maker (inr broken) =
+            ap (option_and_then (λ number. option_and_then (λ job. deed_in g job (schemas_found (trace_of number seen)) e.call) (slice_get jobs number))) broken.nobodys
+            ∙ sym (ap (deed_entered jobs g (found_by m (lane e.job) None (entries_of lane seen))) broken.removes)
 
     -- what it appends
     grown_same : is_no_memory e.reply ≡ false → grown jobs g seen e ≡ grown_by jobs m g (entries_of lane seen) (record { lane = lane e.job; call = e.call; fate = e.fate })

@@ -19,10 +19,22 @@ use Rattle.ts_model.proofs.ListLemmas.{Contains-here, Contains-there, slice_get_
 use Rattle.ts_model.proofs.Traces.{exchange_of_own, exchange_of_other, trace_of-own, trace_of-other}
 use Rattle.ts_law.specs.Lanes.{lane_by, one_lane, own_lane, IsBefore, IsWithin, InTurn, AreInLanes}
 use Rattle.ts_law.specs.Runs.{exchanges}
+use Rattle.ts_law.specs.Sweeps.{IsNoSweep}
+use Rattle.ts_model.specs.declared.commands.Command.TheVariants.{Vacuum}
 
 -- the calls are made by the job with a number
 abbrev pub AreBy : ℕ → List Told → Type 0
 AreBy number own = All (λ e. e.job ≡ Some number) own
+
+-- the calls of a job that is no vacuum are none of a vacuum
+pub no_sweeps : (jobs : List Job) (number : ℕ) (job : Job) (own : List Told) → slice_get jobs number ≡ Some job → (job.command ≡ Vacuum → ⊥) → AreBy number own → All (IsNoSweep jobs) own
+no_sweeps jobs number job own is_job other by_it = All-weaker (λ e. e.job ≡ Some number) (IsNoSweep jobs) none own by_it
+  where
+    none : (e : Told) → e.job ≡ Some number → IsNoSweep jobs e
+    none e mine i by made at vacuums =
+        let same : number ≡ i = same_Some number i (sym mine ∙ made) in
+        let one : job ≡ by = same_Some job by (sym is_job ∙ ap (slice_get jobs) same ∙ at) in
+        other (ap (λ (j : Job). j.command) one ∙ vacuums)
 
 -- ---- traces
 

@@ -1,12 +1,12 @@
 -- The calls of a job with a lease beside its work: the put of the lease, the listing of the leases, and the removal.
-use Rattle.std.proofs.Common.{◌≡◌, ℕ, Bool, true, false, cond, not, ◌&&◌, inl, inr, List, [], ◌∷◌, ◌++◌, Option, Some, None, refl, sym, ◌∙◌, ap, subst, arith, ◌+◌}
+use Rattle.std.proofs.Common.{◌≡◌, ℕ, Bool, true, false, cond, not, ◌&&◌, ◌⊎◌, inl, inr, List, [], ◌∷◌, ◌++◌, Option, Some, None, refl, sym, ◌∙◌, ap, subst, arith, ◌+◌}
 use Rattle.std.specs.Prelude.{option_map, slice_get}
 use Rattle.std.specs.Option.{is_some, option_map_or}
-use Rattle.std.proofs.lemmas.Bool.{cond-false, true≢false}
+use Rattle.std.proofs.lemmas.Bool.{true≢false}
 use Rattle.std.proofs.lemmas.List.{append-nil}
 use Rattle.std.proofs.lemmas.Option.{none-some, same_Some}
 use Rattle.ts_base.specs.Held.{Held}
-use Rattle.ts_base.specs.Exact.{name_total, name_exact, name_decides}
+use Rattle.ts_base.specs.Exact.{name_decides}
 use Rattle.ts_base.specs.Names.{wrt_of}
 use Rattle.ts_base.specs.declared.keys.Key.{Key}
 use Rattle.ts_base.specs.declared.keys.FragKey.{FragKey}
@@ -16,20 +16,21 @@ use Rattle.ts_base.specs.declared.names.CommitKind.TheVariants.{Del}
 use Rattle.ts_lease.specs.Leases.{verdict_in}
 use Rattle.ts_lease.specs.declared.verdicts.Verdict.{Verdict}
 use Rattle.ts_lease.specs.declared.verdicts.Verdict.TheVariants as verdict
-use Rattle.ts_store.specs.Calls.{after, is_no_memory, took_effect}
+use Rattle.ts_store.specs.Calls.{after, is_no_memory}
 use Rattle.ts_store.specs.declared.call.Call.{Call}
 use Rattle.ts_store.specs.declared.call.Reply.{Reply}
-use Rattle.ts_store.specs.declared.fate.Fate.{Fate}
 use Rattle.ts_model.specs.declared.answers.Outcome.{Outcome}
 use Rattle.ts_model.specs.declared.commands.Command.{Command}
-use Rattle.ts_model.specs.declared.commands.Command.TheVariants.{Create, Evolve, Write, Read, Delete, Consolidate}
+use Rattle.ts_model.specs.declared.commands.Command.TheVariants.{Create, Evolve, Write, Read, Delete, Consolidate, Vacuum, Unlock, Fragments}
 use Rattle.ts_model.specs.declared.commands.Job.{Job}
 use Rattle.ts_model.specs.declared.deeds.Deed.TheVariants.{Framed, Declared, Wrote, Erased}
 use Rattle.ts_model.specs.Commands.{frame_made}
 use Rattle.ts_model.specs.declared.states.State.{State}
-use Rattle.ts_model.specs.declared.states.State.TheVariants.{Creates, Seeks, Puts, Collects, Merges, Over}
+use Rattle.ts_model.specs.declared.states.State.TheVariants.{Creates, Seeks, Puts, Collects, Merges, Lists, Sweeps, Removes, Over}
 use Rattle.ts_model.specs.declared.states.Merging.{Merging}
 use Rattle.ts_model.specs.declared.states.Merging.TheVariants as merging
+use Rattle.ts_model.specs.declared.states.Sweeping.{Sweeping}
+use Rattle.ts_model.specs.declared.states.Sweeping.TheVariants as sweeping
 use Rattle.ts_model.specs.declared.states.Creating.TheVariants.{PutsFrame, ComparesFrame, ListsDeclared}
 use Rattle.ts_model.specs.declared.states.Seeking.TheVariants.{ListsCommits, ListsSchemas, GetsSchema, GetsFrame}
 use Rattle.ts_model.specs.declared.states.Collecting.TheVariants.{GetsVacs, GetsHeads, GetsSchemas, GetsDeletes, Fetches}
@@ -41,23 +42,24 @@ use Rattle.ts_model.specs.Deeds.{History}
 use Rattle.ts_model.specs.Driven.{MayAsk}
 use Rattle.ts_model.specs.Jobs.{key_of}
 use Rattle.ts_law.proofs.Objects.{apart_from_lease}
-use Rattle.ts_law.proofs.VacLaws.{MarksNone, unspent_beside, merged_beside, named_beside}
-use Rattle.ts_model.specs.States.{Exchange, asks, begun, goes, is_over, made_by}
-use Rattle.ts_model.specs.Stages.{after_lease, after_leases, end_at, is_release, is_removal, lease_of, list_leases, mode_of, on_verdict, put_lease, released, settled, stage_asks, stage_goes}
+use Rattle.ts_law.proofs.VacLaws.{MarksNone, merged_beside, named_beside}
+use Rattle.ts_model.specs.States.{Exchange, asks, begun, goes, is_over, list_leases, made_by}
+use Rattle.ts_model.specs.Stages.{after_lease, after_leases, end_at, is_release, is_removal, lease_of, mode_of, on_verdict, put_lease, released, settled, stage_asks, stage_goes}
 use Rattle.ts_model.specs.Told.{IsReplied, Told, after_told, declared_by, deed_in, deed_of, deleted_by, history_told, schemas_found, trace_of, written_by}
-use Rattle.ts_model.proofs.KeyLemmas.{no_tie}
+use Rattle.ts_model.proofs.Asked.{gives_up_held}
 use Rattle.ts_model.proofs.Lacks.{other_goes, release_ends}
 use Rattle.ts_model.proofs.ListLemmas.{Contains-nil}
 use Rattle.ts_model.proofs.Traces.{deed_told_own, later_no_deed}
 use Rattle.ts_law.specs.Ends.{IsTrueEnd, IsUndone}
-use Rattle.ts_law.specs.Fresh.{id_in}
-use Rattle.ts_law.specs.Kept.{Claims, Clean, MergeClaims, IsBefore, StageClaims}
+use Rattle.ts_law.specs.Fresh.{id_in, IsSpent}
+use Rattle.ts_law.specs.Kept.{Claims, Clean, MergeClaims, IsBefore, StageClaims, SweepClaims}
 use Rattle.ts_law.specs.Stands.{HoldsIn, IsNoLease, Stands}
-use Rattle.ts_law.specs.Steps.{Advances, Comes, Keeps, Leads, StageAdvances, StageComes}
-use Rattle.ts_law.proofs.Effects.{Added, IsLook, PutWent, Still, keeps_still, look_history, look_leads, look_stays, put_went}
+use Rattle.ts_law.specs.Steps.{Clears, Comes, Keeps, Leads, Moves, StageAdvances, StageClears, StageComes}
+use Rattle.ts_law.proofs.Effects.{Added, IsLook, PutWent, Still, keeps_still, look_leads, look_stays, put_went}
 use Rattle.ts_law.proofs.Grows.{holds_on_in}
-use Rattle.ts_law.proofs.HeldLemmas.{get_apart}
+use Rattle.ts_law.proofs.HeldLemmas.{agree, get_apart, removal_apart, removal_before}
 use Rattle.ts_law.proofs.StandsLaws.{free_from_get, keeps_put}
+use Rattle.ts_law.proofs.Spent.{put_commits, unspent_on}
 use Rattle.ts_law.proofs.Stays.{clean_look, end_stays}
 use Rattle.std.specs.FinMap as map
 use Rattle.ts_base.specs.declared.names.Name.TheVariants as name
@@ -110,7 +112,7 @@ module _ (spelled : Spelled) (m m' : Held) (same : (n : Name) → IsNoLease n �
   beside h f {p} is = holds_on_in spelled h m m' f p (λ part bytes held. same (name.Part f part) tt ∙ held) is
 
   -- what stands for a history stands for it where only leases differ
-  stands_beside : (h : History) → Stands spelled m h → Stands spelled m' h
+  pub stands_beside : (h : History) → Stands spelled m h → Stands spelled m' h
   stands_beside h stands = record {
     history = stands.history;
     frame = same name.Domain tt ∙ stands.frame;
@@ -127,32 +129,10 @@ module _ (spelled : Spelled) (m m' : Held) (same : (n : Name) → IsNoLease n �
           frag = own.frag;
           committed = ap is_some (same (wrt_of own.frag) tt) ∙ own.committed;
           went = record { piece = own.went.piece; holds = beside h own.frag own.went.holds; origin = own.went.origin };
-          usable = own.usable;
         };
   }
 
--- ---- a removal
-
--- a choice by a test of two maps that agree on a name
-agree : (b : Bool) (x y m : Held) (n : Name) → map.get x n ≡ map.get m n → map.get y n ≡ map.get m n → map.get (cond b x y) n ≡ map.get m n
-agree true x y m n first second = first
-agree false x y m n first second = second
-
--- a removal leaves the other objects as they were
-pub removal_apart : (m : Held) (n : Name) (f : Fate) (q : Name) → (q ≡ n → ⊥) → map.get (after m (call.Remove n) f) q ≡ map.get m q
-removal_apart m n f q apart = agree (took_effect f) (map.remove m n) m m q (map.get-remove name_total m n q ∙ cond-false _ _ _ (no_tie name_total name_exact q n apart)) refl
-
--- what is held after a removal was held before it
-removal_before : (m : Held) (n : Name) (f : Fate) (q : Name) (bytes : List ℕ) → map.get (after m (call.Remove n) f) q ≡ Some bytes → map.get m q ≡ Some bytes
-removal_before m n f q bytes held = by_effect (took_effect f) held
-  where
-    by_tie : (b : Bool) → cond b None (map.get m q) ≡ Some bytes → map.get m q ≡ Some bytes
-    by_tie true e = absurd (none-some bytes e)
-    by_tie false e = e
-
-    by_effect : (b : Bool) → map.get (cond b (map.remove m n) m) q ≡ Some bytes → map.get m q ≡ Some bytes
-    by_effect true e = by_tie _ (sym (map.get-remove name_total m n q) ∙ e)
-    by_effect false e = e
+-- ---- the calls of a lease
 
 module _ (spelled : Spelled) (past : History) (jobs : List Job) (seen : List Told) (e : Told) (m : Held) (number : ℕ) (job : Job) (own : e.job ≡ Some number) (is_job : slice_get jobs number ≡ Some job)
     (stands : Stands spelled m (history_told jobs past seen)) where
@@ -171,32 +151,6 @@ module _ (spelled : Spelled) (past : History) (jobs : List Job) (seen : List Tol
   -- a call of no deed leaves the history as it was
   deedless : (c : Call) → e.call ≡ c → deed_in h job (schemas_found (trace_of number seen)) c ≡ None → h' ≡ h
   deedless c is none = later_no_deed jobs past seen e (deed_told_own jobs h seen e number job c own is_job is ∙ none)
-
-  -- the removal of a lease leads to objects that stand for the same history
-  removal_leads : (id : ℕ) (lease : Name) → lease_of job ≡ Some lease → e.call ≡ call.Remove lease → (h' ≡ h) × Leads spelled past jobs seen e m id
-  removal_leads id lease some is =
-      let (mode, named) = lease_is job lease some in
-      let called : e.call ≡ call.Remove (name.Lease (key_of job) mode) = is ∙ ap call.Remove named in
-      let same_history = deedless (call.Remove (name.Lease (key_of job) mode)) called refl in
-      let same : (n : Name) → IsNoLease n → map.get m' n ≡ map.get m n = λ n none. agree (is_no_memory e.reply) m (after m e.call e.fate) m n refl
-      (ap (λ c. map.get (after m c e.fate) n) called ∙ removal_apart m (name.Lease (key_of job) mode) e.fate n (no_lease_apart (key_of job) mode n none)) in (
-        same_history,
-        record {
-          stands = subst (Stands spelled m') (sym same_history) (stands_beside spelled m m' same h stands);
-          leaves = record {
-            keeps = λ n bytes stays held. same n stays ∙ held;
-            adds = λ n bytes held. inl (was_held (name.Lease (key_of job) mode) called n bytes (is_no_memory e.reply) held);
-            names = named_beside m m' same;
-            more = [];
-            grows = same_history ∙ sym (append-nil h);
-            come = λ k at. absurd (Contains-nil k at);
-          };
-        },
-      )
-    where
-      was_held : (l : Name) → e.call ≡ call.Remove l → (n : Name) (bytes : List ℕ) (b : Bool) → map.get (cond b m (after m e.call e.fate)) n ≡ Some bytes → map.get m n ≡ Some bytes
-      was_held l called n bytes true held = held
-      was_held l called n bytes false held = removal_before m l e.fate n bytes (sym (ap (λ c. map.get (after m c e.fate) n) called) ∙ held)
 
   -- the put of a lease that is not held leads to objects that stand for the same history
   put_leads : (lease : Name) → lease_of job ≡ Some lease → e.call ≡ put_lease lease → IsReplied m e → map.get m lease ≡ None → (h' ≡ h) × Leads spelled past jobs seen e m job.id
@@ -223,6 +177,40 @@ module _ (spelled : Spelled) (past : History) (jobs : List Job) (seen : List Tol
         leaves = keeps_still m m' h h' job.id later same_history;
       }
 
+module _ (spelled : Spelled) (past : History) (jobs : List Job) (seen : List Told) (e : Told) (m : Held) (stands : Stands spelled m (history_told jobs past seen)) where
+  -- the removal of a lease, which is no deed, leads to objects that stand for the same history
+  pub removal_leads : (id : ℕ) (key : Key) (mode : LeaseMode) → e.call ≡ call.Remove (name.Lease key mode) → history_told jobs past (seen ++ e ∷ []) ≡ history_told jobs past seen → Leads spelled past jobs seen e m id
+  removal_leads id key mode called same_history =
+      let lease = name.Lease key mode in
+      let m' = after_told m e in
+      let h = history_told jobs past seen in
+      let same : (n : Name) → IsNoLease n → map.get m' n ≡ map.get m n = λ n none. agree (is_no_memory e.reply) m (after m e.call e.fate) m n refl
+      (ap (λ c. map.get (after m c e.fate) n) called ∙ removal_apart m lease e.fate n (no_lease_apart key mode n none)) in
+      record {
+        stands = subst (Stands spelled m') (sym same_history) (stands_beside spelled m m' same h stands);
+        leaves = record {
+          keeps = λ n bytes stays held. same n stays ∙ held;
+          adds = λ n bytes held. inl (was_held lease called n bytes (is_no_memory e.reply) held);
+          names = named_beside m m' same;
+          more = [];
+          grows = same_history ∙ sym (append-nil h);
+          come = λ k at. absurd (Contains-nil k at);
+        };
+      }
+    where
+      was_held : (l : Name) → e.call ≡ call.Remove l → (n : Name) (bytes : List ℕ) (b : Bool) → map.get (cond b m (after m e.call e.fate)) n ≡ Some bytes → map.get m n ≡ Some bytes
+      was_held l called n bytes true held = held
+      was_held l called n bytes false held = removal_before m l e.fate n bytes (sym (ap (λ c. map.get (after m c e.fate) n) called) ∙ held)
+
+module _ (spelled : Spelled) (past : History) (jobs : List Job) (seen : List Told) (e : Told) (m : Held) (number : ℕ) (job : Job) (own : e.job ≡ Some number) (is_job : slice_get jobs number ≡ Some job)
+    (stands : Stands spelled m (history_told jobs past seen)) where
+  -- a job that removes any lease does no deed
+  pub removal_of_lease : (id : ℕ) (k : Key) (mode : LeaseMode) → e.call ≡ call.Remove (name.Lease k mode)
+      → (history_told jobs past (seen ++ e ∷ []) ≡ history_told jobs past seen) × Leads spelled past jobs seen e m id
+  removal_of_lease id k mode called =
+      let same_history = deedless spelled past jobs seen e m number job own is_job stands (call.Remove (name.Lease k mode)) called refl in
+      (same_history, removal_leads spelled past jobs seen e m stands id k mode called same_history)
+
 -- ---- what a job says that is not over
 
 module _ {F : Type 0} (codec : Codec F) (spelled : Spelled) (tracks : Tracking F) (opening : Held) (past : History) (jobs : List Job) (seen : List Told) (m : Held) (number : ℕ) (job : Job) where
@@ -230,33 +218,59 @@ module _ {F : Type 0} (codec : Codec F) (spelled : Spelled) (tracks : Tracking F
   abbrev Says : State F → Type 0
   Says s = Claims codec spelled tracks opening past jobs seen m number job s
 
+  -- a job that did nothing yet: no deed has its key, and its identifier is unspent
+  abbrev IsIdle : Type 0
+  IsIdle = IsUndone (history_told jobs past seen) job × (IsSpent opening past seen job.id → ⊥)
+
+  -- a clean job did nothing yet
+  of_clean : Clean opening past jobs seen m job → IsIdle
+  of_clean clean = (clean.undone, clean.unspent)
+
   -- so it is of a consolidation that has not come to its puts
-  merging_undone : (s : Merging F) → MergeClaims codec spelled tracks opening past jobs seen m number job s → IsUndone (history_told jobs past seen) job
-  merging_undone merging.ListsCommits is = is.0.undone
-  merging_undone (merging.ListsSchemas c) is = is.0.undone
-  merging_undone (merging.GetsFrame c) is = is.0.undone
-  merging_undone (merging.GetsVacs s) is = is.0.undone
-  merging_undone (merging.GetsHeads s opened) is = is.0.undone
-  merging_undone (merging.GetsSchemas s opened named schemas) is = is.0.undone
-  merging_undone (merging.Fetches s sources schema next frag got fetch c) is = is.0.undone
+  merging_idle : (s : Merging F) → MergeClaims codec spelled tracks opening past jobs seen m number job s → IsIdle
+  merging_idle merging.ListsCommits is = of_clean is.0
+  merging_idle (merging.ListsSchemas c) is = of_clean is.0
+  merging_idle (merging.GetsFrame c) is = of_clean is.0
+  merging_idle (merging.GetsVacs s) is = of_clean is.0
+  merging_idle (merging.GetsHeads s opened) is = of_clean is.0
+  merging_idle (merging.GetsSchemas s opened named schemas) is = of_clean is.0
+  merging_idle (merging.Fetches s sources schema next frag got fetch c) is = of_clean is.0
+
+  -- and of a vacuum
+  sweeping_idle : (s : Sweeping) → SweepClaims spelled opening past jobs seen m number job s → IsIdle
+  sweeping_idle sweeping.ListsCommits is = of_clean is.0
+  sweeping_idle (sweeping.ListsSchemas s) is = of_clean is.0
+  sweeping_idle (sweeping.GetsVacs s) is = of_clean is.0
+  sweeping_idle (sweeping.ListsParts s set listed) is = of_clean is.0
 
   -- a job that is not over did nothing yet
+  going_idle : (s : State F) → is_over s ≡ false → Says s → IsIdle
+  going_idle (Puts objects next end) going is = (is.undone, is.unspent)
+  going_idle (Over end) going is = absurd (true≢false going)
+  going_idle (Merges s) going is = merging_idle s is
+  going_idle Lists going is = of_clean is.0
+  going_idle (Sweeps s) going is = sweeping_idle s is
+  going_idle (Removes names next end) going is = elim is [ inl unlocking ↦ of_clean unlocking.clean | inr vacuuming ↦ of_clean vacuuming.clean ]
+  going_idle (Creates PutsFrame) going is = of_clean is.0
+  going_idle (Creates ComparesFrame) going is = of_clean is.0
+  going_idle (Creates ListsDeclared) going is = of_clean is.0
+  going_idle (Seeks ListsCommits) going is = of_clean is.0
+  going_idle (Seeks (ListsSchemas listing)) going is = of_clean is.0
+  going_idle (Seeks (GetsSchema listing there)) going is = of_clean is.0
+  going_idle (Seeks (GetsFrame listing there)) going is = of_clean is.0
+  going_idle (Collects (GetsVacs r)) going is = of_clean is.0
+  going_idle (Collects (GetsHeads r opened)) going is = of_clean is.0
+  going_idle (Collects (GetsSchemas r opened named schemas)) going is = of_clean is.0
+  going_idle (Collects (GetsDeletes r opened schemas)) going is = of_clean is.0
+  going_idle (Collects (Fetches r opened schemas next frag got fetch c)) going is = of_clean is.0
+
+  -- no deed has its key
   pub going_undone : (s : State F) → is_over s ≡ false → Says s → IsUndone (history_told jobs past seen) job
-  going_undone (Puts objects next end) going is = is.undone
-  going_undone (Over end) going is = absurd (true≢false going)
-  going_undone (Merges s) going is = merging_undone s is
-  going_undone (Creates PutsFrame) going is = is.0.undone
-  going_undone (Creates ComparesFrame) going is = is.0.undone
-  going_undone (Creates ListsDeclared) going is = is.0.undone
-  going_undone (Seeks ListsCommits) going is = is.0.undone
-  going_undone (Seeks (ListsSchemas listing)) going is = is.0.undone
-  going_undone (Seeks (GetsSchema listing there)) going is = is.0.undone
-  going_undone (Seeks (GetsFrame listing there)) going is = is.0.undone
-  going_undone (Collects (GetsVacs r)) going is = is.0.undone
-  going_undone (Collects (GetsHeads r opened)) going is = is.0.undone
-  going_undone (Collects (GetsSchemas r opened named schemas)) going is = is.0.undone
-  going_undone (Collects (GetsDeletes r opened schemas)) going is = is.0.undone
-  going_undone (Collects (Fetches r opened schemas next frag got fetch c)) going is = is.0.undone
+  going_undone s going is = (going_idle s going is).0
+
+  -- and its identifier is unspent
+  pub going_unspent : (s : State F) → is_over s ≡ false → Says s → IsSpent opening past seen job.id → ⊥
+  going_unspent s going is = (going_idle s going is).1
 
   -- a job that asks for a call is not over
   pub asks_going : (s : State F) (c : Call) → asks codec job s ≡ Some c → is_over s ≡ false
@@ -264,16 +278,19 @@ module _ {F : Type 0} (codec : Codec F) (spelled : Spelled) (tracks : Tracking F
   asks_going _ c asked = refl
 
   -- a job that has a lease begins clean
-  pub before_clean : (lease : Name) → lease_of job ≡ Some lease → Says (begun job.command) → Clean m (history_told jobs past seen) job
+  pub before_clean : (lease : Name) → lease_of job ≡ Some lease → Says (begun job.command) → Clean opening past jobs seen m job
   before_clean lease some is = by_command job.command some is
     where
-      by_command : (c : Command) → option_map (name.Lease (key_of job)) (mode_of c) ≡ Some lease → Says (begun c) → Clean m (history_told jobs past seen) job
+      by_command : (c : Command) → option_map (name.Lease (key_of job)) (mode_of c) ≡ Some lease → Says (begun c) → Clean opening past jobs seen m job
       by_command (Read from to query) e says = says.0
       by_command (Consolidate from to limits) e says = says.0
       by_command (Create f) e says = absurd (none-some lease e)
       by_command (Evolve change) e says = absurd (none-some lease e)
       by_command (Write w) e says = absurd (none-some lease e)
       by_command (Delete text) e says = absurd (none-some lease e)
+      by_command Vacuum e says = says.0
+      by_command (Unlock seed lane) e says = absurd (none-some lease e)
+      by_command Fragments e says = absurd (none-some lease e)
 
 module _ {F : Type 0} (codec : Codec F) (spelled : Spelled) (tracks : Tracking F) (opening : Held) (past : History) (jobs : List Job) (seen : List Told) (m : Held) (number : ℕ) (job : Job) where
   -- a job that may make a call did nothing yet
@@ -281,7 +298,7 @@ module _ {F : Type 0} (codec : Codec F) (spelled : Spelled) (tracks : Tracking F
   stage_undone (PutsLease lease) c asked claims = (before_clean codec spelled tracks opening past jobs seen m number job lease claims.0.0 claims.0.1).undone
   stage_undone (ListsLeases lease) c asked claims = (before_clean codec spelled tracks opening past jobs seen m number job lease claims.0 claims.1).undone
   stage_undone (stages.Works s) c (inl asked) claims = going_undone codec spelled tracks opening past jobs seen m number job s (asks_going codec spelled tracks opening past jobs seen m number job s c asked) claims
-  stage_undone (stages.Works s) c (inr gives_up) claims = going_undone codec spelled tracks opening past jobs seen m number job s (not_over (is_some (lease_of job)) (is_over s) gives_up.1) claims
+  stage_undone (stages.Works s) c (inr gives_up) claims = going_undone codec spelled tracks opening past jobs seen m number job s (not_over (is_some (lease_of job)) (is_over s) (gives_up_held job (stages.Works s) gives_up.1)) claims
     where
       not_over : (a b : Bool) → (a && not b) ≡ true → b ≡ false
       not_over true false is = refl
@@ -290,8 +307,8 @@ module _ {F : Type 0} (codec : Codec F) (spelled : Spelled) (tracks : Tracking F
   stage_undone (Releases lease end) c asked claims = claims.2
 
 -- what a job with a lease claims where it begins it claims where it is clean
-begun_on : {F : Type 0} (codec : Codec F) (spelled : Spelled) (tracks : Tracking F) (opening : Held) (past : History) (jobs : List Job) (seen later : List Told) (m m' : Held) (number : ℕ) (job : Job) (lease : Name) → lease_of job ≡ Some lease
-    → Clean m' (history_told jobs past later) job → Claims codec spelled tracks opening past jobs seen m number job (begun job.command) → Claims codec spelled tracks opening past jobs later m' number job (begun job.command)
+pub begun_on : {F : Type 0} (codec : Codec F) (spelled : Spelled) (tracks : Tracking F) (opening : Held) (past : History) (jobs : List Job) (seen later : List Told) (m m' : Held) (number : ℕ) (job : Job) (lease : Name) → lease_of job ≡ Some lease
+    → Clean opening past jobs later m' job → Claims codec spelled tracks opening past jobs seen m number job (begun job.command) → Claims codec spelled tracks opening past jobs later m' number job (begun job.command)
 begun_on codec spelled tracks opening past jobs seen later m m' number job lease some clean is = by_command job.command some is
   where
     by_command : (c : Command) → option_map (name.Lease (key_of job)) (mode_of c) ≡ Some lease
@@ -302,6 +319,9 @@ begun_on codec spelled tracks opening past jobs seen later m m' number job lease
     by_command (Evolve change) e says = absurd (none-some lease e)
     by_command (Write w) e says = absurd (none-some lease e)
     by_command (Delete text) e says = absurd (none-some lease e)
+    by_command Vacuum e says = (clean, says.1)
+    by_command (Unlock seed lane) e says = absurd (none-some lease e)
+    by_command Fragments e says = absurd (none-some lease e)
 
 -- a job with a lease does no deed
 leased_deedless : (h : History) (job : Job) (found : Option (List Key)) (c : Call) (lease : Name) → lease_of job ≡ Some lease → deed_in h job found c ≡ None
@@ -314,6 +334,9 @@ leased_deedless h job found c lease some = by_call c
     by_made (Evolve change) e = absurd (none-some lease e)
     by_made (Write w) e = absurd (none-some lease e)
     by_made (Delete text) e = absurd (none-some lease e)
+    by_made Vacuum e = refl
+    by_made (Unlock seed lane) e = refl
+    by_made Fragments e = refl
 
     by_declared : (c : Command) → option_map (name.Lease (key_of job)) (mode_of c) ≡ Some lease → option_map Declared (declared_by h job found c) ≡ None
     by_declared (Read from to query) e = refl
@@ -322,6 +345,9 @@ leased_deedless h job found c lease some = by_call c
     by_declared (Evolve change) e = absurd (none-some lease e)
     by_declared (Write w) e = refl
     by_declared (Delete text) e = refl
+    by_declared Vacuum e = refl
+    by_declared (Unlock seed lane) e = refl
+    by_declared Fragments e = refl
 
     by_written : (c : Command) → option_map (name.Lease (key_of job)) (mode_of c) ≡ Some lease → option_map Wrote (written_by h job found c) ≡ None
     by_written (Read from to query) e = refl
@@ -330,6 +356,9 @@ leased_deedless h job found c lease some = by_call c
     by_written (Evolve change) e = refl
     by_written (Write w) e = absurd (none-some lease e)
     by_written (Delete text) e = refl
+    by_written Vacuum e = refl
+    by_written (Unlock seed lane) e = refl
+    by_written Fragments e = refl
 
     by_deleted : (c : Command) → option_map (name.Lease (key_of job)) (mode_of c) ≡ Some lease → option_map Erased (deleted_by h job found c) ≡ None
     by_deleted (Read from to query) e = refl
@@ -338,6 +367,9 @@ leased_deedless h job found c lease some = by_call c
     by_deleted (Evolve change) e = refl
     by_deleted (Write w) e = refl
     by_deleted (Delete text) e = absurd (none-some lease e)
+    by_deleted Vacuum e = refl
+    by_deleted (Unlock seed lane) e = refl
+    by_deleted Fragments e = refl
 
     by_name : (n : Name) → deed_of h job found n ≡ None
     by_name name.Domain = by_made job.command some
@@ -418,7 +450,11 @@ module _ {F : Type 0} (codec : Codec F) (spelled : Spelled) (tracks : Tracking F
   put_apart lease (Added free later changed said) n apart = ap (λ x. map.get x n) later ∙ get_apart m lease [] n apart
   put_apart lease (Still later changed made holds) n apart = ap (λ x. map.get x n) later
 
-  module _ (work : (s : State F) → Comes codec spelled tracks opening past jobs seen e m number job s → Advances codec spelled tracks opening past jobs seen e m number job s) where
+  -- where a call leads that comes in a stage of the job
+  abbrev LeadsOn : Stage F → Type 0
+  LeadsOn stage = Leads spelled past jobs seen e m job.id ⊎ StageClears spelled opening past jobs seen e m job stage
+
+  module _ (work : (s : State F) → Comes codec spelled tracks opening past jobs seen e m number job s → Moves codec spelled tracks opening past jobs seen e m number job s) where
     -- a call leads its job on by the stage that it is in
     pub stage_step : (stage : Stage F) → StageComes codec spelled tracks opening past jobs seen e m number job stage → StageAdvances codec spelled tracks opening past jobs seen e m number job stage
     stage_step stage c = by_kind (is_release job e.call) refl
@@ -429,51 +465,56 @@ module _ {F : Type 0} (codec : Codec F) (spelled : Spelled) (tracks : Tracking F
         by_removal : (lease : Name) → lease_of job ≡ Some lease → e.call ≡ call.Remove lease → is_release job e.call ≡ true → StageAdvances codec spelled tracks opening past jobs seen e m number job stage
         by_removal lease some removes is =
             let (mode, named) = lease_is job lease some in
-            let leads = removal_leads spelled past jobs seen e m number job c.own c.is_job c.stands job.id lease some removes in
-            let others = removal_leads spelled past jobs seen e m number job c.own c.is_job c.stands (job.id + 1) lease some removes in
+            let called = removes ∙ ap call.Remove named in
+            let same_history = leased_history past jobs seen e number job lease c.own c.is_job some in
+            let leads = removal_leads spelled past jobs seen e m c.stands job.id (key_of job) mode called same_history in
+            let others = removal_leads spelled past jobs seen e m c.stands (job.id + 1) (key_of job) mode called same_history in
             let ends : (end : Outcome) → IsTrueEnd spelled opening jobs past seen number job end → IsTrueEnd spelled opening jobs past (seen ++ e ∷ []) number job end =
-            λ end. end_stays spelled opening past jobs seen e m (after_told m e) (job.id + 1) others.1.leaves number job end (λ same. omega (arith, same)) in
+            λ end. end_stays spelled opening past jobs seen e m (after_told m e) (job.id + 1) others.leaves number job end (λ same. omega (arith, same)) in
             record {
-              leads = leads.1;
+              leads = inl leads;
               own = subst ClaimsLater (sym (release_ends codec job stage x lease some is))
                   (subst (λ l. IsTrueEnd spelled opening jobs past (seen ++ e ∷ []) number job (released l (end_at stage) e.reply)) (sym named)
-                  (closing (key_of job) mode stage ends (λ undone. subst (λ g. IsUndone g job) (sym leads.0) undone) c.claims));
+                  (closing (key_of job) mode stage ends (λ undone. subst (λ g. IsUndone g job) (sym same_history) undone) c.claims));
             }
 
         by_put : (lease : Name) → e.call ≡ put_lease lease → StageClaims codec spelled tracks opening past jobs seen m number job (PutsLease lease)
-            → Leads spelled past jobs seen e m job.id × ClaimsLater (after_lease lease e.reply)
+            → LeadsOn (PutsLease lease) × ClaimsLater (after_lease lease e.reply)
         by_put lease called ((some, before), free) =
             let (mode, named) = lease_is job lease some in
             let leads = put_leads spelled past jobs seen e m number job c.own c.is_job c.stands lease some called c.replied free in
             let went = put_went m lease [] e called c.replied in
             let clean = before_clean codec spelled tracks opening past jobs seen m number job lease some before in
             let undone = subst (λ g. IsUndone g job) (sym leads.0) clean.undone in
-            let clean_later : Clean (after_told m e) (history_told jobs past (seen ++ e ∷ [])) job = record {
+            let clean_later : Clean opening past jobs (seen ++ e ∷ []) (after_told m e) job = record {
               free = λ n carries apart. put_apart lease went n (λ same. apart (some ∙ ap Some (sym same))) ∙ clean.free n carries apart;
               undone = undone;
-              unspent = unspent_beside m (after_told m e) (λ n none. put_apart lease went n (λ same. apart_from_lease job n none (some ∙ ap Some (sym same)))) job.id clean.unspent;
+              unspent = unspent_on opening past seen e job.id (put_commits e job.id lease [] called (λ f same. apart_from_lease job (wrt_of f) tt (some ∙ ap Some (sym same)))) clean.unspent;
             } in
             let before_later = begun_on codec spelled tracks opening past jobs seen (seen ++ e ∷ []) m (after_told m e) number job lease some clean_later before in (
-              leads.1,
+              inl leads.1,
               subst (λ l. ClaimsLater (after_lease l e.reply)) (sym named)
                   (after_put (key_of job) mode e.reply (some ∙ ap Some named) (not_taken lease free went) undone (some ∙ ap Some named, before_later)),
             )
 
         by_list : (lease : Name) → e.call ≡ list_leases → StageClaims codec spelled tracks opening past jobs seen m number job (ListsLeases lease)
-            → Leads spelled past jobs seen e m job.id × ClaimsLater (after_leases lease (begun job.command) e.reply)
+            → LeadsOn (ListsLeases lease) × ClaimsLater (after_leases lease (begun job.command) e.reply)
         by_list lease called (some, before) =
             let look : IsLook e.call = subst IsLook (sym called) tt in
             let same = look_stays m e look c.replied in
-            let same_history = look_history jobs past seen e m look c.replied in
-            let clean = clean_look m (after_told m e) (history_told jobs past seen) (history_told jobs past (seen ++ e ∷ [])) job same.0 same_history (before_clean codec spelled tracks opening past jobs seen m number job lease some before) in
+            let clean = clean_look opening past jobs seen e m (after_told m e) job same.0 same.1 (before_clean codec spelled tracks opening past jobs seen m number job lease some before) in
             let before_later = begun_on codec spelled tracks opening past jobs seen (seen ++ e ∷ []) m (after_told m e) number job lease some clean before in
-            (look_leads spelled past jobs seen e m job.id c.stands look c.replied, after_listing lease e.reply some clean.undone (some, before_later))
+            (inl (look_leads spelled past jobs seen e m job.id c.stands look c.replied), after_listing lease e.reply some clean.undone (some, before_later))
 
-        by_work : (s : State F) → asks codec job s ≡ Some e.call → Claims codec spelled tracks opening past jobs seen m number job s → Leads spelled past jobs seen e m job.id × ClaimsLater (settled (lease_of job) (goes codec job s e.reply))
-        by_work s asked claims = (step.leads, by_lease (lease_of job) refl)
+        by_work : (s : State F) → asks codec job s ≡ Some e.call → Claims codec spelled tracks opening past jobs seen m number job s → LeadsOn (stages.Works s) × ClaimsLater (settled (lease_of job) (goes codec job s e.reply))
+        by_work s asked claims = (by_kind step.leads, by_lease (lease_of job) refl)
           where
-            step : Advances codec spelled tracks opening past jobs seen e m number job s
-            step = work s (record { stands = c.stands; is_held = c.is_held; apart = c.apart; fit = c.fit; own = c.own; is_job = c.is_job; replied = c.replied; short = c.short; asked = asked; claims = claims })
+            step : Moves codec spelled tracks opening past jobs seen e m number job s
+            step = work s (record { stands = c.stands; is_held = c.is_held; spent = c.spent; apart = c.apart; fit = c.fit; own = c.own; is_job = c.is_job; replied = c.replied; short = c.short; asked = asked; claims = claims })
+
+            by_kind : Leads spelled past jobs seen e m job.id ⊎ Clears spelled opening past jobs seen e m job → LeadsOn (stages.Works s)
+            by_kind (inl leads) = inl leads
+            by_kind (inr clears) = inr (record { clears = clears; granted = ap not (asks_going codec spelled tracks opening past jobs seen m number job s e.call asked) })
 
             by_lease : (o : Option Name) → lease_of job ≡ o → ClaimsLater (settled o (goes codec job s e.reply))
             by_lease None none = step.own
@@ -482,7 +523,7 @@ module _ {F : Type 0} (codec : Codec F) (spelled : Spelled) (tracks : Tracking F
                 settled_claims lease (goes codec job s e.reply) some
                 (subst (λ g. IsUndone g job) (sym same_history) (going_undone codec spelled tracks opening past jobs seen m number job s (asks_going codec spelled tracks opening past jobs seen m number job s e.call asked) claims)) step.own
 
-        by_stage : (g : Stage F) → stage_asks codec job g ≡ Some e.call → is_release job e.call ≡ false → StageClaims codec spelled tracks opening past jobs seen m number job g → Leads spelled past jobs seen e m job.id × ClaimsLater (stage_goes codec job g e.reply)
+        by_stage : (g : Stage F) → stage_asks codec job g ≡ Some e.call → is_release job e.call ≡ false → StageClaims codec spelled tracks opening past jobs seen m number job g → LeadsOn g × ClaimsLater (stage_goes codec job g e.reply)
         by_stage (PutsLease lease) asked other claims = by_put lease (sym (same_Some (put_lease lease) e.call asked)) claims
         by_stage (ListsLeases lease) asked other claims = by_list lease (sym (same_Some list_leases e.call asked)) claims
         by_stage (stages.Works s) asked other claims = by_work s asked claims

@@ -5,13 +5,13 @@ use Rattle.std.proofs.lemmas.Bool.{and_parts, and_from, cond_both, eqb-false, eq
 use Rattle.std.proofs.lemmas.Option.{same_Some, none-some, slice_get_within}
 use Rattle.std.proofs.lemmas.List.Elements.{All-nil, All-cons, All-head, All-tail, All-append, All-contains, All-contains_itself, All-weaker}
 use Rattle.ts_model.specs.declared.commands.Command.{Command}
-use Rattle.ts_model.specs.declared.commands.Command.TheVariants.{Create, Evolve, Write, Read, Delete, Consolidate}
+use Rattle.ts_model.specs.declared.commands.Command.TheVariants.{Create, Evolve, Write, Read, Delete, Consolidate, Vacuum, Unlock, Fragments}
 use Rattle.ts_model.specs.declared.commands.Job.{Job}
 use Rattle.ts_model.specs.declared.commands.Line.{Line}
 use Rattle.ts_model.specs.Commands.{are_limits, fits, is_spelled_query}
 use Rattle.ts_model.specs.Jobs.{IsFit, AreFit, IsFitLine, AreApart}
 use Rattle.ts_model.proofs.ListLemmas.{Contains-here, Contains-there, Contains-slice_get, slice_get-Contains}
-use Rattle.ts_law.specs.Fresh.{Numbered, lines_in, by_lanes, in_lane_order, ends_at, id_of, IsJobOf, AreJobsOf}
+use Rattle.ts_law.specs.Fresh.{Numbered, lines_in, by_lanes, in_lane_order, command_at, ends_at, id_of, seed_in, seeded, IsJobOf, AreJobsOf}
 use Rattle.ts_law.proofs.Lists.{item_at}
 
 -- ---- lines in their places
@@ -209,7 +209,26 @@ command_fits true at (Create f) small fit = fit
 command_fits true at (Evolve change) small fit = fit
 command_fits true at (Write w) small fit = fit
 command_fits true at (Delete text) small fit = fit
+command_fits true at Vacuum small fit = fit
+command_fits true at (Unlock seed lane) small fit = fit
+command_fits true at Fragments small fit = fit
 command_fits false at c small fit = fit
+
+-- it is one in a run of a seed of 64 bits
+seeded_fits : (seed : ℕ) (c : Command) → seed < 2 ^ 64 → IsTrue (fits c) → IsTrue (fits (seeded seed c))
+seeded_fits seed (Unlock own lane) small fit = and_from (nat_lt seed (2 ^ 64)) (nat_lt lane (2 ^ 32)) (lt-ltb seed (2 ^ 64) small) (and_parts (nat_lt own (2 ^ 64)) (nat_lt lane (2 ^ 32)) fit).1
+seeded_fits seed (Create f) small fit = fit
+seeded_fits seed (Evolve change) small fit = fit
+seeded_fits seed (Write w) small fit = fit
+seeded_fits seed (Read from to query) small fit = fit
+seeded_fits seed (Delete text) small fit = fit
+seeded_fits seed (Consolidate from to limits) small fit = fit
+seeded_fits seed Vacuum small fit = fit
+seeded_fits seed Fragments small fit = fit
+
+-- the seed of the identifier of a command is that of its run
+pub seed_of_id : (seed lane number : ℕ) → lane < 2 ^ 32 → number < 2 ^ 32 → seed_in (id_of seed lane number) ≡ seed
+seed_of_id seed lane number lane_fits few = omega arith
 
 module _ (gives : ℕ → Bool) (seed : ℕ) (items : List Numbered) (jobs : List Job) (are : AreJobsOf gives seed items jobs) (order : AreInOrder items) where
   -- a job is that of the line at its place
@@ -234,10 +253,7 @@ module _ (gives : ℕ → Bool) (seed : ℕ) (items : List Numbered) (jobs : Lis
   id_has_seed i job at =
       let (x, x_at, is) = line_of i job at in
       let small = fit_at i x x_at in
-      ap (λ n. n / 2 ^ 64) is.id_is ∙ divided seed (x.line).lane x.number (omega (arith, (small.fit).lane)) small.few
-    where
-      divided : (s l n : ℕ) → l < 2 ^ 32 → n < 2 ^ 32 → (s * 2 ^ 64 + l * 2 ^ 32 + n) / 2 ^ 64 ≡ s
-      divided s l n l_fits small = omega arith
+      ap (λ n. n / 2 ^ 64) is.id_is ∙ seed_of_id seed (x.line).lane x.number (omega (arith, (small.fit).lane)) small.few
 
   -- the jobs are such as there can be
   pub jobs_fit : seed < 2 ^ 64 → AreFit jobs
@@ -254,5 +270,6 @@ module _ (gives : ℕ → Bool) (seed : ℕ) (items : List Numbered) (jobs : Lis
           record {
             stamp = (is.stamp).width;
             id = subst (λ n. n < 2 ^ 128) (sym is.id_is) (width seed (x.line).lane x.number seed_fits (omega (arith, (small.fit).lane)) small.few);
-            command = subst (λ c. IsTrue (fits c)) (sym is.command) (command_fits (x.line).to_stamp job.at (x.line).command (is.stamp).width (small.fit).command);
+            command = subst (λ c. IsTrue (fits c)) (sym (is.command ∙ ap (λ s. command_at s x.line job.at) (seed_of_id seed (x.line).lane x.number (omega (arith, (small.fit).lane)) small.few)))
+                (seeded_fits seed (ends_at (x.line).to_stamp job.at (x.line).command) seed_fits (command_fits (x.line).to_stamp job.at (x.line).command (is.stamp).width (small.fit).command));
           }

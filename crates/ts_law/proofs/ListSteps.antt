@@ -25,7 +25,7 @@ use Rattle.ts_schema.specs.declared.schemas.Schema.{Schema}
 use Rattle.ts_schema.specs.Evolutions.{schema_at}
 use Rattle.ts_schema.specs.SchemaTexts.{schema_object}
 use Rattle.ts_model.specs.declared.commands.Command.{Command}
-use Rattle.ts_model.specs.declared.commands.Command.TheVariants.{Create, Consolidate, Delete, Evolve, Write, Read}
+use Rattle.ts_model.specs.declared.commands.Command.TheVariants.{Create, Consolidate, Delete, Evolve, Fragments, Vacuum, Unlock, Write, Read}
 use Rattle.ts_model.specs.declared.commands.Job.{Job}
 use Rattle.ts_model.specs.declared.deeds.Deletion.{Deletion}
 use Rattle.ts_model.specs.declared.states.Listed.{Listed}
@@ -214,25 +214,25 @@ module _ (spelled : Spelled) (m : Held) (h : History) (stands : Stands spelled m
 -- ---- a look of a job
 
 -- what a look of a clean job leaves: all as it was
-pub record Looked (spelled : Spelled) (past : History) (jobs : List Job) (seen : List Told) (e : Told) (m : Held) (job : Job) : Type 0 where
+pub record Looked (spelled : Spelled) (opening : Held) (past : History) (jobs : List Job) (seen : List Told) (e : Told) (m : Held) (job : Job) : Type 0 where
   pub leads : Leads spelled past jobs seen e m job.id
   pub same_held : after_told m e ≡ m
   pub same_history : history_told jobs past (seen ++ e ∷ []) ≡ history_told jobs past seen
-  pub clean : Clean (after_told m e) (history_told jobs past (seen ++ e ∷ [])) job
+  pub clean : Clean opening past jobs (seen ++ e ∷ []) (after_told m e) job
   pub history : IsHistory (history_told jobs past (seen ++ e ∷ []))
 
 -- a call that looks leaves all as it was
-pub looked : (spelled : Spelled) (past : History) (jobs : List Job) (seen : List Told) (e : Told) (m : Held) (job : Job) (c : Call) → e.call ≡ c → IsLook c
-    → Stands spelled m (history_told jobs past seen) → IsReplied m e → Clean m (history_told jobs past seen) job → Looked spelled past jobs seen e m job
-looked spelled past jobs seen e m job c is look stands replied clean =
+pub looked : (spelled : Spelled) (opening : Held) (past : History) (jobs : List Job) (seen : List Told) (e : Told) (m : Held) (job : Job) (c : Call) → e.call ≡ c → IsLook c
+    → Stands spelled m (history_told jobs past seen) → IsReplied m e → Clean opening past jobs seen m job → Looked spelled opening past jobs seen e m job
+looked spelled opening past jobs seen e m job c is look stands replied clean =
     let looks : IsLook e.call = subst IsLook (sym is) look in
-    let same_held = (look_stays m e looks replied).0 in
+    let (same_held, still) = look_stays m e looks replied in
     let same_history = look_history jobs past seen e m looks replied in
     record {
       leads = look_leads spelled past jobs seen e m job.id stands looks replied;
       same_held = same_held;
       same_history = same_history;
-      clean = clean_look m (after_told m e) (history_told jobs past seen) (history_told jobs past (seen ++ e ∷ [])) job same_held same_history clean;
+      clean = clean_look opening past jobs seen e m (after_told m e) job same_held still clean;
       history = subst IsHistory (sym same_history) stands.history;
     }
 
@@ -297,7 +297,7 @@ module _ {F : Type 0} (codec : Codec F) (spelled : Spelled) (tracks : Tracking F
   pub commits_steps : CodecLaws codec spelled tracks → ComesHere (Seeks ListsCommits) → AdvancesHere (Seeks ListsCommits)
   commits_steps laws comes =
       let is : e.call ≡ list_commits = sym (same_Some list_commits e.call comes.asked) in
-      let look = looked spelled past jobs seen e m job list_commits is tt comes.stands comes.replied comes.claims.0 in
+      let look = looked spelled opening past jobs seen e m job list_commits is tt comes.stands comes.replied comes.claims.0 in
       let reads = comes.claims.1 in
       record {
         leads = look.leads;
@@ -339,9 +339,12 @@ module _ {F : Type 0} (codec : Codec F) (spelled : Spelled) (tracks : Tracking F
   }
   has_listed keeps (Delete text) listed before s works at = works
   has_listed keeps (Consolidate from to limits) listed before s works at = absurd before
+  has_listed keeps Vacuum listed before s works at = absurd before
+  has_listed keeps (Unlock seed lane) listed before s works at = absurd before
+  has_listed keeps Fragments listed before s works at = absurd before
 
   -- where the keys of the listing lead
-  sought : (listing : Listed) → Stands spelled m h → Clean m' h' job → (names : List Name) → names ≡ names_under Schemas m
+  sought : (listing : Listed) → Stands spelled m h → Clean opening past jobs (seen ++ e ∷ []) m' job → (names : List Name) → names ≡ names_under Schemas m
       → ((s : Schema) → schema_there h (looked_at job) ≡ Some s → HasListed spelled opening past jobs (seen ++ e ∷ []) m' number job job.command listing s)
       → ClaimedAfter (seeks listing (looked_at job) (schema_at (schemas_in names) (looked_at job)))
   sought listing stands clean names all with =
@@ -356,7 +359,7 @@ module _ {F : Type 0} (codec : Codec F) (spelled : Spelled) (tracks : Tracking F
   pub schemas_steps : CodecLaws codec spelled tracks → (listing : Listed) → ComesHere (Seeks (ListsSchemas listing)) → AdvancesHere (Seeks (ListsSchemas listing))
   schemas_steps laws listing comes =
       let is : e.call ≡ list_schemas = sym (same_Some list_schemas e.call comes.asked) in
-      let look = looked spelled past jobs seen e m job list_schemas is tt comes.stands comes.replied comes.claims.0 in
+      let look = looked spelled opening past jobs seen e m job list_schemas is tt comes.stands comes.replied comes.claims.0 in
       record {
         leads = look.leads;
         own = names_lead Schemas (λ names. seeks listing (looked_at job) (schema_at (schemas_in names) (looked_at job))) e.reply

@@ -1,8 +1,8 @@
--- What a read loads: each write in its interval went into one of the fragments that it loads, and no fragment is clipped, where the fragment of each write is committed.
-use Rattle.std.proofs.Common.{◌≡◌, ℕ, zero, suc, ◌+◌, ◌<◌, ◌≤◌, Bool, true, false, ◌&&◌, ◌||◌, not, List, [], ◌∷◌, refl, sym, ◌∙◌, ap, subst, arith}
-use Rattle.std.specs.Prelude.{Contains, map as list_map}
+-- What a read loads: each write in its interval that is not clipped went into one of the fragments that it loads.
+use Rattle.std.proofs.Common.{◌≡◌, ℕ, zero, suc, ◌+◌, ◌<◌, ◌≤◌, Bool, true, false, ◌&&◌, not, List, refl, sym, ◌∙◌, ap, subst, arith}
+use Rattle.std.specs.Prelude.{Contains}
 use Rattle.std.specs.List.{list_any}
-use Rattle.std.proofs.lemmas.Bool.{and_parts}
+use Rattle.std.proofs.lemmas.Bool.{and_parts, true≢false}
 use Rattle.ts_base.specs.declared.keys.Key.{Key}
 use Rattle.ts_base.specs.declared.keys.FragKey.{FragKey}
 use Rattle.ts_base.specs.declared.heads.Head.{Head}
@@ -10,79 +10,34 @@ use Rattle.ts_base.specs.declared.heads.Piece.{Piece}
 use Rattle.ts_base.specs.Keys.{frag_eq, is_within}
 use Rattle.ts_base.specs.Held.{Held}
 use Rattle.ts_commit.specs.declared.vacs.VacOf.{VacOf}
-use Rattle.ts_commit.specs.Selections.{has_origin, is_usable, usable, is_head_of, is_named, is_among, loaded, is_clipped, clips, clipped_names}
-use Rattle.ts_model.specs.declared.deeds.Written.{Written}
-use Rattle.ts_model.specs.Deeds.{History, writes}
+use Rattle.ts_commit.specs.Selections.{has_origin, is_usable, usable, is_head_of, is_named, is_among, loaded, is_clipped}
+use Rattle.ts_model.specs.Deeds.{History}
 use Rattle.ts_model.specs.Codecs.{Spelled}
 use Rattle.ts_model.specs.States.{meets}
-use Rattle.ts_model.proofs.ListLemmas.{Contains-here, Contains-there, Contains-filter, filter-Contains}
+use Rattle.ts_model.proofs.ListLemmas.{Contains-filter, filter-Contains}
 use Rattle.ts_model.proofs.KeyLemmas.{frag_same}
 use Rattle.ts_law.specs.Ends.{AreHeads}
 use Rattle.ts_law.specs.Stands.{DoesName, HoldsIn, IsCommitted, Names, Stands}
 use Rattle.ts_law.proofs.Fetches.{Contains-map, map-Contains}
-use Rattle.ts_law.proofs.Grows.{filter_none}
-use Rattle.ts_law.proofs.ListSteps.{committed_from_looked, looked_from_committed, meets_of_origin}
-use Rattle.ts_law.proofs.OriginLaws.{any_member, member_any}
+use Rattle.ts_law.proofs.ListSteps.{committed_from_looked, looked_from_committed}
+use Rattle.ts_law.proofs.OriginLaws.{member_any}
 
 -- each fragment of a history and a map has one head
 abbrev pub OneHead : Spelled → History → Held → Type 0
 OneHead spelled h m = (f : FragKey) (p q : Piece) → HoldsIn spelled h m f p → HoldsIn spelled h m f q → p.head ≡ q.head
 
--- a test that none passes is passed by none
-any_none : {X : Type 0} (q : X → Bool) (xs : List X) → ((x : X) → Contains xs x → q x ≡ false) → list_any q xs ≡ false
-any_none q [] fails = refl
-any_none q (x ∷ xs) fails = ap (λ t. t || list_any q xs) (fails x (Contains-here x xs)) ∙ any_none q xs (λ y at. fails y (Contains-there x xs y at))
-
 module _ (spelled : Spelled) (m : Held) (h : History) (a b : ℕ) (heads : List Head) (are : AreHeads spelled h m a b heads) (one : OneHead spelled h m) (stands : Stands spelled m h) where
   -- each head is that of a committed fragment whose span meets the interval
-  head_committed : (head : Head) → Contains heads head → IsCommitted m head.frag × (meets a b head.frag ≡ true)
+  pub head_committed : (head : Head) → Contains heads head → IsCommitted m head.frag × (meets a b head.frag ≡ true)
   head_committed head at = committed_from_looked m a b head.frag (subst (λ l. Contains l head.frag) are.frags (Contains-map (λ x. x.frag) heads head at))
 
   -- a committed fragment whose span meets the interval has its head among them
-  has_head : (f : FragKey) → IsCommitted m f → meets a b f ≡ true → (head : Head) × Contains heads head × (head.frag ≡ f)
+  pub has_head : (f : FragKey) → IsCommitted m f → meets a b f ≡ true → (head : Head) × Contains heads head × (head.frag ≡ f)
   has_head f committed near = map-Contains (λ x. x.frag) heads f (subst (λ l. Contains l f) (sym are.frags) (looked_from_committed m a b f committed near))
 
   -- the head of a piece that a fragment holds is the one among them
-  same_head : (head : Head) → Contains heads head → (p : Piece) → HoldsIn spelled h m head.frag p → p.head ≡ head
+  pub same_head : (head : Head) → Contains heads head → (p : Piece) → HoldsIn spelled h m head.frag p → p.head ≡ head
   same_head head at p holds = let own = are.each head at in one head.frag p own.0 holds own.1 ∙ own.2
-
-  -- ---- what is clipped
-
-  -- a write in the interval went into a fragment that the read can use
-  used_head : (w : Written) → Contains (writes h) w → is_within a b w.key ≡ true → (head : Head) × Contains (usable a b heads) head × (has_origin w.key head ≡ true)
-  used_head w at within =
-      let own = stands.covered w at in
-      let near : meets a b own.frag ≡ true = meets_of_origin spelled m h a b own.frag w.key own.went within in
-      let head = has_head own.frag own.committed near in
-      let went = own.went in
-      let same : (went.piece).head ≡ head.0 = same_head head.0 head.1 went.piece (subst (λ g. HoldsIn spelled h m g went.piece) (sym head.2) went.holds) in
-      let can : is_usable a b head.0 ≡ true = subst (λ x. is_usable a b x ≡ true) same (own.usable a b within) in
-      (head.0, Contains-filter (is_usable a b) heads head.0 head.1 can, subst (λ x. has_origin w.key x ≡ true) same went.origin)
-
-  -- so no write is clipped
-  none_clips : (w : Written) → Contains (writes h) w → is_clipped a b heads w.key ≡ false
-  none_clips w at = by (is_within a b w.key) refl
-    where
-      by : (t : Bool) → is_within a b w.key ≡ t → t && not (list_any (has_origin w.key) (usable a b heads)) ≡ false
-      by false e = refl
-      by true e = let head = used_head w at e in ap not (any_member (has_origin w.key) (usable a b heads) head.0 head.1 head.2)
-
-  -- and no fragment
-  pub none_clipped : clipped_names a b heads ≡ []
-  none_clipped = ap (list_map (λ head. head.frag)) (filter_none (clips a b heads) heads (λ head at. none head at))
-    where
-      no_both : (s : Bool) → not s && false ≡ false
-      no_both true = refl
-      no_both false = refl
-
-      origin_kept : (head : Head) → Contains heads head → (k : Key) → Contains head.origins k → is_clipped a b heads k ≡ false
-      origin_kept head at k origin =
-          let own = are.each head at in
-          let w = ((own.1).holds).origins k (subst (λ x. Contains x.origins k) (sym own.2) origin) in
-          subst (λ l. is_clipped a b heads l ≡ false) w.2 (none_clips w.0 w.1)
-
-      none : (head : Head) → Contains heads head → clips a b heads head ≡ false
-      none head at = ap (λ t. not (is_usable a b head) && t) (any_none (is_clipped a b heads) head.origins (origin_kept head at)) ∙ no_both (is_usable a b head)
 
   -- ---- what is loaded
 
@@ -131,10 +86,16 @@ module _ (spelled : Spelled) (m : Held) (h : History) (a b : ℕ) (heads : List 
           | false ↦ λ free. (head, Contains-filter (λ x. not (is_named (usable a b heads) vacs x.frag)) (usable a b heads) head at (ap not free), origin)
         ] refl
 
-    -- a write in the interval went into a fragment that is loaded
-    pub loaded_with : (w : Written) → Contains (writes h) w → is_within a b w.key ≡ true → (up : Head) × Contains (loaded a b heads vacs) up × (has_origin w.key up ≡ true)
-    loaded_with w at within = let head = used_head w at within in climb (stands.merged).top head.0 head.1 (omega arith) w.key head.2
+    -- a write in the interval that is not clipped went into a fragment that is loaded
+    pub loaded_with : (k : Key) → is_within a b k ≡ true → is_clipped a b heads k ≡ false → (up : Head) × Contains (loaded a b heads vacs) up × (has_origin k up ≡ true)
+    loaded_with k within left =
+        let head = member_any (has_origin k) (usable a b heads) (used (is_within a b k) (list_any (has_origin k) (usable a b heads)) within left) in climb (stands.merged).top head.0 head.1 (omega arith) k head.2
+      where
+        used : (s t : Bool) → s ≡ true → s && not t ≡ false → t ≡ true
+        used true true s e = refl
+        used true false s e = sym e
+        used false t s e = absurd (true≢false (sym s))
 
     -- a fragment that is loaded can be used
-    pub loaded_usable : (head : Head) → Contains (loaded a b heads vacs) head → Contains heads head × (is_usable a b head ≡ true)
-    loaded_usable head at = filter-Contains (is_usable a b) heads head (filter-Contains (λ x. not (is_named (usable a b heads) vacs x.frag)) (usable a b heads) head at).0
+    pub loaded_usable : (head : Head) → Contains (loaded a b heads vacs) head → Contains (usable a b heads) head
+    loaded_usable head at = (filter-Contains (λ x. not (is_named (usable a b heads) vacs x.frag)) (usable a b heads) head at).0

@@ -73,7 +73,7 @@ some_objects codec frame schema p names =
     let all : length (merge_objects codec frame schema p names) ≡ length (part_objects p.head.frag (codec.parts frame schema p)) + 2 = length-append (part_objects p.head.frag (codec.parts frame schema p)) _ in
     omega (arith, all)
 
-module _ {F : Type 0} (codec : Codec F) (spelled : Spelled) (tracks : Tracking F) (opening : Held) (past : History) (jobs : List Job) (seen : List Told) (m : Held) (number : ℕ) (job : Job) (clean : Clean m (history_told jobs past seen) job) where
+module _ {F : Type 0} (codec : Codec F) (spelled : Spelled) (tracks : Tracking F) (opening : Held) (past : History) (jobs : List Job) (seen : List Told) (m : Held) (number : ℕ) (job : Job) (clean : Clean opening past jobs seen m job) where
   -- a consolidation that fetched all its sources goes to its puts
   puts_claims : (s : Survey) (sources : List Opened) (schema : Schema) (got : List (List Version)) → Merges codec spelled opening past jobs seen m number job s sources schema (length sources) got
       → Claims codec spelled tracks opening past jobs seen m number job (puts_merged codec job s schema got sources)
@@ -110,7 +110,7 @@ module _ {F : Type 0} (codec : Codec F) (spelled : Spelled) (tracks : Tracking F
 -- ---- what a consolidation claims while it fetches
 
 module _ {F : Type 0} (codec : Codec F) (spelled : Spelled) (tracks : Tracking F) (laws : CodecLaws codec spelled tracks)
-    (opening : Held) (past : History) (jobs : List Job) (seen : List Told) (m : Held) (number : ℕ) (job : Job) (clean : Clean m (history_told jobs past seen) job)
+    (opening : Held) (past : History) (jobs : List Job) (seen : List Told) (m : Held) (number : ℕ) (job : Job) (clean : Clean opening past jobs seen m job)
     (s : Survey) (sources : List Opened) (schema : Schema) (has : HasSources codec spelled opening past jobs seen m number job s sources schema) where
   -- the state's claims hold
   abbrev Holds : State F → Type 0
@@ -276,7 +276,7 @@ module _ {F : Type 0} (codec : Codec F) (spelled : Spelled) (tracks : Tracking F
       let holds = (way.is).holds in
       let asks = laws.asks s.frame schema way.piece (holds.spells).look (all_of s.frame schema.attrs) fetch c way.way in
       let is : e.call ≡ c = sym (same_Some c e.call comes.asked) in
-      let look = looked spelled past jobs seen e m job c is (speaks_look c (name.Part ((way.piece).head).frag asks.part) asks.named) comes.stands comes.replied comes.claims.0 in
+      let look = looked spelled opening past jobs seen e m job c is (speaks_look c (name.Part ((way.piece).head).frag asks.part) asks.named) comes.stands comes.replied comes.claims.0 in
       let later = merges_stays spelled opening past jobs seen e m (after_told m e) job.id look.leads.leaves number codec job s sources schema next got merges in
       let spells = holds.spells in
       let since = ((((merges.has).surveys).chooses).since) in

@@ -113,7 +113,7 @@ module _ {F : Type 0} (codec : Codec F) (spelled : Spelled) (g : History) (m : H
 -- ---- what a consolidation knows leads on
 
 module _ {F : Type 0} (codec : Codec F) (spelled : Spelled) (tracks : Tracking F) (laws : CodecLaws codec spelled tracks)
-    (opening : Held) (past : History) (jobs : List Job) (seen : List Told) (m : Held) (number : ℕ) (job : Job) (clean : Clean m (history_told jobs past seen) job) (s : Survey) where
+    (opening : Held) (past : History) (jobs : List Job) (seen : List Told) (m : Held) (number : ℕ) (job : Job) (clean : Clean opening past jobs seen m job) (s : Survey) where
   -- the history now
   abbrev now : History
   now = history_told jobs past seen

@@ -38,7 +38,7 @@ use Rattle.ts_model.proofs.ListLemmas.{Contains-nil}
 use Rattle.ts_model.proofs.Traces.{held_told-append}
 use Rattle.ts_law.specs.Ends.{IsMerged, IsUndone}
 use Rattle.ts_law.specs.Kept.{AimsToMerge, Claims, Merges, Putting}
-use Rattle.ts_law.specs.Stands.{HoldsIn, IsCommitted, IsNamed, IsUnspent, Names, Spells, Stands}
+use Rattle.ts_law.specs.Stands.{HoldsIn, IsCommitted, IsNamed, Names, Spells, Stands}
 use Rattle.ts_law.specs.Steps.{Advances, Comes, Keeps, Leads}
 use Rattle.ts_law.proofs.HeldLemmas.{Holds, Holds-from_get, get_apart, get_put}
 use Rattle.ts_law.proofs.LeaseSteps.{leased_history}
@@ -48,7 +48,8 @@ use Rattle.ts_law.proofs.Objects.{IsOnce, look_finds, part_object}
 use Rattle.ts_law.proofs.PutSteps.{Came, fault_is_true, put_asked, puts_on}
 use Rattle.ts_law.proofs.StandsLaws.{keeps_merge, keeps_put, leads_at, marks_part, marks_vac, merged_holds, stands_merge, stands_put, stands_vac}
 use Rattle.ts_law.proofs.Stays.{finds_schema_stays, listed_stays}
-use Rattle.ts_law.proofs.VacLaws.{MarksNone, unspent_put}
+use Rattle.ts_law.proofs.Spent.{put_commits, unspent_on}
+use Rattle.ts_law.proofs.VacLaws.{MarksNone}
 use Rattle.ts_law.proofs.VacTexts.{names_again}
 
 -- ---- what a consolidation puts at a place
@@ -243,7 +244,7 @@ module _ {F : Type 0} (codec : Codec F) (spelled : Spelled) (tracks : Tracking F
               ap (λ z. map.get z y.name) same_held ∙ get_apart m x.name x.bytes y.name (λ one. let here = own_apart i next y x found at one in omega arith) ∙ (c.claims).free i y (omega arith) found;
           some = more;
           undone = undone;
-          unspent = subst (λ z. IsUnspent z job.id) (sym same_held) (unspent_put m x.name x.bytes h h job.id job.id keeps no_commit (c.claims).unspent);
+          unspent = unspent_on opening past seen e job.id (put_commits e job.id x.name x.bytes (put_asked codec spelled tracks opening past jobs seen e m number job own_objects next own_end x at c) no_commit) (c.claims).unspent;
           aims = aims_to_merge_stays spelled opening past jobs seen e m m' job.id leads.leaves number codec job own_objects own (length (o ∷ others)) aims;
         }
 
@@ -269,7 +270,7 @@ module _ {F : Type 0} (codec : Codec F) (spelled : Spelled) (tracks : Tracking F
       there = vac_there own own_parts vac_names
 
       uncommitted : IsCommitted m own → ⊥
-      uncommitted = ((c.claims).unspent).uncommitted own refl
+      uncommitted committed = (c.claims).unspent ((c.spent).committed own committed)
 
       no_wrt : (f : FragKey) → wrt_of f ≡ vac_of own → ⊥
       no_wrt f e = cc
@@ -319,7 +320,7 @@ module _ {F : Type 0} (codec : Codec F) (spelled : Spelled) (tracks : Tracking F
       unchanged = same_history c.own c.is_job
 
       unnamed : IsNamed m own → ⊥
-      unnamed = ((c.claims).unspent).unnamed own refl
+      unnamed named = (c.claims).unspent ((c.spent).named own named)
 
       old : (f : FragKey) → Contains vac_names f → IsCommitted m f ⊎ IsNamed m f
       old = old_names codec spelled tracks laws opening past jobs seen m number job s o others schema merges.has c.stands

@@ -65,6 +65,10 @@ new_in before (Wrote v ∷ ds) w is at = elim (Contains-cons v (writes ds) w at)
   | inr later ↦ new_to_fewer before (Wrote v ∷ []) w.key (new_in (before ++ Wrote v ∷ []) ds w is.1 later)
 ]
 
+-- so is that of each write by which a history goes on
+pub new_later : (h more : History) → IsHistory (h ++ more) → (w : Written) → Contains (writes more) w → IsNewKey h w.key
+new_later h more is w at = new_in h more w (follow_rest [] h more is) at
+
 -- each of the names that are read in turn has a spelling
 in_turn_names : (front fs : List FragKey) → InTurn FitsName front fs → (x : FragKey) → Contains fs x → HasName x
 in_turn_names front [] each x at = absurd (Contains-nil x at)
@@ -137,7 +141,7 @@ module _ {F : Type 0} (codec : Codec F) (spelled : Spelled) (tracks : Tracking F
 
   -- each write since then is new
   new : (w : Written) → Contains (writes grown.0) w → IsNewKey g w.key
-  new w at = new_in g grown.0 w (follow_rest [] g grown.0 (subst IsHistory grown.1 stands.history)) at
+  new = new_later g grown.0 (subst IsHistory grown.1 stands.history)
 
   -- what a fragment held then it holds now
   pub now_holds : (f : FragKey) (p : Piece) → HoldsIn spelled g then f p → HoldsIn spelled h m f p

@@ -114,7 +114,7 @@ module _ (spelled : Spelled) (opening : Held) (past : History) (jobs : List Job)
     }
 
     -- what the state of a consolidation says stays true, where the job stays clean
-    pub merge_claims_stay : (tracks : Tracking F) (job : Job) → (Clean m (history_told jobs past seen) job → Clean m' (history_told jobs past (seen ++ e ∷ [])) job) → (s : Merging F)
+    pub merge_claims_stay : (tracks : Tracking F) (job : Job) → (Clean opening past jobs seen m job → Clean opening past jobs (seen ++ e ∷ []) m' job) → (s : Merging F)
         → MergeClaims codec spelled tracks opening past jobs seen m number job s → MergeClaims codec spelled tracks opening past jobs (seen ++ e ∷ []) m' number job s
     merge_claims_stay tracks job cleans merging.ListsCommits is = (cleans is.0, is.1)
     merge_claims_stay tracks job cleans (merging.ListsSchemas c) is = (cleans is.0, chooses_stays job c is.1)

@@ -98,7 +98,7 @@ module _ {F : Type 0} (codec : Codec F) (spelled : Spelled) (tracks : Tracking F
   pub merge_commits_steps : CodecLaws codec spelled tracks → ComesHere merging.ListsCommits → AdvancesHere merging.ListsCommits
   merge_commits_steps laws comes =
       let is : e.call ≡ list_commits = sym (same_Some list_commits e.call comes.asked) in
-      let look = looked spelled past jobs seen e m job list_commits is tt comes.stands comes.replied comes.claims.0 in
+      let look = looked spelled opening past jobs seen e m job list_commits is tt comes.stands comes.replied comes.claims.0 in
       let merges = comes.claims.1 in
       record {
         leads = look.leads;
@@ -116,7 +116,7 @@ module _ {F : Type 0} (codec : Codec F) (spelled : Spelled) (tracks : Tracking F
   pub merge_schemas_steps : CodecLaws codec spelled tracks → (c : Candidates) → ComesHere (merging.ListsSchemas c) → AdvancesHere (merging.ListsSchemas c)
   merge_schemas_steps laws c comes =
       let is : e.call ≡ list_schemas = sym (same_Some list_schemas e.call comes.asked) in
-      let look = looked spelled past jobs seen e m job list_schemas is tt comes.stands comes.replied comes.claims.0 in
+      let look = looked spelled opening past jobs seen e m job list_schemas is tt comes.stands comes.replied comes.claims.0 in
       let chooses = chooses_stays spelled opening past jobs seen e m m' job.id look.leads.leaves number job c comes.claims.1 in
       record {
         leads = look.leads;
@@ -139,7 +139,7 @@ module _ {F : Type 0} (codec : Codec F) (spelled : Spelled) (tracks : Tracking F
   pub merge_frame_steps : CodecLaws codec spelled tracks → (c : Candidates) → ComesHere (merging.GetsFrame c) → AdvancesHere (merging.GetsFrame c)
   merge_frame_steps laws c comes =
       let is : e.call ≡ get_frame = sym (same_Some get_frame e.call comes.asked) in
-      let look = looked spelled past jobs seen e m job get_frame is tt comes.stands comes.replied comes.claims.0 in
+      let look = looked spelled opening past jobs seen e m job get_frame is tt comes.stands comes.replied comes.claims.0 in
       let chooses = chooses_stays spelled opening past jobs seen e m m' job.id look.leads.leaves number job c comes.claims.1 in
       let frame = comes.claims.2.0 in
       let framed = comes.claims.2.1 in
@@ -187,7 +187,7 @@ module _ {F : Type 0} (codec : Codec F) (spelled : Spelled) (tracks : Tracking F
   merge_vacs_steps laws s comes =
       let next = asked_of get_vac (slice_get s.counting (length s.vacs)) e.call comes.asked in
       let f = next.0 in
-      let look = looked spelled past jobs seen e m job (get_vac f) next.2 tt comes.stands comes.replied comes.claims.0 in
+      let look = looked spelled opening past jobs seen e m job (get_vac f) next.2 tt comes.stands comes.replied comes.claims.0 in
       let knows = surveys_stays spelled opening past jobs seen e m m' job.id look.leads.leaves number job s comes.claims.1 in
       let since = (knows.chooses).since in
       let then = held_told opening (since.commits).before in
@@ -268,7 +268,7 @@ module _ {F : Type 0} (codec : Codec F) (spelled : Spelled) (tracks : Tracking F
     }
 
     -- the part that has the head of the next fragment leads on with one fragment more
-    opened_lead : e.call ≡ get_head_in codec s.frame f → IsReplied m e → (look : Looked spelled past jobs seen e m job) → ClaimedAfter (on_bytes (get_head_in codec s.frame f) (after_opened codec job s opened f) e.reply)
+    opened_lead : e.call ≡ get_head_in codec s.frame f → IsReplied m e → (look : Looked spelled opening past jobs seen e m job) → ClaimedAfter (on_bytes (get_head_in codec s.frame f) (after_opened codec job s opened f) e.reply)
     opened_lead is replied look =
         let on : Head → State F = λ head. opening_next codec job s (opened ++ record { frag = f; head = head; object = found.0 } ∷ []) in
         whole_lead codec spelled tracks opening past jobs seen e m number job (name.Part f (codec.head_part s.frame)) found.0 (after_opened codec job s opened f) is replied
@@ -282,7 +282,7 @@ module _ {F : Type 0} (codec : Codec F) (spelled : Spelled) (tracks : Tracking F
   pub merge_heads_steps : CodecLaws codec spelled tracks → (s : Survey) (opened : List Opened) → ComesHere (merging.GetsHeads s opened) → AdvancesHere (merging.GetsHeads s opened)
   merge_heads_steps laws s opened comes =
       let next = asked_of (get_head_in codec s.frame) (slice_get s.fragments (length opened)) e.call comes.asked in
-      let look = looked spelled past jobs seen e m job (get_head_in codec s.frame next.0) next.2 tt comes.stands comes.replied comes.claims.0 in
+      let look = looked spelled opening past jobs seen e m job (get_head_in codec s.frame next.0) next.2 tt comes.stands comes.replied comes.claims.0 in
       let opens = opens_stays spelled opening past jobs seen e m m' job.id look.leads.leaves number codec job s opened comes.claims.1 in
       record {
         leads = look.leads;
@@ -311,7 +311,7 @@ module _ {F : Type 0} (codec : Codec F) (spelled : Spelled) (tracks : Tracking F
   merge_learn_steps laws s opened named schemas comes =
       let next = asked_of get_schema (slice_get named (length schemas)) e.call comes.asked in
       let k = next.0 in
-      let look = looked spelled past jobs seen e m job (get_schema k) next.2 tt comes.stands comes.replied comes.claims.0 in
+      let look = looked spelled opening past jobs seen e m job (get_schema k) next.2 tt comes.stands comes.replied comes.claims.0 in
       let at : slice_get (schemas_named opened) (length schemas) ≡ Some k = ap (λ ks. slice_get ks (length schemas)) (sym comes.claims.1) ∙ next.1 in
       let declared = named_declared s opened schemas comes.claims.2 k (Contains-slice_get (schemas_named opened) (length schemas) k at) in
       let x = declared.0 in

@@ -22,7 +22,7 @@ use Rattle.ts_law.specs.Stands.{IsNoLease}
 use Rattle.ts_model.specs.Jobs.{key_of}
 use Rattle.ts_model.specs.States.{delete_object_of, part_objects, schema_object_of}
 use Rattle.ts_model.specs.Stages.{lease_of, mode_of}
-use Rattle.ts_model.specs.Told.{Told, history_told}
+use Rattle.ts_model.specs.Told.{Told}
 use Rattle.ts_model.specs.declared.answers.Outcome.{Outcome}
 use Rattle.ts_model.specs.declared.commands.Job.{Job}
 use Rattle.ts_model.specs.declared.states.NewObject.{NewObject}
@@ -161,7 +161,7 @@ apart_from_lease job n none = by_mode (mode_of job.command)
 
 -- a job that puts nothing yet has the objects before it free, where nothing carries its identifier
 pub begins_putting : {F : Type 0} (codec : Codec F) (spelled : Spelled) (opening : Held) (past : History) (jobs : List Job) (told : List Told) (n : Held) (number : ℕ) (job : Job) (objects : List NewObject) (end : Outcome)
-    → Clean n (history_told jobs past told) job → CarryAll job.id objects → 0 < length objects → Aims codec spelled opening past jobs told n number job objects end
+    → Clean opening past jobs told n job → CarryAll job.id objects → 0 < length objects → Aims codec spelled opening past jobs told n number job objects end
     → Putting codec spelled opening past jobs told n number job objects 0 end
 begins_putting codec spelled opening past jobs told n number job objects end clean carry some aims = record {
   held = λ i o before at. absurd (omega arith);

@@ -34,7 +34,7 @@ use Rattle.ts_model.specs.Jobs.{AreApart, IsFit, deletion_as, frag_of_job, key_o
 use Rattle.ts_law.specs.Kept.{Claims, Clean, Putting, Works}
 use Rattle.ts_model.specs.Pieces.{HoldsWrite, IsOrdinary}
 use Rattle.ts_model.specs.Queries.{delete_condition}
-use Rattle.ts_law.specs.Stands.{IsUnspent, Spells, Stands}
+use Rattle.ts_law.specs.Stands.{Spells, Stands}
 use Rattle.ts_model.specs.States.{vac_of}
 use Rattle.ts_law.specs.Origins.{box_in}
 use Rattle.ts_domain.specs.Boxes.{is_in_box}
@@ -67,7 +67,8 @@ use Rattle.ts_model.proofs.ListLemmas.{Contains-here, Contains-nil, Contains-onl
 use Rattle.ts_law.proofs.Objects.{ACommit, APart, apart_from_lease, begins_putting, delete_carries, last_at, look_finds, object_count, objects_apart, objects_of, part_count, part_here, part_object, put_at, schema_carries, write_carries}
 use Rattle.ts_law.proofs.QueryRefusals.{FailsByQuery, delete_condition_fails, query_true}
 use Rattle.ts_law.proofs.StandsLaws.{declared_last, free_from_get, keeps_put, leads_at, marks_delete, marks_part, marks_schema, marks_wrt, stands_commit, stands_delete, stands_put, stands_schema}
-use Rattle.ts_law.proofs.VacLaws.{IsBare, MarksNone, unspent_put}
+use Rattle.ts_law.proofs.Spent.{put_commits, unspent_on}
+use Rattle.ts_law.proofs.VacLaws.{IsBare, MarksNone}
 use Rattle.ts_law.proofs.Stays.{frame_stays, listed_stays, works_stays}
 use Rattle.ts_model.proofs.Traces.{deed_told_own, later_deed, later_no_deed, later_unchanged}
 use Rattle.ts_store.specs.declared.call.Call.TheVariants as call
@@ -404,7 +405,7 @@ module _ {F : Type 0} (codec : Codec F) (spelled : Spelled) (tracks : Tracking F
           free = λ i y behind found. got_later y.name (λ one. let here = own_apart i next y o found at one in omega arith) ((c.claims).free i y (omega arith) found);
           some = more;
           undone = undone;
-          unspent = subst (λ x. IsUnspent x job.id) (sym same_held) (unspent_put m o.name o.bytes h h job.id job.id keeps (λ f one. no_commit f (one ∙ ap (λ (y : NewObject). y.name) same)) (c.claims).unspent);
+          unspent = unspent_on opening past seen e job.id (put_commits e job.id o.name o.bytes (put_asked own_objects next own_end o at c) (λ f one. no_commit f (one ∙ ap (λ (y : NewObject). y.name) same))) (c.claims).unspent;
           aims = (
             w,
             frame,
@@ -494,8 +495,8 @@ module _ {F : Type 0} (codec : Codec F) (spelled : Spelled) (tracks : Tracking F
         ∙ ap (λ r. option_map Wrote (option_map (written_as job there.key) (cells_of r))) lays
 
     -- its fragment has no `.vac`, and that of no committed fragment names it
-    own_bare : IsUnspent m job.id → IsBare m frag
-    own_bare unspent = record { none = none; unnamed = unspent.unnamed frag refl }
+    own_bare : ComesHere (Puts own_objects (length own_parts) own_end) → IsBare m frag
+    own_bare c = record { none = none; unnamed = λ named. (c.claims).unspent ((c.spent).named frag named) }
 
     -- the `.wrt` was put, and the job is over
     commit_came : (c : ComesHere (Puts own_objects (length own_parts) own_end)) → (Holds m (wrt_of frag) → ⊥) → m' ≡ map.insert m (wrt_of frag) [] → h' ≡ h ++ Wrote own_write ∷ []
@@ -504,9 +505,9 @@ module _ {F : Type 0} (codec : Codec F) (spelled : Spelled) (tracks : Tracking F
       where
         leads : LeadsHere
         leads = leads_at spelled past jobs seen e m job.id (map.insert m (wrt_of frag) []) (h ++ Wrote own_write ∷ []) same_held same_history
-            (stands_commit spelled m h own_write frame there own_piece free (own_bare (c.claims).unspent) (own_follows c.fit (c.stands).history (c.claims).undone) framed works.declared
+            (stands_commit spelled m h own_write frame there own_piece free (own_bare c) (own_follows c.fit (c.stands).history (c.claims).undone) framed works.declared
             (own_ordinary c.fit (c.stands).history).dense (own_spells c) (own_holds c.fit (c.stands).history) (own_box c.fit (c.stands).history) c.stands)
-            (keeps_put m h (wrt_of frag) [] job.id (Wrote own_write ∷ []) free (marks_wrt m frag (own_bare (c.claims).unspent)) (inl refl) (λ k own. ap (λ l. l.id) (sym (Contains-only (key_of job) k own))))
+            (keeps_put m h (wrt_of frag) [] job.id (Wrote own_write ∷ []) free (marks_wrt m frag (own_bare c)) (inl refl) (λ k own. ap (λ l. l.id) (sym (Contains-only (key_of job) k own))))
 
         no_more : nat_lt (suc (length own_parts)) (length own_objects) ≡ false
         no_more = ap (nat_lt (suc (length own_parts))) (object_count frag own_parts) ∙ le-ltb (suc (length own_parts)) (suc (length own_parts)) (omega arith)
@@ -585,7 +586,7 @@ module _ {F : Type 0} (codec : Codec F) (spelled : Spelled) (tracks : Tracking F
 module _ {F : Type 0} (codec : Codec F) (spelled : Spelled) (tracks : Tracking F) (opening : Held) (past : History) (jobs : List Job) (seen : List Told) (m : Held) (number : ℕ) (job : Job) where
   -- an evolve puts its schema, or it is refused for it
   pub works_evolve : (change : Evolution) (listed : Listed) (frame : Frame) (there : Schema) → CodecLaws codec spelled tracks → IsFit job → AreApart jobs
-      → Clean m (history_told jobs past seen) job
+      → Clean opening past jobs seen m job
       → Works past jobs seen number job there → frame_in (history_told jobs past seen) ≡ Some frame → IsHistory (history_told jobs past seen) → job.command ≡ Evolve change
       → Claims codec spelled tracks opening past jobs seen m number job (comes_to codec job job.command listed frame there)
   works_evolve change listed frame there laws fit apart clean at framed is evolves =
@@ -601,7 +602,7 @@ module _ {F : Type 0} (codec : Codec F) (spelled : Spelled) (tracks : Tracking F
       from (Some fault) sound = clean.undone
 
   -- a write puts its parts, or it is refused for its columns
-  pub works_write : (w : WriteIn) (listed : Listed) (frame : Frame) (there : Schema) → CodecLaws codec spelled tracks → IsFit job → AreApart jobs → Clean m (history_told jobs past seen) job
+  pub works_write : (w : WriteIn) (listed : Listed) (frame : Frame) (there : Schema) → CodecLaws codec spelled tracks → IsFit job → AreApart jobs → Clean opening past jobs seen m job
       → Works past jobs seen number job there → frame_in (history_told jobs past seen) ≡ Some frame → IsHistory (history_told jobs past seen) → job.command ≡ Write w
       → Claims codec spelled tracks opening past jobs seen m number job (comes_to codec job job.command listed frame there)
   works_write w listed frame there laws fit apart clean at framed is writes_them =
@@ -621,7 +622,7 @@ module _ {F : Type 0} (codec : Codec F) (spelled : Spelled) (tracks : Tracking F
       from (Err r) lays fails = columns_true spelled opening jobs past seen number job r fails clean.undone
 
   -- a delete puts its condition, or it is refused
-  pub works_delete : (text : List ℕ) (listed : Listed) (frame : Frame) (there : Schema) → CodecLaws codec spelled tracks → IsFit job → AreApart jobs → Clean m (history_told jobs past seen) job
+  pub works_delete : (text : List ℕ) (listed : Listed) (frame : Frame) (there : Schema) → CodecLaws codec spelled tracks → IsFit job → AreApart jobs → Clean opening past jobs seen m job
       → Works past jobs seen number job there → frame_in (history_told jobs past seen) ≡ Some frame → IsHistory (history_told jobs past seen) → job.command ≡ Delete text
       → Claims codec spelled tracks opening past jobs seen m number job (comes_to codec job job.command listed frame there)
   works_delete text listed frame there laws fit apart clean at framed is deletes =

@@ -34,7 +34,7 @@ use Rattle.ts_schema.specs.SchemaTexts.{schema_object, schema_of}
 use Rattle.ts_schema.specs.Parts.{IsShort}
 use Rattle.ts_model.specs.declared.answers.Refusal.TheVariants as refusal
 use Rattle.ts_model.specs.declared.commands.Command.{Command}
-use Rattle.ts_model.specs.declared.commands.Command.TheVariants.{Create, Consolidate, Delete, Evolve, Write, Read}
+use Rattle.ts_model.specs.declared.commands.Command.TheVariants.{Create, Consolidate, Delete, Evolve, Fragments, Unlock, Vacuum, Write, Read}
 use Rattle.ts_model.specs.declared.commands.Job.{Job}
 use Rattle.ts_model.specs.declared.answers.Refusal.{Refusal}
 use Rattle.ts_model.specs.declared.queries.Ready.{Ready}
@@ -48,7 +48,7 @@ use Rattle.ts_model.specs.declared.states.Reading.{Reading}
 use Rattle.ts_model.specs.Deeds.{History, IsHistory, frame_in, schema_with}
 use Rattle.ts_model.specs.Codecs.{Codec, CodecLaws, Spelled, Tracking}
 use Rattle.ts_model.specs.Jobs.{looked_at, IsFit, AreApart}
-use Rattle.ts_commit.specs.Selections.{clipped_names, has_origin, is_among, is_usable, loaded}
+use Rattle.ts_commit.specs.Selections.{clipped_names, has_origin, is_among, is_usable, loaded, usable}
 use Rattle.ts_law.specs.Stands.{HoldsIn, IsCommitted, Names, Stands}
 use Rattle.ts_model.specs.States.{list_schemas, get_all, get_frame, get_head, get_schema, on_bytes, on_read, keys_named, fetching, getting_deletes, gathering, opening as opening_on, reading_of, asks_for, after_vac, get_vac, getting_vacs, heads_of, loaded_of, loads, opened_among, vac_of, with_clipped, with_vac, works, meets, after_head, after_schema, with_item}
 use Rattle.ts_model.specs.Told.{Told, after_told, IsReplied, held_told, history_told}
@@ -65,7 +65,7 @@ use Rattle.ts_law.proofs.Effects.{got}
 use Rattle.ts_law.proofs.PutSteps.{works_delete, works_evolve, works_write}
 use Rattle.ts_law.proofs.QueryRefusals.{FailsByQuery, query_true, ready_fails}
 use Rattle.ts_law.proofs.Fetches.{Contains-map, got_none, map-Contains, one_head}
-use Rattle.ts_law.proofs.Loading.{OneHead, loaded_usable, loaded_with, none_clipped}
+use Rattle.ts_law.proofs.Loading.{OneHead, loaded_usable, loaded_with}
 use Rattle.ts_law.proofs.OriginLaws.{any_member, member_any}
 use Rattle.ts_model.proofs.KeyLemmas.{frag_itself, frag_same}
 use Rattle.ts_law.proofs.FetchSteps.{fetching_claims}
@@ -148,7 +148,7 @@ module _ {F : Type 0} (codec : Codec F) (spelled : Spelled) (tracks : Tracking F
       framed_by_schema (history_told jobs past (work.schemas).before) there.key there then (there_is_with (history_told jobs past (work.schemas).before) (looked_at job) there then work.holds)
 
   -- a read gets the next delete, or begins to fetch
-  pub getting_deletes_claims : CodecLaws codec spelled tracks → Clean m now job → IsHistory now → (r : Reading) (opened : List Opened) (schemas : List Schema)
+  pub getting_deletes_claims : CodecLaws codec spelled tracks → Clean opening past jobs seen m job → IsHistory now → (r : Reading) (opened : List Opened) (schemas : List Schema)
       → GettingDeletes codec spelled opening past jobs seen m number job r opened schemas → Claimed (getting_deletes codec r opened schemas)
   getting_deletes_claims laws clean is r opened schemas deletions =
       elim (nat_lt (length r.deletions) (length r.delete_names)) as (λ b. nat_lt (length r.deletions) (length r.delete_names) ≡ b
@@ -164,7 +164,7 @@ module _ {F : Type 0} (codec : Codec F) (spelled : Spelled) (tracks : Tracking F
       ] refl
 
   -- a read gets the next further schema, or goes on to the deletes, of which it has none
-  gathering_claims : CodecLaws codec spelled tracks → Clean m now job → IsHistory now → (r : Reading) (opened : List Opened) (schemas : List Schema) → r.deletions ≡ []
+  gathering_claims : CodecLaws codec spelled tracks → Clean opening past jobs seen m job → IsHistory now → (r : Reading) (opened : List Opened) (schemas : List Schema) → r.deletions ≡ []
       → Gathering codec spelled opening past jobs seen m number job r opened schemas → Claimed (gathering codec r opened (keys_named r opened) schemas)
   gathering_claims laws clean is r opened schemas none gathers =
       elim (nat_lt (length schemas) (length (keys_named r opened))) as (λ b. nat_lt (length schemas) (length (keys_named r opened)) ≡ b
@@ -207,16 +207,18 @@ module _ {F : Type 0} (codec : Codec F) (spelled : Spelled) (tracks : Tracking F
   chosen_are : CodecLaws codec spelled tracks → (r : Reading) (opened : List Opened) (opens : Opening codec spelled opening past jobs seen m number job r opened) → length opened ≡ length r.fragments
       → AreChosen codec spelled (history_then r opens.reads) (then_at r opens.reads) (with_clipped r (clipped_names r.from r.to (heads_of opened))) (opened_among (loaded_of r opened) opened)
   chosen_are laws r opened opens all = record {
+    heads = heads;
+    are_heads = are;
+    clipped_is = refl;
     each = λ o at. opens.are_open.each o (among o at).0;
     usable = λ o at. (among o at).1;
-    covered = λ w at within.
-        let up = loaded_with spelled then g r.from r.to heads are one since.stands r.vacs opens.are_vacs.each w at within in
-        let o = map-Contains (λ x. x.head) opened up.0 (loaded_usable spelled then g r.from r.to heads are one since.stands r.vacs opens.are_vacs.each up.0 up.1).0 in
+    covered = λ k within left.
+        let up = loaded_with spelled then g r.from r.to heads are one since.stands r.vacs opens.are_vacs.each k within left in
+        let o = map-Contains (λ x. x.head) opened up.0 (listed up.0 up.1) in
         let is = opens.are_open.each o.0 o.1 in
         let named : up.0.frag ≡ o.0.frag = ap (λ x. x.frag) (sym o.2 ∙ is.head) ∙ ((is.holds).spells).named in
-        let listed = subst (λ f. is_among f (loaded_of r opened) ≡ true) named (any_member (frag_eq up.0.frag) (loaded_of r opened) up.0.frag (Contains-map (λ x. x.frag) (loaded r.from r.to heads r.vacs) up.0 up.1) (frag_itself up.0.frag)) in
-        (o.0, Contains-filter (λ x. is_among x.frag (loaded_of r opened)) opened o.0 o.1 listed, subst (λ x. has_origin w.key x ≡ true) (sym o.2) up.2);
-    unclipped = none_clipped spelled then g r.from r.to heads are one since.stands;
+        let loads = subst (λ f. is_among f (loaded_of r opened) ≡ true) named (any_member (frag_eq up.0.frag) (loaded_of r opened) up.0.frag (Contains-map (λ x. x.frag) (loaded r.from r.to heads r.vacs) up.0 up.1) (frag_itself up.0.frag)) in
+        (o.0, Contains-filter (λ x. is_among x.frag (loaded_of r opened)) opened o.0 o.1 loads, subst (λ x. has_origin k x ≡ true) (sym o.2) up.2);
   }
     where
       then : Held
@@ -237,21 +239,24 @@ module _ {F : Type 0} (codec : Codec F) (spelled : Spelled) (tracks : Tracking F
       one : OneHead spelled g then
       one = one_head codec spelled tracks laws g then
 
+      -- a fragment that is loaded has its head among those of the listing
+      listed : (head : Head) → Contains (loaded r.from r.to heads r.vacs) head → Contains heads head
+      listed head at = (filter-Contains (is_usable r.from r.to) heads head (loaded_usable spelled then g r.from r.to heads are one since.stands r.vacs opens.are_vacs.each head at)).0
+
       -- an open fragment that is loaded can be used
-      among : (o : Opened) → Contains (opened_among (loaded_of r opened) opened) o → Contains opened o × (is_usable r.from r.to o.head ≡ true)
+      among : (o : Opened) → Contains (opened_among (loaded_of r opened) opened) o → Contains opened o × Contains (usable r.from r.to heads) o.head
       among o at =
           let parts = filter-Contains (λ x. is_among x.frag (loaded_of r opened)) opened o at in
           let found = member_any (frag_eq o.frag) (loaded_of r opened) parts.1 in
           let head = map-Contains (λ x. x.frag) (loaded r.from r.to heads r.vacs) found.0 found.1 in
-          let can = loaded_usable spelled then g r.from r.to heads are one since.stands r.vacs opens.are_vacs.each head.0 head.1 in
-          let own = are.each head.0 can.0 in
+          let own = are.each head.0 (listed head.0 head.1) in
           let is = opens.are_open.each o parts.0 in
           let same_frag : head.0.frag ≡ o.frag = head.2 ∙ sym (frag_same o.frag found.0 found.2) in
           let same : head.0 ≡ o.head = sym own.2 ∙ one o.frag own.0 is.piece (subst (λ f. HoldsIn spelled g then f own.0) same_frag own.1) is.holds ∙ sym is.head in
-          (parts.0, subst (λ x. is_usable r.from r.to x ≡ true) same can.1)
+          (parts.0, subst (Contains (usable r.from r.to heads)) same (loaded_usable spelled then g r.from r.to heads are one since.stands r.vacs opens.are_vacs.each head.0 head.1))
 
   -- a read that opened all fragments goes on with those that it loads
-  loads_claims : CodecLaws codec spelled tracks → Clean m now job → IsHistory now → (r : Reading) (opened : List Opened) → r.deletions ≡ []
+  loads_claims : CodecLaws codec spelled tracks → Clean opening past jobs seen m job → IsHistory now → (r : Reading) (opened : List Opened) → r.deletions ≡ []
       → (opens : Opening codec spelled opening past jobs seen m number job r opened) → length opened ≡ length r.fragments
       → Claimed (loads codec (with_clipped r (clipped_names r.from r.to (heads_of opened))) (opened_among (loaded_of r opened) opened))
   loads_claims laws clean is r opened none opens all =
@@ -263,7 +268,7 @@ module _ {F : Type 0} (codec : Codec F) (spelled : Spelled) (tracks : Tracking F
       })
 
   -- a read opens the next fragment, or goes on once all are open
-  opening_claims : CodecLaws codec spelled tracks → Clean m now job → IsHistory now → (r : Reading) (opened : List Opened) → r.deletions ≡ []
+  opening_claims : CodecLaws codec spelled tracks → Clean opening past jobs seen m job → IsHistory now → (r : Reading) (opened : List Opened) → r.deletions ≡ []
       → Opening codec spelled opening past jobs seen m number job r opened → Claimed (opening_on codec r opened)
   opening_claims laws clean is r opened none opens =
       elim (nat_lt (length opened) (length r.fragments)) as (λ b. nat_lt (length opened) (length r.fragments) ≡ b → Claimed (cond b (Collects (GetsHeads r opened))
@@ -273,7 +278,7 @@ module _ {F : Type 0} (codec : Codec F) (spelled : Spelled) (tracks : Tracking F
       ] refl
 
   -- a read gets the next `.vac`, or opens its fragments
-  getting_vacs_claims : CodecLaws codec spelled tracks → Clean m now job → IsHistory now → (r : Reading) → r.deletions ≡ []
+  getting_vacs_claims : CodecLaws codec spelled tracks → Clean opening past jobs seen m job → IsHistory now → (r : Reading) → r.deletions ≡ []
       → GettingVacs spelled opening past jobs seen m number job r → Claimed (getting_vacs codec r)
   getting_vacs_claims laws clean is r none vacs =
       elim (nat_lt (length r.vacs) (length r.counting)) as (λ b. nat_lt (length r.vacs) (length r.counting) ≡ b → Claimed (cond b (Collects (GetsVacs r)) (opening_on codec r []))) [
@@ -341,6 +346,9 @@ module _ {F : Type 0} (codec : Codec F) (spelled : Spelled) (tracks : Tracking F
   works_of (Read from to query) listing s is = is.works
   works_of (Delete text) listing s is = is
   works_of (Consolidate from to limits) listing s is = absurd is
+  works_of Vacuum listing s is = absurd is
+  works_of (Unlock seed lane) listing s is = absurd is
+  works_of Fragments listing s is = absurd is
 
   -- a get is no listing
   pub no_listing : (n : Name) → e.call ≡ get_all n → e.job ≡ Some number → e.call ≡ list_schemas → ⊥
@@ -364,7 +372,7 @@ module _ {F : Type 0} (codec : Codec F) (spelled : Spelled) (tracks : Tracking F
   pub schema_steps : CodecLaws codec spelled tracks → (listing : Listed) (there : Key) → ComesHere (Seeks (GetsSchema listing there)) → AdvancesHere (Seeks (GetsSchema listing there))
   schema_steps laws listing there comes =
       let is : e.call ≡ get_schema there = sym (same_Some (get_schema there) e.call comes.asked) in
-      let look = looked spelled past jobs seen e m job (get_schema there) is tt comes.stands comes.replied comes.claims.0 in
+      let look = looked spelled opening past jobs seen e m job (get_schema there) is tt comes.stands comes.replied comes.claims.0 in
       let s = comes.claims.1.0 in
       let same : s.key ≡ there = comes.claims.1.1 in
       let declared : schema_with h there ≡ Some s = subst (λ k. schema_with h k ≡ Some s) same (works_of job.command listing s comes.claims.1.2).declared in
@@ -378,7 +386,7 @@ module _ {F : Type 0} (codec : Codec F) (spelled : Spelled) (tracks : Tracking F
   -- ---- the frame
 
   -- a read opens its fragments, or it is refused for its query
-  asks_lead : CodecLaws codec spelled tracks → Clean m' h' job → IsHistory h' → (from to : ℕ) (query : Query) (listing : Listed) (frame : Frame) (there : Schema)
+  asks_lead : CodecLaws codec spelled tracks → Clean opening past jobs (seen ++ e ∷ []) m' job → IsHistory h' → (from to : ℕ) (query : Query) (listing : Listed) (frame : Frame) (there : Schema)
       → (at : ReadsAt spelled opening past jobs (seen ++ e ∷ []) m' number job from to listing.fragments listing.counting listing.delete_names there) → frame_in (history_told jobs past ((at.works).schemas).before) ≡ Some frame
       → job.command ≡ Read from to query → (o : Result Ready Refusal) → ready_in frame there.attrs query ≡ o → FailsByQuery o → ClaimedAfter (asks_for codec from to listing frame there o)
   asks_lead laws clean is from to query listing frame there at framed command (Err r) asked fails = query_true spelled opening jobs past (seen ++ e ∷ []) number job r fails clean.undone
@@ -389,7 +397,7 @@ module _ {F : Type 0} (codec : Codec F) (spelled : Spelled) (tracks : Tracking F
       })
 
   -- a job works in the schema there once it has the frame
-  works_lead : CodecLaws codec spelled tracks → IsFit job → AreApart jobs → Clean m' h' job → IsHistory h' → (c : Command) → job.command ≡ c
+  works_lead : CodecLaws codec spelled tracks → IsFit job → AreApart jobs → Clean opening past jobs (seen ++ e ∷ []) m' job → IsHistory h' → (c : Command) → job.command ≡ c
       → (listing : Listed) (frame : Frame) (there : Schema)
       → frame_in h' ≡ Some frame → HasListed spelled opening past jobs (seen ++ e ∷ []) m' number job c listing there → ClaimedAfter (works codec job job.command listing frame there)
   works_lead laws fit apart clean is (Create f) command listing frame there framed listed = absurd listed
@@ -404,6 +412,9 @@ module _ {F : Type 0} (codec : Codec F) (spelled : Spelled) (tracks : Tracking F
       subst (λ c. ClaimedAfter (works codec job c listing frame there)) (sym command)
       (asks_lead laws clean is from to query listing frame there listed (then.1 ∙ ap Some same) command (ready_in frame there.attrs query) refl (ready_fails frame there.attrs query))
   works_lead laws fit apart clean is (Consolidate from to limits) command listing frame there framed listed = absurd listed
+  works_lead laws fit apart clean is Vacuum command listing frame there framed listed = absurd listed
+  works_lead laws fit apart clean is (Unlock seed lane) command listing frame there framed listed = absurd listed
+  works_lead laws fit apart clean is Fragments command listing frame there framed listed = absurd listed
   works_lead laws fit apart clean is (Delete text) command listing frame there framed listed =
       works_delete codec spelled tracks opening past jobs (seen ++ e ∷ []) m' number job text listing frame there laws fit apart clean listed framed is command
 
@@ -411,7 +422,7 @@ module _ {F : Type 0} (codec : Codec F) (spelled : Spelled) (tracks : Tracking F
   pub framed_steps : CodecLaws codec spelled tracks → (listing : Listed) (there : Schema) → ComesHere (Seeks (GetsFrame listing there)) → AdvancesHere (Seeks (GetsFrame listing there))
   framed_steps laws listing there comes =
       let is : e.call ≡ get_frame = sym (same_Some get_frame e.call comes.asked) in
-      let look = looked spelled past jobs seen e m job get_frame is tt comes.stands comes.replied comes.claims.0 in
+      let look = looked spelled opening past jobs seen e m job get_frame is tt comes.stands comes.replied comes.claims.0 in
       let framed = framed_by_schema h there.key there comes.stands.history (works_of job.command listing there comes.claims.1).declared in
       let held : map.get m name.Domain ≡ Some (frame_object framed.0) = comes.stands.frame ∙ ap (option_map frame_object) framed.1 in
       let short = comes.stands.short_frame (frame_object framed.0) held in
@@ -449,7 +460,7 @@ module _ {F : Type 0} (codec : Codec F) (spelled : Spelled) (tracks : Tracking F
   vacs_steps laws r comes =
       let next = asked_of get_vac (slice_get r.counting (length r.vacs)) e.call comes.asked in
       let f = next.0 in
-      let look = looked spelled past jobs seen e m job (get_vac f) next.2 tt comes.stands comes.replied comes.claims.0 in
+      let look = looked spelled opening past jobs seen e m job (get_vac f) next.2 tt comes.stands comes.replied comes.claims.0 in
       let unlisted = no_listing (vac_of f) next.2 in
       let vacs = getting_vacs_stays spelled opening past jobs seen e m m' job.id look.leads.leaves number job r unlisted comes.claims.1 in
       let listed = (vacs.reads.at).listed in
@@ -533,7 +544,7 @@ module _ {F : Type 0} (codec : Codec F) (spelled : Spelled) (tracks : Tracking F
     }
 
     -- the part that has the head of the next fragment leads on with one fragment more
-    head_lead : e.call ≡ get_head codec r f → IsReplied m e → m' ≡ m → Clean m' h' job → IsHistory h' → ClaimedAfter (on_bytes (get_head codec r f) (after_head codec r opened f) e.reply)
+    head_lead : e.call ≡ get_head codec r f → IsReplied m e → m' ≡ m → Clean opening past jobs (seen ++ e ∷ []) m' job → IsHistory h' → ClaimedAfter (on_bytes (get_head codec r f) (after_head codec r opened f) e.reply)
     head_lead is replied same_held clean history =
         let on : Head → State F = λ head. opening_on codec r (opened ++ record { frag = f; head = head; object = found.0 } ∷ []) in
         whole_lead (name.Part f (codec.head_part r.frame)) found.0 (after_head codec r opened f) is replied
@@ -547,7 +558,7 @@ module _ {F : Type 0} (codec : Codec F) (spelled : Spelled) (tracks : Tracking F
   pub heads_steps : CodecLaws codec spelled tracks → (r : Reading) (opened : List Opened) → ComesHere (Collects (GetsHeads r opened)) → AdvancesHere (Collects (GetsHeads r opened))
   heads_steps laws r opened comes =
       let next = asked_of (get_head codec r) (slice_get r.fragments (length opened)) e.call comes.asked in
-      let look = looked spelled past jobs seen e m job (get_head codec r next.0) next.2 tt comes.stands comes.replied comes.claims.0 in
+      let look = looked spelled opening past jobs seen e m job (get_head codec r next.0) next.2 tt comes.stands comes.replied comes.claims.0 in
       let unlisted = no_listing (name.Part next.0 (codec.head_part r.frame)) next.2 in
       let opens = opening_stays spelled opening past jobs seen e m m' job.id look.leads.leaves number codec job r opened unlisted comes.claims.1 in
       record {
@@ -576,7 +587,7 @@ module _ {F : Type 0} (codec : Codec F) (spelled : Spelled) (tracks : Tracking F
   further_steps laws r opened named schemas comes =
       let next = asked_of get_schema (slice_get named (length schemas)) e.call comes.asked in
       let k = next.0 in
-      let look = looked spelled past jobs seen e m job (get_schema k) next.2 tt comes.stands comes.replied comes.claims.0 in
+      let look = looked spelled opening past jobs seen e m job (get_schema k) next.2 tt comes.stands comes.replied comes.claims.0 in
       let at : slice_get (keys_named r opened) (length schemas) ≡ Some k = ap (λ ks. slice_get ks (length schemas)) (sym comes.claims.1) ∙ next.1 in
       let declared = further_declared r opened schemas comes.claims.2 k (Contains-slice_get (keys_named r opened) (length schemas) k at) in
       let s = declared.0 in

@@ -1,8 +1,8 @@
--- The law of reading: what a read gets from the fragments of its listing shows what the history shows.
+-- The law of reading: what a read gets from the fragments of its listing shows what the history shows without its clipped writes.
 use Rattle.std.proofs.Common.{◌≡◌, ℕ, ℤ, Bool, true, false, cond, not, ◌&&◌, List, [], ◌∷◌, length, Option, Some, None, Ok, int_cmp, refl, sym, ◌∙◌, ap, subst}
-use Rattle.std.specs.Prelude.{Contains, filter, option_map, option_and_then, map as list_map}
+use Rattle.std.specs.Prelude.{Contains, filter, find, option_map, option_and_then, map as list_map}
 use Rattle.std.specs.List.{list_any}
-use Rattle.std.specs.Option.{option_or}
+use Rattle.std.specs.Option.{option_map_or, option_or}
 use Rattle.std.specs.Cmp.{both_ways}
 use Rattle.std.specs.Cmp.Lexicographic.{slice_cmp}
 use Rattle.std.specs.FinMap as map
@@ -10,26 +10,30 @@ use Rattle.std.proofs.lemmas.Bool.{and_parts, and_from}
 use Rattle.std.proofs.lemmas.List.{length-map}
 use Rattle.std.proofs.lemmas.List.Folds.{Any-from_list_any, list_any-from_Any}
 use Rattle.std.proofs.lemmas.Option.{same_Some, none-some}
+use Rattle.ts_base.specs.declared.keys.Key.{Key}
 use Rattle.ts_base.specs.declared.values.Val.{Val}
 use Rattle.ts_base.specs.declared.heads.Head.{Head}
 use Rattle.ts_base.specs.declared.heads.Version.{Version}
-use Rattle.ts_base.specs.Keys.{is_within, greatest}
+use Rattle.ts_base.specs.Keys.{is_within, greatest, key_eq}
 use Rattle.ts_cond.specs.declared.query.Query.{Query}
 use Rattle.ts_domain.specs.declared.boxes.SubBox.{SubBox}
 use Rattle.ts_domain.specs.Boxes.{is_in_box}
 use Rattle.ts_schema.specs.declared.schemas.Schema.{Schema}
 use Rattle.ts_schema.specs.Attrs.{shown_row}
-use Rattle.ts_commit.specs.Selections.{has_origin}
+use Rattle.ts_commit.specs.Selections.{has_origin, is_clipped}
 use Rattle.ts_model.specs.declared.deeds.Deletion.{Deletion}
+use Rattle.ts_model.specs.declared.deeds.Deed.TheVariants.{Framed, Declared, Wrote, Erased}
 use Rattle.ts_model.specs.declared.deeds.Written.{Written}
 use Rattle.ts_model.specs.declared.states.Reading.{Reading}
-use Rattle.ts_model.specs.Deeds.{History, writes, deletions, row_at, has_cell, last_write, attrs_with, frame_in, schema_there}
+use Rattle.ts_model.specs.Deeds.{History, writes, deletions, schemas as schemas_in, row_at, has_cell, last_write, attrs_with, frame_in, schema_there}
 use Rattle.ts_model.specs.Answers.{Cells, erases_cell, is_erased, shown_in, shown_at, shown_inside, fills_of, unwritten, IsAnswer}
 use Rattle.ts_model.specs.Pieces.{version_of, newest_of}
 use Rattle.ts_model.specs.Queries.{low_of, high_of, ready_in, selected}
 use Rattle.ts_model.specs.States.{known_attrs, is_erased_by, cell_shown, cells_left, version_left, row_or_fill, cells_filled, cells_shown, answer_of}
+use Rattle.ts_law.specs.Ends.{without_clipped}
+use Rattle.ts_law.specs.Kept.{AreGot}
 use Rattle.ts_law.specs.Origins.{last_version, newest_at, wrote_in}
-use Rattle.ts_model.proofs.ListLemmas.{Contains-here, Contains-there, filter-Contains}
+use Rattle.ts_model.proofs.ListLemmas.{filter-Contains}
 use Rattle.ts_model.proofs.KeyLemmas.{greatest-Some}
 use Rattle.ts_model.proofs.Referred.{ready_box}
 use Rattle.ts_model.proofs.Filled.{box_map, entries_box, get_box, or_fill, left_alone}
@@ -41,27 +45,62 @@ use Rattle.ts_law.proofs.NewestBy.{version_with}
 any_from_member : {X : Type 0} (p : X → Bool) (xs : List X) (x : X) → Contains xs x → p x ≡ true → list_any p xs ≡ true
 any_from_member p xs x at passes = list_any-from_Any p xs (at.0, x, at.1, at.2, passes)
 
--- ---- the last write of all
+-- ---- a history without its clipped writes
 
 -- one item more, of two lists of which the same is kept
-keep_step : {X : Type 0} (p q : X → Bool) (x : X) (xs ys : List X) (s t v : Bool) → p x ≡ s && t → q x ≡ t → (s ≡ true → v ≡ true) → filter p xs ≡ filter q ys
-    → filter p (x ∷ xs) ≡ filter q (cond (s && v) (x ∷ ys) ys)
-keep_step p q x xs ys true t v first second all rest =
-    ap (λ b. cond b (x ∷ filter p xs) (filter p xs)) first ∙ ap (λ l. cond t (x ∷ l) l) rest ∙ ap (λ b. cond b (x ∷ filter q ys) (filter q ys)) (sym second) ∙ sym (ap (λ b. filter q (cond b (x ∷ ys) ys)) (all refl))
-keep_step p q x xs ys false t v first second all rest = ap (λ b. cond b (x ∷ filter p xs) (filter p xs)) first ∙ rest
+keep_step : {X : Type 0} (p q : X → Bool) (x : X) (xs ys : List X) (s t u v : Bool) → p x ≡ s && t → q x ≡ t → (s ≡ true → v ≡ u) → filter p xs ≡ filter q ys
+    → filter p (cond u (x ∷ xs) xs) ≡ filter q (cond (s && v) (x ∷ ys) ys)
+keep_step p q x xs ys true t true v first second same rest =
+    ap (λ b. cond b (x ∷ filter p xs) (filter p xs)) first ∙ ap (λ l. cond t (x ∷ l) l) rest ∙ ap (λ b. cond b (x ∷ filter q ys) (filter q ys)) (sym second) ∙ sym (ap (λ b. filter q (cond b (x ∷ ys) ys)) (same refl))
+keep_step p q x xs ys true t false v first second same rest = rest ∙ sym (ap (λ b. filter q (cond b (x ∷ ys) ys)) (same refl))
+keep_step p q x xs ys false t true v first second same rest = ap (λ b. cond b (x ∷ filter p xs) (filter p xs)) first ∙ rest
+keep_step p q x xs ys false t false v first second same rest = rest
 
-module _ (h : History) (from to : ℕ) (heads : List Head) (covered : (w : Written) → Contains (writes h) w → is_within from to w.key ≡ true → list_any (has_origin w.key) heads ≡ true) (c : List ℤ) where
-  -- where each write in the interval went into one of the fragments, no write is left out
-  seen_there : (ws : List Written) → ((w : Written) → Contains ws w → Contains (writes h) w)
-      → filter (λ w. is_within from to w.key && has_cell c w) ws ≡ filter (has_cell c) (filter (λ w. is_within from to w.key && list_any (has_origin w.key) heads) ws)
-  seen_there [] all = refl
-  seen_there (w ∷ ws) all =
-      keep_step (λ x. is_within from to x.key && has_cell c x) (has_cell c) w ws (filter (λ x. is_within from to x.key && list_any (has_origin x.key) heads) ws)
-      (is_within from to w.key) (has_cell c w) (list_any (has_origin w.key) heads) refl refl (covered w (all w (Contains-here w ws))) (seen_there ws (λ x at. all x (Contains-there w ws x at)))
+module _ (from to : ℕ) (heads : List Head) where
+  -- it has the schemas of the whole one
+  same_schemas : (h : History) → schemas_in (without_clipped from to heads h) ≡ schemas_in h
+  same_schemas [] = refl
+  same_schemas (Framed x ∷ h) = same_schemas h
+  same_schemas (Declared x ∷ h) = ap (λ l. x ∷ l) (same_schemas h)
+  same_schemas (Erased x ∷ h) = same_schemas h
+  same_schemas (Wrote w ∷ h) = elim (not (is_clipped from to heads w.key)) as (λ t. schemas_in (cond t (Wrote w ∷ without_clipped from to heads h) (without_clipped from to heads h)) ≡ schemas_in h) [ true ↦ same_schemas h | false ↦ same_schemas h ]
 
-  -- so the last of them is the last write
-  pub last_is_all : last_version (wrote_in h from to heads) c ≡ option_and_then (λ w. version_of w c) (last_write h from to c)
-  last_is_all = ap (λ ws. option_and_then (λ w. version_of w c) (greatest (λ w. w.key) ws)) (sym (seen_there (writes h) (λ w at. at)))
+  -- and its deletes
+  same_deletions : (h : History) → deletions (without_clipped from to heads h) ≡ deletions h
+  same_deletions [] = refl
+  same_deletions (Framed x ∷ h) = same_deletions h
+  same_deletions (Declared x ∷ h) = same_deletions h
+  same_deletions (Erased x ∷ h) = ap (λ l. x ∷ l) (same_deletions h)
+  same_deletions (Wrote w ∷ h) = elim (not (is_clipped from to heads w.key)) as (λ t. deletions (cond t (Wrote w ∷ without_clipped from to heads h) (without_clipped from to heads h)) ≡ deletions h) [ true ↦ same_deletions h | false ↦ same_deletions h ]
+
+  -- its writes are those that are not clipped
+  left_writes : (h : History) → writes (without_clipped from to heads h) ≡ filter (λ w. not (is_clipped from to heads w.key)) (writes h)
+  left_writes [] = refl
+  left_writes (Framed x ∷ h) = left_writes h
+  left_writes (Declared x ∷ h) = left_writes h
+  left_writes (Erased x ∷ h) = left_writes h
+  left_writes (Wrote w ∷ h) =
+      elim (not (is_clipped from to heads w.key)) as (λ t. writes (cond t (Wrote w ∷ without_clipped from to heads h) (without_clipped from to heads h))
+      ≡ cond t (w ∷ filter (λ v. not (is_clipped from to heads v.key)) (writes h)) (filter (λ v. not (is_clipped from to heads v.key)) (writes h))) [
+        | true ↦ ap (λ l. w ∷ l) (left_writes h)
+        | false ↦ left_writes h
+      ]
+
+  -- ---- its last writes
+
+  -- where just the writes in the interval that are not clipped went into some fragments
+  module _ (loads : List Head) (loaded_is : (k : Key) → is_within from to k ≡ true → list_any (has_origin k) loads ≡ not (is_clipped from to heads k)) (c : List ℤ) where
+    -- the writes that have a coordinate are those that went into one of these
+    seen_there : (ws : List Written) → filter (λ w. is_within from to w.key && has_cell c w) (filter (λ w. not (is_clipped from to heads w.key)) ws)
+        ≡ filter (has_cell c) (filter (λ w. is_within from to w.key && list_any (has_origin w.key) loads) ws)
+    seen_there [] = refl
+    seen_there (w ∷ ws) =
+        keep_step (λ x. is_within from to x.key && has_cell c x) (has_cell c) w (filter (λ x. not (is_clipped from to heads x.key)) ws) (filter (λ x. is_within from to x.key && list_any (has_origin x.key) loads) ws)
+        (is_within from to w.key) (has_cell c w) (not (is_clipped from to heads w.key)) (list_any (has_origin w.key) loads) refl refl (loaded_is w.key) (seen_there ws)
+
+    -- so the last of these is the last write
+    last_is_left : (h : History) → last_version (wrote_in h from to loads) c ≡ option_and_then (λ w. version_of w c) (last_write (without_clipped from to heads h) from to c)
+    last_is_left h = ap (λ ws. option_and_then (λ w. version_of w c) (greatest (λ w. w.key) ws)) (sym (ap (filter (λ w. is_within from to w.key && has_cell c w)) (left_writes h) ∙ seen_there (writes h)))
 
 -- ---- the law
 
@@ -214,9 +253,9 @@ module _ (h : History) (from to : ℕ) (sub : SubBox) (got : List Version)
     shows_all false sparse long = shows_sparse sparse
 
     -- the answer of a read that got these versions is that of the history
-    pub answer_is : (later : History) (query : Query) → frame_in later ≡ Some r.frame → schema_there later to ≡ Some r.there → ready_in r.frame (r.there).attrs query ≡ Ok r.ready → r.clipped ≡ []
+    answer_is : (later : History) (query : Query) → frame_in later ≡ Some r.frame → schema_there later to ≡ Some r.there → ready_in r.frame (r.there).attrs query ≡ Ok r.ready
         → IsAnswer h later from to query (answer_of r schemas got)
-    answer_is later query framed there is_ready unclipped =
+    answer_is later query framed there is_ready =
         let dims = r.frame.domain in
         let long = subst (λ (s : SubBox). length s.high ≡ length s.low) (sym (ready_box r.frame r.there.attrs query r.ready is_ready)) (length-map dims (high_of query.sub) ∙ sym (length-map dims (low_of query.sub))) in
         let found = shows_all r.frame.dense refl long in
@@ -231,5 +270,26 @@ module _ (h : History) (from to : ℕ) (sub : SubBox) (got : List Version)
           each = found.2;
           rows = ap (selected r.frame r.there.attrs r.ready) found.1;
           types = refl;
-          whole = unclipped;
         }
+
+-- a read that got what it wants of fragments answers by the history without its clipped writes, where just the writes in the interval that are not clipped went into these
+module _ (h : History) (from to : ℕ) (heads loads : List Head) (loaded_is : (k : Key) → is_within from to k ≡ true → list_any (has_origin k) loads ≡ not (is_clipped from to heads k))
+    (sub : SubBox) (got : List Version) (are : AreGot h from to sub loads got) (r : Reading) (schemas : List Schema) (box : (r.ready).sub ≡ sub)
+    (known : (w : Written) → Contains (writes h) w → is_within from to w.key ≡ true → is_clipped from to heads w.key ≡ false → known_attrs r schemas w.schema ≡ attrs_with h w.schema)
+    (deleted_in : (x : Deletion) → Contains r.deletions x → Contains (deletions h) x × (is_within from to x.key ≡ true))
+    (all_deletions : (x : Deletion) → Contains (deletions h) x → is_within from to x.key ≡ true → Contains r.deletions x) where
+  pub answer_left : (later : History) (query : Query) → frame_in later ≡ Some r.frame → schema_there later to ≡ Some r.there → ready_in r.frame (r.there).attrs query ≡ Ok r.ready
+      → IsAnswer (without_clipped from to heads h) later from to query (answer_of r schemas got)
+  answer_left =
+      answer_is (without_clipped from to heads h) from to sub got (λ c inside. are.inside c inside ∙ last_is_left from to heads loads loaded_is c h) are.outside r schemas box known_left
+      (λ x at. let is = deleted_in x at in (subst (λ xs. Contains xs x) (sym (same_deletions from to heads h)) is.0, is.1))
+      (λ x at within. all_deletions x (subst (λ xs. Contains xs x) (same_deletions from to heads h) at) within)
+    where
+      not_false : (t : Bool) → not t ≡ true → t ≡ false
+      not_false false e = refl
+      not_false true e = sym e
+
+      known_left : (w : Written) → Contains (writes (without_clipped from to heads h)) w → is_within from to w.key ≡ true → known_attrs r schemas w.schema ≡ attrs_with (without_clipped from to heads h) w.schema
+      known_left w at within =
+          let own = filter-Contains (λ u. not (is_clipped from to heads u.key)) (writes h) w (subst (λ ws. Contains ws w) (left_writes from to heads h) at) in
+          known w own.0 within (not_false (is_clipped from to heads w.key) own.1) ∙ ap (λ ss. option_map_or (λ s. s.attrs) (find (λ s. key_eq s.key w.schema) ss) []) (sym (same_schemas from to heads h))

@@ -34,7 +34,7 @@ use Rattle.ts_store.specs.declared.call.Reply.TheVariants as reply
 use Rattle.ts_store.specs.declared.fate.Fate.TheVariants as fate
 use Rattle.ts_store.specs.Calls.{answer, is_no_memory, length_reply, names_under, part_reply, reply_of}
 use Rattle.ts_model.specs.declared.commands.Command.{Command}
-use Rattle.ts_model.specs.declared.commands.Command.TheVariants.{Create, Evolve, Write, Read, Delete, Consolidate}
+use Rattle.ts_model.specs.declared.commands.Command.TheVariants.{Create, Evolve, Write, Read, Delete, Consolidate, Vacuum, Unlock, Fragments}
 use Rattle.ts_model.specs.declared.commands.FrameIn.{FrameIn}
 use Rattle.ts_model.specs.declared.commands.Job.{Job}
 use Rattle.ts_model.specs.declared.answers.Driven.TheVariants.{Done}
@@ -347,6 +347,9 @@ module _ (spelled : Spelled) (opening : Held) (jobs : List Job) (past : History)
   before_refused job r (Read from to query) is refused none = absurd (none-some r refused)
   before_refused job r (Delete text) is refused none = absurd (none-some r refused)
   before_refused job r (Consolidate from to limits) is refused none = absurd (none-some r refused)
+  before_refused job r Vacuum is refused none = absurd (none-some r refused)
+  before_refused job r (Unlock seed lane) is refused none = absurd (none-some r refused)
+  before_refused job r Fragments is refused none = absurd (none-some r refused)
 
   -- ---- the end
 

@@ -42,7 +42,7 @@ module _ {F S : Type 0} (codec : Codec F) (held : S → Option Held) (made : S �
     run_over m leaves seed_fits = record {
       replied = leaves.replied;
       held = leaves.held ∙ ap Some (journal_held (lane_by lanes) m ran.told ∙ ap (held_after m) (sym ran.entries));
-      true_run = λ h stands fresh. true_run codec spelled tracks laws gives seed items lanes jobs h m ran.told results are order stands fresh seed_fits leaves.replied ran.suit ran.owned ran.within (in_turn_lanes lanes ran.told ran.in_turn) ran.driven;
+      true_run = λ h stands fresh. true_run codec spelled tracks laws gives seed items lanes jobs h m ran.told results are order stands fresh seed_fits leaves.replied ran.suit ran.owned ran.within ran.in_turn ran.driven;
     }
 
     -- they are a run, over whatever store

@@ -1,5 +1,5 @@
 -- A job that ends for want of memory did nothing: no deed has its key.
-use Rattle.std.proofs.Common.{◌≡◌, ℕ, Bool, true, false, not, ◌||◌, cond, inl, inr, ◌⊎◌, List, [], ◌∷◌, ◌++◌, Option, Some, None, length, suc, refl, sym, ◌∙◌, ap, subst, append_assoc}
+use Rattle.std.proofs.Common.{◌≡◌, ℕ, Bool, true, false, ◌||◌, cond, inl, inr, ◌⊎◌, List, [], ◌∷◌, ◌++◌, Option, Some, None, length, suc, refl, sym, ◌∙◌, ap, subst, append_assoc}
 use Rattle.std.specs.Prelude.{Contains, nat_lt, option_map, option_to_list, slice_get}
 use Rattle.std.specs.Option.{option_or}
 use Rattle.std.proofs.lemmas.Bool.{cases_eq, true≢false}
@@ -10,7 +10,7 @@ use Rattle.ts_base.specs.Held.{Held}
 use Rattle.ts_base.specs.declared.keys.Key.{Key}
 use Rattle.ts_base.specs.declared.names.CommitKind.TheVariants.{Del}
 use Rattle.ts_base.specs.declared.names.Name.{Name}
-use Rattle.ts_base.specs.declared.names.Prefix.TheVariants.{Commits, Schemas}
+use Rattle.ts_base.specs.declared.names.Prefix.TheVariants.{Commits, Fragment, Schemas}
 use Rattle.ts_domain.specs.declared.dims.DomainFault.{DomainFault}
 use Rattle.ts_domain.specs.Dims.{domain_fault}
 use Rattle.ts_schema.specs.declared.faults.SchemaFault.{SchemaFault}
@@ -18,13 +18,15 @@ use Rattle.ts_schema.specs.Faults.{schema_fault}
 use Rattle.ts_schema.specs.FrameTexts.{frame_object}
 use Rattle.ts_store.specs.declared.call.Call.{Call}
 use Rattle.ts_model.specs.declared.commands.Command.{Command}
-use Rattle.ts_model.specs.declared.commands.Command.TheVariants.{Create, Evolve, Write, Read, Delete, Consolidate}
+use Rattle.ts_model.specs.declared.commands.Command.TheVariants.{Create, Evolve, Write, Read, Delete, Consolidate, Vacuum, Unlock, Fragments}
 use Rattle.ts_model.specs.declared.commands.Job.{Job}
 use Rattle.ts_model.specs.declared.answers.Refusal.{Refusal}
 use Rattle.ts_model.specs.declared.deeds.Deed.{Deed}
 use Rattle.ts_model.specs.declared.states.State.{State}
-use Rattle.ts_model.specs.declared.states.State.TheVariants.{Creates, Seeks, Puts, Collects, Merges, Over}
+use Rattle.ts_model.specs.declared.states.State.TheVariants.{Creates, Seeks, Puts, Collects, Merges, Lists, Sweeps, Removes, Over}
 use Rattle.ts_model.specs.declared.states.Merging.TheVariants as merging
+use Rattle.ts_model.specs.declared.states.Sweeping.TheVariants as sweeping
+use Rattle.ts_commit.specs.Selections.{removal_set}
 use Rattle.ts_model.specs.declared.states.Creating.TheVariants.{PutsFrame, ComparesFrame, ListsDeclared}
 use Rattle.ts_model.specs.declared.states.Seeking.TheVariants.{ListsCommits, ListsSchemas, GetsSchema, GetsFrame}
 use Rattle.ts_model.specs.declared.states.Collecting.TheVariants.{GetsVacs, GetsHeads, GetsSchemas, GetsDeletes, Fetches}
@@ -34,23 +36,24 @@ use Rattle.ts_model.specs.Deeds.{History, key_in, keys}
 use Rattle.ts_model.specs.Driven.{EndsBy, MayAsk, lacks_after, lacks_from}
 use Rattle.ts_model.specs.Codecs.{Codec, CodecLaws, Spelled, Tracking}
 use Rattle.ts_model.specs.Jobs.{AreApart, key_of}
-use Rattle.ts_model.specs.States.{all_of, get_vac, vac_of, Exchange, asks, begun, frame_put, get_delete, get_head, get_head_in, get_schema, goes, is_over, made_by, on_made, put_of, putting, takes_memory, unless_refused, want_of, with_item}
-use Rattle.ts_model.specs.Stages.{begins_at, first_stage, goes_on, is_done, lease_of, stage_of, stage_takes_memory}
+use Rattle.ts_model.specs.States.{all_of, get_vac, list_parts, vac_of, Exchange, asks, asks_memory, begun, frame_put, get_delete, get_head, get_head_in, get_schema, goes, is_over, made_by, on_made, on_removed, put_of, putting, removing, takes_memory, unless_refused, want_of, with_item}
+use Rattle.ts_model.specs.Stages.{begins_at, first_stage, goes_on, lease_of, stage_asks_memory, stage_of, stage_takes_memory}
 use Rattle.ts_model.specs.declared.states.Stage.{Stage}
 use Rattle.ts_model.specs.declared.states.Stage.TheVariants.{ListsLeases, PutsLease, Releases}
 use Rattle.ts_model.specs.declared.states.Stage.TheVariants as stages
 use Rattle.ts_law.proofs.LeaseSteps.{before_clean, going_undone, leased_history, stage_undone}
 use Rattle.ts_model.specs.Told.{IsReplied, Replied, Told, after_told, deed_in, deed_of, deed_told, exchange_of, grown, held_told, history_told, schemas_found, trace_of}
 use Rattle.ts_law.specs.Ends.{IsUndone}
-use Rattle.ts_law.specs.Kept.{Aims, AreAllowed, Claims, IsAllowed, Kept, StageClaims}
+use Rattle.ts_law.specs.Kept.{Aims, AreAllowed, Claims, Kept, StageClaims}
 use Rattle.ts_model.proofs.Asked.{next_call, no_release}
 use Rattle.ts_model.proofs.HistoryLaws.{absent_from_new, keys-append, new_from_absent}
 use Rattle.ts_model.proofs.Lacks.{bare_goes, lacks-push}
 use Rattle.ts_model.proofs.ListLemmas.{Contains-filter_map, Contains-here, Contains-nil, Contains-only, Contains-there, filter_map-Contains}
 use Rattle.ts_model.proofs.Traces.{deed_told_own, exchange_of_other, exchange_of_own, history_told-push, stage_from-append, stage_of-own, trace_of-append}
 use Rattle.ts_law.proofs.Effects.{Added, PutWent, Still, put_went}
-use Rattle.ts_law.proofs.KeptLaws.{asked_by, every_prefix, no_get, no_listing, one_name, speaks_no_put}
+use Rattle.ts_law.proofs.KeptLaws.{asked_by, calling, coming, every_prefix, no_get, no_listing, one_name, speaks_no_put}
 use Rattle.ts_law.proofs.DeedKeys.{deed_in_key, frame_has_no_key}
+use Rattle.ts_law.proofs.UnlockSteps.{own_listing_no_put, removal_still}
 use Rattle.std.specs.List.{cons_option}
 use Rattle.ts_base.specs.declared.names.Name.TheVariants as name
 use Rattle.ts_store.specs.declared.call.Call.TheVariants as call
@@ -173,6 +176,16 @@ module _ {F : Type 0} (codec : Codec F) (spelled : Spelled) (tracks : Tracking F
       sym (one_name name.Domain n (frame_object (frame_made f.0)) bytes f.2)
   asks_frame (Puts objects next end) n bytes takes is asked = absurd (true≢false (sym takes))
   asks_frame (Over end) n bytes takes is asked = absurd (none-some _ asked)
+  asks_frame Lists n bytes takes is asked = absurd (own_listing_no_put job.command n bytes is.1 asked)
+  asks_frame (Sweeps sweeping.ListsCommits) n bytes takes is asked = absurd (no_listing Commits n bytes (same_Some _ _ asked))
+  asks_frame (Sweeps (sweeping.ListsSchemas s)) n bytes takes is asked = absurd (no_listing Schemas n bytes (same_Some _ _ asked))
+  asks_frame (Sweeps (sweeping.GetsVacs s)) n bytes takes is asked =
+      let f = asked_by get_vac (slice_get s.counting (length s.vacs)) (call.Put n bytes) asked in
+      absurd (no_get (vac_of f.0) 0 _ n bytes f.2)
+  asks_frame (Sweeps (sweeping.ListsParts s set listed)) n bytes takes is asked =
+      let f = asked_by list_parts (slice_get set (length listed)) (call.Put n bytes) asked in
+      absurd (no_listing (Fragment f.0) n bytes f.2)
+  asks_frame (Removes names next end) n bytes takes is asked = absurd (true≢false (sym takes))
   asks_frame (Creates ListsDeclared) n bytes takes is asked = absurd (no_listing Schemas n bytes (same_Some _ _ asked))
   asks_frame (Seeks ListsCommits) n bytes takes is asked = absurd (no_listing Commits n bytes (same_Some _ _ asked))
   asks_frame (Seeks (ListsSchemas listing)) n bytes takes is asked = absurd (no_listing Schemas n bytes (same_Some _ _ asked))
@@ -212,7 +225,7 @@ module _ {F : Type 0} (codec : Codec F) (spelled : Spelled) (tracks : Tracking F
       let held = laws.asks s.frame schema way.piece ((way.is.holds).spells).look (all_of s.frame schema.attrs) fetch c way.way in
       absurd (speaks_no_put c (name.Part ((way.piece).head).frag held.part) n bytes held.named (same_Some c (call.Put n bytes) asked))
 
-  -- a put of an object by which the job is over for want of memory changed nothing
+  -- a put or a removal of an object by which the job is over for want of memory changed nothing
   put_still : (s : State F) (e : Told) → takes_memory s ≡ false → Says s → asks codec job s ≡ Some e.call → IsReplied m e → goes codec job s e.reply ≡ Over outcome.OutOfMemory → e.changed ≡ false
   put_still (Over end) e takes is asked replied ends = absurd (none-some e.call asked)
   put_still (Puts objects next end) e takes is asked replied ends =
@@ -234,6 +247,15 @@ module _ {F : Type 0} (codec : Codec F) (spelled : Spelled) (tracks : Tracking F
         where
           no_refusal : {r : Refusal} → ◌≡◌ {A = State F} (Over (outcome.Refused r)) (Over outcome.OutOfMemory) → ⊥
           no_refusal same = cc
+  put_still (Removes names next end) e takes is asked replied ends =
+      let (n, at, same) = asked_by call.Remove (slice_get names next) e.call asked in
+      removal_still {F = F} m e n names next end (sym same) replied has_end (ap (λ i. with_item (λ x. on_removed (call.Remove x) (removing names (suc next) end) e.reply) i) (sym at) ∙ ends)
+    where
+      has_end : end ≡ outcome.OutOfMemory → ⊥
+      has_end none = elim is [
+        | inl unlocking ↦ let clash : outcome.Unlocked (length names) ≡ outcome.OutOfMemory = sym unlocking.ends ∙ none in cc
+        | inr vacuuming ↦ let clash : outcome.Vacuumed (length (removal_set (vacuuming.sweep).vacs)) ≡ outcome.OutOfMemory = sym vacuuming.ends ∙ none in cc
+      ]
   put_still _ e takes is asked replied ends = absurd (true≢false takes)
 
   -- a job that made no call did nothing
@@ -252,13 +274,11 @@ module _ {F : Type 0} (codec : Codec F) (spelled : Spelled) (tracks : Tracking F
       by_command (Write w) is = is.0.undone
       by_command (Delete text) is = is.0.undone
       by_command (Consolidate from to limits) is = is.0.undone
+      by_command Vacuum is = is.0.undone
+      by_command (Unlock seed lane) is = is.0.undone
+      by_command Fragments is = is.0.undone
 
 -- ---- want of memory
-
--- of calls that may come each may come after those before it
-allowed_at : {F : Type 0} (codec : Codec F) (jobs : List Job) (dead : List ℕ) (seen a : List Told) (e : Told) (b : List Told) → AreAllowed codec jobs dead seen (a ++ e ∷ b) → IsAllowed codec jobs dead (seen ++ a) e
-allowed_at codec jobs dead seen [] e b may = subst (λ t. IsAllowed codec jobs dead t e) (sym (append-nil seen)) may.0
-allowed_at codec jobs dead seen (d ∷ a) e b may = subst (λ t. IsAllowed codec jobs dead t e) (append_assoc seen (d ∷ []) a) (allowed_at codec jobs dead (seen ++ d ∷ []) a e b may.1)
 
 -- each of the calls is replied to over what those before it left
 pub replied_at : (m : Held) (a : List Told) (e : Told) (b : List Told) → Replied m (a ++ e ∷ b) → IsReplied (held_told m a) e
@@ -266,10 +286,13 @@ replied_at m [] e b replied = replied.0
 replied_at m (d ∷ a) e b replied = replied_at (after_told m d) a e b replied.1
 
 module _ {F : Type 0} (codec : Codec F) (spelled : Spelled) (tracks : Tracking F) (laws : CodecLaws codec spelled tracks) (past : History) (jobs : List Job) (m : Held) (told : List Told)
-    (begins : Kept codec spelled tracks m past jobs [] [] m) (may : AreAllowed codec jobs [] [] told) (replied : Replied m told) (number : ℕ) (job : Job) (is_job : slice_get jobs number ≡ Some job) where
+    (last : List ℕ) (begins : Kept codec spelled tracks m past jobs [] [] m) (may : AreAllowed codec jobs [] last [] told) (replied : Replied m told)
+    (number : ℕ) (job : Job) (is_job : slice_get jobs number ≡ Some job) (alive : Contains last number → ⊥) where
   -- what the job's stage says after a first part of the calls
   says_at : (a b : List Told) → told ≡ a ++ b → StageClaims codec spelled tracks m past jobs a (held_told m a) number job (stage_of codec job (trace_of number a))
-  says_at a b parts = (every_prefix codec spelled tracks laws m past jobs [] [] m told a b begins may replied parts).claims number job is_job (Contains-nil number)
+  says_at a b parts =
+      let then = every_prefix codec spelled tracks laws m past jobs [] last [] m told a b begins may replied parts in
+      (then.kept).claims number job is_job (λ dead. alive (then.among number dead))
 
   -- after its last call the job did nothing
   last_undone : (is : LastCall number told) → EndsBy codec job (trace_of number told) outcome.OutOfMemory → IsUndone (history_told jobs past (is.before ++ is.last ∷ [])) job
@@ -291,11 +314,7 @@ module _ {F : Type 0} (codec : Codec F) (spelled : Spelled) (tracks : Tracking F
       says = says_at a (e ∷ is.later) is.parts
 
       may_ask : MayAsk codec job g e.call
-      may_ask =
-          let allowed = allowed_at codec jobs [] [] a e is.later (subst (AreAllowed codec jobs [] []) is.parts may) in
-          let same : allowed.number ≡ number = same_Some allowed.number number (sym allowed.own ∙ is.own) in
-          let it : allowed.job ≡ job = same_Some allowed.job job (sym allowed.is_job ∙ ap (slice_get jobs) same ∙ is_job) in
-          subst (λ i. MayAsk codec job (stage_of codec job (trace_of i a)) e.call) same (subst (λ j. MayAsk codec j (stage_of codec j (trace_of allowed.number a)) e.call) it allowed.asked)
+      may_ask = (calling codec spelled tracks laws m past jobs a (held_told m a) e number job (coming codec spelled tracks laws m past jobs [] last [] m told a is.later e begins may replied is.parts) is.own is_job).asked
 
       trace : trace_of number told ≡ trace_of number a ++ x ∷ []
       trace =
@@ -345,12 +364,12 @@ module _ {F : Type 0} (codec : Codec F) (spelled : Spelled) (tracks : Tracking F
           by_end takes (inr short) =
               let before = lacks_from codec job true (first_stage job) (trace_of number a) in
               let lacks : lacks_after codec job before g x ≡ true = sym (lacks-push codec job true (first_stage job) (trace_of number a) x) ∙ ap (lacks_from codec job true (first_stage job)) (sym trace) ∙ short.1.1 in
-              let left : not (is_done (goes_on codec job g x)) ≡ true = ap (λ b. b || not (is_done (goes_on codec job g x))) (sym takes ∙ ap stage_takes_memory (sym works)) ∙ ap (λ b. cond b before (stage_takes_memory g || not (is_done (goes_on codec job g x)))) (sym (no_release job e.call none)) ∙ lacks in
-              by_going (going_from (is_over (goes codec job s e.reply)) (ap (λ t. not (is_done t)) (sym goes_bare) ∙ left))
+              let asks_more : stage_asks_memory (goes_on codec job g x) ≡ true = ap (λ b. b || stage_asks_memory (goes_on codec job g x)) (sym takes ∙ ap stage_takes_memory (sym works)) ∙ ap (λ b. cond b before (stage_takes_memory g || stage_asks_memory (goes_on codec job g x))) (sym (no_release job e.call none)) ∙ lacks in
+              by_going (asking_going (goes codec job s e.reply) (ap stage_asks_memory (sym goes_bare) ∙ asks_more))
             where
-              going_from : (b : Bool) → not b ≡ true → b ≡ false
-              going_from true is = absurd (true≢false (sym is))
-              going_from false is = refl
+              asking_going : (t : State F) → asks_memory t ≡ true → is_over t ≡ false
+              asking_going (Over end) asking = absurd (true≢false (sym asking))
+              asking_going _ asking = refl
 
           by_memory : (b : Bool) → takes_memory s ≡ b → IsUndone (history_told jobs past (a ++ e ∷ [])) job
           by_memory true takes = adds (Keyless (λ n bytes put. asks_frame codec spelled tracks laws m past jobs a (held_told m a) number job s n bytes takes says_work (asked ∙ ap Some put)))

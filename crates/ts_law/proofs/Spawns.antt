@@ -1,16 +1,15 @@
 -- Jobs that begin: what is kept at the start, and when a job with a new identifier comes.
 use Rattle.std.proofs.Common.{List, None, Option, Some, [], ap, arith, cond, false, inl, inr, length, refl, subst, suc, append_assoc, sym, take, zero, ℕ, ◌++◌, ◌<◌, ◌∙◌, ◌∷◌, ◌≡◌}
 use Rattle.std.proofs.Common.{nat_eq}
-use Rattle.std.proofs.lemmas.Bool.{ne_eqb, true≢false}
+use Rattle.std.proofs.lemmas.Bool.{eqb-true, ne_eqb, true≢false}
 use Rattle.std.proofs.lemmas.List.{length_push}
 use Rattle.std.proofs.lemmas.List.Elements.{All-contains, All-contains_itself, All-head, All-nil, All-push, All-tail, All-weaker, Contains-append_left}
 use Rattle.std.proofs.lemmas.Option.{none-some, same_Some}
-use Rattle.std.specs.Option.{option_or}
+use Rattle.std.specs.Option.{is_some, option_or}
 use Rattle.std.specs.Prelude.{All, Contains, IsSome, option_and_then, option_map, option_to_list, slice_get}
 use Rattle.ts_base.specs.Held.{Held}
 use Rattle.ts_base.specs.declared.heads.Version.{Version}
 use Rattle.ts_base.specs.declared.keys.FragKey.{FragKey}
-use Rattle.ts_base.specs.declared.keys.Key.{Key}
 use Rattle.ts_base.specs.declared.names.Name.{Name}
 use Rattle.ts_base.specs.declared.names.Prefix.{Prefix}
 use Rattle.ts_base.specs.declared.names.Prefix.TheVariants.{Commits, Schemas}
@@ -19,27 +18,33 @@ use Rattle.ts_domain.specs.declared.dims.DomainFault.{DomainFault}
 use Rattle.ts_law.proofs.DeedKeys.{key_told}
 use Rattle.ts_law.proofs.HeldLemmas.{Holds-from_get}
 use Rattle.ts_model.proofs.HistoryLaws.{new_from_absent}
-use Rattle.ts_model.proofs.ListLemmas.{find-append, or_else, slice_get_push}
-use Rattle.ts_model.specs.Answers.{IsAnswer}
+use Rattle.ts_model.proofs.ListLemmas.{find-Some, find-append, or_else, slice_get-Contains, slice_get_push}
 use Rattle.ts_model.specs.Commands.{create_refusal, frame_made}
 use Rattle.ts_model.specs.Deeds.{History, IsNewKey, deletions, frame_in, schema_there, schema_with, writes}
-use Rattle.ts_law.specs.Ends.{AreInside, FindsNothing, HasDeclared, IsCreated, IsMerged, IsPlanned, IsTrueEnd, IsTrueRefusal, IsUndone, ListedAt, attributes_with, up_to, FindsSchema}
+use Rattle.ts_law.specs.Ends.{AreInside, FindsNothing, HasDeclared, IsAnswerOver, IsCreated, IsMerged, IsPlanned, IsTrueEnd, IsTrueRefusal, IsUndone, IsVacuumed, ListedAt, attributes_with, up_to, FindsSchema}
 use Rattle.ts_model.specs.Codecs.{Codec, Spelled, Tracking}
-use Rattle.ts_law.specs.Fresh.{IsCarried, IsNewId, id_in}
+use Rattle.ts_law.specs.Fresh.{IsHeldId, IsNewId, IsSpent, id_in}
 use Rattle.ts_model.specs.Jobs.{AreApart, IsFit, deletion_as, job_with, key_of, looked_at, written_as}
-use Rattle.ts_law.specs.Kept.{Aims, AimsToMerge, AreDeletions, AreGot, AreOpen, AreSchemas, AreSourcesIn, ChoosesFrom, Chooses, Claims, Clean, AreChosen, GettingDeletes, GettingVacs, Fetching, Gathering, HasListed, HasLooked, HasSources, IsFetched, IsOfJobs, Kept, Learns, LooksInto, MergeClaims, Merges, OnWay, Opening, Opens, Putting, ReadsAt, ReadsIn, Since, StageClaims, Surveys, Works}
-use Rattle.ts_law.specs.Stands.{HoldsIn, IsUnspent, Stands}
+use Rattle.ts_law.specs.Kept.{Aims, AimsToMerge, AreDeletions, AreGot, AreOpen, AreSchemas, AreSourcesIn, ChoosesFrom, Chooses, Claims, Clean, AreChosen, GettingDeletes, GettingVacs, Fetching, Gathering, HasListed, HasLooked, HasSources, IsFetched, IsOfJobs, Kept, Learns, LooksInto, MergeClaims, Merges, OnWay, Opening, Opens, Putting, ReadsAt, ReadsIn, Since, StageClaims, Surveys, SweepClaims, Unlocking, Works}
+use Rattle.ts_law.specs.Stands.{HoldsIn, Stands}
+use Rattle.ts_law.specs.Removals.{AreCoveredOutside}
+use Rattle.ts_law.specs.Sweeps.{GetsNames, ListsAll, SweepsFrom, Vacuuming}
+use Rattle.ts_commit.specs.Selections.{removal_set}
+use Rattle.ts_model.specs.declared.states.Sweep.{Sweep}
+use Rattle.ts_model.specs.declared.states.Sweeping.{Sweeping}
+use Rattle.ts_model.specs.declared.states.Sweeping.TheVariants as sweeping
 use Rattle.ts_model.specs.States.{heads_of, begun, frags_of, keys_named, schemas_named, unless_refused}
 use Rattle.ts_model.specs.Stages.{begins_at, first_stage, lease_of, stage_of}
 use Rattle.ts_model.specs.declared.states.Stage.{Stage}
 use Rattle.ts_model.specs.declared.states.Stage.TheVariants.{ListsLeases, PutsLease, Releases}
 use Rattle.ts_model.specs.declared.states.Stage.TheVariants as stages
 use Rattle.ts_law.proofs.LeaseSteps.{lease_is}
+use Rattle.ts_law.proofs.Leasing.{leased_more, no_leases}
 use Rattle.ts_model.specs.Told.{Told, deed_in, deed_told, grown, held_told, history_from, history_told, is_by, schemas_found, trace_of}
 use Rattle.ts_model.specs.declared.answers.Outcome.{Outcome}
 use Rattle.ts_model.specs.declared.answers.Refusal.{Refusal}
 use Rattle.ts_model.specs.declared.commands.Command.{Command}
-use Rattle.ts_model.specs.declared.commands.Command.TheVariants.{Consolidate, Create, Delete, Evolve, Read, Write}
+use Rattle.ts_model.specs.declared.commands.Command.TheVariants.{Consolidate, Create, Delete, Evolve, Fragments, Read, Vacuum, Unlock, Write}
 use Rattle.ts_model.specs.declared.commands.FrameIn.{FrameIn}
 use Rattle.ts_model.specs.declared.commands.Job.{Job}
 use Rattle.ts_model.specs.declared.states.Listed.{Listed}
@@ -47,7 +52,7 @@ use Rattle.ts_model.specs.declared.states.NewObject.{NewObject}
 use Rattle.ts_model.specs.declared.states.Opened.{Opened}
 use Rattle.ts_model.specs.declared.states.Reading.{Reading}
 use Rattle.ts_model.specs.declared.states.State.{State}
-use Rattle.ts_model.specs.declared.states.State.TheVariants.{Creates, Seeks, Puts, Collects, Over}
+use Rattle.ts_model.specs.declared.states.State.TheVariants.{Creates, Seeks, Puts, Collects, Lists, Removes, Over}
 use Rattle.ts_model.specs.declared.states.State.TheVariants as states
 use Rattle.ts_model.specs.declared.states.Candidates.{Candidates}
 use Rattle.ts_model.specs.declared.states.Merging.{Merging}
@@ -75,24 +80,24 @@ use Rattle.ts_model.specs.declared.answers.Refusal.TheVariants as refusal
 -- ---- keys
 
 -- no deed has the key of a job whose identifier is new
-pub new_key : (m : Held) (past : History) (jobs : List Job) (seen : List Told) (job : Job) → IsNewId m past jobs job.id → IsNewKey (history_told jobs past seen) (key_of job)
-new_key m past jobs seen job is = new_from_absent (history_told jobs past seen) (key_of job) (λ at. elim (key_told jobs past [] seen (key_of job) at) [
-  | inl before ↦ is.free (inl (key_of job, before, refl))
+pub new_key : (opening : Held) (past : History) (m : Held) (jobs : List Job) (seen : List Told) (job : Job) → IsNewId opening past m jobs job.id → IsNewKey (history_told jobs past seen) (key_of job)
+new_key opening past m jobs seen job is = new_from_absent (history_told jobs past seen) (key_of job) (λ at. elim (key_told jobs past [] seen (key_of job) at) [
+  | inl before ↦ is.uncarried (inl (key_of job, before, refl))
   | inr known ↦ is.other known.number known.job known.is_job (sym (ap (λ k. k.id) known.key))
 ])
 
 -- ---- a job that made no call
 
 -- no held object carries a new identifier
-new_is_free : (m : Held) (past : History) (id : ℕ) → (IsCarried m past id → ⊥) → (n : Name) → id_in n ≡ Some id → map.get m n ≡ None
-new_is_free m past id free n carries = from_got (map.get m n) refl
+new_is_free : (m : Held) (id : ℕ) → (IsHeldId m id → ⊥) → (n : Name) → id_in n ≡ Some id → map.get m n ≡ None
+new_is_free m id free n carries = from_got (map.get m n) refl
   where
     from_got : (o : Option (List ℕ)) → map.get m n ≡ o → o ≡ None
     from_got None is = refl
-    from_got (Some bytes) is = absurd (free (inr (n, Holds-from_get m n bytes is, carries)))
+    from_got (Some bytes) is = absurd (free (n, Holds-from_get m n bytes is, carries))
 
 module _ {F : Type 0} (codec : Codec F) (spelled : Spelled) (tracks : Tracking F) (opening m : Held) (past : History) (jobs : List Job) (seen : List Told) (number : ℕ) (job : Job)
-    (clean : Clean m (history_told jobs past seen) job) where
+    (clean : Clean opening past jobs seen m job) where
   -- a create that is not refused puts its frame, and else no deed has its key
   create_claims : (f : FrameIn) → job.command ≡ Create f → (o q : Option Refusal) → create_refusal f ≡ option_or o q
       → ((r : Refusal) → o ≡ Some r → IsTrueRefusal spelled opening jobs past seen number job r) → ((r : Refusal) → q ≡ Some r → IsTrueRefusal spelled opening jobs past seen number job r)
@@ -121,6 +126,9 @@ module _ {F : Type 0} (codec : Codec F) (spelled : Spelled) (tracks : Tracking F
   begun_claims (Read from to query) is = (clean, (from, to, query, is))
   begun_claims (Delete text) is = (clean, rw is tt)
   begun_claims (Consolidate from to limits) is = (clean, (from, to, limits, is))
+  begun_claims Vacuum is = (clean, is)
+  begun_claims (Unlock seed lane) is = (clean, inl (seed, lane, is))
+  begun_claims Fragments is = (clean, inr is)
 
 -- ---- the start
 
@@ -129,9 +137,14 @@ pub starts_kept : {F : Type 0} (codec : Codec F) (spelled : Spelled) (tracks : T
 starts_kept codec spelled tracks past m stands = record {
   stands = stands;
   is_held = refl;
+  spent = record {
+    committed = λ f committed. inl (inr (inl (wrt_of f, committed, refl)));
+    named = λ f named. inl (inr (inr (f, named, refl)));
+  };
   apart = λ i j a b at_i at_j same. absurd (none-some a at_i);
   fit = All-nil IsFit;
   known = All-nil (IsOfJobs []);
+  leased = no_leases codec m;
   claims = λ number job at alive. absurd (none-some job at);
 }
 
@@ -213,8 +226,8 @@ module _ (jobs : List Job) (job : Job) where
     listed_more prefix at = front_more at.before (at.listing ∷ at.later) at.place
 
     -- a clean job is clean among all
-    clean_more : Clean m (history_told jobs past seen) j → Clean m (history_told all past seen) j
-    clean_more clean = subst (λ g. Clean m g j) now clean
+    clean_more : Clean opening past jobs seen m j → Clean opening past all seen m j
+    clean_more clean = record { free = clean.free; undone = subst (λ g. IsUndone g j) now clean.undone; unspent = clean.unspent }
 
     -- the frame is one among all
     framed_more : (frame : Frame) → frame_in (history_told jobs past seen) ≡ Some frame → frame_in (history_told all past seen) ≡ Some frame
@@ -261,6 +274,9 @@ module _ (jobs : List Job) (job : Job) where
     has_near_more (Read from to query) listed is = near_more from to listed.fragments listed.counting listed.delete_names is
     has_near_more (Delete text) listed is = is
     has_near_more (Consolidate from to limits) listed is = elim is [ ]
+    has_near_more Vacuum listed is = elim is [ ]
+    has_near_more (Unlock seed lane) listed is = elim is [ ]
+    has_near_more Fragments listed is = elim is [ ]
 
     -- what a read listed, and then the schemas, is the same among all
     abbrev reads_at_more : (from to : ℕ) (fragments counting delete_names : List FragKey) (there : Schema)
@@ -281,6 +297,9 @@ module _ (jobs : List Job) (job : Job) where
     has_listed_more (Read from to query) listed there is = reads_at_more from to listed.fragments listed.counting listed.delete_names there is
     has_listed_more (Delete text) listed there is = works_more there is
     has_listed_more (Consolidate from to limits) listed there is = elim is [ ]
+    has_listed_more Vacuum listed there is = elim is [ ]
+    has_listed_more (Unlock seed lane) listed there is = elim is [ ]
+    has_listed_more Fragments listed there is = elim is [ ]
 
     -- what a read knows is the same among all
     abbrev reads_in_more : (r : Reading) → ReadsIn spelled opening past jobs seen m number j r → ReadsIn spelled opening past all seen m number j r
@@ -485,6 +504,65 @@ module _ (jobs : List Job) (job : Job) where
           merged = is.merged;
         }
 
+    -- ---- vacuums
+
+    -- a vacuum that listed the commits is such among all
+    abbrev sweeps_from_more : (s : Sweep) → SweepsFrom spelled opening past jobs seen m number j s → SweepsFrom spelled opening past all seen m number j s
+    sweeps_from_more s is = record { vacuums = is.vacuums; since = since_more is.since; is_found = is.is_found; spent = is.spent; old = is.old }
+
+    -- so is one that gets `.vac` objects
+    abbrev gets_names_more : (s : Sweep) → GetsNames spelled opening past jobs seen m number j s → GetsNames spelled opening past all seen m number j s
+    gets_names_more s is = record { from = sweeps_from_more s is.from; found = finds_schema_more is.found }
+
+    -- one that lists the objects of fragments
+    abbrev lists_all_more : (s : Sweep) (set : List FragKey) (listed : List (List Name)) → ListsAll spelled opening past jobs seen m number j s set listed → ListsAll spelled opening past all seen m number j s set listed
+    lists_all_more s set listed is = record { gets = gets_names_more s is.gets; all_vacs = is.all_vacs; set_is = is.set_is; so_many = is.so_many; parts = is.parts }
+
+    -- and one that removes
+    vacuuming_more : (names : List Name) (next : ℕ) (end : Outcome) → Vacuuming spelled opening past jobs seen m number j names next end → Vacuuming spelled opening past all seen m number j names next end
+    vacuuming_more names next end is = record {
+      clean = clean_more is.clean;
+      vacuums = is.vacuums;
+      commits = is.commits;
+      sweep = is.sweep;
+      is_found = is.is_found;
+      all_vacs = is.all_vacs;
+      found = finds_schema_more is.found;
+      listed = is.listed;
+      all_listed = is.all_listed;
+      parts = is.parts;
+      names_are = is.names_are;
+      ends = is.ends;
+      spent = is.spent;
+      covered = subst (λ g. AreCoveredOutside spelled g m (removal_set (is.sweep).vacs)) now is.covered;
+      sweeping = is.sweeping;
+      gone = is.gone;
+    }
+
+    -- what the state of a vacuum says is true among all
+    sweep_claims_more : (s : Sweeping) → SweepClaims spelled opening past jobs seen m number j s → SweepClaims spelled opening past all seen m number j s
+    sweep_claims_more sweeping.ListsCommits is = (clean_more is.0, is.1)
+    sweep_claims_more (sweeping.ListsSchemas s) is = (clean_more is.0, sweeps_from_more s is.1)
+    sweep_claims_more (sweeping.GetsVacs s) is = (clean_more is.0, gets_names_more s is.1)
+    sweep_claims_more (sweeping.ListsParts s set listed) is = (clean_more is.0, lists_all_more s set listed is.1)
+
+    -- what a vacuum removed is the same among all
+    vacuumed_more : (count : ℕ) → IsVacuumed opening jobs past seen number j count → IsVacuumed opening all past seen number j count
+    vacuumed_more count is = record {
+      vacuums = is.vacuums;
+      commits = is.commits;
+      vacs = is.vacs;
+      are_vacs = is.are_vacs;
+      counted = is.counted;
+      found = finds_schema_more is.found;
+      swept = is.swept;
+      vacs_gone = is.vacs_gone;
+    }
+
+    -- what an unlock knows is the same among all
+    unlocking_more : (names : List Name) (next : ℕ) (end : Outcome) → Unlocking opening past jobs seen m number j names next end → Unlocking opening past all seen m number j names next end
+    unlocking_more names next end is = record { clean = clean_more is.clean; seed = is.seed; lane = is.lane; unlocks = is.unlocks; leases = is.leases; names_are = is.names_are; ends = is.ends; gone = is.gone }
+
     -- ---- what a job puts, and its end
 
     -- what the last put of a job makes of it is the same among all
@@ -498,6 +576,9 @@ module _ (jobs : List Job) (job : Job) where
         (text, frame, there, condition, deletes, same, is, framed_more frame framed, says, works_more there works)
     aims_more objects (outcome.Consolidated f count) is = aims_to_merge_more objects f count is
     aims_more objects (outcome.Read answer) is = is
+    aims_more objects (outcome.Vacuumed count) is = is
+    aims_more objects (outcome.Unlocked count) is = is
+    aims_more objects (outcome.Listed names) is = is
     aims_more objects (outcome.Refused r) is = is
     aims_more objects outcome.OutOfMemory is = is
 
@@ -580,11 +661,14 @@ module _ (jobs : List Job) (job : Job) where
         schemas = is.schemas;
         between = is.between;
         order = is.order;
-        answers = subst (λ g. IsAnswer g (history_told all past (is.schemas).before) from to query answer) (listed_more Commits is.commits)
-            (subst (λ g. IsAnswer (history_told jobs past (is.commits).before) g from to query answer) (listed_more Schemas is.schemas) is.answers);
+        answers = subst (λ g. IsAnswerOver spelled g (held_told opening (is.commits).before) (history_told all past (is.schemas).before) from to query answer) (listed_more Commits is.commits)
+            (subst (λ g. IsAnswerOver spelled (history_told jobs past (is.commits).before) (held_told opening (is.commits).before) g from to query answer) (listed_more Schemas is.schemas) is.answers);
       },
     )
     end_more (outcome.Consolidated f count) (undone, is) = (undone_more undone, merged_more f count is)
+    end_more (outcome.Vacuumed count) (undone, is) = (undone_more undone, vacuumed_more count is)
+    end_more (outcome.Unlocked count) (undone, is) = (undone_more undone, is)
+    end_more (outcome.Listed names) (undone, is) = (undone_more undone, is)
     end_more (outcome.Refused r) is = refusal_more r is
     end_more outcome.OutOfMemory is = is
 
@@ -611,6 +695,9 @@ module _ (jobs : List Job) (job : Job) where
       ),
     )
     claims_more (states.Merges s) is = merge_claims_more s is
+    claims_more Lists is = (clean_more is.0, is.1)
+    claims_more (states.Sweeps s) is = sweep_claims_more s is
+    claims_more (Removes names next end) is = elim is [ inl unlocking ↦ inl (unlocking_more names next end unlocking) | inr vacuuming ↦ inr (vacuuming_more names next end vacuuming) ]
     claims_more (Over end) is = end_more end is
 
     -- the claims of its stage hold among all
@@ -621,7 +708,7 @@ module _ (jobs : List Job) (job : Job) where
     stage_more (Releases lease end) is = (is.0, end_more end is.1, undone_more is.2)
 
   module _ {F : Type 0} (codec : Codec F) (spelled : Spelled) (tracks : Tracking F) (opening : Held) (past : History) (dead : List ℕ) (seen : List Told) (m : Held)
-      (kept : Kept codec spelled tracks opening past jobs dead seen m) (is : IsNewId m past jobs job.id) where
+      (kept : Kept codec spelled tracks opening past jobs dead seen m) (is : IsNewId opening past m jobs job.id) where
     -- no two of all jobs have one identifier
     apart_more : AreApart all
     apart_more i k a b at_i at_k same = elim (slice_get_push jobs job i a at_i) [
@@ -635,20 +722,20 @@ module _ (jobs : List Job) (job : Job) where
       ]
     ]
 
-    -- its identifier is unspent
-    unspent_new : IsUnspent m job.id
-    unspent_new = record {
-      uncommitted = λ f same committed. is.free (inr (wrt_of f, committed, ap Some same));
-      unnamed = λ f same by. elim (((kept.stands).merged).known by.0 f by.1 by.2) [
-        | inl deed ↦
-            let own : (deed.0).id ≡ job.id = ap (λ (g : FragKey). g.id) (sym deed.2) ∙ same in
-            elim (key_told jobs past [] seen deed.0 deed.1) [
-              | inl before ↦ is.free (inl (deed.0, before, own))
-              | inr told ↦ is.other told.number told.job told.is_job (sym (ap (λ (k : Key). k.id) told.key) ∙ own)
-            ]
-        | inr object ↦ is.free (inr (object.0, object.2, object.3 ∙ ap Some same))
-      ];
-    }
+    -- its identifier is unspent: what the calls commit carries that of another job
+    unspent_new : IsSpent opening past seen job.id → ⊥
+    unspent_new (inl carried) = is.uncarried carried
+    unspent_new (inr (e, at, commits)) = by_job (job_with jobs commits.frag.id) refl
+      where
+        known : IsOfJobs jobs e
+        known = All-contains (IsOfJobs jobs) seen e kept.known at
+
+        by_job : (o : Option Job) → job_with jobs commits.frag.id ≡ o → ⊥
+        by_job None none = true≢false (sym (known.puts (wrt_of commits.frag) commits.bytes commits.frag.id commits.puts refl) ∙ ap is_some none)
+        by_job (Some other) found =
+            let (member, same) = find-Some (λ j. nat_eq j.id commits.frag.id) jobs other found in
+            let (number, there) = slice_get-Contains jobs other member in
+            is.other number other there (eqb-true other.id commits.frag.id same ∙ commits.carries)
 
     -- the claims of the job that comes
     new_claims : StageClaims codec spelled tracks opening past all seen m (length jobs) job (first_stage job)
@@ -656,23 +743,25 @@ module _ (jobs : List Job) (job : Job) where
       where
         begins : Claims codec spelled tracks opening past all seen m (length jobs) job (begun job.command)
         begins = begun_claims codec spelled tracks opening m past all seen (length jobs) job (record {
-          free = λ n carries _. new_is_free m past job.id is.free n carries;
-          undone = subst (λ g. IsNewKey g (key_of job)) (sym (history_more past seen kept.known)) (new_key m past jobs seen job is);
+          free = λ n carries _. new_is_free m job.id is.free n carries;
+          undone = subst (λ g. IsNewKey g (key_of job)) (sym (history_more past seen kept.known)) (new_key opening past m jobs seen job is);
           unspent = unspent_new;
         }) job.command refl
 
         by_lease : (o : Option Name) → lease_of job ≡ o → StageClaims codec spelled tracks opening past all seen m (length jobs) job (begins_at o (begun job.command))
         by_lease None none = begins
-        by_lease (Some lease) some = let (mode, named) = lease_is job lease some in ((some, begins), new_is_free m past job.id is.free lease (ap id_in named))
+        by_lease (Some lease) some = let (mode, named) = lease_is job lease some in ((some, begins), new_is_free m job.id is.free lease (ap id_in named))
 
     -- what is kept is kept among all
     more_kept : IsFit job → Kept codec spelled tracks opening past all dead seen m
     more_kept fit = record {
       stands = subst (Stands spelled m) (sym (history_more past seen kept.known)) kept.stands;
       is_held = kept.is_held;
+      spent = kept.spent;
       apart = apart_more;
       fit = All-push IsFit jobs job kept.fit fit;
       known = All-weaker (IsOfJobs jobs) (IsOfJobs all) of_all seen kept.known;
+      leased = leased_more codec jobs job dead seen m (no_calls seen kept.known) kept.leased;
       claims = λ number j at alive. elim (slice_get_push jobs job number j at) [
         | inl before ↦
             stage_more codec spelled tracks opening past seen kept.known m number j (stage_of codec j (trace_of number seen)) (kept.claims number j before alive)
@@ -685,5 +774,5 @@ module _ (jobs : List Job) (job : Job) where
 
 -- what is kept stays where a job with a new identifier comes
 pub spawn_kept : {F : Type 0} (codec : Codec F) (spelled : Spelled) (tracks : Tracking F) (opening : Held) (past : History) (jobs : List Job) (dead : List ℕ) (seen : List Told) (m : Held) (job : Job)
-    → Kept codec spelled tracks opening past jobs dead seen m → IsFit job → IsNewId m past jobs job.id → Kept codec spelled tracks opening past (jobs ++ job ∷ []) dead seen m
+    → Kept codec spelled tracks opening past jobs dead seen m → IsFit job → IsNewId opening past m jobs job.id → Kept codec spelled tracks opening past (jobs ++ job ∷ []) dead seen m
 spawn_kept codec spelled tracks opening past jobs dead seen m job kept fit is = more_kept jobs job codec spelled tracks opening past dead seen m kept is fit

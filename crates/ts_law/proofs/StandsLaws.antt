@@ -45,7 +45,7 @@ use Rattle.ts_model.proofs.KeyLemmas.{frag_itself, frag_same, key_itself, key_sa
 use Rattle.ts_model.proofs.HistoryLaws.{writes-append, frame_in-append, schema_with-append, IsHistory-push, no_deeds}
 use Rattle.ts_law.proofs.HeldLemmas.{Holds, Holds-from_get, get_put, get_apart, held_before, stays_held, holds_stays}
 use Rattle.ts_law.proofs.VacLaws.{MarksNone, merged_grows, named_before, IsBare, joined_names, merged_joins}
-use Rattle.ts_law.proofs.Grows.{PartsStay, own_usable, holds_on_in, holds_in_grows, ordinary_holds, origin_is, within_on}
+use Rattle.ts_law.proofs.Grows.{PartsStay, holds_on_in, holds_in_grows, ordinary_holds, origin_is, within_on}
 
 -- ---- histories that grow
 
@@ -190,7 +190,6 @@ module _ (spelled : Spelled) (m : Held) (h : History) (n : Name) (bytes : List �
           frag = is.frag;
           committed = holds_stays m n bytes (wrt_of is.frag) free is.committed;
           went = record { piece = went.piece; holds = in_grows new is.frag went.piece went.holds; origin = went.origin };
-          usable = is.usable;
         }
     | inr own ↦ come own
   ]
@@ -389,7 +388,6 @@ module _ (spelled : Spelled) (m : Held) (h : History) (w : Written) (frame : Fra
     frag = own;
     committed = Holds-from_get then_held (wrt_of own) [] (get_put m (wrt_of own) []);
     went = record { piece = p; holds = own_holds; origin = origin_is (h ++ come) is_history w written p holds box w.key ∙ key_itself w.key };
-    usable = λ a b within. own_usable a b w.key p.head holds.named within;
   }
 
   pub stands_commit : Stands spelled then_held (h ++ come)

@@ -1,5 +1,5 @@
 -- What a job found stays true: what a call of one job leaves of the facts of others.
-use Rattle.std.proofs.Common.{List, None, Option, Some, [], ap, append_assoc, inl, inr, refl, subst, sym, ℕ, ◌++◌, ◌∙◌, ◌∷◌, ◌≡◌}
+use Rattle.std.proofs.Common.{List, None, Option, Some, [], ap, append_assoc, false, inl, inr, refl, subst, sym, ℕ, ◌++◌, ◌∙◌, ◌∷◌, ◌≡◌}
 use Rattle.std.proofs.lemmas.List.Elements.{Contains-append_cases, Contains-append_left}
 use Rattle.std.proofs.lemmas.Option.{none-some, same_Some}
 use Rattle.std.specs.Prelude.{Contains}
@@ -10,24 +10,24 @@ use Rattle.ts_base.specs.declared.keys.FragKey.{FragKey}
 use Rattle.ts_base.specs.declared.keys.Key.{Key}
 use Rattle.ts_base.specs.declared.names.Name.{Name}
 use Rattle.ts_base.specs.declared.names.Prefix.{Prefix}
-use Rattle.ts_base.specs.declared.names.Prefix.TheVariants.{Commits, Schemas}
+use Rattle.ts_base.specs.declared.names.Prefix.TheVariants.{Commits, Fragment, Leases, Schemas}
 use Rattle.ts_model.proofs.HistoryLaws.{absent_from_new, deletions-append, frame_in-append, keys-append, new_from_absent, schema_with-append, writes-append}
-use Rattle.ts_model.proofs.Traces.{schemas_found-stays}
+use Rattle.ts_model.proofs.Traces.{later_unchanged, schemas_found-stays}
 use Rattle.ts_model.specs.Commands.{frame_made}
 use Rattle.ts_model.specs.Deeds.{History, IsNewKey, deletions, frame_in, keys, schema_with, writes}
-use Rattle.ts_law.specs.Ends.{FindsNothing, HasDeclared, IsMerged, IsTrueEnd, IsTrueRefusal, IsUndone, ListedAt, MadeAt, FindsSchema}
+use Rattle.ts_law.specs.Ends.{FindsNothing, HasDeclared, IsGone, IsListed, IsMerged, IsSweptAway, IsTrueEnd, IsTrueRefusal, IsUndone, IsUnlocked, IsVacuumed, ListedAt, MadeAt, FindsSchema}
 use Rattle.ts_model.specs.Codecs.{Codec, Spelled}
-use Rattle.ts_law.specs.Fresh.{id_in}
+use Rattle.ts_law.specs.Fresh.{id_in, DoesCommit}
 use Rattle.ts_model.specs.Jobs.{deletion_as, key_of, schema_of_job, written_as}
 use Rattle.ts_law.specs.Kept.{AreDeletions, AreSchemas, Clean, GettingDeletes, GettingVacs, Fetching, Gathering, HasListed, HasLooked, LooksInto, Opening, ReadsAt, ReadsIn, Since, Works}
-use Rattle.ts_model.specs.States.{keys_named, list_schemas}
+use Rattle.ts_model.specs.States.{keys_named, list_schemas, vac_of}
 use Rattle.ts_law.specs.Steps.{Keeps}
-use Rattle.ts_law.proofs.VacLaws.{unspent_stays}
+use Rattle.ts_law.proofs.Spent.{still_commits, unspent_on}
 use Rattle.ts_model.specs.Told.{Told, history_told}
 use Rattle.ts_model.specs.declared.answers.Outcome.{Outcome}
 use Rattle.ts_model.specs.declared.answers.Refusal.{Refusal}
 use Rattle.ts_model.specs.declared.commands.Command.{Command}
-use Rattle.ts_model.specs.declared.commands.Command.TheVariants.{Consolidate, Create, Delete, Evolve, Read, Write}
+use Rattle.ts_model.specs.declared.commands.Command.TheVariants.{Consolidate, Create, Delete, Evolve, Fragments, Read, Vacuum, Unlock, Write}
 use Rattle.ts_model.specs.declared.commands.Job.{Job}
 use Rattle.ts_model.specs.declared.deeds.Deletion.{Deletion}
 use Rattle.ts_model.specs.declared.deeds.Written.{Written}
@@ -86,17 +86,23 @@ module _ (m m' : Held) (h h' : History) (id : ℕ) (keeps : Keeps m m' h h' id) 
         ]
       ]
 
-  -- a clean job stays clean by the calls of others
-  pub clean_stays : (job : Job) → (job.id ≡ id → ⊥) → Clean m h job → Clean m' h' job
-  clean_stays job other clean = record {
-    free = λ n carries apart. absent_stays n job.id carries other (clean.free n carries apart);
-    undone = new_stays (key_of job) other clean.undone;
-    unspent = unspent_stays m m' h h' id job.id keeps other clean.unspent;
-  }
+-- a clean job stays clean by the calls of others
+pub clean_stays : (opening : Held) (past : History) (jobs : List Job) (seen : List Told) (e : Told) (m m' : Held) (id : ℕ) → Keeps m m' (history_told jobs past seen) (history_told jobs past (seen ++ e ∷ [])) id
+    → (job : Job) → (job.id ≡ id → ⊥) → (DoesCommit e job.id → ⊥) → Clean opening past jobs seen m job → Clean opening past jobs (seen ++ e ∷ []) m' job
+clean_stays opening past jobs seen e m m' id keeps job other none clean = record {
+  free = λ n carries apart. absent_stays m m' (history_told jobs past seen) (history_told jobs past (seen ++ e ∷ [])) id keeps n job.id carries other (clean.free n carries apart);
+  undone = new_stays m m' (history_told jobs past seen) (history_told jobs past (seen ++ e ∷ [])) id keeps (key_of job) other clean.undone;
+  unspent = unspent_on opening past seen e job.id none clean.unspent;
+}
 
--- a job that is clean is so where nothing changed
-pub clean_look : (m m' : Held) (h h' : History) (job : Job) → m' ≡ m → h' ≡ h → Clean m h job → Clean m' h' job
-clean_look m m' h h' job same_held same_history clean = subst (λ g. Clean m' g job) (sym same_history) (subst (λ x. Clean x h job) (sym same_held) clean)
+-- so it does by a call that changes nothing
+pub clean_look : (opening : Held) (past : History) (jobs : List Job) (seen : List Told) (e : Told) (m m' : Held) (job : Job) → m' ≡ m → e.changed ≡ false
+    → Clean opening past jobs seen m job → Clean opening past jobs (seen ++ e ∷ []) m' job
+clean_look opening past jobs seen e m m' job same_held still clean = record {
+  free = λ n carries apart. ap (λ x. map.get x n) same_held ∙ clean.free n carries apart;
+  undone = subst (λ g. IsUndone g job) (sym (later_unchanged jobs past seen e still)) clean.undone;
+  unspent = unspent_on opening past seen e job.id (still_commits e job.id still) clean.unspent;
+}
 
 -- what was listed was listed still
 abbrev pub listed_stays : (seen : List Told) (e : Told) (number : ℕ) (prefix : Prefix) → ListedAt seen number prefix → ListedAt (seen ++ e ∷ []) number prefix
@@ -157,6 +163,9 @@ module _ (spelled : Spelled) (opening : Held) (past : History) (jobs : List Job)
   has_near_stays (Read from to query) listed is = near_stays from to listed.fragments listed.counting listed.delete_names is
   has_near_stays (Delete text) listed is = is
   has_near_stays (Consolidate from to limits) listed is = elim is [ ]
+  has_near_stays Vacuum listed is = elim is [ ]
+  has_near_stays (Unlock seed lane) listed is = elim is [ ]
+  has_near_stays Fragments listed is = elim is [ ]
 
   -- the schema that a job works in stays
   abbrev pub works_stays : (job : Job) (there : Schema) → Unlisted → Works past jobs seen number job there → Works past jobs (seen ++ e ∷ []) number job there
@@ -189,6 +198,9 @@ module _ (spelled : Spelled) (opening : Held) (past : History) (jobs : List Job)
   has_listed_stays job (Read from to query) listed there unlisted is = reads_at_stays job from to listed.fragments listed.counting listed.delete_names there unlisted is
   has_listed_stays job (Delete text) listed there unlisted is = works_stays job there unlisted is
   has_listed_stays job (Consolidate from to limits) listed there unlisted is = elim is [ ]
+  has_listed_stays job Vacuum listed there unlisted is = elim is [ ]
+  has_listed_stays job (Unlock seed lane) listed there unlisted is = elim is [ ]
+  has_listed_stays job Fragments listed there unlisted is = elim is [ ]
 
   -- what a read knows stays
   abbrev pub reads_in_stays : (job : Job) (r : Reading) → Unlisted → ReadsIn spelled opening past jobs seen m number job r → ReadsIn spelled opening past jobs (seen ++ e ∷ []) m' number job r
@@ -298,6 +310,48 @@ merged_stays spelled opening past jobs seen e number job f count is = record {
   merged = is.merged;
 }
 
+-- what a job removed stays removed by a call of it
+abbrev pub gone_stays : (opening : Held) (seen : List Told) (e : Told) (number : ℕ) (n : Name) → IsGone opening seen number n → IsGone opening (seen ++ e ∷ []) number n
+gone_stays opening seen e number n is = record { removed = made_stays seen e number (call.Remove n) is.removed; gone = is.gone }
+
+-- what an unlock removed stays so
+abbrev pub unlocked_stays : (opening : Held) (seen : List Told) (e : Told) (number : ℕ) (job : Job) (count : ℕ) → IsUnlocked opening seen number job count → IsUnlocked opening (seen ++ e ∷ []) number job count
+unlocked_stays opening seen e number job count is = record {
+  seed = is.seed;
+  lane = is.lane;
+  unlocks = is.unlocks;
+  leases = listed_stays seen e number Leases is.leases;
+  counted = is.counted;
+  gone = λ n at. gone_stays opening seen e number n (is.gone n at);
+}
+
+-- what a vacuum removed of a fragment
+pub swept_away_stays : (opening : Held) (seen : List Told) (e : Told) (number : ℕ) (before : List Told) (listing : Told) (f : FragKey) → IsSweptAway opening seen number before listing f → IsSweptAway opening (seen ++ e ∷ []) number before listing f
+swept_away_stays opening seen e number before listing f is = record {
+  commit = λ committed. gone_stays opening seen e number (wrt_of f) (is.commit committed);
+  lists = record { parts = listed_stays seen e number (Fragment f) is.lists.parts; between = is.lists.between; order = is.lists.order };
+  each_part = λ n at. gone_stays opening seen e number n (is.each_part n at);
+  own_vac = λ held. gone_stays opening seen e number (vac_of f) (is.own_vac held);
+}
+
+-- and all that it removed
+abbrev pub vacuumed_stays : (opening : Held) (past : History) (jobs : List Job) (seen : List Told) (e : Told) (number : ℕ) (job : Job) (count : ℕ)
+    → IsVacuumed opening jobs past seen number job count → IsVacuumed opening jobs past (seen ++ e ∷ []) number job count
+vacuumed_stays opening past jobs seen e number job count is = record {
+  vacuums = is.vacuums;
+  commits = listed_stays seen e number Commits is.commits;
+  vacs = is.vacs;
+  are_vacs = is.are_vacs;
+  counted = is.counted;
+  found = finds_schema_stays past jobs seen e number job is.found;
+  swept = λ f at. swept_away_stays opening seen e number (is.commits).before (is.commits).listing f (is.swept f at);
+  vacs_gone = λ v at. gone_stays opening seen e number (vac_of v.frag) (is.vacs_gone v at);
+}
+
+-- so do the commits that a job listed
+abbrev pub names_stay : (opening : Held) (seen : List Told) (e : Told) (number : ℕ) (job : Job) (names : List Name) → IsListed opening seen number job names → IsListed opening (seen ++ e ∷ []) number job names
+names_stay opening seen e number job names is = record { lists = is.lists; commits = listed_stays seen e number Commits is.commits; names_are = is.names_are }
+
 module _ (spelled : Spelled) (opening : Held) (past : History) (jobs : List Job) (seen : List Told) (e : Told) (m m' : Held) (id : ℕ)
     (keeps : Keeps m m' (history_told jobs past seen) (history_told jobs past (seen ++ e ∷ [])) id) (number : ℕ) (job : Job) where
   -- a schema that was declared stays so
@@ -384,5 +438,8 @@ module _ (spelled : Spelled) (opening : Held) (past : History) (jobs : List Job)
     },
   )
   end_stays (outcome.Consolidated f count) other (undone, is) = (undone_stays other undone, merged_stays spelled opening past jobs seen e number job f count is)
+  end_stays (outcome.Vacuumed count) other (undone, is) = (undone_stays other undone, vacuumed_stays opening past jobs seen e number job count is)
+  end_stays (outcome.Unlocked count) other (undone, is) = (undone_stays other undone, unlocked_stays opening seen e number job count is)
+  end_stays (outcome.Listed names) other (undone, is) = (undone_stays other undone, names_stay opening seen e number job names is)
   end_stays (outcome.Refused r) other is = refusal_stays r other is
   end_stays outcome.OutOfMemory other is = is

@@ -1,11 +1,9 @@
 -- Jobs that are driven by their automata over a store which stands for a history make a true run.
 use Rattle.std.proofs.Common.{◌≡◌, ℕ, ◌^◌, ◌<◌, Bool, ◌⊎◌, inl, inr, List, [], ◌∷◌, ◌++◌, Some, length, refl, sym, ◌∙◌, ap, subst, append_assoc, arith}
 use Rattle.std.specs.Prelude.{All, Contains, option_and_then, slice_get}
-use Rattle.std.specs.List.{cons_option}
-use Rattle.std.proofs.lemmas.Bool.{cases_eq}
 use Rattle.std.proofs.lemmas.Option.{same_Some, slice_get_within}
 use Rattle.std.proofs.lemmas.List.{append-nil}
-use Rattle.std.proofs.lemmas.List.Elements.{All-head, All-tail, All-contains}
+use Rattle.std.proofs.lemmas.List.Elements.{All-head, All-tail}
 use Rattle.ts_base.specs.Held.{Held}
 use Rattle.ts_store.specs.declared.journal.Entry.{Entry}
 use Rattle.ts_store.specs.Journals.{held_after}
@@ -17,12 +15,12 @@ use Rattle.ts_model.specs.Deeds.{History, schema_with}
 use Rattle.ts_model.specs.Codecs.{Codec, Spelled, Tracking, CodecLaws}
 use Rattle.ts_model.specs.Jobs.{IsFit, AreFit, AreApart, looked_at}
 use Rattle.ts_law.specs.Stands.{IsNoLease, Stands}
-use Rattle.ts_model.specs.Stages.{first_stage, stage_of}
+use Rattle.ts_model.specs.Stages.{stage_of}
 use Rattle.ts_law.specs.Fresh.{IsCarried, IsNewId, IsFreshSeed, Numbered, AreJobsOf}
-use Rattle.ts_law.specs.Lanes.{lane_by, IsOwned, IsWithin, InTurn}
-use Rattle.ts_model.specs.Told.{Told, IsShortCall, Suits, trace_of, held_told, history_told, Replied, entries_of, schema_used, schemas_found}
+use Rattle.ts_law.specs.Lanes.{lane_by, one_lane, IsOwned, IsWithin, InTurn}
+use Rattle.ts_model.specs.Told.{Told, Suits, trace_of, held_told, history_told, Replied, entries_of, schema_used, schemas_found}
 use Rattle.ts_law.specs.Ends.{IsTrueEnd}
-use Rattle.ts_model.specs.Driven.{AskedFrom, EndsBy, MayAsk}
+use Rattle.ts_model.specs.Driven.{EndsBy, MayAsk}
 use Rattle.ts_model.specs.declared.commands.Command.TheVariants.{Create, Consolidate}
 use Rattle.ts_commit.specs.declared.vacs.Limits.{Limits}
 use Rattle.ts_model.specs.declared.commands.FrameIn.{FrameIn}
@@ -34,58 +32,19 @@ use Rattle.ts_store.specs.declared.call.Call.TheVariants as call
 use Rattle.ts_law.specs.Runs.{AreDriven, IsTrueRun}
 use Rattle.ts_law.specs.Histories.{history_of}
 use Rattle.ts_law.specs.Kept.{Kept, AreAllowed, Works}
-use Rattle.ts_model.proofs.ListLemmas.{Contains-nil, Contains-here, Contains-there, slice_get-Contains, slice_get_left}
-use Rattle.ts_model.proofs.Traces.{exchange_of_own, exchange_of_other, stage_of-own, stage_of-other}
-use Rattle.ts_law.proofs.Fetches.{one_head}
-use Rattle.ts_law.proofs.Clipped.{true_over}
-use Rattle.ts_law.proofs.KeptLaws.{end_is_true, all_kept, every_prefix, held_from}
+use Rattle.ts_model.proofs.ListLemmas.{Contains-here, Contains-there, slice_get-Contains, slice_get_left}
+use Rattle.ts_law.proofs.TrueOver.{true_over}
+use Rattle.ts_law.proofs.KeptLaws.{end_is_true, all_kept, calling, coming, every_prefix, held_from}
+use Rattle.ts_law.proofs.Lanes.{in_turn_lanes}
 use Rattle.ts_law.proofs.LineJobs.{AreInOrder, ids_apart, id_has_seed, jobs_fit}
-use Rattle.ts_law.proofs.Lists.{item_at}
+use Rattle.ts_law.proofs.OneLane.{done_apart, one_lane_allowed, stopped_before}
 use Rattle.ts_law.proofs.Segments.{segment_of}
 use Rattle.ts_law.proofs.Short.{short_undone}
 use Rattle.ts_law.proofs.Refused.{refused_for}
 use Rattle.ts_model.specs.declared.answers.Outcome.TheVariants as outcome
 use Rattle.ts_law.proofs.Spawns.{starts_kept, spawn_kept}
 use Rattle.ts_law.proofs.Journals.{journal_held}
-use Rattle.ts_law.proofs.JournalHistories.{IsALease, Made, Merged, Worked, allowed_at, front_history, front_told, lanes_turn, put_staged}
-
--- ---- the calls are allowed
-
--- each of the calls puts no object that is too long
-abbrev pub AreShort : List Told → Type 0
-AreShort told = (e : Told) → Contains told e → IsShortCall e.call
-
--- what suits is short
-pub short_from_suits : (told : List Told) → All Suits told → AreShort told
-short_from_suits told suit e at = (All-contains Suits told e suit at).short
-
-module _ {F : Type 0} (codec : Codec F) where
-  -- calls that jobs made may come, where each job asked for its own
-  pub driven_allowed : (jobs : List Job) (seen told : List Told) → All IsOwned told → All (IsWithin jobs) told → AreShort told
-      → ((k : ℕ) (job : Job) → slice_get jobs k ≡ Some job → AskedFrom codec job (stage_of codec job (trace_of k seen)) (trace_of k told)) → AreAllowed codec jobs [] seen told
-  driven_allowed jobs seen [] owned within short asked = tt
-  driven_allowed jobs seen (e ∷ told) owned within short asked =
-      let (number, mine) = All-head IsOwned e told owned in
-      let (job, at) = item_at jobs jobs number refl (All-head (IsWithin jobs) e told within number mine) in (
-        record { number = number; job = job; own = mine; is_job = at; alive = Contains-nil number; asked = (own number job mine at).0; short = short e (Contains-here e told) },
-        driven_allowed jobs (seen ++ e ∷ []) told (All-tail IsOwned e told owned) (All-tail (IsWithin jobs) e told within) (λ d among. short d (Contains-there e told d among)) (next number mine),
-      )
-    where
-      -- what a job asks from the call on, where it made the call
-      own : (k : ℕ) (j : Job) → e.job ≡ Some k → slice_get jobs k ≡ Some j → AskedFrom codec j (stage_of codec j (trace_of k seen)) (record { call = e.call; reply = e.reply } ∷ trace_of k told)
-      own k j by_it j_at = subst (λ o. AskedFrom codec j (stage_of codec j (trace_of k seen)) (cons_option o (trace_of k told))) (exchange_of_own k e by_it) (asked k j j_at)
-
-      -- and after it
-      next : (number : ℕ) → e.job ≡ Some number → (k : ℕ) (j : Job) → slice_get jobs k ≡ Some j → AskedFrom codec j (stage_of codec j (trace_of k (seen ++ e ∷ []))) (trace_of k told)
-      next number mine k j j_at = elim (cases_eq number k) [
-        | inl same ↦
-            let by_it = mine ∙ ap Some same in
-            subst (λ s. AskedFrom codec j s (trace_of k told)) (sym (stage_of-own codec j k seen e by_it)) (own k j by_it j_at).1
-        | inr apart ↦
-            let others : e.job ≡ Some k → ⊥ = λ by_it. apart (same_Some number k (sym mine ∙ by_it)) in
-            subst (λ s. AskedFrom codec j s (trace_of k told)) (sym (stage_of-other codec j k seen e others))
-            (subst (λ o. AskedFrom codec j (stage_of codec j (trace_of k seen)) (cons_option o (trace_of k told))) (exchange_of_other k e others) (asked k j j_at))
-      ]
+use Rattle.ts_law.proofs.JournalHistories.{IsALease, Made, Merged, Worked, front_history, front_told, lanes_turn, put_staged}
 
 -- a put of no lease is one of a frame or of an own object
 not_leased : {A : Type 0} (n : Name) → IsNoLease n → A ⊎ IsALease n → A
@@ -95,21 +54,20 @@ not_leased n none (inr lease) = absurd (subst IsNoLease lease.2 none)
 -- ---- the run
 
 module _ {F : Type 0} (codec : Codec F) (spelled : Spelled) (tracks : Tracking F) (laws : CodecLaws codec spelled tracks) (lanes : ℕ → ℕ) (jobs : List Job) (h : History) (m : Held) (told : List Told) (results : List (Driven Outcome))
-    (begins : Kept codec spelled tracks m h jobs [] [] m) (replied : Replied m told) (suit : All Suits told) (owned : All IsOwned told) (within : All (IsWithin jobs) told) (in_turn : InTurn lanes told) (driven : AreDriven codec jobs results told) where
+    (begins : Kept codec spelled tracks m h jobs [] [] m) (replied : Replied m told) (suit : All Suits told) (owned : All IsOwned told) (within : All (IsWithin jobs) told) (in_turn : InTurn one_lane told) (driven : AreDriven codec jobs results told) where
+  -- the jobs that are dropped in the end: those that were stopped
+  abbrev last : List ℕ
+  last = stopped_before results (length jobs)
+
   -- each of the calls may come
-  may : AreAllowed codec jobs [] [] told
-  may = driven_allowed codec jobs [] told owned within (short_from_suits told suit) asked
-    where
-      asked : (k : ℕ) (job : Job) → slice_get jobs k ≡ Some job → AskedFrom codec job (first_stage job) (trace_of k told)
-      asked k job at =
-          let there = item_at jobs results k (sym driven.one_each) (slice_get_within jobs k job at) in
-          (driven.driven k job there.0 at there.1).asked
+  may : AreAllowed codec jobs [] last [] told
+  may = one_lane_allowed codec jobs results told owned within suit in_turn driven
 
   -- each first part of the calls leaves objects that stand for its history
   prefix_stands : (front back : List Told) → told ≡ front ++ back → Stands spelled (held_after m (entries_of (lane_by lanes) front)) (history_told jobs h front)
   prefix_stands front back parts =
       subst (λ n. Stands spelled n (history_told jobs h front)) (journal_held (lane_by lanes) m front)
-      (every_prefix codec spelled tracks laws m h jobs [] [] m told front back begins may replied parts).stands
+      ((every_prefix codec spelled tracks laws m h jobs [] last [] m told front back begins may replied parts).kept).stands
 
   -- each first part of the journal leaves objects that stand for its history
   journal_stands : (front back : List Entry) → entries_of (lane_by lanes) told ≡ front ++ back → Stands spelled (held_after m front) (history_of h m jobs front)
@@ -117,14 +75,14 @@ module _ {F : Type 0} (codec : Codec F) (spelled : Spelled) (tracks : Tracking F
       let (a, b, whole, same) = front_told (lane_by lanes) told front back parts in
       subst (λ es. Stands spelled (held_after m es) (history_of h m jobs es)) same
       (subst (Stands spelled (held_after m (entries_of (lane_by lanes) a)))
-      (front_history codec spelled tracks laws jobs h m told (lane_by lanes) begins may replied (lanes_turn lanes told owned in_turn) a b whole) (prefix_stands a b whole))
+      (front_history codec spelled tracks laws jobs h m told (lane_by lanes) last begins may replied (lanes_turn lanes told owned (in_turn_lanes lanes told in_turn)) a b whole) (prefix_stands a b whole))
 
   -- what each end tells of the history is true
   true_end : (number : ℕ) (job : Job) (end : Outcome) → slice_get jobs number ≡ Some job → slice_get results number ≡ Some (Done end) → IsTrueEnd spelled m jobs h told number job end
   true_end number job end at end_at =
-      let kept = all_kept codec spelled tracks laws m h jobs [] [] m told begins may replied in
+      let kept = all_kept codec spelled tracks laws m h jobs [] last [] m told begins may replied in
       elim (driven.driven number job (Done end) at end_at).ends [
-        | inl over ↦ end_is_true codec spelled tracks m h jobs [] told (held_told m told) kept number job end at (Contains-nil number) over
+        | inl over ↦ end_is_true codec spelled tracks m h jobs last told (held_told m told) kept number job end at (done_apart results (length jobs) number end end_at) over
         | inr none ↦ subst (IsTrueEnd spelled m jobs h told number job) (sym none.0) tt
       ]
 
@@ -133,13 +91,10 @@ module _ {F : Type 0} (codec : Codec F) (spelled : Spelled) (tracks : Tracking F
       → ((f : FrameIn) → job.command ≡ Create f → ⊥) → ((from to : ℕ) (limits : Limits) → job.command ≡ Consolidate from to limits → ⊥) → looked_at job ≡ job.at → (n : Name) (bytes : List ℕ) → e.call ≡ call.Put n bytes → IsNoLease n
       → (there : Schema) → schema_used (history_told jobs h seen) job (schemas_found (trace_of number seen)) ≡ Some there → Works h jobs seen number job there
   works_where_used seen back e parts number job mine is_job no_create no_merge looks n bytes puts no_lease there uses =
-      let kept = every_prefix codec spelled tracks laws m h jobs [] [] m told seen (e ∷ back) begins may replied parts in
-      let allowed = allowed_at codec jobs [] seen back e (subst (AreAllowed codec jobs [] []) parts may) in
-      let same_number : allowed.number ≡ number = same_Some allowed.number number (sym allowed.own ∙ mine) in
-      let same_job : allowed.job ≡ job = same_Some allowed.job job (sym allowed.is_job ∙ ap (slice_get jobs) same_number ∙ is_job) in
-      let state : Job → ℕ → Stage F = λ j k. stage_of codec j (trace_of k seen) in
-      let asked : MayAsk codec job (state job number) e.call = subst (λ k. MayAsk codec job (state job k) e.call) same_number (subst (λ j. MayAsk codec j (state j allowed.number) e.call) same_job allowed.asked) in
-      elim (not_leased n no_lease (put_staged codec spelled tracks laws m h jobs seen (held_told m seen) number job (state job number) n bytes (kept.claims number job is_job (Contains-nil number)) (subst (MayAsk codec job (state job number)) puts asked))) [
+      let comes = coming codec spelled tracks laws m h jobs [] last [] m told seen back e begins may replied parts in
+      let calls = calling codec spelled tracks laws m h jobs seen (held_told m seen) e number job comes mine is_job in
+      let state : Stage F = stage_of codec job (trace_of number seen) in
+      elim (not_leased n no_lease (put_staged codec spelled tracks laws m h jobs seen (held_told m seen) number job state n bytes calls.claims (subst (MayAsk codec job state) puts calls.asked))) [
         | inl frame ↦ absurd (no_create frame.made frame.creates)
         | inr own ↦ elim own.finds [
           | Made f creates ↦ absurd (no_create f creates)
@@ -153,18 +108,18 @@ module _ {F : Type 0} (codec : Codec F) (spelled : Spelled) (tracks : Tracking F
         ]
       ]
 
-  -- jobs that are driven, from where what is kept holds, make a true run
+  -- jobs that are driven one after the other, from where what is kept holds, make a true run
   pub jobs_true_run : IsTrueRun spelled lanes jobs h m told results
   jobs_true_run = record {
     stands = prefix_stands;
     journal = journal_stands;
-    stays = λ front back parts. held_from codec spelled tracks laws m h jobs [] [] m told front back begins may replied parts;
+    stays = λ front mid back parts others. held_from codec spelled tracks laws m h jobs [] last [] m told front mid back begins may replied parts others;
     answers = λ number job end at end_at.
-        true_over spelled m jobs h told number job end (λ g n. one_head codec spelled tracks laws g n) (λ front back parts. (every_prefix codec spelled tracks laws m h jobs [] [] m told front back begins may replied parts).stands)
-        (λ short. short_undone codec spelled tracks laws h jobs m told begins may replied number job at (subst (EndsBy codec job (trace_of number told)) short (driven.driven number job (Done end) at end_at).ends))
+        true_over spelled m jobs h told number job end
+        (λ short. short_undone codec spelled tracks laws h jobs m told last begins may replied number job at (done_apart results (length jobs) number end end_at) (subst (EndsBy codec job (trace_of number told)) short (driven.driven number job (Done end) at end_at).ends))
         (true_end number job end at end_at);
     causes = λ number job r at end_at.
-        refused_for spelled m jobs h told replied (λ front back parts. (every_prefix codec spelled tracks laws m h jobs [] [] m told front back begins may replied parts).stands) number codec job r
+        refused_for spelled m jobs h told replied (λ front back parts. ((every_prefix codec spelled tracks laws m h jobs [] last [] m told front back begins may replied parts).kept).stands) number codec job r
         (true_end number job (outcome.Refused r) at end_at)
         (segment_of codec laws.looks job (trace_of number told) (Done (outcome.Refused r)) (driven.driven number job (Done (outcome.Refused r)) at end_at));
   }
@@ -186,9 +141,10 @@ spawn_all codec spelled tracks past m jobs (job ∷ more) kept fit apart fresh =
     (spawn_all codec spelled tracks past m (jobs ++ job ∷ []) more (spawn_kept codec spelled tracks m past jobs [] [] m job kept (All-head IsFit job more fit) new) (All-tail IsFit job more fit)
     (subst AreApart (sym (append_assoc jobs (job ∷ []) more)) apart) (λ j at. fresh j (Contains-there job more j at)))
   where
-    new : IsNewId m past jobs job.id
+    new : IsNewId m past m jobs job.id
     new = record {
-      free = fresh job (Contains-here job more);
+      uncarried = fresh job (Contains-here job more);
+      free = λ held. fresh job (Contains-here job more) (inr (inl held));
       other = λ number j at same.
           let within = slice_get_within jobs number j at in
           let equal = apart number (length jobs) j job (slice_get_left jobs (job ∷ more) number j at) (item_behind jobs job more) same in
@@ -206,10 +162,10 @@ kept_first codec spelled tracks gives seed items jobs h m are order stands fresh
         let (number, is) = slice_get-Contains jobs job at in
         fresh job.id (id_has_seed gives seed items jobs are order number job is) carried
 
--- the jobs of lines in order that are driven, over objects that stand for a history which the seed is fresh over, make a true run
+-- the jobs of lines in order that are driven one after the other, over objects that stand for a history which the seed is fresh over, make a true run
 pub true_run : {F : Type 0} (codec : Codec F) (spelled : Spelled) (tracks : Tracking F) → CodecLaws codec spelled tracks
     → (gives : ℕ → Bool) (seed : ℕ) (items : List Numbered) (lanes : ℕ → ℕ) (jobs : List Job) (h : History) (m : Held) (told : List Told) (results : List (Driven Outcome))
     → AreJobsOf gives seed items jobs → AreInOrder items → Stands spelled m h → IsFreshSeed m h seed → seed < 2 ^ 64
-    → Replied m told → All Suits told → All IsOwned told → All (IsWithin jobs) told → InTurn lanes told → AreDriven codec jobs results told → IsTrueRun spelled lanes jobs h m told results
+    → Replied m told → All Suits told → All IsOwned told → All (IsWithin jobs) told → InTurn one_lane told → AreDriven codec jobs results told → IsTrueRun spelled lanes jobs h m told results
 true_run codec spelled tracks laws gives seed items lanes jobs h m told results are order stands fresh seed_fits replied suit owned within in_turn driven =
     jobs_true_run codec spelled tracks laws lanes jobs h m told results (kept_first codec spelled tracks gives seed items jobs h m are order stands fresh seed_fits) replied suit owned within in_turn driven

@@ -4,23 +4,20 @@ use Rattle.std.specs.Prelude.{Contains}
 use Rattle.std.specs.Option.{is_some}
 use Rattle.std.specs.FinMap as map
 use Rattle.std.proofs.lemmas.Option.{none-some}
-use Rattle.std.proofs.lemmas.List.Elements.{Contains-append_left}
 use Rattle.ts_base.specs.declared.keys.FragKey.{FragKey}
 use Rattle.ts_base.specs.declared.names.Name.{Name}
 use Rattle.ts_base.specs.declared.names.Name.TheVariants as name
 use Rattle.ts_base.specs.Names.{wrt_of}
 use Rattle.ts_base.specs.Held.{Held}
 use Rattle.ts_model.specs.declared.deeds.Written.{Written}
-use Rattle.ts_model.specs.Deeds.{History, IsNewKey, keys, writes}
+use Rattle.ts_model.specs.Deeds.{History, IsNewKey, writes}
 use Rattle.ts_model.specs.Codecs.{Spelled}
-use Rattle.ts_model.proofs.HistoryLaws.{keys-append}
-use Rattle.ts_law.specs.Stands.{AreMerged, DoesName, IsCommitted, IsKnown, IsNamed, IsNoLease, IsUnspent, Names, Within}
+use Rattle.ts_law.specs.Stands.{AreMerged, DoesName, IsCommitted, IsNamed, IsNoLease, Names, Within}
 use Rattle.ts_commit.specs.Vacs.{names_of, AreNames}
 use Rattle.ts_schema.specs.Parts.{IsShort}
 use Rattle.std.proofs.lemmas.Option.{same_Some}
 use Rattle.ts_model.specs.States.{vac_of}
-use Rattle.ts_law.specs.Steps.{Keeps}
-use Rattle.ts_law.proofs.HeldLemmas.{Holds, Holds-from_get, bytes_there, get_apart, held_before, holds_stays, stays_held}
+use Rattle.ts_law.proofs.HeldLemmas.{Holds, get_apart, held_before, stays_held}
 use Rattle.ts_law.proofs.Grows.{PartsStay, within_grows, within_on}
 
 -- ---- puts
@@ -38,11 +35,6 @@ pub record MarksNone (m : Held) (n : Name) : Type 0 where
 -- a `.vac` is no `.wrt`
 vac_no_wrt : (g : FragKey) (n : Name) → wrt_of g ≡ n → vac_of g ≡ n → ⊥
 vac_no_wrt g n a b = cc
-
--- an object that is known stays so
-known_grows : (h more : History) (m m' : Held) → ((n : Name) → IsNoLease n → Holds m n → Holds m' n) → (f : FragKey) → IsKnown h m f → IsKnown (h ++ more) m' f
-known_grows h more m m' stay f (inl (k, at, same)) = inl (k, rw (keys-append h more) (Contains-append_left (keys h) (keys more) k at), same)
-known_grows h more m m' stay f (inr (n, none, held, carries)) = inr (n, none, stay n none held, carries)
 
 module _ (m : Held) (n : Name) (bytes : List ℕ) (free : Holds m n → ⊥) (marks : MarksNone m n) where
   -- what is held after the put
@@ -106,9 +98,6 @@ module _ (m : Held) (n : Name) (bytes : List ℕ) (free : Holds m n → ⊥) (ma
       within = λ g f by committed named.
           let before = named_before g f by named in
           within_on spelled (h ++ more) m later f g (parts_stay f) (parts_stay g) (within_grows h more new spelled m f g (are.within g f before.0 (old_before g f before.0 before.1 committed) before.1));
-      known = λ g f by named.
-          let before = named_before g f by named in
-          known_grows h more m later (λ q none held. holds_stays m n bytes q free held) f (are.known g f before.0 before.1);
       rank = ranks;
       top = suc are.top;
       below = λ f committed. ranks_below f;
@@ -198,15 +187,6 @@ module _ (m : Held) (f : FragKey) (free : Holds m (wrt_of f) → ⊥) (unnamed :
         by true committed = let below = are.below g committed in omega (arith, below)
         by false none = omega arith
 
-    -- a fragment that was committed is known
-    committed_known : (x : FragKey) → IsCommitted m x → IsKnown h joined x
-    committed_known x committed = inr (wrt_of x, tt, holds_stays m (wrt_of f) [] (wrt_of x) free committed, refl)
-
-    -- what is known stays so
-    known_on : (x : FragKey) → IsKnown h m x → IsKnown h joined x
-    known_on x (inl deed) = inl deed
-    known_on x (inr (n, none, held, carries)) = inr (n, none, holds_stays m (wrt_of f) [] n free held, carries)
-
     -- what the `.vac` objects tell is so after the put
     pub merged_joins : AreMerged spelled h joined
     merged_joins = record {
@@ -222,10 +202,6 @@ module _ (m : Held) (f : FragKey) (free : Holds m (wrt_of f) → ⊥) (unnamed :
             | inl before ↦ within_on spelled h m joined x g (joined_parts x) (joined_parts g) (are.within g x before was (names_same g x named))
             | inr same ↦ subst (Within spelled h joined x) (sym same) (joins x (own_named x (subst (λ y. DoesName m y x) same (names_same g x named))) was)
           ];
-      known = λ g x by named. elim (joined_names g x by named) [
-        | inl was ↦ committed_known x was
-        | inr was ↦ known_on x (are.known was.0 x was.1 was.2)
-      ];
       rank = joined_ranks;
       top = suc are.top;
       below = λ g committed. joined_below g;
@@ -258,19 +234,11 @@ module _ (m m' : Held) (same : (n : Name) → IsNoLease n → map.get m' n ≡ m
   pub named_beside : (g f : FragKey) → IsCommitted m' g → DoesName m' g f → IsCommitted m f ⊎ IsNamed m f
   named_beside g f committed named = inr (g, committed_beside g committed, names_beside g f named)
 
-  -- an identifier stays unspent
-  pub unspent_beside : (id : ℕ) → IsUnspent m id → IsUnspent m' id
-  unspent_beside id is = record {
-    uncommitted = λ f carries committed. is.uncommitted f carries (committed_beside f committed);
-    unnamed = λ f carries named. is.unnamed f carries (named.0, committed_beside named.0 named.1, names_beside named.0 f named.2);
-  }
-
   -- what the `.vac` objects tell is so
   pub merged_beside : (spelled : Spelled) (h : History) → AreMerged spelled h m → AreMerged spelled h m'
   merged_beside spelled h are = record {
     reads = λ g kept committed e. are.reads g kept (committed_beside g committed) (sym (same (vac_of g) tt) ∙ e);
     within = λ g f by committed named. within_on spelled h m m' f g (parts_stay f) (parts_stay g) (are.within g f (committed_beside g by) (committed_beside f committed) (names_beside g f named));
-    known = λ g f by named. on f (are.known g f (committed_beside g by) (names_beside g f named));
     rank = are.rank;
     top = are.top;
     below = λ f committed. are.below f (committed_beside f committed);
@@ -279,40 +247,3 @@ module _ (m m' : Held) (same : (n : Name) → IsNoLease n → map.get m' n ≡ m
     where
       parts_stay : (f : FragKey) → PartsStay m m' f
       parts_stay f part kept e = same (name.Part f part) tt ∙ e
-
-      on : (f : FragKey) → IsKnown h m f → IsKnown h m' f
-      on f (inl deed) = inl deed
-      on f (inr (n, none, held, carries)) = inr (n, none, ap is_some (same n none) ∙ held, carries)
-
--- ---- calls
-
--- an identifier stays unspent by a call after which no fragment that carries it is committed
-pub unspent_kept : (m m' : Held) (h h' : History) (id own : ℕ) → Keeps m m' h h' id → ((f : FragKey) → f.id ≡ own → IsCommitted m' f → ⊥) → IsUnspent m own → IsUnspent m' own
-unspent_kept m m' h h' id own keeps none is = record {
-  uncommitted = none;
-  unnamed = λ f carries named. elim (keeps.names named.0 f named.1 named.2) [
-    | inl committed ↦ is.uncommitted f carries committed
-    | inr before ↦ is.unnamed f carries before
-  ];
-}
-
--- so it stays by a put that commits nothing
-pub unspent_put : (m : Held) (n : Name) (bytes : List ℕ) (h h' : History) (id own : ℕ) → Keeps m (map.insert m n bytes) h h' id → ((f : FragKey) → wrt_of f ≡ n → ⊥) → IsUnspent m own → IsUnspent (map.insert m n bytes) own
-unspent_put m n bytes h h' id own keeps apart is = unspent_kept m (map.insert m n bytes) h h' id own keeps
-    (λ f carries committed. elim (held_before m n bytes (wrt_of f) committed) [ inl before ↦ is.uncommitted f carries before | inr same ↦ apart f same ]) is
-
--- so it stays by a call of another job
-pub unspent_stays : (m m' : Held) (h h' : History) (id own : ℕ) → Keeps m m' h h' id → (own ≡ id → ⊥) → IsUnspent m own → IsUnspent m' own
-unspent_stays m m' h h' id own keeps other is = unspent_kept m m' h h' id own keeps uncommitted is
-  where
-    no_frame : (f : FragKey) → wrt_of f ≡ name.Domain → ⊥
-    no_frame f e = cc
-
-    uncommitted : (f : FragKey) → f.id ≡ own → IsCommitted m' f → ⊥
-    uncommitted f carries committed =
-        let bytes = bytes_there m' (wrt_of f) committed in
-        elim (keeps.adds (wrt_of f) bytes.0 bytes.1) [
-          | inl before ↦ is.uncommitted f carries (Holds-from_get m (wrt_of f) bytes.0 before)
-          | inr (inl carried) ↦ other (sym carries ∙ same_Some f.id id carried)
-          | inr (inr frame) ↦ no_frame f frame
-        ]

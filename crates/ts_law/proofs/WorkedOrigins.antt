@@ -1,4 +1,4 @@
--- Worked rows: what fragments hold of the writes that went into them, and which of them a read can use.
+-- Worked rows: what fragments hold of the writes that went into them, which of them a read can use, and what is clipped from it.
 use Rattle.std.proofs.Common.{◌≡◌, ℕ, ℤ, Bool, true, false, List, [], ◌∷◌, Some, None, refl}
 use Rattle.std.specs.Prelude.{pos}
 use Rattle.ts_base.specs.declared.keys.Key.{Key}
@@ -7,10 +7,12 @@ use Rattle.ts_base.specs.declared.heads.Head.{Head}
 use Rattle.ts_base.specs.declared.heads.Version.{Version}
 use Rattle.ts_base.specs.declared.values.Val.TheVariants.{Int}
 use Rattle.ts_commit.specs.Selections.{is_usable}
-use Rattle.ts_model.specs.declared.deeds.Deed.TheVariants.{Wrote}
+use Rattle.ts_model.specs.declared.deeds.Deed.TheVariants.{Wrote, Erased}
+use Rattle.ts_model.specs.declared.deeds.Deletion.{Deletion}
 use Rattle.ts_model.specs.declared.deeds.Written.{Written}
 use Rattle.ts_model.specs.Deeds.{History}
 use Rattle.ts_model.specs.Merging.{left_of}
+use Rattle.ts_law.specs.Ends.{without_clipped}
 use Rattle.ts_law.specs.Origins.{origins_of, wrote_in, last_version, newest_at, kept_of}
 
 -- a key of a stamp and an identifier
@@ -114,6 +116,19 @@ sparse_is_usable = refl
 
 dense_is_usable_by_all : is_usable 0 9 (merged true) ≡ true
 dense_is_usable_by_all = refl
+
+-- ---- clipping
+
+-- a dense read up to 3 that finds the merged fragment alone leaves the first write out, and a delete in
+first_is_clipped : (e : Deletion) → without_clipped 0 3 (merged true ∷ []) (Wrote first ∷ Erased e ∷ Wrote second ∷ []) ≡ Erased e ∷ Wrote second ∷ []
+first_is_clipped e = refl
+
+-- one of all leaves no write out, nor does a sparse read
+none_is_clipped : without_clipped 0 9 (merged true ∷ []) both ≡ both
+none_is_clipped = refl
+
+sparse_clips_none : without_clipped 0 3 (merged false ∷ []) both ≡ both
+sparse_clips_none = refl
 
 -- ---- merging
 

@@ -1,8 +1,11 @@
 -- The definitions on worked rows: each row computes, so that a reader can see what a definition says.
-use Rattle.std.proofs.Common.{Ok, Err, inl, inr, ap, ◌∙◌, arith, ◌≡◌, ℕ, ℤ, Bool, ◌+◌, ◌*◌, ◌^◌, true, false, List, [], ◌∷◌, ◌++◌, Option, Some, None, refl}
+use Rattle.std.proofs.Common.{Ok, Err, inl, inr, ap, ◌∙◌, arith, ◌≡◌, ℕ, ℤ, Bool, ◌+◌, ◌*◌, ◌^◌, true, false, List, [], ◌∷◌, ◌++◌, Option, Some, None, refl, sym}
 use Rattle.std.specs.Prelude.{pos, map}
+use Rattle.std.proofs.lemmas.Bool.{true≢false}
 use Rattle.std.proofs.lemmas.Option.{same_Some}
 use Rattle.ts_base.specs.Held.{Held}
+use Rattle.ts_base.specs.declared.keys.FragKey.{FragKey}
+use Rattle.ts_model.specs.Jobs.{frag_of_job}
 use Rattle.ts_schema.specs.Evolutions.{schema_at}
 use Rattle.ts_store.specs.declared.fate.Fate.{Fate}
 use Rattle.ts_store.specs.declared.journal.Entry.{Entry}
@@ -12,9 +15,9 @@ use Rattle.ts_store.specs.Journals.{entry}
 use Rattle.ts_model.specs.Codecs.{Codec}
 use Rattle.ts_model.proofs.ListLemmas.{Contains-here, Contains-only}
 use Rattle.ts_law.specs.Histories.{found_by, deed_entered, history_of}
-use Rattle.ts_law.specs.Courses.{Found, IsLookedInto, IsLookOf}
+use Rattle.ts_law.specs.Courses.{Found, IsLookedInto, IsLookOf, course_by}
 use Rattle.ts_base.specs.declared.heads.Cell.{Cell}
-use Rattle.ts_base.specs.declared.heads.Stop.TheVariants.{Never}
+use Rattle.ts_base.specs.declared.heads.Stop.TheVariants.{Never, Calls}
 use Rattle.ts_base.specs.declared.values.Val.{Val}
 use Rattle.ts_base.specs.declared.values.Val.TheVariants.{Int}
 use Rattle.ts_base.specs.declared.values.ValType.TheVariants.{I64}
@@ -28,8 +31,11 @@ use Rattle.ts_store.specs.declared.fate.Fate.TheVariants as fate
 use Rattle.ts_store.specs.declared.call.Call.TheVariants as call
 use Rattle.ts_store.specs.declared.call.Reply.{Reply}
 use Rattle.ts_store.specs.declared.call.Reply.TheVariants as reply
+use Rattle.ts_base.specs.declared.names.LeaseMode.TheVariants.{Shr}
+use Rattle.ts_base.specs.declared.names.Name.{Name}
 use Rattle.ts_base.specs.declared.names.Name.TheVariants as name
-use Rattle.ts_model.specs.declared.commands.Command.TheVariants.{Write, Read}
+use Rattle.ts_store.specs.declared.call.Call.{Call}
+use Rattle.ts_model.specs.declared.commands.Command.TheVariants.{Write, Read, Unlock}
 use Rattle.ts_model.specs.declared.commands.ColIn.{ColIn}
 use Rattle.ts_model.specs.declared.commands.WriteIn.{WriteIn}
 use Rattle.ts_model.specs.declared.commands.Job.{Job}
@@ -47,10 +53,10 @@ use Rattle.ts_cond.specs.Tests.{Condition}
 use Rattle.ts_cond.specs.Tests as tree
 use Rattle.ts_domain.specs.declared.orders.Layout.TheVariants as layout
 use Rattle.ts_model.specs.Commands.{laid}
-use Rattle.ts_model.specs.States.{Exchange, commit_of, get_schema, get_frame, list_schemas, schemas_in}
+use Rattle.ts_model.specs.States.{Exchange, commit_of, get_schema, get_frame, leases_unlocked, list_leases, list_schemas, schemas_in}
 use Rattle.ts_model.specs.Told.{Told, history_told}
 use Rattle.ts_model.specs.declared.commands.Line.{Line}
-use Rattle.ts_law.specs.Fresh.{in_lane_order, command_at, id_of}
+use Rattle.ts_law.specs.Fresh.{DoesCommit, IsSpent, in_lane_order, command_at, id_of, job_from}
 
 -- ---- an array of one dimension, whose schema got a second attribute at the time 3
 
@@ -404,9 +410,28 @@ stray_is_none = refl
 skipped_put_tells_not : (m : Held) → history_of (with_deeds []) m (a_write ∷ []) (listing_in 0 ∷ commit_entry fate.FailedSkipped ∷ []) ≡ with_deeds []
 skipped_put_tells_not m = refl
 
+-- the put of the `.wrt` commits the identifier of the write
+write_commits : DoesCommit (told_commit reply.Made) 9
+write_commits = record { frag = frag_of_job a_write; bytes = []; puts = refl; changed = refl; carries = refl }
+
+-- and no other
+commits_no_other : DoesCommit (told_commit reply.Made) 8 → ⊥
+commits_no_other is =
+    let same : frag_of_job a_write ≡ is.frag = cc in
+    let id : 9 ≡ 8 = ap (λ (f : FragKey). f.id) same ∙ is.carries in
+    absurd (omega (arith, id))
+
+-- a put that changed nothing commits none
+skipped_commits_not : DoesCommit (record (told_commit reply.Failed) { changed = false }) 9 → ⊥
+skipped_commits_not is = true≢false (sym is.changed)
+
+-- so the identifier is spent from then on, whatever was there at the beginning
+write_spends : (opening : Held) → IsSpent opening (with_deeds []) (told_listing ∷ told_commit reply.Made ∷ []) 9
+write_spends opening = inr (told_commit reply.Made, (1, omega arith, refl), write_commits)
+
 -- a read in a lane: it has a stamp of its own, or it ends at the number that the clock gives
 abbrev read_in : ℕ → Option ℕ → Bool → Line
-read_in lane at to_stamp = record { lane = lane; command = Read 0 0 all_of_it; at = at; to_stamp = to_stamp }
+read_in lane at to_stamp = record { lane = lane; command = Read 0 0 all_of_it; at = at; to_stamp = to_stamp; stop = Never }
 
 -- the identifiers of a script's commands in lane order: the seed, the lane, and the number of the command there from 1
 ids : map (λ item. id_of 7 (item.line).lane item.number) (in_lane_order (read_in 7 None false ∷ read_in 0 (Some 5) false ∷ read_in 7 None true ∷ read_in 0 None true ∷ []))
@@ -418,11 +443,42 @@ no_ninth_lane : in_lane_order (read_in 8 None false ∷ []) ≡ []
 no_ninth_lane = refl
 
 -- a read ends at its stamp where it asks for that
-ends_at_stamp : command_at (read_in 0 None true) 7 ≡ Read 0 7 all_of_it
+ends_at_stamp : command_at 9 (read_in 0 None true) 7 ≡ Read 0 7 all_of_it
 ends_at_stamp = refl
 
-ends_where_it_says : command_at (read_in 0 None false) 7 ≡ Read 0 0 all_of_it
+ends_where_it_says : command_at 9 (read_in 0 None false) 7 ≡ Read 0 0 all_of_it
 ends_where_it_says = refl
+
+-- an unlock in a lane, stopped after so many calls
+abbrev unlock_in : ℕ → ℕ → Line
+unlock_in lane most = record { lane = lane; command = Unlock 0 lane; at = Some 5; to_stamp = false; stop = Calls most }
+
+-- it has the seed of its run
+unlock_has_seed : command_at 9 (unlock_in 3 2) 5 ≡ Unlock 9 3
+unlock_has_seed = refl
+
+-- the job of it has the seed that is in its identifier, and stops where the line says
+unlock_job : job_from (id_of 9 3 1) (unlock_in 3 2) 5 ≡ record { command = Unlock 9 3; at = 5; id = id_of 9 3 1; stop = Calls 2 }
+unlock_job = refl
+
+-- ---- unlocks
+
+-- the lease of a read with an identifier
+abbrev lease_with : ℕ → Name
+lease_with id = name.Lease (record { t = 5; id = id }) Shr
+
+-- of the leases that were held it removes that of another run and that of its own lane, and leaves that of another lane of its run
+dead : leases_unlocked 9 3 (lease_with (id_of 8 0 1) ∷ lease_with (id_of 9 2 1) ∷ lease_with (id_of 9 3 1) ∷ []) ≡ lease_with (id_of 8 0 1) ∷ lease_with (id_of 9 3 1) ∷ []
+dead = refl
+
+-- its course where it found two of them
+unlock_course : {F : Type 0} (codec : Codec F) (job : Job) (found : Found) → course_by codec job (record found { leases = lease_with (id_of 8 0 1) ∷ lease_with (id_of 9 3 1) ∷ [] }) (Unlock 9 3)
+    ≡ list_leases ∷ call.Remove (lease_with (id_of 8 0 1)) ∷ call.Remove (lease_with (id_of 9 3 1)) ∷ []
+unlock_course codec job found = refl
+
+-- it may look at no object
+unlock_looks_not : {F : Type 0} (codec : Codec F) (job : Job) (found : Found) (trace : List Exchange) (c : Call) → IsLookOf codec (record job { command = Unlock 9 3 }) found trace c → ⊥
+unlock_looks_not codec job found trace c look = look
 
 -- ---- what a job may look at
 

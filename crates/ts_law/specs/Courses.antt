@@ -1,4 +1,4 @@
--- The course of each job: the puts and listings that it makes, in order, what it may look at between them, and how it may end.
+-- The course of each job: the puts, the listings and the removals that it makes, in order, what it may look at between them, and how it may end.
 use Rattle.std.specs.Prelude.{◌≡◌, ◌≢◌, ℕ, Bool, true, false, cond, List, [], ◌∷◌, ◌++◌, Option, Some, None, filter, length, nat_lt, Result, Ok, Err, IsTrue, All, Contains, ⊤, ◌⊎◌, map as list_map}
 use Rattle.ts_base.specs.declared.keys.Key.{Key}
 use Rattle.ts_base.specs.declared.keys.FragKey.{FragKey}
@@ -24,11 +24,11 @@ use Rattle.ts_schema.specs.declared.wants.Want.{Want}
 use Rattle.ts_schema.specs.Evolutions.{evolved_attrs, evolution_fault, schema_at}
 use Rattle.ts_schema.specs.FrameTexts.{frame_of}
 use Rattle.ts_schema.specs.SchemaTexts.{schema_of}
-use Rattle.ts_model.specs.declared.commands.Command.TheVariants.{Create, Evolve, Write, Read, Delete, Consolidate}
+use Rattle.ts_model.specs.declared.commands.Command.TheVariants.{Create, Evolve, Write, Read, Delete, Consolidate, Vacuum, Unlock, Fragments}
 use Rattle.ts_model.specs.Stops.{cuts, Uncut}
 use Rattle.ts_model.specs.declared.states.Opened.{Opened}
-use Rattle.ts_model.specs.States.{frags_of, heads_of, opened_among, schemas_in, place_of, get_all, put_of, made_by, frame_put, schema_object_of, write_objects, is_own_frame, get_frame, list_schemas, list_commits, get_schema, get_delete, get_vac, counting_in, committed_in, deletes_in, meets, delete_object_of, wanted, all_of, merge_objects, Exchange}
-use Rattle.ts_model.specs.Stages.{lease_of, list_leases, put_lease, released}
+use Rattle.ts_model.specs.States.{frags_of, heads_of, opened_among, schemas_in, place_of, get_all, put_of, frame_put, schema_object_of, write_objects, is_own_frame, get_frame, list_schemas, list_commits, list_leases, list_parts, leases_unlocked, names_removed, get_schema, get_delete, get_vac, counting_in, committed_in, deletes_in, meets, delete_object_of, wanted, all_of, merge_objects, Exchange}
+use Rattle.ts_model.specs.Stages.{lease_of, put_lease, released}
 use Rattle.ts_lease.specs.Leases.{verdict_in}
 use Rattle.ts_lease.specs.declared.verdicts.Verdict.TheVariants.{Held}
 use Rattle.ts_model.specs.Codecs.{Codec, Asks, Breaks, Takes, is_look}
@@ -38,15 +38,17 @@ use Rattle.ts_model.specs.Queries.{box_of, delete_condition}
 use Rattle.ts_cond.specs.CondTexts.{cond_of}
 use Rattle.ts_cond.specs.Tests.{Condition}
 use Rattle.ts_cond.specs.declared.query.Query.{Query}
-use Rattle.ts_law.specs.Refusals.{refusal_in}
+use Rattle.ts_law.specs.Refusals.{WorksInSchema, refusal_in}
+use Rattle.ts_law.specs.Swept.{sweep_over}
 use Rattle.ts_base.specs.declared.names.CommitKind.TheVariants.{Del, Vac}
+use Rattle.ts_base.specs.declared.names.Prefix.TheVariants.{Leases}
 use Rattle.ts_commit.specs.Vacs.{names_of}
 use Rattle.ts_commit.specs.declared.vacs.VacOf.{VacOf}
 use Rattle.ts_commit.specs.declared.vacs.Limits.{Limits}
 use Rattle.ts_commit.specs.declared.vacs.Planned.{Planned}
 use Rattle.ts_commit.specs.declared.vacs.Planned.TheVariants as planned
 use Rattle.ts_commit.specs.Plans.{is_inside, plan_of}
-use Rattle.ts_commit.specs.Selections.{names_merged}
+use Rattle.ts_commit.specs.Selections.{names_merged, removal_set}
 use Rattle.ts_model.specs.Merging.{all_got, merged_with}
 use Rattle.ts_base.specs.declared.heads.Piece.{Piece}
 use Rattle.ts_base.specs.declared.heads.Version.{Version}
@@ -66,12 +68,15 @@ pub record Merge : Type 0 where
   pub piece : Piece
   pub names : List FragKey
 
--- what a job found: whether the frame was there already, the schema that it works in, the frame, and what a consolidation merged, if it came so far
+-- what a job found: whether the frame was there already, the schema that it works in, the frame, what a consolidation merged, if it came so far, the leases that an unlock removes, and the fragments and the names that a vacuum removes, as far as it came to know them
 pub record Found : Type 0 where
   pub taken : Bool
   pub there : Schema
   pub frame : Frame
   pub merged : Option Merge
+  pub leases : List Name
+  pub swept : List FragKey
+  pub removed : List Name
 
 -- the put of an evolve, where no fault stands against its change
 abbrev pub evolve_puts : Job → Found → Evolution → Option SchemaFault → List Call
@@ -98,7 +103,11 @@ abbrev pub under_lease : Option Name → List Call → List Call
 under_lease None course = course
 under_lease (Some lease) course = put_lease lease ∷ list_leases ∷ course
 
--- the puts and listings of a job at its work, in order
+-- the listings and the removals of a vacuum after those by which it finds what to remove
+abbrev pub sweep_calls : Found → List Call
+sweep_calls found = list_map list_parts found.swept ++ list_map call.Remove found.removed
+
+-- the puts and listings of a job at its work, in order, and the removals of an unlock and of a vacuum
 abbrev pub course_by : {F : Type 0} → Codec F → Job → Found → Command → List Call
 course_by codec job found (Create f) = frame_put f ∷ (cond found.taken (list_schemas ∷ []) [] ++ put_of (schema_object_of job f.attrs) ∷ [])
 course_by codec job found (Evolve change) = list_schemas ∷ evolve_puts job found change (evolution_fault (found.frame).domain (found.there).attrs change)
@@ -106,6 +115,9 @@ course_by codec job found (Write w) = list_schemas ∷ cell_puts codec job found
 course_by codec job found (Read from to query) = list_commits ∷ list_schemas ∷ []
 course_by codec job found (Delete text) = list_schemas ∷ delete_puts job (delete_condition found.frame (found.there).attrs text)
 course_by codec job found (Consolidate from to limits) = list_commits ∷ list_schemas ∷ merge_puts codec found.frame found.merged
+course_by codec job found Vacuum = list_commits ∷ list_schemas ∷ sweep_calls found
+course_by codec job found (Unlock seed lane) = list_leases ∷ list_map call.Remove found.leases
+course_by codec job found Fragments = list_commits ∷ []
 
 -- the course of a job that found this, up to the removal of its lease
 abbrev pub course_of : {F : Type 0} → Codec F → Job → Found → List Call
@@ -123,7 +135,7 @@ abbrev pub IsFrameIn : Frame → Result Frame ℕ → Type 0
 IsFrameIn frame (Ok x) = frame ≡ x
 IsFrameIn frame (Err at) = ⊤
 
--- a reply says what the job found: that its frame was there, the schema that it works in, the frame
+-- a reply says what the job found: that its frame was there, the schema that it works in, the frame, the leases that it removes
 abbrev pub SaysThere : Found → Command → Call → Reply → Type 0
 SaysThere found (Create f) (call.Put name.Domain bytes) reply.Taken = found.taken ≡ true
 SaysThere found (Create f) (call.Put name.Domain bytes) reply.Made = found.taken ≡ false
@@ -133,6 +145,7 @@ SaysThere found (Write w) (call.Get (name.Schema k) from len) (reply.Bytes bytes
 SaysThere found (Write w) (call.Get name.Domain from len) (reply.Bytes bytes) = IsFrameIn found.frame (frame_of bytes)
 SaysThere found (Delete text) (call.Get (name.Schema k) from len) (reply.Bytes bytes) = IsSchemaIn found.there k (schema_of bytes)
 SaysThere found (Delete text) (call.Get name.Domain from len) (reply.Bytes bytes) = IsFrameIn found.frame (frame_of bytes)
+SaysThere found (Unlock seed lane) (call.List Leases) (reply.Names names) = found.leases ≡ leases_unlocked seed lane names
 SaysThere found command c r = ⊤
 
 -- a job was told bytes that spell a schema
@@ -254,6 +267,36 @@ pub record PlansBy {F : Type 0} (codec : Codec F) (job : Job) (found : Found) (t
   pub counted : (o : Opened) → Contains opened o → (s : Schema) × (s.key ≡ o.head.schema) × GotSchema trace s × (attributes o.head.schema ≡ length s.attrs)
   pub is : plan_of (heads_of opened) vacs attributes from to limits ≡ plan
 
+-- ---- what a vacuum removes
+
+-- a vacuum chose the fragments that it removes, by what it was told: all that the `.vac` objects name which count in its listing of the commits, where a schema holds at its stamp
+pub record ChoosesBy (job : Job) (trace : List Exchange) (set : List FragKey) : Type 0 where
+  pub key : Key
+  pub there : IsKeyThere job trace key
+  pub names : List Name
+  pub listed : Contains trace (record { call = list_commits; reply = reply.Names names })
+  pub vacs : List VacOf
+  pub all_vacs : list_map (λ v. v.frag) vacs ≡ counting_in names
+  pub each_vac : (v : VacOf) → Contains vacs v → GotNames trace v.frag v.names
+  pub is : set ≡ removal_set vacs
+
+-- of each of these fragments in turn a vacuum listed these parts
+abbrev pub EachListed : List Exchange → List FragKey → List (List Name) → Type 0
+EachListed trace [] [] = ⊤
+EachListed trace (f ∷ set) (names ∷ listed) = Contains trace (record { call = list_parts f; reply = reply.Names names }) × EachListed trace set listed
+EachListed trace _ _ = ⊥
+
+-- a vacuum removes these names, by what it was told: of each fragment that it chose its `.wrt` and its `.vac`, where they were listed, and the parts that it listed, and the other `.vac` objects that count
+pub record RemovesBy (job : Job) (trace : List Exchange) (set : List FragKey) (removed : List Name) : Type 0 where
+  pub chooses : ChoosesBy job trace set
+  pub listed : List (List Name)
+  pub each_listed : EachListed trace set listed
+  pub is : removed ≡ names_removed (sweep_over chooses.names chooses.vacs) set listed
+
+-- what a vacuum is said to remove it removes by what it was told
+abbrev pub SweepsFound : Job → Found → List Exchange → Type 0
+SweepsFound job found trace = ((found.swept ≡ []) ⊎ ChoosesBy job trace found.swept) × ((found.removed ≡ []) ⊎ RemovesBy job trace found.swept found.removed)
+
 -- ---- which objects a job may look at
 
 -- of the names of a kind that a read listed with the commits one whose span meets the interval
@@ -302,6 +345,10 @@ pub data LooksForSources {F : Type 0} (codec : Codec F) (job : Job) (found : Fou
   -- a get or a size for which the fetch of a fragment asks that its plan takes
   InSource : (chosen : List FragKey) (f : FragKey) (fetch : F) → PlansBy codec job found trace (planned.Take chosen) → Contains chosen f → IsUnderWay codec job found trace f fetch c → IsTrue (is_look c) → LooksForSources codec job found trace from to c
 
+-- a vacuum gets a `.vac` that counts, once it listed the schemas, of which one holds at its stamp
+abbrev pub LooksForVacs : Job → List Exchange → Call → Type 0
+LooksForVacs job trace c = (k : Key) × IsKeyThere job trace k × (f : FragKey) × IsCountingIn trace f × (c ≡ get_vac f)
+
 -- the call looks at an object that the job's command reads, by what the job was told before; but for the calls of fetches it gets the whole object
 abbrev pub IsLookBy : {F : Type 0} → Codec F → Job → Found → List Exchange → Command → Call → Type 0
 IsLookBy codec job found trace (Create f) c = Contains trace (record { call = frame_put f; reply = reply.Taken }) × (c ≡ get_frame)
@@ -310,6 +357,9 @@ IsLookBy codec job found trace (Write w) c = LooksThere job trace c
 IsLookBy codec job found trace (Read from to query) c = LooksThere job trace c ⊎ (IsGot job found trace × LooksInside codec job found trace from to c)
 IsLookBy codec job found trace (Delete text) c = LooksThere job trace c
 IsLookBy codec job found trace (Consolidate from to limits) c = LooksForSources codec job found trace from to c
+IsLookBy codec job found trace Vacuum c = LooksForVacs job trace c
+IsLookBy codec job found trace (Unlock seed lane) c = ⊥
+IsLookBy codec job found trace Fragments c = ⊥
 
 -- the call looks at an object that the job reads
 abbrev pub IsLookOf : {F : Type 0} → Codec F → Job → Found → List Exchange → Call → Type 0
@@ -329,6 +379,7 @@ IsNext looks trace course c rest = (looks trace c × (course ≡ rest)) ⊎ (cou
 abbrev pub lets_on : Call → Reply → Bool
 lets_on (call.Put name.Domain bytes) reply.Taken = true
 lets_on (call.Put n bytes) reply.Made = true
+lets_on (call.Remove n) reply.Removed = true
 lets_on (call.List prefix) (reply.Names names) = true
 lets_on (call.Get n from len) (reply.Bytes bytes) = true
 lets_on (call.Get n from len) (reply.Length size) = true
@@ -437,7 +488,7 @@ IsHeldUp job last other =
 abbrev pub IsCause : {F : Type 0} → Codec F → Job → Found → List Exchange → Exchange → Refusal → Type 0
 IsCause codec job found trace last refusal.ArrayExists = (f : FrameIn) × (job.command ≡ Create f) × IsThere f last
 IsCause codec job found trace last (refusal.NoSchema at) =
-    (made_by job.command ≡ None) × (names : List Name) × (last ≡ record { call = list_schemas; reply = reply.Names names }) × (at ≡ looked_at job) × (schema_at (schemas_in names) at ≡ None)
+    WorksInSchema job.command × (names : List Name) × (last ≡ record { call = list_schemas; reply = reply.Names names }) × (at ≡ looked_at job) × (schema_at (schemas_in names) at ≡ None)
 IsCause codec job found trace last (refusal.NothingToDo count) = (found.merged ≡ None) × PlansBy codec job found trace (planned.Nothing count)
 IsCause codec job found trace last (refusal.Leased other) = IsHeldUp job last other
 IsCause codec job found trace last (refusal.Taken n) = (n ≡ name.Domain → ⊥) × (bytes : List ℕ) × (last ≡ record { call = call.Put n bytes; reply = reply.Taken })
@@ -459,6 +510,9 @@ EndsAlong codec job found course trace (outcome.Written f) = Along (IsLookOf cod
 EndsAlong codec job found course trace (outcome.Deleted f) = Along (IsLookOf codec job found) [] course trace [] × ((text : List ℕ) × (job.command ≡ Delete text)) × (f ≡ frag_of_job job) × IsGot job found trace × (refused_in found job.command ≡ None)
 EndsAlong codec job found course trace (outcome.Read answer) = Along (IsLookOf codec job found) [] course trace [] × ((from : ℕ) × (to : ℕ) × (query : Query) × (job.command ≡ Read from to query)) × IsGot job found trace × (refused_in found job.command ≡ None)
 EndsAlong codec job found course trace (outcome.Consolidated f count) = Along (IsLookOf codec job found) [] course trace [] × ((merge : Merge) × (found.merged ≡ Some merge) × (f ≡ merge.piece.head.frag) × IsMergeBy codec job found trace merge count)
+EndsAlong codec job found course trace (outcome.Vacuumed count) = Along (IsLookOf codec job found) [] course trace [] × (job.command ≡ Vacuum) × (count ≡ length found.swept) × RemovesBy job trace found.swept found.removed
+EndsAlong codec job found course trace (outcome.Unlocked count) = Along (IsLookOf codec job found) [] course trace [] × ((seed : ℕ) × (lane : ℕ) × (job.command ≡ Unlock seed lane)) × (count ≡ length found.leases)
+EndsAlong codec job found course trace (outcome.Listed names) = Along (IsLookOf codec job found) [] course trace [] × (job.command ≡ Fragments) × Contains trace (record { call = list_commits; reply = reply.Names names })
 
 -- the calls begin with the put of the lease, whose name was not taken
 abbrev pub HasPut : Name → List Exchange → Type 0
@@ -535,4 +589,5 @@ pub record IsSegment {F : Type 0} (codec : Codec F) (job : Job) (trace : List Ex
   pub found : Found
   pub are_found : AreFound job found trace
   pub merges_found : MergesFound codec job found trace
+  pub sweeps_found : SweepsFound job found trace
   pub ends : MayComeOut codec job found trace result

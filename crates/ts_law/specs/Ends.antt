@@ -1,7 +1,8 @@
 -- What the end of a job tells of the history.
-use Rattle.std.specs.Prelude.{◌≡◌, ℕ, length, List, [], ◌∷◌, ◌++◌, Some, Ok, Contains, filter, ⊤, ◌⊎◌, map as list_map}
+use Rattle.std.specs.Prelude.{◌≡◌, ℕ, Bool, true, not, length, List, [], ◌∷◌, ◌++◌, Some, None, Ok, IsTrue, Contains, filter, ⊤, ◌⊎◌, map as list_map}
 use Rattle.std.specs.List.{list_any}
 use Rattle.std.specs.Option.{option_map_or}
+use Rattle.ts_base.specs.declared.names.Name.{Name}
 use Rattle.ts_base.specs.declared.names.Prefix.{Prefix}
 use Rattle.ts_base.specs.declared.keys.Key.{Key}
 use Rattle.ts_base.specs.Names.{wrt_of}
@@ -20,6 +21,8 @@ use Rattle.ts_model.specs.declared.commands.Command.{Command}
 use Rattle.ts_model.specs.declared.commands.Job.{Job}
 use Rattle.ts_model.specs.declared.commands.FrameIn.{FrameIn}
 use Rattle.ts_model.specs.declared.commands.WriteIn.{WriteIn}
+use Rattle.ts_model.specs.declared.deeds.Deed.{Deed}
+use Rattle.ts_model.specs.declared.deeds.Deed.TheVariants.{Wrote}
 use Rattle.ts_model.specs.declared.answers.Answer.{Answer}
 use Rattle.ts_model.specs.declared.answers.Outcome.{Outcome}
 use Rattle.ts_model.specs.declared.answers.Refusal.{Refusal}
@@ -28,14 +31,14 @@ use Rattle.ts_schema.specs.declared.schemas.Schema.{Schema}
 use Rattle.ts_schema.specs.declared.attrs.Attr.{Attr}
 use Rattle.ts_schema.specs.declared.evolution.Evolution.{Evolution}
 use Rattle.ts_schema.specs.Evolutions.{evolved_attrs}
-use Rattle.ts_model.specs.declared.commands.Command.TheVariants.{Create, Evolve, Write, Read, Delete, Consolidate}
+use Rattle.ts_model.specs.declared.commands.Command.TheVariants.{Create, Evolve, Write, Read, Delete, Consolidate, Vacuum, Unlock, Fragments}
 use Rattle.ts_base.specs.declared.names.CommitKind.{CommitKind}
 use Rattle.ts_base.specs.declared.names.CommitKind.TheVariants.{Wrt, Del}
-use Rattle.ts_base.specs.declared.names.Prefix.TheVariants.{Commits, Schemas}
+use Rattle.ts_base.specs.declared.names.Prefix.TheVariants.{Commits, Fragment, Leases, Schemas}
 use Rattle.ts_store.specs.Calls.{names_under}
-use Rattle.ts_commit.specs.Selections.{clipped_names, has_origin, is_among, names_merged}
+use Rattle.ts_commit.specs.Selections.{clipped_names, has_origin, is_among, is_clipped, names_merged, removal_set}
 use Rattle.ts_model.specs.Told.{Told, held_told, history_told}
-use Rattle.ts_model.specs.States.{committed_in, counting_in, meets}
+use Rattle.ts_model.specs.States.{committed_in, counting_in, leases_unlocked, meets, vac_of}
 use Rattle.ts_model.specs.Codecs.{Spelled}
 use Rattle.ts_law.specs.Stands.{HoldsIn, IsCommitted, Names}
 use Rattle.ts_cond.specs.declared.query.Query.{Query}
@@ -44,12 +47,13 @@ use Rattle.ts_model.specs.Queries.{delete_condition}
 use Rattle.ts_model.specs.Jobs.{key_of, frag_of_job, looked_at, schema_of_job, written_as, deletion_as}
 use Rattle.ts_model.specs.Deeds.{History, frame_in, writes, deletions, schema_with, schema_there, IsNewKey}
 use Rattle.ts_model.specs.Commands.{frame_made, laid}
-use Rattle.ts_model.specs.Answers.{IsAnswer}
+use Rattle.ts_model.specs.Answers.{IsWhole, IsAnswer}
 use Rattle.ts_base.specs.declared.names.Name.TheVariants as name
 use Rattle.ts_base.specs.declared.names.Place.TheVariants as place
 use Rattle.ts_store.specs.declared.call.Call.TheVariants as call
 use Rattle.ts_model.specs.declared.answers.Outcome.TheVariants as outcome
 use Rattle.ts_model.specs.declared.answers.Refusal.TheVariants as refusal
+use Rattle.std.specs.FinMap as map
 
 -- a job listed what is below a prefix at a place of what was told
 pub record ListedAt (told : List Told) (number : ℕ) (prefix : Prefix) : Type 0 where
@@ -60,13 +64,42 @@ pub record ListedAt (told : List Told) (number : ℕ) (prefix : Prefix) : Type 0
   pub own : listing.job ≡ Some number
   pub lists : listing.call ≡ call.List prefix
 
--- the answer of a read is that of the history at its listing of the commits, shown through the history at its later listing of the schemas
-pub record AnswersAt (jobs : List Job) (past : History) (told : List Told) (number from to : ℕ) (query : Query) (answer : Answer) : Type 0 where
+-- ---- reads
+
+-- the heads of the fragments that are committed in a map and whose span meets [a, b]
+pub record AreHeads (spelled : Spelled) (h : History) (m : Held) (a b : ℕ) (heads : List Head) : Type 0 where
+  pub frags : list_map (λ head. head.frag) heads ≡ filter (meets a b) (committed_in (names_under Commits m))
+  pub each : (head : Head) → Contains heads head → (p : Piece) × HoldsIn spelled h m head.frag p × (p.head ≡ head)
+
+-- a deed is left where it is no write that is clipped from a read of [a, b] of fragments with these heads
+abbrev pub is_left : ℕ → ℕ → List Head → Deed → Bool
+is_left a b heads (Wrote w) = not (is_clipped a b heads w.key)
+is_left a b heads _ = true
+
+-- the history without its clipped writes
+abbrev pub without_clipped : ℕ → ℕ → List Head → History → History
+without_clipped a b heads h = filter (is_left a b heads) h
+
+-- the answer to a read of [a, b] over objects that stand for a history, which it shows through a later one
+pub record IsAnswerOver (spelled : Spelled) (h : History) (m : Held) (later : History) (a b : ℕ) (query : Query) (answer : Answer) : Type 0 where
+  pub heads : List Head
+  pub are_heads : AreHeads spelled h m a b heads
+  -- it names the clipped fragments: those that it cannot use, and that a write went into which is in none that it can use
+  pub clipped_is : answer.clipped ≡ clipped_names a b heads
+  -- it is that of the history without its clipped writes
+  pub is : IsAnswer (without_clipped a b heads h) later a b query answer
+  -- where no fragment is clipped, it is that of the whole history
+  pub whole : IsWhole answer → IsAnswer h later a b query answer
+
+-- the answer of a read is that of the objects and the history at its listing of the commits, shown through the history at its later listing of the schemas
+pub record AnswersAt (spelled : Spelled) (opening : Held) (jobs : List Job) (past : History) (told : List Told) (number from to : ℕ) (query : Query) (answer : Answer) : Type 0 where
   pub commits : ListedAt told number Commits
   pub schemas : ListedAt told number Schemas
   pub between : List Told
   pub order : schemas.before ≡ commits.before ++ commits.listing ∷ between
-  pub answers : IsAnswer (history_told jobs past commits.before) (history_told jobs past schemas.before) from to query answer
+  pub answers : IsAnswerOver spelled (history_told jobs past commits.before) (held_told opening commits.before) (history_told jobs past schemas.before) from to query answer
+
+-- ---- commands that do a deed
 
 -- no deed of the history has the key of a job
 abbrev pub IsUndone : History → Job → Type 0
@@ -195,6 +228,58 @@ pub record FindsNothing (spelled : Spelled) (opening : Held) (jobs : List Job) (
   pub by_plan : IsPlanned spelled (history_told jobs past commits.before) (held_told opening commits.before) from to limits (planned.Nothing count)
   pub found : FindsSchema jobs past told number job
 
+-- ---- unlocks, and lists of the commits
+
+-- the leases that an unlock of a seed and a lane takes for dead, of those that are held after these calls
+abbrev pub dead_leases : ℕ → ℕ → Held → List Told → List Name
+dead_leases seed lane opening told = leases_unlocked seed lane (names_under Leases (held_told opening told))
+
+-- a job removed an object: a call of it asked for that, and right after the call the object was not held
+pub record IsGone (opening : Held) (told : List Told) (number : ℕ) (n : Name) : Type 0 where
+  pub removed : MadeAt told number (call.Remove n)
+  pub gone : map.get (held_told opening (up_to removed.before removed.made)) n ≡ None
+
+-- an unlock removed so many leases: those that it takes for dead of those that it listed
+pub record IsUnlocked (opening : Held) (told : List Told) (number : ℕ) (job : Job) (count : ℕ) : Type 0 where
+  pub seed : ℕ
+  pub lane : ℕ
+  pub unlocks : job.command ≡ Unlock seed lane
+  pub leases : ListedAt told number Leases
+  pub counted : count ≡ length (dead_leases seed lane opening leases.before)
+  pub gone : (n : Name) → Contains (dead_leases seed lane opening leases.before) n → IsGone opening told number n
+
+-- ---- vacuums
+
+-- a job listed the parts of a fragment after a listing of its own
+pub record ListsPartsAfter (told : List Told) (number : ℕ) (before : List Told) (listing : Told) (f : FragKey) : Type 0 where
+  pub parts : ListedAt told number (Fragment f)
+  pub between : List Told
+  pub order : parts.before ≡ before ++ listing ∷ between
+
+-- a job removed all that it found of a fragment: its `.wrt` and its `.vac`, where they were held at the job's listing of the commits, and each part that was held as it listed them after that
+pub record IsSweptAway (opening : Held) (told : List Told) (number : ℕ) (before : List Told) (listing : Told) (f : FragKey) : Type 0 where
+  pub commit : IsCommitted (held_told opening before) f → IsGone opening told number (wrt_of f)
+  pub lists : ListsPartsAfter told number before listing f
+  pub each_part : (n : Name) → Contains (names_under (Fragment f) (held_told opening lists.parts.before)) n → IsGone opening told number n
+  pub own_vac : IsTrue (map.contains_key (held_told opening before) (vac_of f)) → IsGone opening told number (vac_of f)
+
+-- the removal set of a vacuum has so many fragments: all that the `.vac` objects of fragments name that were committed as it listed the commits. Of each of them it removed all that it found, and it removed those `.vac` objects
+pub record IsVacuumed (opening : Held) (jobs : List Job) (past : History) (told : List Told) (number : ℕ) (job : Job) (count : ℕ) : Type 0 where
+  pub vacuums : job.command ≡ Vacuum
+  pub commits : ListedAt told number Commits
+  pub found : FindsSchema jobs past told number job
+  pub vacs : List VacOf
+  pub are_vacs : AreAllVacs (held_told opening commits.before) vacs
+  pub counted : count ≡ length (removal_set vacs)
+  pub swept : (f : FragKey) → Contains (removal_set vacs) f → IsSweptAway opening told number commits.before commits.listing f
+  pub vacs_gone : (v : VacOf) → Contains vacs v → IsGone opening told number (vac_of v.frag)
+
+-- a job told the names of the commits that were held as it listed them
+pub record IsListed (opening : Held) (told : List Told) (number : ℕ) (job : Job) (names : List Name) : Type 0 where
+  pub lists : job.command ≡ Fragments
+  pub commits : ListedAt told number Commits
+  pub names_are : names ≡ names_under Commits (held_told opening commits.before)
+
 -- ---- all ends
 
 -- the kind of the commit by which a command's deed comes: a `.del` for a delete, else a `.wrt`
@@ -212,34 +297,21 @@ IsTrueRefusal spelled opening jobs past told number job (refusal.StoreFault (pla
 IsTrueRefusal spelled opening jobs past told number job (refusal.NothingToDo count) = IsUndone (history_told jobs past told) job × FindsNothing spelled opening jobs past told number job count
 IsTrueRefusal spelled opening jobs past told number job r = IsUndone (history_told jobs past told) job
 
--- what an end tells of the history, and that of a consolidation of the objects too
+-- what an end tells of the history, and that of a read, of a consolidation, of a vacuum, of an unlock and of a list of the commits of the objects too
 abbrev pub IsTrueEnd : Spelled → Held → List Job → History → List Told → ℕ → Job → Outcome → Type 0
 IsTrueEnd spelled opening jobs past told number job outcome.Created = IsCreated (history_told jobs past told) job
 IsTrueEnd spelled opening jobs past told number job (outcome.Evolved k) = (k ≡ key_of job) × IsEvolved jobs past told number job
 IsTrueEnd spelled opening jobs past told number job (outcome.Written f) = (f ≡ frag_of_job job) × IsWritten jobs past told number job
 IsTrueEnd spelled opening jobs past told number job (outcome.Deleted f) = (f ≡ frag_of_job job) × IsDeleted jobs past told number job
-IsTrueEnd spelled opening jobs past told number job (outcome.Read answer) = (from : ℕ) × (to : ℕ) × (query : Query) × (job.command ≡ Read from to query) × AnswersAt jobs past told number from to query answer
+IsTrueEnd spelled opening jobs past told number job (outcome.Read answer) = (from : ℕ) × (to : ℕ) × (query : Query) × (job.command ≡ Read from to query) × AnswersAt spelled opening jobs past told number from to query answer
 IsTrueEnd spelled opening jobs past told number job (outcome.Consolidated f count) = IsUndone (history_told jobs past told) job × IsMerged spelled opening jobs past told number job f count
+IsTrueEnd spelled opening jobs past told number job (outcome.Vacuumed count) = IsUndone (history_told jobs past told) job × IsVacuumed opening jobs past told number job count
+IsTrueEnd spelled opening jobs past told number job (outcome.Unlocked count) = IsUndone (history_told jobs past told) job × IsUnlocked opening told number job count
+IsTrueEnd spelled opening jobs past told number job (outcome.Listed names) = IsUndone (history_told jobs past told) job × IsListed opening told number job names
 IsTrueEnd spelled opening jobs past told number job (outcome.Refused r) = IsTrueRefusal spelled opening jobs past told number job r
 IsTrueEnd spelled opening jobs past told number job outcome.OutOfMemory = ⊤
 
--- ---- what an end tells of the objects
-
--- the heads of the fragments that are committed in a map and whose span meets [a, b]
-pub record AreHeads (spelled : Spelled) (h : History) (m : Held) (a b : ℕ) (heads : List Head) : Type 0 where
-  pub frags : list_map (λ head. head.frag) heads ≡ filter (meets a b) (committed_in (names_under Commits m))
-  pub each : (head : Head) → Contains heads head → (p : Piece) × HoldsIn spelled h m head.frag p × (p.head ≡ head)
-
--- the clipped fragments of a read of [a, b] that lists these objects: those that it cannot use, and that a write went into which is in none that it can use
-pub record AreClipped (spelled : Spelled) (h : History) (m : Held) (a b : ℕ) (clipped : List FragKey) : Type 0 where
-  pub heads : List Head
-  pub are_heads : AreHeads spelled h m a b heads
-  pub clipped_is : clipped ≡ clipped_names a b heads
-
--- what an end tells of the history and of the objects, where a map was held at the beginning: the clipped fragments of an answer are those of the objects at its listing of the commits, and a job that ended for want of memory has no deed
+-- what an end tells of the history and of the objects, where a map was held at the beginning; a job that ended for want of memory has no deed
 abbrev pub IsTrueOver : Spelled → Held → List Job → History → List Told → ℕ → Job → Outcome → Type 0
-IsTrueOver spelled opening jobs past told number job (outcome.Read answer) =
-    (from : ℕ) × (to : ℕ) × (query : Query) × (job.command ≡ Read from to query)
-    × ((is : AnswersAt jobs past told number from to query answer) × AreClipped spelled (history_told jobs past (is.commits).before) (held_told opening (is.commits).before) from to answer.clipped)
 IsTrueOver spelled opening jobs past told number job outcome.OutOfMemory = IsUndone (history_told jobs past told) job
 IsTrueOver spelled opening jobs past told number job end = IsTrueEnd spelled opening jobs past told number job end

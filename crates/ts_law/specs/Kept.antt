@@ -1,5 +1,5 @@
 -- What every call of a job keeps: the objects stand for the history, and what each job found so far is true of both.
-use Rattle.std.specs.Prelude.{◌≡◌, ℕ, ℤ, ◌<◌, ◌≤◌, true, false, List, [], ◌∷◌, ◌++◌, Some, None, length, slice_get, Ok, IsSome, All, Contains, ⊤, take, filter, map as list_map}
+use Rattle.std.specs.Prelude.{◌≡◌, ℕ, ℤ, ◌<◌, ◌≤◌, true, false, List, [], ◌∷◌, ◌++◌, Some, None, length, slice_get, Ok, IsSome, All, Contains, ⊤, ◌⊎◌, take, filter, map as list_map}
 use Rattle.ts_base.specs.declared.keys.Key.{Key}
 use Rattle.ts_base.specs.declared.keys.FragKey.{FragKey}
 use Rattle.ts_base.specs.declared.names.Name.{Name}
@@ -13,7 +13,6 @@ use Rattle.ts_model.specs.declared.commands.Job.{Job}
 use Rattle.ts_model.specs.declared.commands.FrameIn.{FrameIn}
 use Rattle.ts_model.specs.declared.commands.WriteIn.{WriteIn}
 use Rattle.ts_model.specs.declared.answers.Outcome.{Outcome}
-use Rattle.ts_model.specs.declared.deeds.Written.{Written}
 use Rattle.ts_model.specs.declared.states.State.{State}
 use Rattle.ts_model.specs.declared.states.Stage.{Stage}
 use Rattle.ts_model.specs.declared.states.Stage.TheVariants.{PutsLease, ListsLeases, Releases}
@@ -23,6 +22,8 @@ use Rattle.ts_model.specs.declared.states.Seeking.{Seeking}
 use Rattle.ts_model.specs.declared.states.Collecting.{Collecting}
 use Rattle.ts_model.specs.declared.states.Merging.{Merging}
 use Rattle.ts_model.specs.declared.states.Merging.TheVariants as merging
+use Rattle.ts_model.specs.declared.states.Sweeping.{Sweeping}
+use Rattle.ts_model.specs.declared.states.Sweeping.TheVariants as sweeping
 use Rattle.ts_model.specs.declared.states.Candidates.{Candidates}
 use Rattle.ts_model.specs.declared.states.Survey.{Survey}
 use Rattle.ts_schema.specs.declared.attrs.Attr.{Attr}
@@ -42,16 +43,19 @@ use Rattle.ts_base.specs.Keys.{frag_of, is_within}
 use Rattle.ts_base.specs.Held.{Held}
 use Rattle.ts_schema.specs.Evolutions.{evolved_attrs, evolution_fault, schema_at}
 use Rattle.ts_schema.specs.Parts.{IsShort}
-use Rattle.ts_model.specs.declared.commands.Command.TheVariants.{Create, Evolve, Write, Read, Delete, Consolidate}
-use Rattle.ts_model.specs.declared.states.State.TheVariants.{Creates, Seeks, Puts, Collects, Over}
+use Rattle.ts_model.specs.declared.commands.Command.TheVariants.{Create, Evolve, Write, Read, Delete, Consolidate, Vacuum, Unlock, Fragments}
+use Rattle.ts_model.specs.declared.states.State.TheVariants.{Creates, Seeks, Puts, Collects, Lists, Removes, Over}
 use Rattle.ts_model.specs.declared.states.State.TheVariants as states
 use Rattle.ts_model.specs.declared.states.Creating.TheVariants.{PutsFrame, ComparesFrame, ListsDeclared}
 use Rattle.ts_model.specs.declared.states.Seeking.TheVariants.{ListsCommits, ListsSchemas, GetsSchema, GetsFrame}
 use Rattle.ts_model.specs.declared.states.Collecting.TheVariants.{GetsVacs, GetsHeads, GetsSchemas, GetsDeletes, Fetches}
-use Rattle.ts_base.specs.declared.names.Prefix.TheVariants.{Commits, Schemas}
+use Rattle.ts_base.specs.declared.names.Prefix.TheVariants.{Commits, Leases, Schemas}
 use Rattle.ts_model.specs.Told.{Told, trace_of, IsShortCall, schemas_found, held_told, history_told}
 use Rattle.ts_store.specs.Calls.{names_under}
-use Rattle.ts_law.specs.Fresh.{id_in}
+use Rattle.ts_law.specs.Fresh.{id_in, AreSpent, IsSpent}
+pub use Rattle.ts_law.specs.Since.{Clean, HeldSince, Since, AreVacs}
+use Rattle.ts_law.specs.Sweeps.{GetsNames, ListsAll, SweepsFrom, Vacuuming}
+use Rattle.ts_law.specs.Leases.{AreLeased, IsBroken, Spares}
 use Rattle.ts_cond.specs.declared.query.Query.{Query}
 use Rattle.ts_cond.specs.Tests.{Condition}
 use Rattle.ts_domain.specs.declared.boxes.SubBox.{SubBox}
@@ -62,24 +66,17 @@ use Rattle.ts_model.specs.States.{delete_object_of, schema_object_of, write_obje
 use Rattle.ts_model.specs.Stages.{lease_of, stage_of}
 use Rattle.ts_model.specs.Codecs.{Codec, Spelled, Tracking}
 use Rattle.ts_model.specs.Jobs.{key_of, frag_of_job, AreFit, AreApart, looked_at, job_with}
-use Rattle.ts_law.specs.Stands.{HoldsIn, IsCommitted, IsNoLease, IsUnspent, Names, Stands}
+use Rattle.ts_law.specs.Stands.{HoldsIn, IsCommitted, Stands}
 use Rattle.ts_law.specs.Origins.{last_version, newest_at, wrote_in}
-use Rattle.ts_commit.specs.Selections.{has_origin, is_among, is_usable, names_merged}
-use Rattle.ts_commit.specs.declared.vacs.VacOf.{VacOf}
-use Rattle.ts_law.specs.Ends.{FindsSchema, ListedAt, IsPlanned, IsUndone, IsTrueEnd}
-use Rattle.ts_model.specs.Deeds.{History, frame_in, writes, deletions, schema_with, schema_there}
+use Rattle.ts_commit.specs.Selections.{clipped_names, has_origin, is_among, is_clipped, is_usable, names_merged, usable}
+use Rattle.ts_law.specs.Ends.{AreHeads, FindsSchema, ListedAt, IsGone, IsPlanned, IsUndone, IsTrueEnd, dead_leases}
+use Rattle.ts_model.specs.Deeds.{History, frame_in, deletions, schema_with, schema_there}
 use Rattle.ts_model.specs.Commands.{frame_made, create_refusal, laid}
 use Rattle.ts_store.specs.declared.call.Call.TheVariants as call
 use Rattle.ts_model.specs.declared.answers.Outcome.TheVariants as outcome
 use Rattle.std.specs.FinMap as map
 
 -- ---- what a job found so far
-
--- no object that is held carries the identifier of a job, its own lease aside, no deed has its key, and its identifier is unspent
-pub record Clean (m : Held) (h : History) (job : Job) : Type 0 where
-  pub free : (n : Name) → id_in n ≡ Some job.id → (lease_of job ≡ Some n → ⊥) → map.get m n ≡ None
-  pub undone : IsUndone h job
-  pub unspent : IsUnspent m job.id
 
 -- the schema that a job works in: at its listing of the schemas it was the one that held where the job looks, and it is a deed; no deed of the job was there
 pub record Works (past : History) (jobs : List Job) (seen : List Told) (number : ℕ) (job : Job) (there : Schema) : Type 0 where
@@ -90,16 +87,6 @@ pub record Works (past : History) (jobs : List Job) (seen : List Told) (number :
   pub is_found : schemas_found (trace_of number seen) ≡ Some found
   pub at : schema_at found (looked_at job) ≡ Some there.key
   pub declared : schema_with (history_told jobs past seen) there.key ≡ Some there
-
--- all that was held is held still, but for leases
-abbrev pub HeldSince : Held → Held → Type 0
-HeldSince before m = (n : Name) (bytes : List ℕ) → IsNoLease n → map.get before n ≡ Some bytes → map.get m n ≡ Some bytes
-
--- what a read knows since its listing of the commits, where `opening` was held at the beginning: the objects stood for the history then, and are held still
-pub record Since (spelled : Spelled) (opening : Held) (past : History) (jobs : List Job) (seen : List Told) (m : Held) (number : ℕ) : Type 0 where
-  pub commits : ListedAt seen number Commits
-  pub stands : Stands spelled (held_told opening commits.before) (history_told jobs past commits.before)
-  pub held : HeldSince (held_told opening commits.before) m
 
 -- what a read looks into of the commits that it listed
 pub record LooksInto (spelled : Spelled) (opening : Held) (past : History) (jobs : List Job) (seen : List Told) (m : Held) (number from to : ℕ) (fragments counting delete_names : List FragKey) : Type 0 where
@@ -115,6 +102,9 @@ pub record LooksInto (spelled : Spelled) (opening : Held) (past : History) (jobs
 abbrev pub HasLooked : Spelled → Held → History → List Job → List Told → Held → ℕ → Command → Listed → Type 0
 HasLooked spelled opening past jobs seen m number (Create f) listed = ⊥
 HasLooked spelled opening past jobs seen m number (Consolidate from to limits) listed = ⊥
+HasLooked spelled opening past jobs seen m number Vacuum listed = ⊥
+HasLooked spelled opening past jobs seen m number (Unlock seed lane) listed = ⊥
+HasLooked spelled opening past jobs seen m number Fragments listed = ⊥
 HasLooked spelled opening past jobs seen m number (Read from to query) listed = LooksInto spelled opening past jobs seen m number from to listed.fragments listed.counting listed.delete_names
 HasLooked spelled opening past jobs seen m number _ listed = ⊤
 
@@ -129,6 +119,9 @@ pub record ReadsAt (spelled : Spelled) (opening : Held) (past : History) (jobs :
 abbrev pub HasListed : Spelled → Held → History → List Job → List Told → Held → ℕ → Job → Command → Listed → Schema → Type 0
 HasListed spelled opening past jobs seen m number job (Create f) listed there = ⊥
 HasListed spelled opening past jobs seen m number job (Consolidate from to limits) listed there = ⊥
+HasListed spelled opening past jobs seen m number job Vacuum listed there = ⊥
+HasListed spelled opening past jobs seen m number job (Unlock seed lane) listed there = ⊥
+HasListed spelled opening past jobs seen m number job Fragments listed there = ⊥
 HasListed spelled opening past jobs seen m number job (Read from to query) listed there = ReadsAt spelled opening past jobs seen m number job from to listed.fragments listed.counting listed.delete_names there
 HasListed spelled opening past jobs seen m number job _ listed there = Works past jobs seen number job there
 
@@ -139,11 +132,6 @@ pub record ReadsIn (spelled : Spelled) (opening : Held) (past : History) (jobs :
   pub at : ReadsAt spelled opening past jobs seen m number job r.from r.to r.fragments r.counting r.delete_names r.there
   pub framed : frame_in (history_told jobs past ((at.works).schemas).before) ≡ Some r.frame
   pub is_ready : ready_in r.frame (r.there).attrs query ≡ Ok r.ready
-
--- a read got the first of the `.vac` objects of these committed fragments
-pub record AreVacs (m : Held) (counting : List FragKey) (vacs : List VacOf) : Type 0 where
-  pub frags : list_map (λ v. v.frag) vacs ≡ take (length vacs) counting
-  pub each : (v : VacOf) → Contains vacs v → IsCommitted m v.frag × Names m v.frag v.names
 
 -- an open fragment: its head is that of its piece, and its object is that of the part with the head
 pub record IsOpen {F : Type 0} (codec : Codec F) (spelled : Spelled) (g : History) (m : Held) (frame : Frame) (o : Opened) : Type 0 where
@@ -158,12 +146,14 @@ pub record AreOpen {F : Type 0} (codec : Codec F) (spelled : Spelled) (g : Histo
   pub frags : list_map (λ o. o.frag) opened ≡ take (length opened) fragments
   pub each : (o : Opened) → Contains opened o → IsOpen codec spelled g m frame o
 
--- a read loads these fragments: each is open, and the read can use it; each write in the interval went into one of them, and no fragment is clipped
+-- a read that knows what it clips loads these fragments: each is open, and one that the read can use; each write in the interval that is not clipped went into one of them
 pub record AreChosen {F : Type 0} (codec : Codec F) (spelled : Spelled) (g : History) (m : Held) (r : Reading) (chosen : List Opened) : Type 0 where
+  pub heads : List Head
+  pub are_heads : AreHeads spelled g m r.from r.to heads
+  pub clipped_is : r.clipped ≡ clipped_names r.from r.to heads
   pub each : (o : Opened) → Contains chosen o → IsOpen codec spelled g m r.frame o
-  pub usable : (o : Opened) → Contains chosen o → is_usable r.from r.to o.head ≡ true
-  pub covered : (w : Written) → Contains (writes g) w → is_within r.from r.to w.key ≡ true → (o : Opened) × Contains chosen o × (has_origin w.key o.head ≡ true)
-  pub unclipped : r.clipped ≡ []
+  pub usable : (o : Opened) → Contains chosen o → Contains (usable r.from r.to heads) o.head
+  pub covered : (k : Key) → is_within r.from r.to k ≡ true → is_clipped r.from r.to heads k ≡ false → (o : Opened) × Contains chosen o × (has_origin k o.head ≡ true)
 
 -- the further schemas of a read are those of these keys, as far as it got them, and each is a deed
 pub record AreSchemas (h : History) (keys : List Key) (schemas : List Schema) : Type 0 where
@@ -313,6 +303,23 @@ pub record AimsToMerge {F : Type 0} (codec : Codec F) (spelled : Spelled) (openi
   pub can : can_be_named (piece_merged job survey.frame first others got) ≡ true
   pub are : objects ≡ merge_objects codec survey.frame schema (piece_merged job survey.frame first others got) (names_merged survey.vacs (frags_of (first ∷ others)))
 
+-- ---- what an unlock found so far
+
+-- the command makes a listing of its own, and works in no schema: it is an unlock, or `fragments`
+abbrev pub MakesListing : Command → Type 0
+MakesListing command = ((seed : ℕ) × (lane : ℕ) × (command ≡ Unlock seed lane)) ⊎ (command ≡ Fragments)
+
+-- an unlock that listed the leases and removes these of them, one after the other: those before a place are gone
+pub record Unlocking (opening : Held) (past : History) (jobs : List Job) (seen : List Told) (m : Held) (number : ℕ) (job : Job) (names : List Name) (next : ℕ) (end : Outcome) : Type 0 where
+  pub clean : Clean opening past jobs seen m job
+  pub seed : ℕ
+  pub lane : ℕ
+  pub unlocks : job.command ≡ Unlock seed lane
+  pub leases : ListedAt seen number Leases
+  pub names_are : names ≡ dead_leases seed lane opening leases.before
+  pub ends : end ≡ outcome.Unlocked (length names)
+  pub gone : (i : ℕ) (n : Name) → i < next → slice_get names i ≡ Some n → IsGone opening seen number n
+
 -- ---- what a job puts
 
 -- what the job's last put makes of it: by its end
@@ -338,68 +345,82 @@ pub record Putting {F : Type 0} (codec : Codec F) (spelled : Spelled) (opening :
   pub free : (i : ℕ) (o : NewObject) → next ≤ i → slice_get objects i ≡ Some o → map.get m o.name ≡ None
   pub some : next < length objects
   pub undone : IsUndone (history_told jobs past seen) job
-  pub unspent : IsUnspent m job.id
+  pub unspent : IsSpent opening past seen job.id → ⊥
   pub aims : Aims codec spelled opening past jobs seen m number job objects end
 
 -- ---- claims
 
 -- what the state of a create that has not come to its puts says is true
-abbrev pub CreateClaims : History → List Job → List Told → Held → Job → Creating → Type 0
-CreateClaims past jobs seen m job PutsFrame =
-    Clean m (history_told jobs past seen) job × ((f : FrameIn) × (job.command ≡ Create f) × (create_refusal f ≡ None))
-CreateClaims past jobs seen m job ComparesFrame =
-    Clean m (history_told jobs past seen) job × ((f : FrameIn) × (job.command ≡ Create f) × (create_refusal f ≡ None)) × ((frame : Frame) × (frame_in (history_told jobs past seen) ≡ Some frame))
-CreateClaims past jobs seen m job ListsDeclared =
-    Clean m (history_told jobs past seen) job × ((f : FrameIn) × (job.command ≡ Create f) × (create_refusal f ≡ None) × (frame_in (history_told jobs past seen) ≡ Some (frame_made f)))
+abbrev pub CreateClaims : Held → History → List Job → List Told → Held → Job → Creating → Type 0
+CreateClaims opening past jobs seen m job PutsFrame =
+    Clean opening past jobs seen m job × ((f : FrameIn) × (job.command ≡ Create f) × (create_refusal f ≡ None))
+CreateClaims opening past jobs seen m job ComparesFrame =
+    Clean opening past jobs seen m job × ((f : FrameIn) × (job.command ≡ Create f) × (create_refusal f ≡ None)) × ((frame : Frame) × (frame_in (history_told jobs past seen) ≡ Some frame))
+CreateClaims opening past jobs seen m job ListsDeclared =
+    Clean opening past jobs seen m job × ((f : FrameIn) × (job.command ≡ Create f) × (create_refusal f ≡ None) × (frame_in (history_told jobs past seen) ≡ Some (frame_made f)))
 
 -- what the state of a job that seeks its schema and the frame says is true
 abbrev pub SeekClaims : Spelled → Held → History → List Job → List Told → Held → ℕ → Job → Seeking → Type 0
-SeekClaims spelled opening past jobs seen m number job ListsCommits = Clean m (history_told jobs past seen) job × ((from : ℕ) × (to : ℕ) × (query : Query) × (job.command ≡ Read from to query))
-SeekClaims spelled opening past jobs seen m number job (ListsSchemas listed) = Clean m (history_told jobs past seen) job × HasLooked spelled opening past jobs seen m number job.command listed
+SeekClaims spelled opening past jobs seen m number job ListsCommits = Clean opening past jobs seen m job × ((from : ℕ) × (to : ℕ) × (query : Query) × (job.command ≡ Read from to query))
+SeekClaims spelled opening past jobs seen m number job (ListsSchemas listed) = Clean opening past jobs seen m job × HasLooked spelled opening past jobs seen m number job.command listed
 SeekClaims spelled opening past jobs seen m number job (GetsSchema listed there) =
-    Clean m (history_told jobs past seen) job × ((s : Schema) × (s.key ≡ there) × HasListed spelled opening past jobs seen m number job job.command listed s)
+    Clean opening past jobs seen m job × ((s : Schema) × (s.key ≡ there) × HasListed spelled opening past jobs seen m number job job.command listed s)
 SeekClaims spelled opening past jobs seen m number job (GetsFrame listed there) =
-    Clean m (history_told jobs past seen) job × HasListed spelled opening past jobs seen m number job job.command listed there
+    Clean opening past jobs seen m job × HasListed spelled opening past jobs seen m number job job.command listed there
 
 -- what the state of a read that collects says is true
 abbrev pub CollectClaims : {F : Type 0} → Codec F → Spelled → Tracking F → Held → History → List Job → List Told → Held → ℕ → Job → Collecting F → Type 0
 CollectClaims codec spelled tracks opening past jobs seen m number job (GetsVacs r) =
-    Clean m (history_told jobs past seen) job × GettingVacs spelled opening past jobs seen m number job r × (r.deletions ≡ [])
+    Clean opening past jobs seen m job × GettingVacs spelled opening past jobs seen m number job r × (r.deletions ≡ [])
 CollectClaims codec spelled tracks opening past jobs seen m number job (GetsHeads r opened) =
-    Clean m (history_told jobs past seen) job × Opening codec spelled opening past jobs seen m number job r opened × (r.deletions ≡ [])
+    Clean opening past jobs seen m job × Opening codec spelled opening past jobs seen m number job r opened × (r.deletions ≡ [])
 CollectClaims codec spelled tracks opening past jobs seen m number job (GetsSchemas r opened keys schemas) =
-    Clean m (history_told jobs past seen) job × (keys ≡ keys_named r opened) × Gathering codec spelled opening past jobs seen m number job r opened schemas × (r.deletions ≡ [])
+    Clean opening past jobs seen m job × (keys ≡ keys_named r opened) × Gathering codec spelled opening past jobs seen m number job r opened schemas × (r.deletions ≡ [])
 CollectClaims codec spelled tracks opening past jobs seen m number job (GetsDeletes r opened schemas) =
-    Clean m (history_told jobs past seen) job × GettingDeletes codec spelled opening past jobs seen m number job r opened schemas
+    Clean opening past jobs seen m job × GettingDeletes codec spelled opening past jobs seen m number job r opened schemas
 CollectClaims codec spelled tracks opening past jobs seen m number job (Fetches r opened schemas next frag got fetch c) =
-    Clean m (history_told jobs past seen) job × (slice_get (list_map (λ o. o.frag) opened) next ≡ Some frag)
+    Clean opening past jobs seen m job × (slice_get (list_map (λ o. o.frag) opened) next ≡ Some frag)
     × ((fetches : Fetching codec spelled opening past jobs seen m number job r opened schemas next got)
     × OnWay spelled tracks (history_told jobs past (((((((fetches.deletes_found).gathers)).reads).at).listed).since.commits).before)
     (held_told opening (((((((fetches.deletes_found).gathers)).reads).at).listed).since.commits).before) r frag fetch c)
 
 -- what the state of a consolidation that has not come to its puts says is true
 abbrev pub MergeClaims : {F : Type 0} → Codec F → Spelled → Tracking F → Held → History → List Job → List Told → Held → ℕ → Job → Merging F → Type 0
-MergeClaims codec spelled tracks opening past jobs seen m number job merging.ListsCommits = Clean m (history_told jobs past seen) job × ((from : ℕ) × (to : ℕ) × (limits : Limits) × (job.command ≡ Consolidate from to limits))
-MergeClaims codec spelled tracks opening past jobs seen m number job (merging.ListsSchemas c) = Clean m (history_told jobs past seen) job × Chooses spelled opening past jobs seen m number job c
+MergeClaims codec spelled tracks opening past jobs seen m number job merging.ListsCommits = Clean opening past jobs seen m job × ((from : ℕ) × (to : ℕ) × (limits : Limits) × (job.command ≡ Consolidate from to limits))
+MergeClaims codec spelled tracks opening past jobs seen m number job (merging.ListsSchemas c) = Clean opening past jobs seen m job × Chooses spelled opening past jobs seen m number job c
 MergeClaims codec spelled tracks opening past jobs seen m number job (merging.GetsFrame c) =
-    Clean m (history_told jobs past seen) job × Chooses spelled opening past jobs seen m number job c × ((frame : Frame) × (frame_in (history_told jobs past seen) ≡ Some frame)) × FindsSchema jobs past seen number job
-MergeClaims codec spelled tracks opening past jobs seen m number job (merging.GetsVacs s) = Clean m (history_told jobs past seen) job × Surveys spelled opening past jobs seen m number job s
-MergeClaims codec spelled tracks opening past jobs seen m number job (merging.GetsHeads s opened) = Clean m (history_told jobs past seen) job × Opens codec spelled opening past jobs seen m number job s opened
+    Clean opening past jobs seen m job × Chooses spelled opening past jobs seen m number job c × ((frame : Frame) × (frame_in (history_told jobs past seen) ≡ Some frame)) × FindsSchema jobs past seen number job
+MergeClaims codec spelled tracks opening past jobs seen m number job (merging.GetsVacs s) = Clean opening past jobs seen m job × Surveys spelled opening past jobs seen m number job s
+MergeClaims codec spelled tracks opening past jobs seen m number job (merging.GetsHeads s opened) = Clean opening past jobs seen m job × Opens codec spelled opening past jobs seen m number job s opened
 MergeClaims codec spelled tracks opening past jobs seen m number job (merging.GetsSchemas s opened keys schemas) =
-    Clean m (history_told jobs past seen) job × (keys ≡ schemas_named opened) × Learns codec spelled opening past jobs seen m number job s opened schemas
+    Clean opening past jobs seen m job × (keys ≡ schemas_named opened) × Learns codec spelled opening past jobs seen m number job s opened schemas
 MergeClaims codec spelled tracks opening past jobs seen m number job (merging.Fetches s sources schema next frag got fetch c) =
-    Clean m (history_told jobs past seen) job × (slice_get (frags_of sources) next ≡ Some frag)
+    Clean opening past jobs seen m job × (slice_get (frags_of sources) next ≡ Some frag)
     × ((merges : Merges codec spelled opening past jobs seen m number job s sources schema next got)
     × IsFetched codec spelled tracks (history_told jobs past (((((merges.has).surveys).chooses).since).commits).before) (held_told opening (((((merges.has).surveys).chooses).since).commits).before)
     s.frame schema frag (merges.has).pieces next fetch c)
 
+-- what the state of a vacuum that has not come to its removals says is true
+abbrev pub SweepClaims : Spelled → Held → History → List Job → List Told → Held → ℕ → Job → Sweeping → Type 0
+SweepClaims spelled opening past jobs seen m number job sweeping.ListsCommits = Clean opening past jobs seen m job × (job.command ≡ Vacuum)
+SweepClaims spelled opening past jobs seen m number job (sweeping.ListsSchemas s) = Clean opening past jobs seen m job × SweepsFrom spelled opening past jobs seen m number job s
+SweepClaims spelled opening past jobs seen m number job (sweeping.GetsVacs s) = Clean opening past jobs seen m job × GetsNames spelled opening past jobs seen m number job s
+SweepClaims spelled opening past jobs seen m number job (sweeping.ListsParts s set listed) = Clean opening past jobs seen m job × ListsAll spelled opening past jobs seen m number job s set listed
+
+-- a job that removes objects is an unlock or a vacuum
+abbrev pub Removing : Spelled → Held → History → List Job → List Told → Held → ℕ → Job → List Name → ℕ → Outcome → Type 0
+Removing spelled opening past jobs seen m number job names next end = Unlocking opening past jobs seen m number job names next end ⊎ Vacuuming spelled opening past jobs seen m number job names next end
+
 -- what a job's state says is true
 abbrev pub Claims : {F : Type 0} → Codec F → Spelled → Tracking F → Held → History → List Job → List Told → Held → ℕ → Job → State F → Type 0
-Claims codec spelled tracks opening past jobs seen m number job (Creates s) = CreateClaims past jobs seen m job s
+Claims codec spelled tracks opening past jobs seen m number job (Creates s) = CreateClaims opening past jobs seen m job s
 Claims codec spelled tracks opening past jobs seen m number job (Seeks s) = SeekClaims spelled opening past jobs seen m number job s
 Claims codec spelled tracks opening past jobs seen m number job (Puts objects next end) = Putting codec spelled opening past jobs seen m number job objects next end
 Claims codec spelled tracks opening past jobs seen m number job (Collects s) = CollectClaims codec spelled tracks opening past jobs seen m number job s
 Claims codec spelled tracks opening past jobs seen m number job (states.Merges s) = MergeClaims codec spelled tracks opening past jobs seen m number job s
+Claims codec spelled tracks opening past jobs seen m number job Lists = Clean opening past jobs seen m job × MakesListing job.command
+Claims codec spelled tracks opening past jobs seen m number job (states.Sweeps s) = SweepClaims spelled opening past jobs seen m number job s
+Claims codec spelled tracks opening past jobs seen m number job (Removes names next end) = Removing spelled opening past jobs seen m number job names next end
 Claims codec spelled tracks opening past jobs seen m number job (Over end) = IsTrueEnd spelled opening jobs past seen number job end
 
 -- a job holds its lease, or is to put it, and its work has not begun
@@ -424,14 +445,16 @@ pub record IsOfJobs (jobs : List Job) (e : Told) : Type 0 where
 pub record Kept {F : Type 0} (codec : Codec F) (spelled : Spelled) (tracks : Tracking F) (opening : Held) (past : History) (jobs : List Job) (dead : List ℕ) (seen : List Told) (m : Held) : Type 0 where
   pub stands : Stands spelled m (history_told jobs past seen)
   pub is_held : m ≡ held_told opening seen
+  pub spent : AreSpent opening past seen m
   pub apart : AreApart jobs
   pub fit : AreFit jobs
   pub known : All (IsOfJobs jobs) seen
+  pub leased : AreLeased codec jobs dead seen m
   pub claims : (number : ℕ) (job : Job) → slice_get jobs number ≡ Some job → (Contains dead number → ⊥) → StageClaims codec spelled tracks opening past jobs seen m number job (stage_of codec job (trace_of number seen))
 
 -- ---- which calls may come
 
--- the call is one that a job may make which was not dropped
+-- the call is one that a job may make which was not dropped, and it spares the leases of other jobs
 pub record IsAllowed {F : Type 0} (codec : Codec F) (jobs : List Job) (dead : List ℕ) (seen : List Told) (e : Told) : Type 0 where
   pub number : ℕ
   pub job : Job
@@ -439,9 +462,18 @@ pub record IsAllowed {F : Type 0} (codec : Codec F) (jobs : List Job) (dead : Li
   pub is_job : slice_get jobs number ≡ Some job
   pub alive : Contains dead number → ⊥
   pub asked : MayAsk codec job (stage_of codec job (trace_of number seen)) e.call
+  pub spares : Spares codec jobs dead seen job e.call
   pub short : IsShortCall e.call
 
--- each of these calls may come after those before it
-abbrev pub AreAllowed : {F : Type 0} → Codec F → List Job → List ℕ → List Told → List Told → Type 0
-AreAllowed codec jobs dead seen [] = ⊤
-AreAllowed codec jobs dead seen (e ∷ es) = IsAllowed codec jobs dead seen e × AreAllowed codec jobs dead (seen ++ e ∷ []) es
+-- a call that may come: one of a job, or nobody's that breaks a lease
+abbrev pub MayCome : {F : Type 0} → Codec F → List Job → List ℕ → List Told → Told → Type 0
+MayCome codec jobs dead seen e = IsAllowed codec jobs dead seen e ⊎ IsBroken codec jobs dead seen e
+
+-- the numbers of the one list are among those of the other
+abbrev pub AreAmong : List ℕ → List ℕ → Type 0
+AreAmong few many = (n : ℕ) → Contains few n → Contains many n
+
+-- each of these calls may come after those before it. Jobs may be dropped before any of them: at first those of `dead` were, and in the end those of `last`
+abbrev pub AreAllowed : {F : Type 0} → Codec F → List Job → List ℕ → List ℕ → List Told → List Told → Type 0
+AreAllowed codec jobs dead last seen [] = AreAmong dead last
+AreAllowed codec jobs dead last seen (e ∷ es) = (now : List ℕ) × AreAmong dead now × MayCome codec jobs now seen e × AreAllowed codec jobs now last (seen ++ e ∷ []) es

@@ -1,12 +1,17 @@
 pub mod Origins
 pub mod Stands
+pub mod Removals
 pub mod Courses
 pub mod Fresh
 pub mod Lanes
 pub mod Histories
 pub mod Ends
+pub mod Swept
 pub mod Refusals
 pub mod Runs
 pub mod Doing
+pub mod Leases
+pub mod Since
+pub mod Sweeps
 pub mod Kept
 pub mod Steps

@@ -1,5 +1,5 @@
 -- Why a job is refused: what its refusal tells of the history that the job found.
-use Rattle.std.specs.Prelude.{◌≡◌, ◌≢◌, ℕ, List, [], Option, Some, None, option_map, Contains, ◌⊎◌}
+use Rattle.std.specs.Prelude.{◌≡◌, ◌≢◌, ℕ, List, [], Option, Some, None, option_map, Contains, ⊤, ◌⊎◌}
 use Rattle.std.specs.Result.{result_err}
 use Rattle.ts_base.specs.Held.{Held}
 use Rattle.ts_base.specs.declared.names.Name.{Name}
@@ -14,7 +14,7 @@ use Rattle.ts_schema.specs.Evolutions.{evolution_fault}
 use Rattle.ts_store.specs.declared.call.Call.{Call}
 use Rattle.ts_store.specs.Calls.{names_under}
 use Rattle.ts_model.specs.declared.commands.Command.{Command}
-use Rattle.ts_model.specs.declared.commands.Command.TheVariants.{Create, Evolve, Write, Read, Delete}
+use Rattle.ts_model.specs.declared.commands.Command.TheVariants.{Create, Evolve, Write, Read, Delete, Unlock, Fragments}
 use Rattle.ts_model.specs.declared.commands.FrameIn.{FrameIn}
 use Rattle.ts_model.specs.declared.commands.Job.{Job}
 use Rattle.ts_model.specs.declared.answers.Refusal.{Refusal}
@@ -23,13 +23,20 @@ use Rattle.ts_model.specs.Deeds.{History, frame_in, schemas, schema_there}
 use Rattle.ts_model.specs.Jobs.{looked_at}
 use Rattle.ts_model.specs.Queries.{delete_condition, ready_in}
 use Rattle.ts_model.specs.Stages.{lease_of}
-use Rattle.ts_model.specs.States.{get_frame, made_by, place_of}
+use Rattle.ts_model.specs.States.{get_frame, place_of}
 use Rattle.ts_model.specs.Told.{Told, held_told, history_told, trace_of}
 use Rattle.ts_model.specs.Codecs.{Spelled}
 pub use Rattle.ts_law.specs.Ends.{ListedAt, MadeAt, FindsNothing}
 use Rattle.ts_store.specs.declared.call.Reply.TheVariants as reply
 use Rattle.ts_store.specs.declared.fate.Fate.TheVariants as fate
 use Rattle.ts_model.specs.declared.answers.Refusal.TheVariants as refusal
+
+-- the command works in a schema, which it looks for: a create, an unlock and `fragments` do not
+abbrev pub WorksInSchema : Command → Type 0
+WorksInSchema (Create made) = ⊥
+WorksInSchema (Unlock seed lane) = ⊥
+WorksInSchema Fragments = ⊥
+WorksInSchema _ = ⊤
 
 -- why a command is refused that works in an array with a frame, through a schema with these attributes
 abbrev pub refusal_in : Frame → List Attr → Command → Option Refusal
@@ -47,7 +54,7 @@ FindsArray jobs past told number made =
 
 -- a job found no schema: as it listed them none held where it looks
 pub record FindsNoSchema (jobs : List Job) (past : History) (told : List Told) (number : ℕ) (job : Job) (at : ℕ) : Type 0 where
-  pub works : made_by job.command ≡ None
+  pub works : WorksInSchema job.command
   pub looks : at ≡ looked_at job
   pub schemas : ListedAt told number Schemas
   pub none : schema_there (history_told jobs past schemas.before) at ≡ None

@@ -1,5 +1,5 @@
 -- A map of objects stands for a history.
-use Rattle.std.specs.Prelude.{◌≡◌, ◌<◌, ℕ, true, List, Some, option_map, Ok, IsTrue, Contains, ⊤, ◌⊎◌}
+use Rattle.std.specs.Prelude.{◌≡◌, ◌<◌, ℕ, true, List, Some, option_map, Ok, IsTrue, Contains, ⊤}
 use Rattle.ts_base.specs.declared.keys.Key.{Key}
 use Rattle.ts_base.specs.declared.keys.FragKey.{FragKey}
 use Rattle.ts_base.specs.declared.names.Name.{Name}
@@ -9,11 +9,10 @@ use Rattle.ts_base.specs.declared.heads.Piece.{Piece}
 use Rattle.ts_model.specs.declared.deeds.Written.{Written}
 use Rattle.ts_schema.specs.declared.frames.Frame.{Frame}
 use Rattle.ts_schema.specs.declared.schemas.Schema.{Schema}
-use Rattle.ts_commit.specs.Selections.{has_origin, is_usable}
+use Rattle.ts_commit.specs.Selections.{has_origin}
 use Rattle.ts_commit.specs.Vacs.{names_of, AreNames}
 use Rattle.ts_base.specs.Held.{Held}
 use Rattle.ts_base.specs.declared.names.CommitKind.TheVariants.{Del}
-use Rattle.ts_base.specs.Keys.{frag_of, is_within}
 use Rattle.ts_base.specs.Names.{wrt_of, IsSpelledFrag}
 use Rattle.ts_base.specs.Spelling.{FitsFrag}
 use Rattle.ts_schema.specs.FrameTexts.{frame_object}
@@ -21,10 +20,9 @@ use Rattle.ts_schema.specs.SchemaTexts.{schema_object}
 use Rattle.ts_schema.specs.Parts.{Look, IsShort}
 use Rattle.ts_law.specs.Origins.{HoldsWrites}
 use Rattle.ts_model.specs.States.{vac_of}
-use Rattle.ts_law.specs.Fresh.{id_in}
 use Rattle.ts_model.specs.Codecs.{Spelled}
 use Rattle.ts_cond.specs.CondTexts.{cond_object}
-use Rattle.ts_model.specs.Deeds.{History, frame_in, writes, keys, schema_with, deletion_of, IsHistory}
+use Rattle.ts_model.specs.Deeds.{History, frame_in, writes, schema_with, deletion_of, IsHistory}
 use Rattle.ts_base.specs.declared.names.Name.TheVariants as name
 use Rattle.std.specs.FinMap as map
 
@@ -90,18 +88,12 @@ pub record Within (spelled : Spelled) (h : History) (m : Held) (f g : FragKey) :
   pub other_holds : HoldsIn spelled h m g other
   pub within : AreWithin piece.head other.head
 
--- a fragment is one of a deed, or an object that is held carries its identifier
-abbrev pub IsKnown : History → Held → FragKey → Type 0
-IsKnown h m f = ((k : Key) × Contains (keys h) k × (f ≡ frag_of k)) ⊎ ((n : Name) × IsNoLease n × IsTrue (map.contains_key m n) × (id_in n ≡ Some f.id))
-
 -- what the `.vac` objects of committed fragments tell
 pub record AreMerged (spelled : Spelled) (h : History) (m : Held) : Type 0 where
   -- each spells names, and is so short that one get can ask for all of it
   pub reads : (g : FragKey) (bytes : List ℕ) → IsCommitted m g → map.get m (vac_of g) ≡ Some bytes → IsShort bytes × ((names : List FragKey) × (names_of bytes ≡ Ok names) × AreNames names)
   -- all that went into a committed fragment that it names went into the one whose `.vac` it is
   pub within : (g f : FragKey) → IsCommitted m g → IsCommitted m f → DoesName m g f → Within spelled h m f g
-  -- a deed or a held object carries the identifier of each fragment that it names, so no new job has it
-  pub known : (g f : FragKey) → IsCommitted m g → DoesName m g f → IsKnown h m f
   -- the committed fragments have ranks below a bound, and it names committed fragments of a lower rank alone
   pub rank : FragKey → ℕ
   pub top : ℕ
@@ -112,17 +104,11 @@ pub record AreMerged (spelled : Spelled) (h : History) (m : Held) : Type 0 where
 abbrev pub IsNamed : Held → FragKey → Type 0
 IsNamed m f = (g : FragKey) × IsCommitted m g × DoesName m g f
 
--- an identifier is unspent: no fragment that carries it is committed, and the `.vac` of no committed fragment names one
-pub record IsUnspent (m : Held) (id : ℕ) : Type 0 where
-  pub uncommitted : (f : FragKey) → f.id ≡ id → IsCommitted m f → ⊥
-  pub unnamed : (f : FragKey) → f.id ≡ id → IsNamed m f → ⊥
-
--- the write of the key went into a committed fragment that a read can use, wherever its interval has the write
+-- the write of the key went into a committed fragment
 pub record IsReached (spelled : Spelled) (h : History) (m : Held) (k : Key) : Type 0 where
   pub frag : FragKey
   pub committed : IsCommitted m frag
   pub went : WentInto spelled h m frag k
-  pub usable : (a b : ℕ) → is_within a b k ≡ true → is_usable a b (went.piece).head ≡ true
 
 -- the map stands for the history
 pub record Stands (spelled : Spelled) (m : Held) (h : History) : Type 0 where
@@ -141,5 +127,5 @@ pub record Stands (spelled : Spelled) (m : Held) (h : History) : Type 0 where
   pub whole : (f : FragKey) → IsCommitted m f → (p : Piece) × HoldsIn spelled h m f p
   -- the `.vac` objects of committed fragments tell what is so
   pub merged : AreMerged spelled h m
-  -- each write went into a committed fragment that reads can use
+  -- each write went into a committed fragment
   pub covered : (w : Written) → Contains (writes h) w → IsReached spelled h m w.key

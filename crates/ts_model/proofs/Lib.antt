@@ -12,6 +12,7 @@ pub mod Newest
 pub mod Filled
 pub mod Asked
 pub mod Lacks
+pub mod Removals
 pub mod Driving
 pub mod BlobDigits
 pub mod Checked

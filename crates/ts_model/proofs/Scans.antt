@@ -147,26 +147,30 @@ all_left h there ready a b m shows c = by_case (shows c)
 -- what is asked through the frame and the schema of the later history is referred
 pub referred : (seen later : History) (frame : Frame) (there : Schema) (a b : ℕ) (query : Query) (end : Outcome) → frame_in later ≡ Some frame → schema_there later b ≡ Some there
     → IsAsked seen frame there a b query end → IsReferred seen later a b query end
-referred seen later frame there a b query (outcome.Read answer) framed holds asked =
-    record {
-      frame = frame;
-      framed = framed;
-      there = there;
-      holds = holds;
-      ready = asked.0;
-      is_ready = asked.1;
-      cells = asked.3.cells;
-      each = asked.3.each;
-      rows = asked.3.same;
-      types = asked.2;
-      whole = asked.4;
-    }
+referred seen later frame there a b query (outcome.Read answer) framed holds asked = (
+  record {
+    frame = frame;
+    framed = framed;
+    there = there;
+    holds = holds;
+    ready = asked.0;
+    is_ready = asked.1;
+    cells = asked.3.cells;
+    each = asked.3.each;
+    rows = asked.3.same;
+    types = asked.2;
+  },
+  asked.4,
+)
 referred seen later frame there a b query (outcome.Refused r) framed holds asked = inr (frame, there, framed, holds, asked)
 referred seen later frame there a b query outcome.Created framed holds asked = absurd asked
 referred seen later frame there a b query (outcome.Evolved key) framed holds asked = absurd asked
 referred seen later frame there a b query (outcome.Written frag) framed holds asked = absurd asked
 referred seen later frame there a b query (outcome.Deleted frag) framed holds asked = absurd asked
 referred seen later frame there a b query (outcome.Consolidated frag count) framed holds asked = absurd asked
+referred seen later frame there a b query (outcome.Vacuumed count) framed holds asked = absurd asked
+referred seen later frame there a b query (outcome.Unlocked count) framed holds asked = absurd asked
+referred seen later frame there a b query (outcome.Listed names) framed holds asked = absurd asked
 referred seen later frame there a b query outcome.OutOfMemory framed holds asked = absurd asked
 
 -- so it is where there may be want of memory

@@ -77,4 +77,3 @@ pub record IsAnswer (h : History) (later : History) (a b : ℕ) (query : Query) 
   pub each : (c : List ℤ) → map.get cells c ≡ shown_inside h frame there ready a b c
   pub rows : answer.rows ≡ selected frame there.attrs ready (map.entries cells)
   pub types : answer.types ≡ types_shown frame there.attrs ready
-  pub whole : IsWhole answer

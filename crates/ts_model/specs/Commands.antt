@@ -34,7 +34,7 @@ use Rattle.ts_schema.specs.FrameTexts.{is_capacity, is_bound}
 use Rattle.ts_cond.specs.declared.query.NamedBox.{NamedBox}
 use Rattle.ts_cond.specs.declared.query.Query.{Query}
 use Rattle.ts_commit.specs.declared.vacs.Limits.{Limits}
-use Rattle.ts_model.specs.declared.commands.Command.TheVariants.{Create, Evolve, Write, Read, Delete, Consolidate}
+use Rattle.ts_model.specs.declared.commands.Command.TheVariants.{Create, Evolve, Write, Read, Delete, Consolidate, Vacuum, Unlock, Fragments}
 use Rattle.ts_base.specs.declared.values.Val.TheVariants.{Int, Bytes, Null}
 use Rattle.ts_base.specs.declared.values.ValType.TheVariants.{Blob}
 use Rattle.ts_model.specs.Deeds.{row_at, are_apart, CellFits}
@@ -317,3 +317,6 @@ fits (Write w) = is_spelled_write w
 fits (Read from to query) = nat_lt from (2 ^ 64) && (nat_lt to (2 ^ 64) && is_spelled_query query)
 fits (Delete text) = is_text text
 fits (Consolidate from to limits) = nat_lt from (2 ^ 64) && (nat_lt to (2 ^ 64) && are_limits limits)
+fits Vacuum = true
+fits (Unlock seed lane) = nat_lt seed (2 ^ 64) && nat_lt lane (2 ^ 32)
+fits Fragments = true

@@ -1,5 +1,5 @@
 -- Jobs that make the calls which their automaton lets them make, and no others.
-use Rattle.std.specs.Prelude.{◌≡◌, Bool, true, false, cond, not, ◌||◌, List, [], ◌∷◌, Some, length, ⊤, ◌⊎◌}
+use Rattle.std.specs.Prelude.{◌≡◌, Bool, true, false, cond, ◌||◌, List, [], ◌∷◌, Some, length, ⊤, ◌⊎◌}
 use Rattle.ts_store.specs.declared.call.Call.{Call}
 use Rattle.ts_model.specs.declared.commands.Job.{Job}
 use Rattle.ts_model.specs.declared.answers.Outcome.{Outcome}
@@ -9,14 +9,14 @@ use Rattle.ts_model.specs.declared.states.State.TheVariants.{Over}
 use Rattle.ts_model.specs.declared.states.Stage.TheVariants.{Works}
 use Rattle.ts_model.specs.Stops.{cuts, Uncut}
 use Rattle.ts_model.specs.States.{Exchange}
-use Rattle.ts_model.specs.Stages.{first_stage, stage_asks, is_release, holds_lease, is_done, stage_takes_memory, goes_on, stage_of}
+use Rattle.ts_model.specs.Stages.{first_stage, stage_asks, is_release, holds_lease, may_give_up, stage_takes_memory, stage_asks_memory, goes_on, stage_of}
 use Rattle.ts_model.specs.Codecs.{Codec}
 use Rattle.ts_model.specs.declared.answers.Outcome.TheVariants as outcome
 use Rattle.ts_model.specs.declared.answers.Driven.TheVariants as driven
 
--- a call that a job may make: the one that it asks next, or at any time the removal of the lease that it holds
+-- a call that a job may make: the one that it asks next, or the removal of its lease where it may give it up
 abbrev pub MayAsk : {F : Type 0} → Codec F → Job → Stage F → Call → Type 0
-MayAsk codec job stage c = (stage_asks codec job stage ≡ Some c) ⊎ ((is_release job c ≡ true) × (holds_lease job stage ≡ true))
+MayAsk codec job stage c = (stage_asks codec job stage ≡ Some c) ⊎ ((is_release job c ≡ true) × (may_give_up job stage ≡ true))
 
 -- each call is one that the job may make where those before it have led, from a stage on
 abbrev pub AskedFrom : {F : Type 0} → Codec F → Job → Stage F → List Exchange → Type 0
@@ -25,7 +25,7 @@ AskedFrom codec job stage (x ∷ xs) = MayAsk codec job stage x.call × AskedFro
 
 -- memory can be wanting after a call: for what its reply leads to, and for the next call; after the removal of the lease only where it was wanting before
 abbrev pub lacks_after : {F : Type 0} → Codec F → Job → Bool → Stage F → Exchange → Bool
-lacks_after codec job before stage x = cond (is_release job x.call) before (stage_takes_memory stage || not (is_done (goes_on codec job stage x)))
+lacks_after codec job before stage x = cond (is_release job x.call) before (stage_takes_memory stage || stage_asks_memory (goes_on codec job stage x))
 
 -- memory can be wanting after these calls, from a stage on where it can be wanting or not
 abbrev pub lacks_from : {F : Type 0} → Codec F → Job → Bool → Stage F → List Exchange → Bool

@@ -103,8 +103,8 @@ IsRefused later b query r =
     ((schema_there later b ≡ None) × (r ≡ refusal.NoSchema b))
     ⊎ ((frame : Frame) × (there : Schema) × (frame_in later ≡ Some frame) × (schema_there later b ≡ Some there) × (ready_in frame there.attrs query ≡ Err r))
 
--- how a read of [a, b] ends: with its answer, or refused
+-- how a read of [a, b] ends: with its answer, which leaves no write out, or refused
 abbrev pub IsReferred : History → History → ℕ → ℕ → Query → Outcome → Type 0
-IsReferred seen later a b query (outcome.Read answer) = IsAnswer seen later a b query answer
+IsReferred seen later a b query (outcome.Read answer) = IsAnswer seen later a b query answer × IsWhole answer
 IsReferred seen later a b query (outcome.Refused r) = IsRefused later b query r
 IsReferred seen later a b query end = ⊥

@@ -3,8 +3,7 @@ use Rattle.std.specs.Prelude.{Bool, true, false, cond, not, ◌&&◌, List, [], 
 use Rattle.std.specs.Option.{option_map_or, is_some}
 use Rattle.ts_base.specs.declared.names.Name.{Name}
 use Rattle.ts_base.specs.declared.names.LeaseMode.{LeaseMode}
-use Rattle.ts_base.specs.declared.names.LeaseMode.TheVariants.{Shr}
-use Rattle.ts_base.specs.declared.names.Prefix.TheVariants.{Leases}
+use Rattle.ts_base.specs.declared.names.LeaseMode.TheVariants.{Exc, Shr}
 use Rattle.ts_base.specs.Names.{name_eq}
 use Rattle.ts_lease.specs.declared.verdicts.Verdict.{Verdict}
 use Rattle.ts_lease.specs.declared.verdicts.Verdict.TheVariants.{Granted, Held}
@@ -12,7 +11,7 @@ use Rattle.ts_lease.specs.Leases.{verdict_in}
 use Rattle.ts_store.specs.declared.call.Call.{Call}
 use Rattle.ts_store.specs.declared.call.Reply.{Reply}
 use Rattle.ts_model.specs.declared.commands.Command.{Command}
-use Rattle.ts_model.specs.declared.commands.Command.TheVariants.{Read, Consolidate}
+use Rattle.ts_model.specs.declared.commands.Command.TheVariants.{Read, Consolidate, Vacuum}
 use Rattle.ts_model.specs.declared.commands.Job.{Job}
 use Rattle.ts_model.specs.declared.answers.Outcome.{Outcome}
 use Rattle.ts_model.specs.declared.states.State.{State}
@@ -21,7 +20,7 @@ use Rattle.ts_model.specs.declared.states.Stage.{Stage}
 use Rattle.ts_model.specs.declared.states.Stage.TheVariants.{PutsLease, ListsLeases, Works, Releases}
 use Rattle.ts_model.specs.Codecs.{Codec}
 use Rattle.ts_model.specs.Jobs.{key_of}
-use Rattle.ts_model.specs.States.{begun, asks, goes, is_over, takes_memory, end_by, place_of, Exchange}
+use Rattle.ts_model.specs.States.{begun, asks, goes, is_over, list_leases, takes_memory, asks_memory, is_amid_removals, end_by, place_of, Exchange}
 use Rattle.ts_base.specs.declared.names.Name.TheVariants as name
 use Rattle.ts_store.specs.declared.call.Call.TheVariants as call
 use Rattle.ts_store.specs.declared.call.Reply.TheVariants as reply
@@ -30,10 +29,11 @@ use Rattle.ts_model.specs.declared.answers.Refusal.TheVariants as refusal
 
 -- ---- leases
 
--- how the lease of a command lets other leases stand beside it, if the command has one: reads and consolidations share the store with one another
+-- how the lease of a command lets other leases stand beside it, if the command has one: reads and consolidations share the store with one another, and a vacuum with nobody who has one
 abbrev pub mode_of : Command → Option LeaseMode
 mode_of (Read from to query) = Some Shr
 mode_of (Consolidate from to limits) = Some Shr
+mode_of Vacuum = Some Exc
 mode_of command = None
 
 -- the lease of a job, if it has one
@@ -43,10 +43,6 @@ lease_of job = option_map (name.Lease (key_of job)) (mode_of job.command)
 -- the put of a lease, which is empty
 abbrev pub put_lease : Name → Call
 put_lease lease = call.Put lease []
-
--- the listing of the leases
-abbrev pub list_leases : Call
-list_leases = call.List Leases
 
 -- the call removes the object
 abbrev pub is_removal : Call → Name → Bool
@@ -113,12 +109,6 @@ stage_goes codec job (ListsLeases lease) r = after_leases lease (begun job.comma
 stage_goes codec job (Works s) r = settled (lease_of job) (goes codec job s r)
 stage_goes codec job (Releases lease end) r = Works (Over (released lease end r))
 
--- nothing is left to do but perhaps to remove the lease
-abbrev pub is_done : {F : Type 0} → Stage F → Bool
-is_done (Works s) = is_over s
-is_done (Releases lease end) = true
-is_done stage = false
-
 -- the lease of a job that has one is put, and not yet removed
 abbrev pub is_leased : {F : Type 0} → Stage F → Bool
 is_leased (PutsLease lease) = false
@@ -135,6 +125,20 @@ holds_lease job stage = is_some (lease_of job) && is_leased stage
 abbrev pub stage_takes_memory : {F : Type 0} → Stage F → Bool
 stage_takes_memory (Works s) = takes_memory s
 stage_takes_memory stage = false
+
+-- memory can be wanting for the next call: for what the work asks; what the job does with its lease takes none
+abbrev pub stage_asks_memory : {F : Type 0} → Stage F → Bool
+stage_asks_memory (Works s) = asks_memory s
+stage_asks_memory stage = false
+
+-- the job is at its removals: it has removed an object, and has more to remove
+abbrev pub is_removing : {F : Type 0} → Stage F → Bool
+is_removing (Works s) = is_amid_removals s
+is_removing stage = false
+
+-- for want of memory the job may give up its lease: it holds it, and is not at its removals
+abbrev pub may_give_up : {F : Type 0} → Job → Stage F → Bool
+may_give_up job stage = holds_lease job stage && not (is_removing stage)
 
 -- ---- traces
 

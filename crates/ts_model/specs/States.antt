@@ -1,5 +1,5 @@
 -- How a job goes: the call that it makes next, and where a reply leads it.
-use Rattle.std.specs.Prelude.{ℕ, ℤ, ◌-◌, ◌^◌, Bool, true, false, cond, not, ◌&&◌, if◌then◌else◌, List, [], ◌∷◌, ◌++◌, Option, Some, None, option_map, option_and_then, filter, filter_map, length, nat_le, nat_lt, nat_eq, slice_get, Result, Ok, Err, find, drop, suc, map as list_map}
+use Rattle.std.specs.Prelude.{ℕ, ℤ, ◌-◌, ◌/◌, ◌%◌, ◌^◌, Bool, true, false, cond, not, ◌&&◌, ◌||◌, if◌then◌else◌, List, [], ◌∷◌, ◌++◌, Option, Some, None, option_map, option_and_then, filter, filter_map, length, nat_le, nat_lt, nat_eq, slice_get, Result, Ok, Err, find, drop, suc, map as list_map}
 use Rattle.ts_base.specs.declared.keys.Key.{Key}
 use Rattle.ts_base.specs.declared.keys.FragKey.{FragKey}
 use Rattle.ts_base.specs.declared.names.Name.{Name}
@@ -25,6 +25,9 @@ use Rattle.ts_model.specs.declared.states.Collecting.{Collecting}
 use Rattle.ts_model.specs.declared.states.Merging.{Merging}
 use Rattle.ts_model.specs.declared.states.Candidates.{Candidates}
 use Rattle.ts_model.specs.declared.states.Survey.{Survey}
+use Rattle.ts_model.specs.declared.states.Sweep.{Sweep}
+use Rattle.ts_model.specs.declared.states.Sweeping.{Sweeping}
+use Rattle.ts_model.specs.declared.states.Sweeping.TheVariants as sweeping
 use Rattle.ts_model.specs.declared.states.NewObject.{NewObject}
 use Rattle.ts_model.specs.declared.states.Opened.{Opened}
 use Rattle.ts_model.specs.declared.states.Reading.{Reading}
@@ -36,7 +39,7 @@ use Rattle.ts_schema.specs.declared.schemas.Schema.{Schema}
 use Rattle.ts_schema.specs.declared.attrs.Attr.{Attr}
 use Rattle.ts_schema.specs.declared.wants.Want.{Want}
 use Rattle.std.specs.List.{list_any}
-use Rattle.std.specs.Option.{option_map_or}
+use Rattle.std.specs.Option.{is_none, is_some, option_map_or}
 use Rattle.std.specs.Str.{bytes_eq}
 use Rattle.ts_base.specs.Keys.{key_eq, key_cmp, key_lt}
 use Rattle.ts_base.specs.Names.{wrt_of, del_of}
@@ -44,9 +47,10 @@ use Rattle.ts_domain.specs.declared.boxes.SubBox.{SubBox}
 use Rattle.ts_domain.specs.Boxes.{coords_of_box}
 use Rattle.ts_domain.specs.Domains.{whole_domain}
 use Rattle.ts_commit.specs.declared.vacs.Limits.{Limits}
+use Rattle.ts_commit.specs.declared.vacs.VacOf.{VacOf}
 use Rattle.ts_commit.specs.declared.vacs.Planned.{Planned}
 use Rattle.ts_commit.specs.Plans.{is_inside, plan_of}
-use Rattle.ts_commit.specs.Selections.{is_among, loaded, clipped_names, names_merged}
+use Rattle.ts_commit.specs.Selections.{is_among, loaded, clipped_names, names_merged, removal_set}
 use Rattle.ts_commit.specs.Vacs.{names_of, vac_object}
 use Rattle.ts_cond.specs.CondTexts.{cond_object, cond_of}
 use Rattle.ts_cond.specs.Picks.{matches}
@@ -55,13 +59,13 @@ use Rattle.ts_schema.specs.Attrs.{shown_row}
 use Rattle.ts_schema.specs.Evolutions.{evolved_attrs, evolution_fault, schema_at}
 use Rattle.ts_schema.specs.FrameTexts.{frame_object, frame_of}
 use Rattle.ts_schema.specs.SchemaTexts.{schema_object, schema_of}
-use Rattle.ts_model.specs.declared.commands.Command.TheVariants.{Create, Evolve, Write, Read, Delete, Consolidate}
-use Rattle.ts_model.specs.declared.states.State.TheVariants.{Creates, Seeks, Puts, Collects, Merges, Over}
+use Rattle.ts_model.specs.declared.commands.Command.TheVariants.{Create, Evolve, Write, Read, Delete, Consolidate, Vacuum, Unlock, Fragments}
+use Rattle.ts_model.specs.declared.states.State.TheVariants.{Creates, Seeks, Puts, Collects, Merges, Lists, Sweeps, Removes, Over}
 use Rattle.ts_model.specs.declared.states.Creating.TheVariants.{PutsFrame, ComparesFrame, ListsDeclared}
 use Rattle.ts_model.specs.declared.states.Seeking.TheVariants.{ListsCommits, ListsSchemas, GetsSchema, GetsFrame}
 use Rattle.ts_model.specs.declared.states.Collecting.TheVariants.{GetsVacs, GetsHeads, GetsSchemas, GetsDeletes, Fetches}
 use Rattle.ts_base.specs.declared.names.CommitKind.TheVariants.{Wrt, Del, Vac}
-use Rattle.ts_base.specs.declared.names.Prefix.TheVariants.{Commits, Schemas}
+use Rattle.ts_base.specs.declared.names.Prefix.TheVariants.{Commits, Fragment, Leases, Schemas}
 use Rattle.ts_model.specs.Pieces.{newest_of}
 use Rattle.ts_model.specs.Merging.{merged_with, all_got}
 use Rattle.ts_model.specs.Codecs.{Stepped, Codec, Asks, Takes, Breaks}
@@ -117,9 +121,13 @@ abbrev pub vac_in : Name → Option FragKey
 vac_in (name.Commit f Vac) = Some f
 vac_in _ = None
 
+-- the fragments of a listing that have a `.vac`, in its order
+abbrev pub with_vac_in : List Name → List FragKey
+with_vac_in names = filter_map vac_in names
+
 -- the fragments of a listing whose `.vac` counts, in its order: they are committed
 abbrev pub counting_in : List Name → List FragKey
-counting_in names = filter (λ f. is_among f (committed_in names)) (filter_map vac_in names)
+counting_in names = filter (λ f. is_among f (committed_in names)) (with_vac_in names)
 
 -- the key of a schema object
 abbrev pub schema_key_in : Name → Option Key
@@ -179,6 +187,18 @@ abbrev pub damaged : {F : Type 0} → Name → ℕ → State F
 damaged n at = refuse (refusal.Damaged n at)
 
 -- ---- calls
+
+-- the listing of the schemas
+abbrev pub list_schemas : Call
+list_schemas = call.List Schemas
+
+-- the listing of the commits
+abbrev pub list_commits : Call
+list_commits = call.List Commits
+
+-- the listing of the leases
+abbrev pub list_leases : Call
+list_leases = call.List Leases
 
 -- all of an object
 abbrev pub get_all : Name → Call
@@ -462,6 +482,88 @@ abbrev pub surveys : {F : Type 0} → Codec F → Job → Command → Candidates
 surveys codec job (Consolidate from to limits) c frame = getting_names codec job (survey_of from to limits c frame)
 surveys codec job _ c frame = Over outcome.OutOfMemory
 
+-- ---- the commands that begin with a listing of their own
+
+-- the lane that an identifier has: the upper 32 of its lower 64 bits
+abbrev pub lane_in : ℕ → ℕ
+lane_in id = id / 2 ^ 32 % 2 ^ 32
+
+-- an unlock of a seed and a lane removes the lease: its identifier has another seed, or that lane
+abbrev pub is_unlocked : ℕ → ℕ → Name → Bool
+is_unlocked seed lane (name.Lease k mode) = not (nat_eq (k.id / 2 ^ 64) seed) || nat_eq (lane_in k.id) lane
+is_unlocked seed lane n = false
+
+-- the leases of a listing that it removes, in its order
+abbrev pub leases_unlocked : ℕ → ℕ → List Name → List Name
+leases_unlocked seed lane names = filter (is_unlocked seed lane) names
+
+-- a job removes objects from a place on, and ends after the last
+abbrev pub removing : {F : Type 0} → List Name → ℕ → Outcome → State F
+removing names next end = cond (nat_lt next (length names)) (Removes names next end) (Over end)
+
+-- an unlock removes these leases, and tells how many they were
+abbrev pub unlocks : {F : Type 0} → List Name → State F
+unlocks names = removing names 0 (outcome.Unlocked (length names))
+
+-- what such a command lists: an unlock the leases, and `fragments` the commits
+abbrev pub listing_of : Command → Call
+listing_of (Unlock seed lane) = list_leases
+listing_of _ = list_commits
+
+-- where the listed names lead it
+abbrev pub lists : {F : Type 0} → Command → List Name → State F
+lists (Unlock seed lane) names = unlocks (leases_unlocked seed lane names)
+lists Fragments names = Over (outcome.Listed names)
+lists _ names = Over outcome.OutOfMemory
+
+-- ---- vacuums
+
+-- the listing of the parts of a fragment
+abbrev pub list_parts : FragKey → Call
+list_parts f = call.List (Fragment f)
+
+-- what a vacuum finds in a listing of the commits
+abbrev pub sweep_of : List Name → Sweep
+sweep_of names = record { committed = committed_in names; with_vac = with_vac_in names; counting = counting_in names; vacs = [] }
+
+-- with a `.vac` more
+abbrev pub sweep_with : Sweep → FragKey → List FragKey → Sweep
+sweep_with s f names = record { committed = s.committed; with_vac = s.with_vac; counting = s.counting; vacs = s.vacs ++ record { frag = f; names = names } ∷ [] }
+
+-- an object of a fragment, where the fragment is one of these
+abbrev pub where_among : List FragKey → (FragKey → Name) → FragKey → List Name
+where_among frags object f = cond (is_among f frags) (object f ∷ []) []
+
+-- what a vacuum removes of a fragment: its `.wrt` where that was listed, then its parts, and then its own `.vac` where that was listed
+abbrev pub names_of_one : Sweep → FragKey → List Name → List Name
+names_of_one s f parts = where_among s.committed wrt_of f ++ (parts ++ where_among s.with_vac vac_of f)
+
+-- the same of each of these fragments in turn
+abbrev pub names_of_all : Sweep → List FragKey → List (List Name) → List Name
+names_of_all s (f ∷ set) (parts ∷ listed) = names_of_one s f parts ++ names_of_all s set listed
+names_of_all s _ _ = []
+
+-- the `.vac` objects that it got, but for those of fragments of the set
+abbrev pub vacs_beside : List VacOf → List FragKey → List Name
+vacs_beside vacs set = list_map (λ v. vac_of v.frag) (filter (λ v. not (is_among v.frag set)) vacs)
+
+-- all that a vacuum removes, in order: fragment by fragment, and then the other `.vac` objects
+abbrev pub names_removed : Sweep → List FragKey → List (List Name) → List Name
+names_removed s set listed = names_of_all s set listed ++ vacs_beside s.vacs set
+
+-- a vacuum lists the parts of the next fragment, or goes on to its removals
+abbrev pub listing_parts : {F : Type 0} → Sweep → List FragKey → List (List Name) → State F
+listing_parts s set listed = cond (nat_lt (length listed) (length set)) (Sweeps (sweeping.ListsParts s set listed)) (removing (names_removed s set listed) 0 (outcome.Vacuumed (length set)))
+
+-- a vacuum gets the next `.vac`, or goes on to the parts of what they name
+abbrev pub sweeping_vacs : {F : Type 0} → Sweep → State F
+sweeping_vacs s = cond (nat_lt (length s.vacs) (length s.counting)) (Sweeps (sweeping.GetsVacs s)) (listing_parts s (removal_set s.vacs) [])
+
+-- a vacuum goes on where a schema holds at its stamp
+abbrev pub where_swept : {F : Type 0} → Sweep → ℕ → Option Key → State F
+where_swept s at None = refuse (refusal.NoSchema at)
+where_swept s at (Some k) = sweeping_vacs s
+
 -- ---- the work of a job in the schema there
 
 -- a write puts its cells, or is refused
@@ -491,6 +593,9 @@ works codec job (Write w) listed frame s = puts_cells codec job frame s (laid fr
 works codec job (Read from to query) listed frame s = asks_for codec from to listed frame s (ready_in frame s.attrs query)
 works codec job (Delete text) listed frame s = puts_delete job (delete_condition frame s.attrs text)
 works codec job (Consolidate from to limits) listed frame s = Over outcome.OutOfMemory
+works codec job Vacuum listed frame s = Over outcome.OutOfMemory
+works codec job (Unlock seed lane) listed frame s = Over outcome.OutOfMemory
+works codec job Fragments listed frame s = Over outcome.OutOfMemory
 
 -- ---- where replies lead
 
@@ -508,6 +613,11 @@ on_bytes c on r = ended c r
 abbrev pub on_made : {F : Type 0} → Call → State F → Reply → State F
 on_made c on reply.Made = on
 on_made c on r = ended c r
+
+-- on after a removal
+abbrev pub on_removed : {F : Type 0} → Call → State F → Reply → State F
+on_removed c on reply.Removed = on
+on_removed c on r = ended c r
 
 -- on with what an object spells, or it is damaged
 abbrev pub on_read : {F A : Type 0} → Name → (A → State F) → Result A ℕ → State F
@@ -583,6 +693,9 @@ begins (Write w) = Seeks (ListsSchemas nothing_listed)
 begins (Read from to query) = Seeks ListsCommits
 begins (Delete text) = Seeks (ListsSchemas nothing_listed)
 begins (Consolidate from to limits) = Merges merging.ListsCommits
+begins Vacuum = Sweeps sweeping.ListsCommits
+begins (Unlock seed lane) = Lists
+begins Fragments = Lists
 
 -- the first state of a job, which is over where the job is refused before its first call
 abbrev pub begun : {F : Type 0} → Command → State F
@@ -611,14 +724,6 @@ get_delete f = get_all (name.Commit f Del)
 -- the get of the frame
 abbrev pub get_frame : Call
 get_frame = get_all name.Domain
-
--- the listing of the schemas
-abbrev pub list_schemas : Call
-list_schemas = call.List Schemas
-
--- the listing of the commits
-abbrev pub list_commits : Call
-list_commits = call.List Commits
 
 -- the next call of a create that has not come to its puts
 abbrev pub create_asks : Job → Creating → Option Call
@@ -651,6 +756,13 @@ merge_asks codec (merging.GetsHeads s opened) = option_map (get_head_in codec s.
 merge_asks codec (merging.GetsSchemas s opened keys schemas) = option_map get_schema (slice_get keys (length schemas))
 merge_asks codec (merging.Fetches s sources schema next frag got f c) = Some c
 
+-- the next call of a vacuum that has not come to its removals
+abbrev pub sweep_asks : Sweeping → Option Call
+sweep_asks sweeping.ListsCommits = Some list_commits
+sweep_asks (sweeping.ListsSchemas s) = Some list_schemas
+sweep_asks (sweeping.GetsVacs s) = option_map get_vac (slice_get s.counting (length s.vacs))
+sweep_asks (sweeping.ListsParts s set listed) = option_map list_parts (slice_get set (length listed))
+
 -- the next call of a job, if it is not over
 abbrev pub asks : {F : Type 0} → Codec F → Job → State F → Option Call
 asks codec job (Creates s) = create_asks job s
@@ -658,6 +770,9 @@ asks codec job (Seeks s) = Some (seek_asks s)
 asks codec job (Puts objects next end) = option_map put_of (slice_get objects next)
 asks codec job (Collects s) = collect_asks codec s
 asks codec job (Merges s) = merge_asks codec s
+asks codec job Lists = Some (listing_of job.command)
+asks codec job (Sweeps s) = sweep_asks s
+asks codec job (Removes names next end) = option_map call.Remove (slice_get names next)
 asks codec job (Over o) = None
 
 -- where a reply leads a create that has not come to its puts
@@ -718,6 +833,17 @@ merge_goes codec job (merging.GetsHeads s opened) r = with_item (λ f. on_bytes 
 merge_goes codec job (merging.GetsSchemas s opened keys schemas) r = with_item (λ k. on_bytes (get_schema k) (after_surveyed codec job s opened keys schemas k) r) (slice_get keys (length schemas))
 merge_goes codec job (merging.Fetches s sources schema next frag got f c) r = after_source codec job s sources schema next frag got f c r
 
+-- where a `.vac` leads a vacuum
+abbrev pub after_swept : {F : Type 0} → Sweep → FragKey → List ℕ → State F
+after_swept s f bytes = on_read (vac_of f) (λ names. sweeping_vacs (sweep_with s f names)) (names_of bytes)
+
+-- where a reply leads a vacuum that has not come to its removals
+abbrev pub sweep_goes : {F : Type 0} → Job → Sweeping → Reply → State F
+sweep_goes job sweeping.ListsCommits r = on_names list_commits (λ names. Sweeps (sweeping.ListsSchemas (sweep_of names))) r
+sweep_goes job (sweeping.ListsSchemas s) r = on_names list_schemas (λ names. where_swept s (looked_at job) (schema_at (schemas_in names) (looked_at job))) r
+sweep_goes job (sweeping.GetsVacs s) r = with_item (λ f. on_bytes (get_vac f) (after_swept s f) r) (slice_get s.counting (length s.vacs))
+sweep_goes job (sweeping.ListsParts s set listed) r = with_item (λ f. on_names (list_parts f) (λ names. listing_parts s set (listed ++ names ∷ [])) r) (slice_get set (length listed))
+
 -- where a reply leads a job
 abbrev pub goes : {F : Type 0} → Codec F → Job → State F → Reply → State F
 goes codec job (Creates s) r = create_goes job s r
@@ -725,6 +851,9 @@ goes codec job (Seeks s) r = seek_goes codec job s r
 goes codec job (Puts objects next end) r = with_item (λ o. on_made (put_of o) (putting objects (suc next) end) r) (slice_get objects next)
 goes codec job (Collects s) r = collect_goes codec s r
 goes codec job (Merges s) r = merge_goes codec job s r
+goes codec job (Sweeps s) r = sweep_goes job s r
+goes codec job Lists r = on_names (listing_of job.command) (lists job.command) r
+goes codec job (Removes names next end) r = with_item (λ n. on_removed (call.Remove n) (removing names (suc next) end) r) (slice_get names next)
 goes codec job (Over o) r = Over o
 
 -- the job is over
@@ -734,11 +863,23 @@ is_over s = false
 
 -- ---- want of memory
 
--- memory can be wanting for what a reply leads to: not where an object was put, nor where the job is over
+-- memory can be wanting for what a reply leads to: not where an object was put or removed, nor where the job is over
 abbrev pub takes_memory : {F : Type 0} → State F → Bool
 takes_memory (Puts objects next end) = false
+takes_memory (Removes names next end) = false
 takes_memory (Over end) = false
 takes_memory s = true
+
+-- memory can be wanting for the next call: not for the removal of an object whose name is at hand, nor where the job is over
+abbrev pub asks_memory : {F : Type 0} → State F → Bool
+asks_memory (Removes names next end) = is_none (slice_get names next)
+asks_memory (Over end) = false
+asks_memory s = true
+
+-- it has removed an object, and has more to remove
+abbrev pub is_amid_removals : {F : Type 0} → State F → Bool
+is_amid_removals (Removes names next end) = nat_lt 0 next && is_some (slice_get names next)
+is_amid_removals s = false
 
 -- ---- traces
 

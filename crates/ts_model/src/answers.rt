@@ -1,6 +1,6 @@
 //! How a command ends: its answer, or why it was refused.
 
-use ts_base::{FragKey, FragList, Key, Label, Name, Place, RowList, Sequence, ValType};
+use ts_base::{FragKey, FragList, Key, Label, Name, NameList, Place, RowList, Sequence, ValType};
 use ts_cond::CondFault;
 use ts_domain::DomainFault;
 use ts_schema::SchemaFault;
@@ -17,7 +17,8 @@ pub struct Answer {
     /// was asked for: the value of each field that is shown.
     pub rows: RowList,
     /// The fragments that are clipped, ascending: each is committed, but the read could not use it,
-    /// and it holds a write that the answer leaves out. No command makes such fragments yet.
+    /// and it holds a write that the answer leaves out. That can be where a vacuum removed what was
+    /// merged into it.
     pub clipped: FragList,
 }
 
@@ -36,6 +37,12 @@ pub enum Outcome {
     Deleted(FragKey),
     /// So many fragments were merged into the one of this key, which is committed.
     Consolidated(FragKey, u32),
+    /// So many fragments were to be removed, and none of them is left.
+    Vacuumed(u64),
+    /// So many leases were removed.
+    Unlocked(u64),
+    /// The names of the commits, ascending.
+    Listed(NameList),
     /// The command was refused, and no deed has its key. But where the call that failed was the put
     /// of its own schema or of its own commit, that may have been done all the same.
     Refused(Refusal),

@@ -98,6 +98,21 @@ pub enum Command {
         /// How many fragments it takes.
         limits: Limits,
     },
+    /// Removes the fragments that consolidations merged into others, with all that belongs to them. No
+    /// reader and no consolidation may be at work meanwhile.
+    Vacuum,
+    /// Removes the leases whose holders are gone: those of other runs, whose identifiers have another
+    /// seed in their upper 64 bits, and those of earlier commands of its own lane. Whoever asks for it
+    /// has to know that no other run is at work.
+    Unlock {
+        /// The seed of the run.
+        seed: u64,
+        /// The lane of the command.
+        lane: u32,
+    },
+    /// Lists the objects by which fragments and deletes are committed, and those that say what was
+    /// merged.
+    Fragments,
 }
 
 impl Duplicate for Command {
@@ -134,13 +149,15 @@ impl Duplicate for Job {
 pub struct Line {
     /// The lane, 0 to 7.
     pub lane: u32,
-    /// The command. Where `to_stamp` is set its interval ends at 0 here.
+    /// The command. Where `to_stamp` is set its interval ends at 0 here; an unlock has the seed 0.
     pub command: Command,
     /// The stamp, in milliseconds since 1970-01-01, or None: then it is the clock's number as the
     /// command starts.
     pub at: Option<u64>,
     /// Whether the interval of a read or of a consolidation ends at the command's own stamp.
     pub to_stamp: bool,
+    /// Where the command is stopped before its end.
+    pub stop: Stop,
 }
 
 /// The lines of a script, in order.

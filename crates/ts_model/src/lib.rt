@@ -33,6 +33,6 @@ pub use queries::{PlaceList, QueryFault, Ready, Shown, ShownList};
 pub use scan::reference;
 pub use selection::{fills_of, rows_of, types_shown};
 pub use states::{
-    Candidates, Collecting, Creating, Listed, Merging, NewObject, NewObjectList, Opened,
-    OpenedList, Reading, Seeking, Stage, State, Survey,
+    Candidates, Collecting, Creating, Listed, Merging, NameLists, NewObject, NewObjectList, Opened,
+    OpenedList, Reading, Seeking, Stage, State, Survey, Sweep, Sweeping,
 };

@@ -5,8 +5,8 @@ use crate::deeds::DeletionList;
 use crate::queries::Ready;
 use std::alloc::Global;
 use ts_base::{
-    Boxed, ByteList, Duplicate, FragKey, FragList, Head, Key, KeyList, Name, OutOfMemory, Sequence,
-    VersionList, VersionLists,
+    Boxed, ByteList, Duplicate, FragKey, FragList, Head, Key, KeyList, Name, NameList, OutOfMemory,
+    Sequence, VersionList, VersionLists,
 };
 use ts_commit::{Limits, VacList};
 use ts_schema::{Frame, Schema, SchemaList};
@@ -117,6 +117,22 @@ pub struct Survey {
     /// The `.vac` objects of the first of them, as many as it got.
     pub vacs: VacList,
 }
+
+/// What a vacuum found in its listing of the commits, and the `.vac` objects that it got.
+#[derive(Debug, Drop)]
+pub struct Sweep {
+    /// The committed fragments, ascending.
+    pub committed: FragList,
+    /// The fragments that have a `.vac`, committed or not, ascending.
+    pub with_vac: FragList,
+    /// The committed ones of these, ascending.
+    pub counting: FragList,
+    /// The `.vac` objects of the first of them, as many as it got.
+    pub vacs: VacList,
+}
+
+/// The names of several listings.
+pub type NameLists = Sequence<NameList>;
 
 /// How far a create has come that does not know yet whether it puts its schema: which call it makes
 /// next.
@@ -279,6 +295,33 @@ pub enum Merging<F> {
     },
 }
 
+/// How far a vacuum has come that has not come to its removals: which call it makes next, with what it
+/// found so far.
+#[derive(Debug, Drop)]
+pub enum Sweeping {
+    /// It lists the commits.
+    ListsCommits,
+    /// It lists the schemas: where none holds at its stamp, it is refused.
+    ListsSchemas {
+        /// What it found.
+        sweep: Sweep,
+    },
+    /// It gets the `.vac` objects of committed fragments, one after the other.
+    GetsVacs {
+        /// What it found, with the `.vac` objects before the next one.
+        sweep: Sweep,
+    },
+    /// It lists the parts of one fragment after the other that it is to remove.
+    ListsParts {
+        /// What it found.
+        sweep: Sweep,
+        /// The fragments that it is to remove, ascending.
+        set: FragList,
+        /// The parts of the fragments before the next one.
+        listed: NameLists,
+    },
+}
+
 /// How far a job has come: which call it makes next, with what it found so far.
 ///
 /// `F` is how far the fetch of a fragment has come.
@@ -302,6 +345,20 @@ pub enum State<F> {
     /// A consolidation seeks what it merges. Such a job begins without memory, so it lies in no other
     /// place.
     Merges(Merging<F>),
+    /// An unlock lists the leases, and `fragments` the commits.
+    Lists,
+    /// A vacuum seeks what it is to remove.
+    Sweeps(Sweeping),
+    /// A vacuum or an unlock removes objects, of which `next` are removed already, and ends so after the
+    /// last.
+    Removes {
+        /// The objects, in order.
+        names: NameList,
+        /// The place of the next one.
+        next: u64,
+        /// The end after the last.
+        end: Outcome,
+    },
     /// The job has ended.
     Over(Outcome),
 }

@@ -1,12 +1,12 @@
-//! The printed text of ends: a line for each, and behind that of a read a line for each clipped
-//! fragment and then for each row.
+//! The printed text of ends: a line for each; behind that of a read a line for each clipped fragment
+//! and then for each row, and behind that of a listing a line for each name.
 ghost use Rattle.std.specs.Prelude.{◌≡◌, ◌++◌, string_bytes, IfOk, OnOk, option_map};
-ghost use Rattle.ts_query.specs.Ends.{clipped_line, clipped_text, command_name, end_text, outcome_text, result_text, text_of};
+ghost use Rattle.ts_query.specs.Ends.{clipped_line, clipped_text, command_name, end_text, name_line, names_text, outcome_text, result_text, text_of};
 
 use crate::refusals::print_refusal;
 use crate::rows::print_rows;
 use std::alloc::Global;
-use ts_base::{ByteList, FragKey, OutOfMemory};
+use ts_base::{ByteList, FragKey, Name, OutOfMemory};
 use ts_model::{Command, Outcome};
 
 /// The text of one end, each line of it with its line feed.
@@ -24,13 +24,19 @@ pub fn print_outcome(
 {
     let mut text = String::new(alloc);
     print_end(&mut text, lane, number, command, outcome)?;
-    if let Some(Outcome::Read(answer)) = outcome {
-        print_clipped(&mut text, answer.clipped.as_slice())?;
-        let mut bytes = text.into_bytes();
-        print_rows(&mut bytes, answer.types.as_slice(), answer.rows.as_slice())?;
-        return Ok(ByteList::from_vec(bytes));
+    match outcome {
+        Some(Outcome::Read(answer)) => {
+            print_clipped(&mut text, answer.clipped.as_slice())?;
+            let mut bytes = text.into_bytes();
+            print_rows(&mut bytes, answer.types.as_slice(), answer.rows.as_slice())?;
+            Ok(ByteList::from_vec(bytes))
+        }
+        Some(Outcome::Listed(names)) => {
+            print_names(&mut text, names.as_slice())?;
+            Ok(ByteList::from_vec(text.into_bytes()))
+        }
+        _ => Ok(ByteList::from_vec(text.into_bytes())),
     }
-    Ok(ByteList::from_vec(text.into_bytes()))
 }
 
 /// Adds the fragments that are clipped from a read, a line for each.
@@ -54,7 +60,28 @@ fn print_clipped_name(text: &mut String, frag: &FragKey) -> Result<(), OutOfMemo
     Ok(())
 }
 
-/// Adds how a command came out, but for what a read shows.
+/// Adds the names of a listing, a line for each.
+fn print_names(text: &mut String, names: &[Name]) -> Result<(), OutOfMemory>
+    ensures { OnOk result (string_bytes text.new ≡ string_bytes text.old ++ names_text names.now) }
+{
+    for name in names {
+        print_name_line(text, name)?;
+    }
+    Ok(())
+}
+
+/// Adds the line of a name.
+#[tactic(auto, unfolding(crate::specs::Ends::name_line))]
+fn print_name_line(text: &mut String, name: &Name) -> Result<(), OutOfMemory>
+    ensures { OnOk result (string_bytes text.new ≡ string_bytes text.old ++ name_line name.now) }
+{
+    let spelled = name.spell();
+    text.push_str(spelled.text())?;
+    text.push_str("\n")?;
+    Ok(())
+}
+
+/// Adds how a command came out, but for what it shows.
 #[tactic(auto, unfolding(crate::specs::Ends::end_text))]
 fn print_end(
     text: &mut String,
@@ -82,6 +109,9 @@ fn command_name(command: &Command) -> &'static str
         Command::Read { .. } => "read",
         Command::Delete(_) => "delete",
         Command::Consolidate { .. } => "consolidate",
+        Command::Vacuum => "vacuum",
+        Command::Unlock { .. } => "unlock",
+        Command::Fragments => "fragments",
     }
 }
 
@@ -99,7 +129,7 @@ fn print_result(text: &mut String, outcome: Option<&Outcome>) -> Result<(), OutO
     }
 }
 
-/// Adds how a command ended, but for what a read shows.
+/// Adds how a command ended, but for what it shows.
 #[tactic(auto, unfolding(crate::specs::Ends::outcome_text))]
 fn print_how(text: &mut String, end: &Outcome) -> Result<(), OutOfMemory>
     ensures { OnOk result (string_bytes text.new ≡ string_bytes text.old ++ outcome_text end.now) }
@@ -137,6 +167,15 @@ fn print_how(text: &mut String, end: &Outcome) -> Result<(), OutOfMemory>
             let spelled = frag.spell();
             let name = spelled.text();
             write!(text, "ok\t{name}\t{count}\n")?;
+            Ok(())
+        }
+        Outcome::Vacuumed(count) | Outcome::Unlocked(count) => {
+            write!(text, "ok\t{count}\n")?;
+            Ok(())
+        }
+        Outcome::Listed(names) => {
+            let count = names.len();
+            write!(text, "ok\t{count}\n")?;
             Ok(())
         }
         Outcome::Refused(refusal) => {

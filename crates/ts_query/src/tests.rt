@@ -43,6 +43,25 @@ fn prints_the_lane_and_how_a_command_broke_off(rt: HostRuntime) -> Result<(), Fa
 }
 
 #[test]
+fn prints_how_many_leases_or_fragments_are_gone(rt: HostRuntime) -> Result<(), Fail> {
+    let alloc = rt.alloc();
+    let unlock = Command::Unlock { seed: 0, lane: 7 };
+    let end = Outcome::Unlocked(u64::MAX);
+    let printed = print_outcome(alloc, 7, 1, &unlock, Some(&end))?;
+    assert_eq!(rt;
+        printed.as_slice(),
+        b"7.1\tunlock\tok\t18446744073709551615\n".as_slice()
+    );
+    let end = Outcome::Vacuumed(u64::MAX);
+    let printed = print_outcome(alloc, 0, 2, &Command::Vacuum, Some(&end))?;
+    assert_eq!(rt;
+        printed.as_slice(),
+        b"0.2\tvacuum\tok\t18446744073709551615\n".as_slice()
+    );
+    Ok(())
+}
+
+#[test]
 fn prints_where_the_store_failed(rt: HostRuntime) -> Result<(), Fail> {
     let alloc = rt.alloc();
     let frag = FragKey {

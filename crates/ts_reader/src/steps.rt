@@ -3,6 +3,7 @@ ghost use Rattle.std.specs.Prelude.{◌≡◌, ◌≢◌, ◌<◌, true, None, o
 ghost use Rattle.std.specs.Thread.{IsSync};
 ghost use Rattle.ts_store.specs.Calls.{IsSpelledReply};
 ghost use Rattle.ts_actor.specs.Fetches.{IsWorkCall};
+ghost use Rattle.ts_actor.specs.Machines.{work_spares};
 ghost use Rattle.ts_model.specs.States.{asks, collect_asks, collect_goes, get_delete, goes, takes_memory};
 ghost use Rattle.ts_reader.specs.Reading.{AreListed, IsCollecting, IsReadJob, IsReadState, MayCollect, MayRead, collect_left, collects_left, reads_left};
 ghost use Rattle.ts_actor.specs.Listings.{IsSpelledDelete};
@@ -41,6 +42,10 @@ impl<P: Pieces> Automaton for Reads<P> {
     ghost left = { reads_left P.left };
 
     ghost ends = { λ job end. tt };
+
+    ghost calls = { λ job c. IsWorkCall c };
+
+    ghost spares = { work_spares IsReadJob };
 
     fn begin(_alloc: Global, job: &Job) -> State<P::Fetch> {
         match &job.command {

@@ -1,20 +1,20 @@
 -- What clap found of the words is what they ask for.
-use Rattle.std.proofs.Common.{rules, ◌≡◌, List, [], ◌∷◌, Bool, true, false, Option, Some, None, refl, sym, ap, ◌∙◌, subst}
+use Rattle.std.proofs.Common.{rules, ◌≡◌, List, [], ◌∷◌, true, false, None, refl}
 use Rattle.std.specs.Prelude.{option_and_then}
-use Rattle.clap.specs.Walk.{Row, Text, is_empty}
+use Rattle.clap.specs.Walk.{Text, is_empty}
 use Rattle.clap.specs.Kinds.{IsAmong, Kinds}
 use Rattle.clap.specs.Simple.{is_simple, subcommand_of}
 use Rattle.clap.specs.Faults.{fault_of, is_simple_and_free}
 use Rattle.clap.specs.declared.error.kind.ErrorKind.{ErrorKind}
 use Rattle.clap.proofs.OnLiterals.{clap_on_literals}
-use Rattle.ts_script.specs.Words.{asked, asked_by, parsed, tilestore_app, objects_app, object_app, interval_app, read_app, delete_app, consolidate_app, play_app}
+use Rattle.ts_script.specs.Words.{asked, asked_by, parsed, tilestore_app, upkeep_app, optioned_app, objects_app, stamped_app, interval_app, read_app, delete_app, consolidate_app, bare_app}
 
 pub simple : is_simple tilestore_app ≡ true
-unfolding tilestore_app objects_app object_app interval_app read_app delete_app consolidate_app play_app clap_on_literals
+unfolding tilestore_app upkeep_app optioned_app objects_app stamped_app interval_app read_app delete_app consolidate_app bare_app clap_on_literals
 simple = refl
 
 pub simple_and_free : is_simple_and_free tilestore_app ≡ true
-unfolding tilestore_app objects_app object_app interval_app read_app delete_app consolidate_app play_app clap_on_literals
+unfolding tilestore_app upkeep_app optioned_app objects_app stamped_app interval_app read_app delete_app consolidate_app bare_app clap_on_literals
 simple_and_free = refl
 
 -- where clap takes the words

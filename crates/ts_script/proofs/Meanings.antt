@@ -8,7 +8,8 @@ use Rattle.ts_script.specs.declared.words.Asked.{Asked}
 use Rattle.ts_script.specs.declared.words.Asked.TheVariants.{Play, Object, Command as Alone}
 use Rattle.ts_script.specs.declared.words.ObjectForm.{ObjectForm}
 use Rattle.ts_script.specs.Script.{Fault, ◌then◌, byte_limit, object_in}
-use Rattle.ts_script.specs.Meanings.{has_input, line_alone, meaning}
+use Rattle.ts_script.specs.Meanings.{has_input, meaning}
+use Rattle.ts_script.specs.Words.{line_alone}
 use Rattle.ts_script.proofs.Whole.{script_of_front, script_of_ok}
 
 object_by : (form : ObjectForm) (taken rest : List ℕ) (over : Bool) → nat_lt byte_limit (length taken) ≡ over → (length taken < byte_limit + 1 → rest ≡ []) → object_in form taken ≡ object_in form (taken ++ rest)
@@ -34,13 +35,13 @@ then_ok (Err f) next x e = cc
 pub meaning_front : (job : Asked) (all taken rest : List ℕ) → all ≡ taken ++ rest → (length taken < byte_limit + 1 → rest ≡ []) → meaning job taken ≡ meaning job all
 meaning_front Play all taken rest split whole = script_of_front all taken rest split whole
 meaning_front (Object form at) all taken rest split whole =
-    ap (λ said. said then λ command. Ok (line_alone at command ∷ [])) (object_by form taken rest _ refl whole ∙ ap (object_in form) (sym split))
+    ap (λ said. said then λ command. Ok (line_alone at false command ∷ [])) (object_by form taken rest _ refl whole ∙ ap (object_in form) (sym split))
 meaning_front (Alone line) all taken rest split whole = refl
 
 -- an input with a meaning is within the limit
 pub meaning_ok : (job : Asked) (input : List ℕ) (lines : List Line) → has_input job ≡ true → meaning job input ≡ Ok lines → length input ≤ byte_limit
 meaning_ok Play input lines has e = script_of_ok input lines e
 meaning_ok (Object form at) input lines has e =
-    let found = then_ok (object_in form input) (λ command. Ok (line_alone at command ∷ [])) lines e in
+    let found = then_ok (object_in form input) (λ command. Ok (line_alone at false command ∷ [])) lines e in
     object_ok form input found.0 _ refl found.1
 meaning_ok (Alone line) input lines has e = absurd (true≢false (sym has))

@@ -4,7 +4,7 @@ use Rattle.std.proofs.lemmas.List.{append-nil, length-take, take-append-le}
 use Rattle.std.proofs.lemmas.Bool.{ltb-true, ltb-false, lt-ltb}
 use Rattle.std.proofs.lemmas.List.Splits.{length-slice_split}
 use Rattle.ts_model.specs.declared.commands.Line.{Line}
-use Rattle.ts_script.specs.Script.{Fault, Bad, ◌then◌, byte_limit, with_line, script_from, pieces_of, script_within, script_of, IsScript}
+use Rattle.ts_script.specs.Script.{Fault, ◌then◌, byte_limit, with_line, script_from, pieces_of, script_within, script_of, IsScript}
 use Rattle.ts_script.specs.declared.script.ScriptFault.{ScriptFault}
 use Rattle.ts_script.specs.declared.script.ScriptFault.TheVariants as fault
 use Rattle.ts_script.proofs.Cuts.{is_feed}
@@ -50,7 +50,6 @@ IsUnderWay-next limit input n lines more rest piece others way cut shorter read 
 -- a line that stops the reader stops the script
 stops : {A B : Type 0} (e : ScriptFault) (said : Result A Fault) (next : A → Result B Fault) → IsScript {A = A} (Err e) said → IsScript {A = B} (Err e) (said then next)
 stops (fault.Bad n) said next h = rw h
-stops (fault.NotBuilt n) said next h = rw h
 stops fault.OutOfMemory said next h = tt
 
 pub IsScript-stopped : (limit : ℕ) (input : List ℕ) (n : ℕ) (lines : List Line) (rest piece others : List ℕ) (e : ScriptFault)

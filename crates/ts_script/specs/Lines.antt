@@ -1,9 +1,9 @@
 -- The lines of a script: which object stands for which command.
 use Rattle.std.specs.Prelude.{ℕ, List, [], ◌∷◌, codes, ◌||◌, ◌&&◌, not, length, nat_lt, Option, Some, None, Bool, true, false, is_some, if◌then◌else◌}
 use Rattle.std.specs.Str.{bytes_eq}
-use Rattle.std.specs.Option.{option_map_or}
 use Rattle.serde_json.specs.Data.{Data}
 use Rattle.serde_json.specs.Find.{as_str, get}
+use Rattle.ts_base.specs.declared.heads.Stop.TheVariants.{Never}
 use Rattle.ts_domain.specs.declared.orders.Order.TheVariants.{Row}
 use Rattle.ts_domain.specs.declared.orders.Layout.TheVariants as layouts
 use Rattle.ts_cond.specs.declared.query.Query.{Query}
@@ -13,12 +13,12 @@ use Rattle.ts_model.specs.declared.commands.Line.{Line}
 use Rattle.ts_model.specs.Commands.{fits}
 use Rattle.ts_script.specs.declared.words.ObjectForm.{ObjectForm}
 use Rattle.ts_script.specs.declared.words.ObjectForm.TheVariants.{Create, Evolve, Write}
-use Rattle.ts_script.specs.Shapes.{◌>>=◌, when, unsigned, unsigned_32, required, optional, if_there, list_of, is_one_of, has_only}
-use Rattle.ts_script.specs.Values.{label, dim, attr, order, layout, columns, box, filter}
+use Rattle.ts_script.specs.Shapes.{◌>>=◌, when, unsigned, unsigned_32, required, optional, if_there, list_of, has_only}
+use Rattle.ts_script.specs.Values.{label, dim, attr, order, layout, columns, box, filter, stop}
 
 -- the keys that every command of a script may have
 abbrev pub common_keys : List (List ℕ)
-common_keys = codes "cmd" ∷ codes "lane" ∷ codes "at" ∷ []
+common_keys = codes "cmd" ∷ codes "lane" ∷ codes "at" ∷ codes "stop" ∷ []
 
 -- the command's name
 abbrev pub name_of : Data → Option (List ℕ)
@@ -105,15 +105,30 @@ consolidate_of common d = do
   max ← optional unsigned_32 64 (codes "max") d
   when (has_only common consolidate_keys d) (command.Consolidate from to (record { min = min; max = max }))
 
--- the command of a script that has this name
-unfoldable pub command_of : List ℕ → Data → Option Command
-command_of name d =
+-- a vacuum has no keys of its own
+unfoldable pub vacuum_of : List (List ℕ) → Data → Option Command
+vacuum_of common d = when (has_only common [] d) command.Vacuum
+
+-- an unlock in this lane has no keys of its own; its seed is 0
+unfoldable pub unlock_of : List (List ℕ) → ℕ → Data → Option Command
+unlock_of common lane d = when (has_only common [] d) (command.Unlock 0 lane)
+
+-- a listing of the commits has none either
+unfoldable pub fragments_of : List (List ℕ) → Data → Option Command
+fragments_of common d = when (has_only common [] d) command.Fragments
+
+-- the command of a script that has this name, in this lane
+unfoldable pub command_of : ℕ → List ℕ → Data → Option Command
+command_of lane name d =
     if bytes_eq name (codes "create") then create_of common_keys d
     else (if bytes_eq name (codes "evolve") then evolve_of common_keys d
     else (if bytes_eq name (codes "write") then write_of common_keys d
     else (if bytes_eq name (codes "read") then read_of common_keys d
     else (if bytes_eq name (codes "delete") then delete_of common_keys d
-    else (if bytes_eq name (codes "consolidate") then consolidate_of common_keys d else None)))))
+    else (if bytes_eq name (codes "consolidate") then consolidate_of common_keys d
+    else (if bytes_eq name (codes "vacuum") then vacuum_of common_keys d
+    else (if bytes_eq name (codes "unlock") then unlock_of common_keys lane d
+    else (if bytes_eq name (codes "fragments") then fragments_of common_keys d else None))))))))
 
 -- the command whose object is the input: its own keys alone are allowed
 abbrev pub form_of : ObjectForm → Data → Option Command
@@ -129,19 +144,12 @@ has_interval name = bytes_eq name (codes "read") || bytes_eq name (codes "consol
 abbrev pub is_to_stamp : List ℕ → Data → Bool
 is_to_stamp name d = has_interval name && not (is_some (get (codes "to") d))
 
--- the line that an object stands for: its lane is below 8, and its command is one that there can be
+-- the line that an object stands for: its lane is below 8, and its command is one that there can be; where `stop` is not there it has no stop
 unfoldable pub line_of : Data → Option Line
 line_of d = do
   name ← name_of d
   lane ← optional unsigned_32 0 (codes "lane") d
   at ← if_there unsigned (codes "at") d
-  command ← command_of name d
-  when (nat_lt lane 8 && fits command) (record { lane = lane; command = command; at = at; to_stamp = is_to_stamp name d })
-
--- the names of commands that are not built yet
-abbrev pub later_names : List (List ℕ)
-later_names = codes "vacuum" ∷ codes "unlock" ∷ codes "fragments" ∷ []
-
--- an object with a text under `cmd`, which names a command that is not built yet, or with a text there and a key `stop`
-unfoldable pub is_not_built : Data → Bool
-is_not_built d = option_map_or (λ name. is_one_of name later_names || is_some (get (codes "stop") d)) (name_of d) false
+  cut ← optional stop Never (codes "stop") d
+  command ← command_of lane name d
+  when (nat_lt lane 8 && fits command) (record { lane = lane; command = command; at = at; to_stamp = is_to_stamp name d; stop = cut })

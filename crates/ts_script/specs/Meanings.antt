@@ -1,20 +1,16 @@
 -- What is asked for, with its input: the lines that are to be done.
-use Rattle.std.specs.Prelude.{◌≡◌, ◌^◌, ◌<◌, ℕ, List, [], ◌∷◌, Bool, true, false, Option, Result, Ok, Err, IfSome, ⊤}
-use Rattle.ts_model.specs.declared.commands.Command.{Command}
+use Rattle.std.specs.Prelude.{◌^◌, ◌<◌, ℕ, List, [], ◌∷◌, Bool, true, false, Result, Ok, IfSome, ⊤}
 use Rattle.ts_model.specs.declared.commands.Line.{Line}
 use Rattle.ts_model.specs.Jobs.{IsFitLine}
 use Rattle.ts_script.specs.declared.words.Asked.{Asked}
 use Rattle.ts_script.specs.declared.words.Asked.TheVariants.{Play, Object, Command as Alone}
 use Rattle.ts_script.specs.Script.{Fault, ◌then◌, object_in, script_of}
-
--- the line of a single command with this stamp
-abbrev pub line_alone : Option ℕ → Command → Line
-line_alone at command = record { lane = 0; command = command; at = at; to_stamp = false }
+use Rattle.ts_script.specs.Words.{line_alone}
 
 -- the lines that what is asked for stands for, with this input; a single command is one line
 abbrev pub meaning : Asked → List ℕ → Result (List Line) Fault
 meaning Play input = script_of input
-meaning (Object form at) input = object_in form input then λ command. Ok (line_alone at command ∷ [])
+meaning (Object form at) input = object_in form input then λ command. Ok (line_alone at false command ∷ [])
 meaning (Alone line) input = Ok (line ∷ [])
 
 -- what is asked for has an input

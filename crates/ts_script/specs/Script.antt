@@ -12,14 +12,13 @@ use Rattle.ts_model.specs.Commands.{fits}
 use Rattle.ts_script.specs.declared.words.ObjectForm.{ObjectForm}
 use Rattle.ts_script.specs.Shapes.{◌>>=◌, when}
 use Rattle.ts_script.specs.Parts.{parts_at}
-use Rattle.ts_script.specs.Lines.{form_of, is_not_built, line_of}
+use Rattle.ts_script.specs.Lines.{form_of, line_of}
 use Rattle.ts_script.specs.declared.script.ScriptFault.{ScriptFault}
 use Rattle.ts_script.specs.declared.script.ScriptFault.TheVariants as fault
 
--- why bytes are no script: the number of the first line that is none, and whether it is bad or not built yet
+-- why bytes are no script: the number of the first line that is no command, or that goes past a limit
 pub data Fault : Type 0 where
   Bad : ℕ → Fault
-  NotBuilt : ℕ → Fault
 
 -- the first answer, and then what follows from it
 infixl 10 ◌then◌
@@ -43,18 +42,13 @@ is_blank bytes = list_all (λ b. b == 32 || b == 9) bytes
 unfoldable pub json_of : List ℕ → Option Data
 json_of bytes = if is_utf8 bytes then read bytes else None
 
--- what is said of line n, which is no command: that it is not built yet, or that it is bad
-abbrev pub fault_at : ℕ → Data → Fault
-fault_at n d = if is_not_built d then NotBuilt n else Bad n
+-- the line that bytes stand for
+unfoldable pub line_in : List ℕ → Option Line
+line_in bytes = json_of bytes >>= line_of
 
--- the line that JSON stands for
-abbrev pub line_told : ℕ → Option Data → Result Line Fault
-line_told n None = Err (Bad n)
-line_told n (Some d) = ok_or (line_of d) (fault_at n d)
-
--- the line that the bytes of line n stand for
+-- the line that the bytes of line n stand for, or that it is bad
 unfoldable pub line_at : ℕ → List ℕ → Result Line Fault
-line_at n bytes = line_told n (json_of bytes)
+line_at n bytes = ok_or (line_in bytes) (Bad n)
 
 -- the lines before line n, and what its bytes stand for
 unfoldable pub with_line : ℕ → List Line → List ℕ → Result (List Line) Fault
@@ -96,7 +90,6 @@ object_in form input = if nat_lt byte_limit (length input) then Err (Bad 1) else
 abbrev pub IsScript : {A : Type 0} → Result A ScriptFault → Result A Fault → Type 0
 IsScript (Ok x) said = said ≡ Ok x
 IsScript (Err (fault.Bad n)) said = said ≡ Err (Bad n)
-IsScript (Err (fault.NotBuilt n)) said = said ≡ Err (NotBuilt n)
 IsScript (Err fault.OutOfMemory) said = Unit {0}
 
 -- the lines of a script are no more than it may have, and their numbers have their widths

@@ -6,7 +6,7 @@ use Rattle.ts_base.specs.Labels.{is_label}
 use Rattle.ts_cond.specs.declared.query.Query.{Query}
 use Rattle.ts_model.specs.declared.commands.ColIn.{ColIn}
 use Rattle.ts_model.specs.declared.commands.Command.{Command}
-use Rattle.ts_model.specs.declared.commands.Command.TheVariants.{Create, Evolve, Write, Read, Delete, Consolidate}
+use Rattle.ts_model.specs.declared.commands.Command.TheVariants.{Create, Evolve, Write, Read, Delete, Consolidate, Vacuum, Unlock, Fragments}
 use Rattle.ts_model.specs.Commands.{is_spelled_attr, is_spelled_val, is_text}
 
 -- the name of the column is a label, and each of its values has a spelling
@@ -25,6 +25,9 @@ is_typed (Write w) = list_all is_typed_col w.cols
 is_typed (Read from to query) = nat_lt from (2 ^ 64) && (nat_lt to (2 ^ 64) && is_typed_query query)
 is_typed (Delete text) = is_text text
 is_typed (Consolidate from to limits) = nat_lt from (2 ^ 64) && nat_lt to (2 ^ 64)
+is_typed (Unlock seed lane) = nat_lt seed (2 ^ 64) && nat_lt lane (2 ^ 32)
+is_typed Vacuum = true
+is_typed Fragments = true
 
 -- the column has a value
 abbrev pub has_value : ColIn → Bool

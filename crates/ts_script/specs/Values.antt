@@ -1,13 +1,17 @@
--- Names, types, values, dimensions and attributes as JSON values.
+-- Names, types, values, dimensions, attributes and stops as JSON values.
 use Rattle.std.specs.Prelude.{ℕ, pos, List, [], ◌∷◌, ◌++◌, codes, Bool, false, if◌then◌else◌, Option, Some, None, option_map}
 use Rattle.std.specs.Option.{option_map_or}
 use Rattle.std.specs.Str.{bytes_eq}
 use Rattle.serde_json.specs.Data.{Data, null, number, string, Members, no_members, member}
-use Rattle.serde_json.specs.Find.{as_bool, as_integer, as_object, as_str, get}
+use Rattle.serde_json.specs.Find.{as_bool, as_integer, as_object, as_str, as_u64, get}
 use Rattle.ts_base.specs.declared.values.ValType.{ValType}
 use Rattle.ts_base.specs.declared.values.ValType.TheVariants.{I8, I16, I32, I64, U8, U16, U32, U64, Text, Blob}
 use Rattle.ts_base.specs.declared.values.Val.{Val}
 use Rattle.ts_base.specs.declared.values.Val.TheVariants.{Null, Int, Bytes}
+use Rattle.ts_base.specs.declared.heads.Point.{Point}
+use Rattle.ts_base.specs.declared.heads.Point.TheVariants.{Vac, Wrt, PartGone}
+use Rattle.ts_base.specs.declared.heads.Stop.{Stop}
+use Rattle.ts_base.specs.declared.heads.Stop.TheVariants.{Calls, Before}
 use Rattle.ts_base.specs.Labels.{label_of}
 use Rattle.ts_value.specs.Fill.{fill_of}
 use Rattle.ts_domain.specs.declared.dims.Dim.{Dim}
@@ -122,3 +126,13 @@ box (Some d) = as_object d >>= bounds_onto []
 abbrev pub filter : Option Data → Option (Option (List ℕ))
 filter None = Some None
 filter (Some d) = option_map Some (as_str d)
+
+-- the point of a name
+abbrev pub point_named : List ℕ → Option Point
+point_named name = if bytes_eq name (codes "vac") then Some Vac else (if bytes_eq name (codes "wrt") then Some Wrt else (if bytes_eq name (codes "part") then Some PartGone else None))
+
+-- a stop: a whole number of calls, after which it is, or the name of the point before which it is
+abbrev pub stop : Data → Option Stop
+stop (number n) = option_map Calls (as_u64 n)
+stop (string name) = option_map Before (point_named name)
+stop _ = None

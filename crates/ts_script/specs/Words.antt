@@ -1,15 +1,18 @@
 -- The words of a command line: what clap takes of them, and what they then ask for.
-use Rattle.std.specs.Prelude.{ℕ, ◌^◌, List, [], codes, true, false, not, nat_lt, is_some, if◌then◌else◌, Option, Some, None, option_map, map}
+use Rattle.std.specs.Prelude.{ℕ, ◌^◌, List, [], codes, Bool, true, false, not, nat_lt, is_some, if◌then◌else◌, Option, Some, None, option_map, map}
 use Rattle.std.specs.Option.{option_map_or, unwrap_or}
 use Rattle.std.specs.Borrow.{Bor}
 use Rattle.std.specs.Str.{bytes_eq}
 use Rattle.clap.specs.Walk.{Row, Rule, Text, first_of, is_empty}
 use Rattle.clap.specs.Simple.{App, new_app, new_rule, on_top, subcommand_of, with_rule, with_subcommand}
 use Rattle.clap.specs.Faults.{fault_of}
+use Rattle.ts_base.specs.declared.heads.Stop.TheVariants.{Never}
 use Rattle.ts_domain.specs.declared.orders.Layout.{Layout}
 use Rattle.ts_domain.specs.declared.orders.Layout.TheVariants as layouts
 use Rattle.ts_cond.specs.declared.query.NamedBox.{NamedBox}
-use Rattle.ts_model.specs.declared.commands.Command.TheVariants.{Read, Delete, Consolidate}
+use Rattle.ts_model.specs.declared.commands.Command.{Command}
+use Rattle.ts_model.specs.declared.commands.Command.TheVariants.{Read, Delete, Consolidate, Vacuum, Unlock, Fragments}
+use Rattle.ts_model.specs.declared.commands.Line.{Line}
 use Rattle.ts_model.specs.Commands.{fits}
 use Rattle.ts_script.specs.declared.words.Asked.{Asked}
 use Rattle.ts_script.specs.declared.words.Asked.TheVariants as asks
@@ -29,13 +32,13 @@ spelled words = map (λ word. word.now) words
 abbrev pub option_named : Text → Rule
 option_named name = record (new_rule name) { long = Some name }
 
--- `create`, `evolve` or `write`
-unfoldable pub object_app : Text → App
-object_app name = with_rule (new_app name) (option_named (codes "at"))
+-- `create`, `evolve`, `write` or `vacuum`, whose option is the stamp
+unfoldable pub stamped_app : Text → App
+stamped_app name = with_rule (new_app name) (option_named (codes "at"))
 
 -- `read` or `consolidate`, with its interval
 unfoldable pub interval_app : Text → App
-interval_app name = with_rule (with_rule (object_app name) (option_named (codes "from"))) (option_named (codes "to"))
+interval_app name = with_rule (with_rule (stamped_app name) (option_named (codes "from"))) (option_named (codes "to"))
 
 -- `read`
 unfoldable pub read_app : App
@@ -50,9 +53,9 @@ delete_app = with_rule (with_rule (new_app (codes "delete")) (option_named (code
 unfoldable pub consolidate_app : App
 consolidate_app = with_rule (with_rule (interval_app (codes "consolidate")) (option_named (codes "min"))) (option_named (codes "max"))
 
--- `play`
-unfoldable pub play_app : App
-play_app = new_app (codes "play")
+-- `unlock`, `fragments` or `play`, which have no options
+unfoldable pub bare_app : Text → App
+bare_app name = new_app name
 
 -- the words are those after the program's name and the store
 abbrev pub without_name : App → App
@@ -62,11 +65,20 @@ without_name app = on_top (λ s. record s { no_binary_name = true }) app
 unfoldable pub objects_app : App
 objects_app =
     with_subcommand (with_subcommand (with_subcommand (without_name (new_app (codes "tilestore")))
-    (object_app (codes "create")).top) (object_app (codes "evolve")).top) (object_app (codes "write")).top
+    (stamped_app (codes "create")).top) (stamped_app (codes "evolve")).top) (stamped_app (codes "write")).top
+
+-- and those that have options of their own
+unfoldable pub optioned_app : App
+optioned_app = with_subcommand (with_subcommand (with_subcommand objects_app read_app.top) delete_app.top) consolidate_app.top
+
+-- and those that look after what was written
+unfoldable pub upkeep_app : App
+upkeep_app =
+    with_subcommand (with_subcommand (with_subcommand optioned_app (stamped_app (codes "vacuum")).top) (bare_app (codes "unlock")).top) (bare_app (codes "fragments")).top
 
 -- the whole command line
 unfoldable pub tilestore_app : App
-tilestore_app = with_subcommand (with_subcommand (with_subcommand (with_subcommand objects_app read_app.top) delete_app.top) consolidate_app.top) play_app.top
+tilestore_app = with_subcommand upkeep_app (bare_app (codes "play")).top
 
 -- the command that the words name, with what was found for its options, where clap takes them
 unfoldable pub parsed : List Text → Option (Text × List Row)
@@ -100,11 +112,15 @@ box_in given = option_map_or boxes_of given (Some [])
 abbrev pub layout_in : Option Text → Option Layout
 layout_in given = option_map_or layout_named given (Some layouts.Row)
 
+-- the line of a single command with this stamp: it is in lane 0, its interval ends at the stamp or not, and it has no stop
+abbrev pub line_alone : Option ℕ → Bool → Command → Line
+line_alone at to_stamp command = record { lane = 0; command = command; at = at; to_stamp = to_stamp; stop = Never }
+
 -- a command whose object is the input
 unfoldable pub object_asked : ObjectForm → List Row → Option Asked
 object_asked form rows = number_in rows (codes "at") >>= λ at. Some (asks.Object form at)
 
--- a read, which is in lane 0 and ends at its own stamp where it does not say else
+-- a read, which ends at its own stamp where it does not say else
 unfoldable pub read_asked : List Row → Option Asked
 read_asked rows = do
   at ← number_in rows (codes "at")
@@ -114,16 +130,16 @@ read_asked rows = do
   fields ← fields_in (first_of (codes "fields") rows)
   order ← layout_in (first_of (codes "layout") rows)
   command ← Some (Read (unwrap_or from 0) (unwrap_or to 0) (record { sub = sub; fields = fields; filter = first_of (codes "where") rows; layout = order }))
-  when (fits command) (asks.Command (record { lane = 0; command = command; at = at; to_stamp = not (is_some to) }))
+  when (fits command) (asks.Command (line_alone at (not (is_some to)) command))
 
--- a delete, which is in lane 0
+-- a delete
 unfoldable pub delete_asked : List Row → Option Asked
 delete_asked rows = do
   at ← number_in rows (codes "at")
   text ← first_of (codes "where") rows
-  when (fits (Delete text)) (asks.Command (record { lane = 0; command = Delete text; at = at; to_stamp = false }))
+  when (fits (Delete text)) (asks.Command (line_alone at false (Delete text)))
 
--- a consolidation, which is in lane 0 and ends at its own stamp where it does not say else
+-- a consolidation, whose interval ends at its own stamp where it does not say else
 unfoldable pub consolidate_asked : List Row → Option Asked
 consolidate_asked rows = do
   at ← number_in rows (codes "at")
@@ -132,9 +148,13 @@ consolidate_asked rows = do
   min ← limit_in rows (codes "min") 2
   max ← limit_in rows (codes "max") 64
   command ← Some (Consolidate (unwrap_or from 0) (unwrap_or to 0) (record { min = min; max = max }))
-  when (fits command) (asks.Command (record { lane = 0; command = command; at = at; to_stamp = not (is_some to) }))
+  when (fits command) (asks.Command (line_alone at (not (is_some to)) command))
 
--- what a command of this name asks for, with what was found for its options
+-- a vacuum
+unfoldable pub vacuum_asked : List Row → Option Asked
+vacuum_asked rows = number_in rows (codes "at") >>= λ at. Some (asks.Command (line_alone at false Vacuum))
+
+-- what a command of this name asks for, with what was found for its options; one that has none is stamped by the clock
 unfoldable pub asked_by : Text → List Row → Option Asked
 asked_by name rows =
     if bytes_eq name (codes "create") then object_asked form.Create rows
@@ -143,7 +163,10 @@ asked_by name rows =
     else (if bytes_eq name (codes "read") then read_asked rows
     else (if bytes_eq name (codes "delete") then delete_asked rows
     else (if bytes_eq name (codes "consolidate") then consolidate_asked rows
-    else (if bytes_eq name (codes "play") then Some asks.Play else None))))))
+    else (if bytes_eq name (codes "vacuum") then vacuum_asked rows
+    else (if bytes_eq name (codes "unlock") then Some (asks.Command (line_alone None false (Unlock 0 0)))
+    else (if bytes_eq name (codes "fragments") then Some (asks.Command (line_alone None false Fragments))
+    else (if bytes_eq name (codes "play") then Some asks.Play else None)))))))))
 
 -- what the words ask for, if it is something that can be done
 unfoldable pub asked : List Text → Option Asked

@@ -3,7 +3,7 @@ ghost use Rattle.std.specs.Prelude.{◌≡◌, codes, false, IfOk};
 ghost use Rattle.clap.specs.Walk.{rule_of};
 ghost use Rattle.clap.specs.Simple.{app_of, new_app, with_rule, with_subcommand};
 ghost use Rattle.clap.specs.declared.builder.command.Command.TheViews.{out-Command};
-ghost use Rattle.ts_script.specs.Words.{option_named, object_app, interval_app, read_app, delete_app, consolidate_app, play_app, without_name, objects_app, tilestore_app};
+ghost use Rattle.ts_script.specs.Words.{option_named, stamped_app, interval_app, read_app, delete_app, consolidate_app, bare_app, without_name, objects_app, optioned_app, upkeep_app, tilestore_app};
 
 use clap::{Arg, Command};
 use std::alloc::{AllocError, Global};
@@ -13,11 +13,32 @@ use std::alloc::{AllocError, Global};
 pub(crate) fn tilestore_command<'a>(alloc: Global) -> Result<Command<'a>, AllocError>
     ensures { IfOk result (λ command. app_of command ≡ tilestore_app) }
 {
+    let command = upkeep_command(alloc)?;
+    with_command(command, bare_command(alloc, "play"))
+}
+
+/// And those that look after what was written.
+#[tactic(auto, unfolding(crate::specs::Words::upkeep_app))]
+fn upkeep_command<'a>(alloc: Global) -> Result<Command<'a>, AllocError>
+    ensures app { IfOk result (λ command. app_of command ≡ upkeep_app) }
+    ensures local { IfOk result (λ command. (out-Command command).has_globals ≡ false) }
+{
+    let command = optioned_command(alloc)?;
+    let command = with_command(command, stamped_command(alloc, "vacuum")?)?;
+    let command = with_command(command, bare_command(alloc, "unlock"))?;
+    with_command(command, bare_command(alloc, "fragments"))
+}
+
+/// And those that have options of their own.
+#[tactic(auto, unfolding(crate::specs::Words::optioned_app))]
+fn optioned_command<'a>(alloc: Global) -> Result<Command<'a>, AllocError>
+    ensures app { IfOk result (λ command. app_of command ≡ optioned_app) }
+    ensures local { IfOk result (λ command. (out-Command command).has_globals ≡ false) }
+{
     let command = objects_command(alloc)?;
     let command = with_command(command, read_command(alloc)?)?;
     let command = with_command(command, delete_command(alloc)?)?;
-    let command = with_command(command, consolidate_command(alloc)?)?;
-    with_command(command, play_command(alloc))
+    with_command(command, consolidate_command(alloc)?)
 }
 
 /// The commands whose objects are the input.
@@ -27,9 +48,9 @@ fn objects_command<'a>(alloc: Global) -> Result<Command<'a>, AllocError>
     ensures local { IfOk result (λ command. (out-Command command).has_globals ≡ false) }
 {
     let command = empty_command(alloc);
-    let command = with_command(command, object_command(alloc, "create")?)?;
-    let command = with_command(command, object_command(alloc, "evolve")?)?;
-    with_command(command, object_command(alloc, "write")?)
+    let command = with_command(command, stamped_command(alloc, "create")?)?;
+    let command = with_command(command, stamped_command(alloc, "evolve")?)?;
+    with_command(command, stamped_command(alloc, "write")?)
 }
 
 /// A command line without a command.
@@ -58,10 +79,10 @@ fn option<'a>(alloc: Global, name: &'a str) -> Arg<'a>
     Arg::new(alloc, name).long(name)
 }
 
-/// `create`, `evolve` or `write`.
-#[tactic(auto, unfolding(crate::specs::Words::object_app))]
-fn object_command<'a>(alloc: Global, name: &'a str) -> Result<Command<'a>, AllocError>
-    ensures app { IfOk result (λ command. app_of command ≡ object_app name.entry.now) }
+/// `create`, `evolve`, `write` or `vacuum`, whose option is the stamp.
+#[tactic(auto, unfolding(crate::specs::Words::stamped_app))]
+fn stamped_command<'a>(alloc: Global, name: &'a str) -> Result<Command<'a>, AllocError>
+    ensures app { IfOk result (λ command. app_of command ≡ stamped_app name.entry.now) }
     ensures local { IfOk result (λ command. (out-Command command).has_globals ≡ false) }
 {
     Command::new(alloc, name).arg(option(alloc, "at"))
@@ -86,7 +107,7 @@ fn interval_command<'a>(alloc: Global, name: &'a str) -> Result<Command<'a>, All
     ensures app { IfOk result (λ command. app_of command ≡ interval_app name.entry.now) }
     ensures local { IfOk result (λ command. (out-Command command).has_globals ≡ false) }
 {
-    let command = object_command(alloc, name)?;
+    let command = stamped_command(alloc, name)?;
     let command = with_option(alloc, command, "from")?;
     with_option(alloc, command, "to")
 }
@@ -126,11 +147,11 @@ fn consolidate_command<'a>(alloc: Global) -> Result<Command<'a>, AllocError>
     with_option(alloc, command, "max")
 }
 
-/// `play`.
-#[tactic(auto, unfolding(crate::specs::Words::play_app))]
-fn play_command<'a>(alloc: Global) -> Command<'a>
-    ensures app { app_of result ≡ play_app }
+/// `unlock`, `fragments` or `play`, which have no options.
+#[tactic(auto, unfolding(crate::specs::Words::bare_app))]
+fn bare_command<'a>(alloc: Global, name: &'a str) -> Command<'a>
+    ensures app { app_of result ≡ bare_app name.entry.now }
     ensures local { (out-Command result).has_globals ≡ false }
 {
-    Command::new(alloc, "play")
+    Command::new(alloc, name)
 }

@@ -5,7 +5,7 @@ ghost use Rattle.ts_script.specs.Meanings.{IsFitAsked, has_input, is_single, mea
 ghost use Rattle.ts_script.specs.Script.{AreLimited, IsScript};
 
 use crate::script::{ScriptFault, read_object, read_script};
-use crate::words::Asked;
+use crate::words::{Asked, line_alone};
 use std::alloc::Global;
 use ts_base::OutOfMemory;
 use ts_model::{Line, LineList};
@@ -43,15 +43,7 @@ pub fn read_lines(alloc: Global, asked: Asked, input: &[u8]) -> Result<LineList,
         Asked::Play => read_script(alloc, input),
         Asked::Object { form, at } => {
             let command = read_object(alloc, form, input)?;
-            Ok(one_line(
-                alloc,
-                Line {
-                    lane: 0,
-                    command,
-                    at,
-                    to_stamp: false,
-                },
-            )?)
+            Ok(one_line(alloc, line_alone(command, at, false))?)
         }
         Asked::Command(line) => Ok(one_line(alloc, line)?),
     }

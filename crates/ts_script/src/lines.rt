@@ -4,17 +4,15 @@ ghost use Rattle.serde_json.specs.View.{view};
 ghost use Rattle.ts_model.specs.Jobs.{IsFitLine};
 ghost use Rattle.ts_script.specs.Shapes.{Gives};
 ghost use Rattle.ts_script.specs.Typed.{is_typed, is_typed_query};
-ghost use Rattle.ts_script.specs.Lines.{name_of, kind_named, create_of, evolve_of, write_of, query_of, read_of, delete_of, consolidate_of, command_of, form_of, has_interval, is_to_stamp, line_of, is_not_built};
+ghost use Rattle.ts_script.specs.Lines.{name_of, kind_named, create_of, evolve_of, write_of, query_of, read_of, delete_of, consolidate_of, vacuum_of, unlock_of, fragments_of, command_of, form_of, has_interval, is_to_stamp, line_of};
 
 use crate::fitting::{as_text, fits};
-use crate::json::{
-    FormFault, FromJson, has_only, if_there, is_one_of, optional, required, text_under,
-};
+use crate::json::{FormFault, FromJson, has_only, if_there, optional, required, text_under};
 use crate::values::{read_box, read_columns, read_filter};
 use crate::words::ObjectForm;
 use serde_json::Value;
 use std::alloc::Global;
-use ts_base::{ByteList, LabelList};
+use ts_base::{ByteList, LabelList, Stop};
 use ts_commit::Limits;
 use ts_cond::Query;
 use ts_domain::{DimList, Layout, Order};
@@ -22,10 +20,7 @@ use ts_model::{Command, FrameIn, Line, WriteIn};
 use ts_schema::{AttrList, Evolution};
 
 /// The keys that every command of a script may have.
-const COMMON: [&str; 3] = ["cmd", "lane", "at"];
-
-/// The commands that are not built yet.
-const LATER: [&str; 3] = ["vacuum", "unlock", "fragments"];
+const COMMON: [&str; 4] = ["cmd", "lane", "at", "stop"];
 
 /// How many lanes there are.
 const LANES: u32 = 8;
@@ -39,7 +34,7 @@ pub(crate) const MAX: u32 = 64;
 /// The number of cells in a data tile where a create does not say it.
 const CAPACITY: u32 = 10_000;
 
-/// Reads a line: a command in its lane, with its stamp where it has one.
+/// Reads a line: a command in its lane, with its stamp and its stop where it has them.
 impl FromJson for Line {
     ghost form = { line_of };
 
@@ -55,7 +50,8 @@ impl FromJson for Line {
         };
         let lane = optional(alloc, value, "lane", 0)?;
         let at = if_there(alloc, value, "at")?;
-        let command = read_command(alloc, name, value)?;
+        let stop = optional(alloc, value, "stop", Stop::Never)?;
+        let command = read_command(alloc, lane, name, value)?;
         let to_stamp = is_to_stamp(name, value);
         if lane >= LANES || !fits(&command) {
             return Err(FormFault::Form);
@@ -65,6 +61,7 @@ impl FromJson for Line {
             command,
             at,
             to_stamp,
+            stop,
         })
     }
 }
@@ -90,22 +87,10 @@ fn is_to_stamp(name: &str, value: &Value) -> bool
     has_interval(name) && value.get("to").is_none()
 }
 
-/// Whether an object, which stands for no command, names one that is not built yet, or asks for a
-/// stop.
-#[tactic(auto, unfolding(crate::specs::Lines::is_not_built))]
-pub(crate) fn is_not_built(value: &Value) -> bool
-    ensures { result ≡ is_not_built (view value.now) }
-{
-    match name_of(value) {
-        Some(name) => is_one_of(name, &LATER) || value.get("stop").is_some(),
-        None => false,
-    }
-}
-
-/// Reads the command of this name.
+/// Reads the command of this name, in this lane.
 #[tactic(auto, unfolding(crate::specs::Lines::command_of))]
-fn read_command(alloc: Global, name: &str, value: &Value) -> Result<Command, FormFault>
-    ensures gives { Gives result (command_of name.now (view value.now)) }
+fn read_command(alloc: Global, lane: u32, name: &str, value: &Value) -> Result<Command, FormFault>
+    ensures gives { Gives result (command_of lane name.now (view value.now)) }
     ensures typed { IfOk result (λ command. IsTrue (is_typed command)) }
 {
     if name == "create" {
@@ -120,6 +105,12 @@ fn read_command(alloc: Global, name: &str, value: &Value) -> Result<Command, For
         read_delete(alloc, &COMMON, value)
     } else if name == "consolidate" {
         read_consolidate(alloc, &COMMON, value)
+    } else if name == "vacuum" {
+        read_vacuum(&COMMON, value)
+    } else if name == "unlock" {
+        read_unlock(&COMMON, lane, value)
+    } else if name == "fragments" {
+        read_fragments(&COMMON, value)
     } else {
         Err(FormFault::Form)
     }
@@ -291,4 +282,40 @@ fn read_consolidate(alloc: Global, common: &[&str], value: &Value) -> Result<Com
     }
     let limits = Limits { min, max };
     Ok(Command::Consolidate { from, to, limits })
+}
+
+/// Reads a vacuum.
+#[tactic(auto, unfolding(crate::specs::Lines::vacuum_of))]
+fn read_vacuum(common: &[&str], value: &Value) -> Result<Command, FormFault>
+    ensures gives { Gives result (vacuum_of (map (λ key. key.now) common.entry.now) (view value.now)) }
+    ensures typed { IfOk result (λ command. IsTrue (is_typed command)) }
+{
+    if !has_only(value, common, &[]) {
+        return Err(FormFault::Form);
+    }
+    Ok(Command::Vacuum)
+}
+
+/// Reads an unlock in this lane. The seed of the run is set when it is done.
+#[tactic(auto, unfolding(crate::specs::Lines::unlock_of))]
+fn read_unlock(common: &[&str], lane: u32, value: &Value) -> Result<Command, FormFault>
+    ensures gives { Gives result (unlock_of (map (λ key. key.now) common.entry.now) lane (view value.now)) }
+    ensures typed { IfOk result (λ command. IsTrue (is_typed command)) }
+{
+    if !has_only(value, common, &[]) {
+        return Err(FormFault::Form);
+    }
+    Ok(Command::Unlock { seed: 0, lane })
+}
+
+/// Reads a listing of the commits.
+#[tactic(auto, unfolding(crate::specs::Lines::fragments_of))]
+fn read_fragments(common: &[&str], value: &Value) -> Result<Command, FormFault>
+    ensures gives { Gives result (fragments_of (map (λ key. key.now) common.entry.now) (view value.now)) }
+    ensures typed { IfOk result (λ command. IsTrue (is_typed command)) }
+{
+    if !has_only(value, common, &[]) {
+        return Err(FormFault::Form);
+    }
+    Ok(Command::Fragments)
 }

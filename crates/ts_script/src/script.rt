@@ -3,12 +3,12 @@ ghost use Rattle.std.specs.Prelude.{◌≡◌, Some, None, Ok, Err, IfOk, IsErrO
 ghost use Rattle.serde_json.specs.View.{view};
 ghost use Rattle.ts_script.specs.Shapes.{Gives};
 ghost use Rattle.ts_model.specs.Jobs.{IsFitLine};
-ghost use Rattle.ts_script.specs.Script.{byte_limit, is_blank, json_of, line_at, with_line, script_of, object_in, object_command, IsScript, AreLimited};
+ghost use Rattle.ts_script.specs.Script.{byte_limit, is_blank, json_of, line_in, line_at, with_line, script_of, object_in, object_command, IsScript, AreLimited};
 ghost use Rattle.ts_model.specs.Commands.{fits};
 
 use crate::fitting::fits;
 use crate::json::{FormFault, FromJson};
-use crate::lines::{is_not_built, read_form};
+use crate::lines::read_form;
 use crate::parts::next_part;
 use crate::words::ObjectForm;
 use serde_json::{Category, Value};
@@ -30,13 +30,6 @@ pub enum ScriptFault {
     /// command it is line 1.
     #[error("line {line} is bad")]
     Bad {
-        /// The number of the line.
-        line: u64,
-    },
-    /// The first line that is no command is an object with a text under `cmd`, and that text names a
-    /// command that is not built yet, or the object has a key `stop`.
-    #[error("line {line} is not built yet")]
-    NotBuilt {
         /// The number of the line.
         line: u64,
     },
@@ -122,17 +115,21 @@ fn read_line(alloc: Global, number: u64, bytes: &[u8]) -> Result<Line, ScriptFau
     ensures script { IsScript result (line_at number bytes.now) }
     ensures fit { IfOk result IsFitLine }
 {
-    let value = match read_json(alloc, bytes) {
-        Ok(value) => value,
-        Err(FormFault::Form) => return Err(ScriptFault::Bad { line: number }),
-        Err(FormFault::OutOfMemory) => return Err(ScriptFault::OutOfMemory),
-    };
-    match Line::from_json(alloc, &value) {
+    match line_in(alloc, bytes) {
         Ok(line) => Ok(line),
-        Err(FormFault::Form) if is_not_built(&value) => Err(ScriptFault::NotBuilt { line: number }),
         Err(FormFault::Form) => Err(ScriptFault::Bad { line: number }),
         Err(FormFault::OutOfMemory) => Err(ScriptFault::OutOfMemory),
     }
+}
+
+/// Reads the line that bytes stand for.
+#[tactic(auto, unfolding(crate::specs::Script::line_in))]
+fn line_in(alloc: Global, bytes: &[u8]) -> Result<Line, FormFault>
+    ensures gives { Gives result (line_in bytes.now) }
+    ensures fit { IfOk result IsFitLine }
+{
+    let value = read_json(alloc, bytes)?;
+    Line::from_json(alloc, &value)
 }
 
 /// Reads bytes as one JSON value (RFC 8259), as `serde_json` does.

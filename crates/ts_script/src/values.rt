@@ -1,4 +1,4 @@
-//! Names, types, values, dimensions and attributes as JSON values.
+//! Names, types, values, dimensions, attributes and stops as JSON values.
 ghost use Rattle.std.specs.Prelude.{◌≡◌, [], true, IfOk, IsTrue, option_map};
 ghost use Rattle.std.specs.List.{list_all};
 ghost use Rattle.std.specs.Option.{option_map_or};
@@ -7,13 +7,13 @@ ghost use Rattle.ts_model.specs.Commands.{is_spelled_attr, is_spelled_val, is_te
 ghost use Rattle.serde_json.specs.View.{view, members_view};
 ghost use Rattle.ts_script.specs.Shapes.{Gives};
 ghost use Rattle.ts_script.specs.Typed.{is_typed_col};
-ghost use Rattle.ts_script.specs.Values.{label, type_named, val_type, order, layout, layout_named, value, fill_said, fill, dim, attr, columns_onto, columns, bounds_onto, box, filter};
+ghost use Rattle.ts_script.specs.Values.{label, type_named, val_type, order, layout, layout_named, value, fill_said, fill, dim, attr, columns_onto, columns, bounds_onto, box, filter, point_named, stop};
 
 use crate::fitting::as_text;
 use crate::json::{FormFault, FromJson, both_items, has_only, optional, required};
 use serde_json::{Map, Value};
 use std::alloc::Global;
-use ts_base::{ByteList, Label, OutOfMemory, Row, Sequence, Val, ValType};
+use ts_base::{ByteList, Label, OutOfMemory, Point, Row, Sequence, Stop, Val, ValType};
 use ts_cond::{NamedBox, NamedBoxList};
 use ts_domain::{Dim, Layout, Order};
 use ts_model::{ColIn, ColInList, blob_bytes};
@@ -293,5 +293,38 @@ pub(crate) fn read_filter(
             Ok(Some(as_text(bytes)))
         }
         None => Err(FormFault::Form),
+    }
+}
+
+/// A stop: a whole number of calls from 0 to 2^64 - 1, or the name of a point.
+impl FromJson for Stop {
+    ghost form = { stop };
+
+    ghost typed = { λ _. true };
+
+    fn from_json(_alloc: Global, value: &Value) -> Result<Stop, FormFault> {
+        match value {
+            Value::Number(number) => match number.as_u64() {
+                Some(calls) => Ok(Stop::Calls(calls)),
+                None => Err(FormFault::Form),
+            },
+            Value::String(name) => match point_named(name.as_str()) {
+                Some(point) => Ok(Stop::Before(point)),
+                None => Err(FormFault::Form),
+            },
+            _ => Err(FormFault::Form),
+        }
+    }
+}
+
+/// The point of a name.
+fn point_named(name: &str) -> Option<Point>
+    ensures { result ≡ point_named name.now }
+{
+    match name {
+        "vac" => Some(Point::Vac),
+        "wrt" => Some(Point::Wrt),
+        "part" => Some(Point::PartGone),
+        _ => None,
     }
 }

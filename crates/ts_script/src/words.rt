@@ -9,7 +9,7 @@ ghost use Rattle.clap.specs.Matches.{found_of};
 ghost use Rattle.clap.specs.Simple.{subcommand_rows_of};
 ghost use Rattle.ts_script.specs.Shapes.{Gives};
 ghost use Rattle.ts_script.specs.Meanings.{IsFitAsked};
-ghost use Rattle.ts_script.specs.Words.{asked, asked_by, box_in, consolidate_asked, delete_asked, fields_in, layout_in, limit_in, number_in, object_asked, read_asked, spelled};
+ghost use Rattle.ts_script.specs.Words.{asked, asked_by, box_in, consolidate_asked, delete_asked, fields_in, layout_in, limit_in, line_alone, number_in, object_asked, read_asked, spelled, vacuum_asked};
 
 use crate::commands::tilestore_command;
 use crate::fitting::{as_text, fits};
@@ -20,7 +20,7 @@ use crate::values::layout_named;
 use clap::ArgMatches;
 use clap::error::ErrorKind;
 use std::alloc::{AllocError, Global};
-use ts_base::{ByteList, LabelList};
+use ts_base::{ByteList, LabelList, Stop};
 use ts_commit::Limits;
 use ts_cond::{NamedBoxList, Query};
 use ts_domain::Layout;
@@ -57,8 +57,9 @@ pub enum ObjectForm {
 /// What the words ask for, those of a command line after the program's name and the store.
 ///
 /// They are read as `clap` reads them, by one command with the subcommands `create`, `evolve`,
-/// `write`, `read`, `delete`, `consolidate` and `play`. `Form` comes exactly where `clap` refuses them, as it does a
-/// request for help too, or where the value of an option has another form.
+/// `write`, `read`, `delete`, `consolidate`, `vacuum`, `unlock`, `fragments` and `play`. `Form` comes
+/// exactly where `clap` refuses them, as it does a request for help too, or where the value of an option has
+/// another form.
 pub fn read_words(alloc: Global, words: &[&str]) -> Result<Asked, FormFault>
     ensures asked { Gives result (asked (spelled words.entry.now)) }
     ensures fit { IfOk result IsFitAsked }
@@ -103,11 +104,41 @@ fn read_command(alloc: Global, name: &str, options: &ArgMatches<'_>) -> Result<A
         read_delete(alloc, options)
     } else if name == "consolidate" {
         read_consolidate(options)
+    } else if name == "vacuum" {
+        read_vacuum(options)
+    } else if name == "unlock" {
+        let command = Command::Unlock { seed: 0, lane: 0 };
+        Ok(Asked::Command(line_alone(command, None, false)))
+    } else if name == "fragments" {
+        Ok(Asked::Command(line_alone(Command::Fragments, None, false)))
     } else if name == "play" {
         Ok(Asked::Play)
     } else {
         Err(FormFault::Form)
     }
+}
+
+/// The line of a single command with this stamp. It is in lane 0, and has no stop.
+pub(crate) fn line_alone(command: Command, at: Option<u64>, to_stamp: bool) -> Line
+    ensures { result ≡ line_alone at to_stamp command }
+{
+    Line {
+        lane: 0,
+        command,
+        at,
+        to_stamp,
+        stop: Stop::Never,
+    }
+}
+
+/// A vacuum.
+#[tactic(auto, unfolding(crate::specs::Words::vacuum_asked))]
+fn read_vacuum(options: &ArgMatches<'_>) -> Result<Asked, FormFault>
+    ensures asked { Gives result (vacuum_asked (rows_of (found_of options.now))) }
+    ensures fit { IfOk result IsFitAsked }
+{
+    let at = number_in(options, "at")?;
+    Ok(Asked::Command(line_alone(Command::Vacuum, at, false)))
 }
 
 /// A command whose object is the input.
@@ -147,12 +178,7 @@ fn read_read(alloc: Global, options: &ArgMatches<'_>) -> Result<Asked, FormFault
     if !fits(&command) {
         return Err(FormFault::Form);
     }
-    Ok(Asked::Command(Line {
-        lane: 0,
-        command,
-        at,
-        to_stamp: to.is_none(),
-    }))
+    Ok(Asked::Command(line_alone(command, at, to.is_none())))
 }
 
 /// A delete.
@@ -166,12 +192,7 @@ fn read_delete(alloc: Global, options: &ArgMatches<'_>) -> Result<Asked, FormFau
         return Err(FormFault::Form);
     };
     let text = as_text(ByteList::of_bytes(alloc, text.as_bytes())?);
-    Ok(Asked::Command(Line {
-        lane: 0,
-        command: Command::Delete(text),
-        at,
-        to_stamp: false,
-    }))
+    Ok(Asked::Command(line_alone(Command::Delete(text), at, false)))
 }
 
 /// A consolidation.
@@ -193,12 +214,7 @@ fn read_consolidate(options: &ArgMatches<'_>) -> Result<Asked, FormFault>
     if !fits(&command) {
         return Err(FormFault::Form);
     }
-    Ok(Asked::Command(Line {
-        lane: 0,
-        command,
-        at,
-        to_stamp: to.is_none(),
-    }))
+    Ok(Asked::Command(line_alone(command, at, to.is_none())))
 }
 
 /// The value of an option, if the option is there.

@@ -10,13 +10,13 @@ use Rattle.ts_model.specs.declared.commands.Line.{Line}
 use Rattle.ts_model.specs.declared.answers.Driven.{Driven}
 use Rattle.ts_model.specs.declared.answers.Driven.TheVariants.{Done, Stopped}
 use Rattle.ts_model.specs.declared.answers.Outcome.{Outcome}
-use Rattle.ts_model.specs.declared.answers.Outcome.TheVariants.{Created, Evolved, Written, Deleted, Read, Consolidated, Refused, OutOfMemory as NoMemory}
+use Rattle.ts_model.specs.declared.answers.Outcome.TheVariants.{Created, Evolved, Written, Deleted, Read, Consolidated, Vacuumed, Unlocked, Listed, Refused, OutOfMemory as NoMemory}
 use Rattle.ts_model.specs.States.{Exchange}
-use Rattle.ts_top.specs.declared.top.Stop.TheVariants.{Usage, BadScript, NoForm, ReadFault, OutOfMemory}
+use Rattle.ts_top.specs.declared.top.Stop.TheVariants.{Usage, BadScript, ReadFault, OutOfMemory}
 use Rattle.ts_script.specs.declared.words.Asked.{Asked}
 use Rattle.ts_script.specs.declared.words.Asked.TheVariants.{Play, Object, Command as Alone}
 use Rattle.ts_script.specs.Words.{asked}
-use Rattle.ts_script.specs.Script.{Fault, Bad, NotBuilt}
+use Rattle.ts_script.specs.Script.{Fault, Bad}
 use Rattle.ts_script.specs.Meanings.{has_input, is_single, meaning}
 use Rattle.ts_law.specs.Fresh.{in_lane_order}
 use Rattle.ts_top.specs.Ends.{ends_text}
@@ -61,6 +61,9 @@ status_alone_few (Written f) = inl refl
 status_alone_few (Deleted f) = inl refl
 status_alone_few (Read answer) = inl refl
 status_alone_few (Consolidated f count) = inl refl
+status_alone_few (Vacuumed count) = inl refl
+status_alone_few (Unlocked count) = inl refl
+status_alone_few (Listed names) = inl refl
 
 pub printed_few : (single : Bool) (results : List (Driven Outcome)) → (status_printed single results ≡ 0) ⊎ (status_printed single results ≡ 6) ⊎ (status_printed single results ≡ 7)
 printed_few false results = inl refl
@@ -102,13 +105,9 @@ module _ {S : Type 0} (held : S → Option Held) (made : S → List Exchange →
   four : IsEnding 4 → ⊥
   four e = elim e [ inl q ↦ omega arith | inr r ↦ elim r [ inl q ↦ omega arith | inr r' ↦ elim r' [ inl q ↦ omega arith | inr q ↦ omega arith ] ] ]
 
-  eight : IsEnding 8 → ⊥
-  eight e = elim e [ inl q ↦ omega arith | inr r ↦ elim r [ inl q ↦ omega arith | inr r' ↦ elim r' [ inl q ↦ omega arith | inr q ↦ omega arith ] ] ]
-
   pub usage : (seen : Seen S) → IsRunOf held made seen → seen.status ≡ 2 → asked seen.words ≡ None
   usage seen (stopped Usage h) e = h.reason.0
   usage seen (stopped (BadScript n) h) e = absurd (let none : ⊥ = omega (arith, h.status) in none)
-  usage seen (stopped (NoForm n) h) e = absurd (let none : ⊥ = omega (arith, h.status) in none)
   usage seen (stopped ReadFault h) e = absurd (let none : ⊥ = omega (arith, h.status) in none)
   usage seen (stopped OutOfMemory h) e = absurd (let none : ⊥ = omega (arith, h.status) in none)
   usage seen (played job lines h) e = absurd (not_played seen _ lines 2 h.plays e two)
@@ -116,7 +115,6 @@ module _ {S : Type 0} (held : S → Option Held) (made : S → List Exchange →
   pub usage_there : (seen : Seen S) → IsRunOf held made seen → asked seen.words ≡ None → (seen.status ≡ 2) ⊎ (seen.status ≡ 7)
   usage_there seen (stopped Usage h) e = inl h.status
   usage_there seen (stopped (BadScript n) h) e = absurd (none-some h.reason.job (sym e ∙ h.reason.asks))
-  usage_there seen (stopped (NoForm n) h) e = absurd (none-some h.reason.job (sym e ∙ h.reason.asks))
   usage_there seen (stopped ReadFault h) e =
       let (job, asks, has, rose) = h.reason in
       absurd (none-some job (sym e ∙ asks))
@@ -126,23 +124,13 @@ module _ {S : Type 0} (held : S → Option Held) (made : S → List Exchange →
   pub bad_script : (seen : Seen S) → IsRunOf held made seen → seen.status ≡ 3 → (n : ℕ) × AskFor seen.words seen.input.old (Err (Bad n))
   bad_script seen (stopped Usage h) e = absurd (let none : ⊥ = omega (arith, h.status) in none)
   bad_script seen (stopped (BadScript n) h) e = (n, (h.reason.job, h.reason.asks, h.reason.means))
-  bad_script seen (stopped (NoForm n) h) e = absurd (let none : ⊥ = omega (arith, h.status) in none)
   bad_script seen (stopped ReadFault h) e = absurd (let none : ⊥ = omega (arith, h.status) in none)
   bad_script seen (stopped OutOfMemory h) e = absurd (let none : ⊥ = omega (arith, h.status) in none)
   bad_script seen (played job lines h) e = absurd (not_played seen _ lines 3 h.plays e three)
 
-  pub not_built : (seen : Seen S) → IsRunOf held made seen → seen.status ≡ 8 → (n : ℕ) × AskFor seen.words seen.input.old (Err (NotBuilt n))
-  not_built seen (stopped Usage h) e = absurd (let none : ⊥ = omega (arith, h.status) in none)
-  not_built seen (stopped (BadScript n) h) e = absurd (let none : ⊥ = omega (arith, h.status) in none)
-  not_built seen (stopped (NoForm n) h) e = (n, (h.reason.job, h.reason.asks, h.reason.means))
-  not_built seen (stopped ReadFault h) e = absurd (let none : ⊥ = omega (arith, h.status) in none)
-  not_built seen (stopped OutOfMemory h) e = absurd (let none : ⊥ = omega (arith, h.status) in none)
-  not_built seen (played job lines h) e = absurd (not_played seen _ lines 8 h.plays e eight)
-
   pub read_fault : (seen : Seen S) → IsRunOf held made seen → seen.status ≡ 4 → IsSomeAnd (asked seen.words) (λ job. has_input job ≡ true) × Rose seen.input.before seen.input.now
   read_fault seen (stopped Usage h) e = absurd (let none : ⊥ = omega (arith, h.status) in none)
   read_fault seen (stopped (BadScript n) h) e = absurd (let none : ⊥ = omega (arith, h.status) in none)
-  read_fault seen (stopped (NoForm n) h) e = absurd (let none : ⊥ = omega (arith, h.status) in none)
   read_fault seen (stopped ReadFault h) e =
       let (job, asks, has, rose) = h.reason in
       let P : Option Asked → Type 0 = λ said. IsSomeAnd said (λ j. has_input j ≡ true) in
@@ -165,7 +153,6 @@ module _ {S : Type 0} (held : S → Option Held) (made : S → List Exchange →
   pub write_fault : (seen : Seen S) → IsRunOf held made seen → seen.status ≡ 5 → Rose seen.out.before seen.out.now
   write_fault seen (stopped Usage h) e = absurd (let none : ⊥ = omega (arith, h.status) in none)
   write_fault seen (stopped (BadScript n) h) e = absurd (let none : ⊥ = omega (arith, h.status) in none)
-  write_fault seen (stopped (NoForm n) h) e = absurd (let none : ⊥ = omega (arith, h.status) in none)
   write_fault seen (stopped ReadFault h) e = absurd (let none : ⊥ = omega (arith, h.status) in none)
   write_fault seen (stopped OutOfMemory h) e = absurd (let none : ⊥ = omega (arith, h.status) in none)
   write_fault seen (played job lines h) e = write_fault_played seen _ lines h.plays e
@@ -173,30 +160,18 @@ module _ {S : Type 0} (held : S → Option Held) (made : S → List Exchange →
   pub bad_script_there : (seen : Seen S) → IsRunOf held made seen → (job : Asked) → asked seen.words ≡ Some job → (n : ℕ) → IsSomeAnd seen.input.old (λ all. meaning job all ≡ Err (Bad n)) → (seen.status ≡ 3) ⊎ (seen.status ≡ 4) ⊎ (seen.status ≡ 7)
   bad_script_there seen (stopped Usage h) job is n there = absurd (none-some job (sym h.reason.0 ∙ is))
   bad_script_there seen (stopped (BadScript m) h) job is n there = inl h.status
-  bad_script_there seen (stopped (NoForm m) h) job is n there = let same = faulty seen.words h.reason.job job seen.input.old (Err (NotBuilt m)) (Bad n) h.reason.asks is h.reason.means there in cc
   bad_script_there seen (stopped ReadFault h) job is n there = inr (inl h.status)
   bad_script_there seen (stopped OutOfMemory h) job is n there = inr (inr h.status)
   bad_script_there seen (played other lines h) job is n there = let same = faulty seen.words other job seen.input.old (Ok lines) (Bad n) h.read.asks is h.read.means there in cc
 
-  pub not_built_there : (seen : Seen S) → IsRunOf held made seen → (job : Asked) → asked seen.words ≡ Some job → (n : ℕ) → IsSomeAnd seen.input.old (λ all. meaning job all ≡ Err (NotBuilt n)) → (seen.status ≡ 8) ⊎ (seen.status ≡ 4) ⊎ (seen.status ≡ 7)
-  not_built_there seen (stopped Usage h) job is n there = absurd (none-some job (sym h.reason.0 ∙ is))
-  not_built_there seen (stopped (BadScript m) h) job is n there = let same = faulty seen.words h.reason.job job seen.input.old (Err (Bad m)) (NotBuilt n) h.reason.asks is h.reason.means there in cc
-  not_built_there seen (stopped (NoForm m) h) job is n there = inl h.status
-  not_built_there seen (stopped ReadFault h) job is n there = inr (inl h.status)
-  not_built_there seen (stopped OutOfMemory h) job is n there = inr (inr h.status)
-  not_built_there seen (played other lines h) job is n there = let same = faulty seen.words other job seen.input.old (Ok lines) (NotBuilt n) h.read.asks is h.read.means there in cc
-
   -- a run that stops before its first command makes no call of the store
-  pub untouched : (seen : Seen S) → IsRunOf held made seen → (seen.status ≡ 2) ⊎ (seen.status ≡ 3) ⊎ (seen.status ≡ 4) ⊎ (seen.status ≡ 8) → (seen.journal ≡ []) × (seen.later ≡ seen.store)
+  pub untouched : (seen : Seen S) → IsRunOf held made seen → (seen.status ≡ 2) ⊎ (seen.status ≡ 3) ⊎ (seen.status ≡ 4) → (seen.journal ≡ []) × (seen.later ≡ seen.store)
   untouched seen (stopped stop h) e = (h.journal, h.untouched)
   untouched seen (played job lines h) e = absurd (elim e [
     | inl q ↦ not_played seen _ lines 2 h.plays q two
     | inr r ↦ elim r [
       | inl q ↦ not_played seen _ lines 3 h.plays q three
-      | inr r' ↦ elim r' [
-        | inl q ↦ not_played seen _ lines 4 h.plays q four
-        | inr q ↦ not_played seen _ lines 8 h.plays q eight
-      ]
+      | inr q ↦ not_played seen _ lines 4 h.plays q four
     ]
   ])
 
@@ -211,6 +186,9 @@ module _ {S : Type 0} (held : S → Option Held) (made : S → List Exchange →
   refused_by seen true lines (Done (Deleted f) ∷ []) performed all e = absurd (let none : ⊥ = omega arith in none)
   refused_by seen true lines (Done (Read answer) ∷ []) performed all e = absurd (let none : ⊥ = omega arith in none)
   refused_by seen true lines (Done (Consolidated f count) ∷ []) performed all e = absurd (let none : ⊥ = omega arith in none)
+  refused_by seen true lines (Done (Vacuumed count) ∷ []) performed all e = absurd (let none : ⊥ = omega arith in none)
+  refused_by seen true lines (Done (Unlocked count) ∷ []) performed all e = absurd (let none : ⊥ = omega arith in none)
+  refused_by seen true lines (Done (Listed names) ∷ []) performed all e = absurd (let none : ⊥ = omega arith in none)
   refused_by seen true lines (Stopped ∷ []) performed all e = absurd (let none : ⊥ = omega arith in none)
   refused_by seen true lines (Done a ∷ b ∷ rest) performed all e = absurd (let none : ⊥ = omega arith in none)
   refused_by seen true lines (Stopped ∷ b ∷ rest) performed all e = absurd (let none : ⊥ = omega arith in none)
@@ -227,7 +205,6 @@ module _ {S : Type 0} (held : S → Option Held) (made : S → List Exchange →
   pub refused : (seen : Seen S) → IsRunOf held made seen → seen.status ≡ 6 → WasRefused held made seen
   refused seen (stopped Usage h) e = absurd (let none : ⊥ = omega (arith, h.status) in none)
   refused seen (stopped (BadScript n) h) e = absurd (let none : ⊥ = omega (arith, h.status) in none)
-  refused seen (stopped (NoForm n) h) e = absurd (let none : ⊥ = omega (arith, h.status) in none)
   refused seen (stopped ReadFault h) e = absurd (let none : ⊥ = omega (arith, h.status) in none)
   refused seen (stopped OutOfMemory h) e = absurd (let none : ⊥ = omega (arith, h.status) in none)
   refused seen (played job lines h) e = record { job = job; lines = lines; read = h.read; ended = refused_played seen (is_single job) lines h.plays e }

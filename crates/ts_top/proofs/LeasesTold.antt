@@ -41,7 +41,7 @@ EndsWell outcome.OutOfMemory = ⊥
 EndsWell _ = ⊤
 
 -- a job that removes its lease comes well to its end if it is told that the lease is removed
-told_removed : (lease : Name) (was end : Outcome) (r : Reply) → EndsWell end → end ≡ released lease was r → r ≡ reply.Removed
+pub told_removed : (lease : Name) (was end : Outcome) (r : Reply) → EndsWell end → end ≡ released lease was r → r ≡ reply.Removed
 told_removed lease (outcome.Refused cause) end r well is = absurd (subst EndsWell is well)
 told_removed lease outcome.OutOfMemory end r well is = absurd (subst EndsWell is well)
 told_removed lease was end reply.Removed well is = refl
@@ -63,7 +63,7 @@ last_removes job trace end lease has begins well is = by_ends (subst (λ o. Ends
     by_ends (Removed front r was parts put heeds ends same) = (front, parts ∙ ap (λ q. front ++ removal lease q ∷ []) (told_removed lease was end r well same))
 
 -- items are none, or have a last one
-last_of : {X : Type 0} (xs : List X) → (xs ≡ []) ⊎ ((d : List X) × (e : X) × (xs ≡ d ++ e ∷ []))
+pub last_of : {X : Type 0} (xs : List X) → (xs ≡ []) ⊎ ((d : List X) × (e : X) × (xs ≡ d ++ e ∷ []))
 last_of [] = inl refl
 last_of (x ∷ xs) = inr (by (last_of xs))
   where
@@ -71,12 +71,12 @@ last_of (x ∷ xs) = inr (by (last_of xs))
     by (inl none) = ([], x, ap (λ l. x ∷ l) none)
     by (inr (d, e, is)) = (x ∷ d, e, ap (λ l. x ∷ l) is)
 
-no_last : {X : Type 0} (front : List X) (x : X) → [] ≡ front ++ x ∷ [] → ⊥
+pub no_last : {X : Type 0} (front : List X) (x : X) → [] ≡ front ++ x ∷ [] → ⊥
 no_last [] x is = cc
 no_last (y ∷ front) x is = cc
 
 -- what was removed is not held
-gone : (n : Held) (e : Told) (lease : Name) → e.call ≡ call.Remove lease → e.reply ≡ reply.Removed → e.fate ≡ fate.Done → map.get (after_told n e) lease ≡ None
+pub gone : (n : Held) (e : Told) (lease : Name) → e.call ≡ call.Remove lease → e.reply ≡ reply.Removed → e.fate ≡ fate.Done → map.get (after_told n e) lease ≡ None
 gone n e lease calls replies did =
     ap (λ r. map.get (cond (is_no_memory r) n (after n e.call e.fate)) lease) replies ∙ ap (λ c. map.get (after n c e.fate) lease) calls ∙ ap (λ f. map.get (after n (call.Remove lease) f) lease) did
     ∙ map.get-remove name_total n lease lease ∙ cond-true _ _ _ (tie_itself name_total name_exact lease)

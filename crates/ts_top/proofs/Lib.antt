@@ -3,6 +3,11 @@ pub mod LinesRan
 pub mod Exact
 pub mod Places
 pub mod MergesTold
+pub mod ReadsTold
 pub mod LeasesTold
+pub mod Removed
+pub mod UnlocksTold
+pub mod SweepsTold
+pub mod StopsTold
 pub mod RefusalsTold
 pub mod Promises

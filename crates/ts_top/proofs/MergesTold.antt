@@ -1,6 +1,8 @@
 -- What a consolidation tells: its plan, and what it merged.
 use Rattle.std.proofs.Common.{◌≡◌, ℕ, List, [], ◌∷◌, ◌++◌, Option, Some, append_assoc, sym, ◌∙◌, ap, subst}
-use Rattle.std.proofs.lemmas.List.Elements.{filter_map-append}
+use Rattle.std.specs.Prelude.{All, Contains, slice_get}
+use Rattle.std.proofs.lemmas.List.Elements.{All-contains_itself, All-weaker, Contains-append_right, filter_map-append}
+use Rattle.std.proofs.lemmas.Option.{same_Some}
 use Rattle.ts_base.specs.Held.{Held}
 use Rattle.ts_base.specs.declared.keys.FragKey.{FragKey}
 use Rattle.std.specs.FinMap as map
@@ -12,15 +14,17 @@ use Rattle.ts_commit.specs.declared.vacs.Planned.{Planned}
 use Rattle.ts_commit.specs.declared.vacs.Planned.TheVariants.{Take}
 use Rattle.ts_store.specs.Journals.{held_after}
 use Rattle.ts_schema.specs.declared.schemas.Schema.{Schema}
-use Rattle.ts_model.specs.declared.commands.Command.TheVariants.{Consolidate}
+use Rattle.ts_model.specs.declared.commands.Command.TheVariants.{Consolidate, Vacuum}
 use Rattle.ts_model.specs.declared.commands.Job.{Job}
 use Rattle.ts_model.specs.Deeds.{History, schema_there}
-use Rattle.ts_model.specs.Jobs.{key_of, looked_at, looks_at}
+use Rattle.ts_model.specs.Jobs.{key_of, looked_at}
 use Rattle.ts_model.specs.States.{vac_of}
 use Rattle.ts_model.specs.Told.{Told, entries_of, entry_of, held_told, history_told}
+use Rattle.ts_model.proofs.ListLemmas.{Contains-there}
 use Rattle.ts_model.proofs.Traces.{held_told-append}
 use Rattle.ts_law.specs.Ends.{AreAllVacs, AreInside, FindsSchema, IsMerged, IsPlanned, ListedAt, attributes_with, up_to}
 use Rattle.ts_law.specs.Kept.{HeldSince}
+use Rattle.ts_law.specs.Sweeps.{IsNoSweep}
 use Rattle.ts_law.specs.Stands.{HoldsIn}
 use Rattle.ts_law.proofs.Grows.{holds_on_in}
 use Rattle.ts_law.proofs.HeldLemmas.{Holds-from_get, bytes_there}
@@ -76,13 +80,14 @@ module _ (m : Held) (jobs : List Job) (past : History) (lane : Option ℕ → �
         }
 
     -- a schema that a job found at its stamp holds there in the history after it
-    pub schema_found : (job : Job) (from to : ℕ) (limits : Limits) → job.command ≡ Consolidate from to limits → FindsSchema jobs past told number job → (there : Schema) × (schema_there (history_told jobs past told) job.at ≡ Some there)
-    schema_found job from to limits merges is = (
+    pub schema_found : (job : Job) → looked_at job ≡ job.at → FindsSchema jobs past told number job → (there : Schema) × (schema_there (history_told jobs past told) job.at ≡ Some there)
+    schema_found job looks is = (
       is.there,
-      ap (schema_there (history_told jobs past told)) (sym (ap (looks_at job) merges)) ∙ ap (λ h. schema_there h (looked_at job)) (sym (listed_now jobs past a c told parts number early Schemas is.schemas still)) ∙ is.holds,
+      ap (schema_there (history_told jobs past told)) (sym looks) ∙ ap (λ h. schema_there h (looked_at job)) (sym (listed_now jobs past a c told parts number early Schemas is.schemas still)) ∙ is.holds,
     )
 
-    module _ (stays : (front back : List Told) → told ≡ front ++ back → HeldSince (held_told m front) (held_told m told)) (job : Job) (f : FragKey) (count : ℕ) (is : IsMerged run_spelled m jobs past told number job f count) where
+    module _ (stays : (front mid : List Told) → told ≡ front ++ mid → All (IsNoSweep jobs) mid → HeldSince (held_told m front) (held_told m told)) (job : Job) (is_job : slice_get jobs number ≡ Some job) (mine : (e : Told) → Contains c e → e.job ≡ Some number)
+        (f : FragKey) (count : ℕ) (is : IsMerged run_spelled m jobs past told number job f count) where
       -- what was told up to the put of the `.wrt`
       abbrev seen : List Told
       seen = up_to (is.put).before (is.put).made
@@ -90,9 +95,21 @@ module _ (m : Held) (jobs : List Job) (past : History) (lane : Option ℕ → �
       seen_is : told ≡ seen ++ (is.put).later
       seen_is = (is.put).place ∙ sym (append_assoc (is.put).before ((is.put).made ∷ []) (is.put).later)
 
+      -- the calls since then are the job's own, so none is a vacuum's
+      no_sweep : (e : Told) → Contains (is.put).later e → IsNoSweep jobs e
+      no_sweep e among other vacuum by is_vacuum vacuums =
+          let (d, behind, split) = divided (is.put).before (is.put).made (is.put).later (is.put).place (is.put).own in
+          let here : Contains c e = subst (λ l. Contains l e) (sym split) (Contains-append_right d ((is.put).made ∷ (is.put).later) e (Contains-there (is.put).made (is.put).later e among)) in
+          let at : other ≡ number = same_Some other number (sym by ∙ mine e here) in
+          let it : vacuum ≡ job = same_Some vacuum job (sym is_vacuum ∙ ap (slice_get jobs) at ∙ is_job) in
+          let clash : Vacuum ≡ Consolidate is.from is.to is.limits = sym vacuums ∙ ap (λ (j : Job). j.command) it ∙ is.merges in
+          cc
+
       -- what was held then is held at the end of the calls
       since : HeldSince (held_told m seen) (held_by calls_of calls_of.entries)
-      since = subst (HeldSince (held_told m seen)) (ap (held_told m) parts ∙ held_entered m lane a c) (stays seen (is.put).later seen_is)
+      since =
+          subst (HeldSince (held_told m seen)) (ap (held_told m) parts ∙ held_entered m lane a c)
+          (stays seen (is.put).later seen_is (All-weaker (Contains (is.put).later) (IsNoSweep jobs) no_sweep (is.put).later (All-contains_itself (is.put).later)))
 
       then_now : history_told jobs past seen ≡ history_told jobs past told
       then_now =

@@ -1,6 +1,6 @@
 -- A run keeps its promise.
 use Rattle.std.proofs.Common.{◌≡◌, ◌⊎◌, inl, inr, ℕ, zero, suc, ◌+◌, ◌<◌, ◌≤◌, ◌^◌, List, [], ◌∷◌, ◌++◌, Option, Some, None, Result, Ok, Err, Bool, true, false, cond, length, drop, nat_lt, append_assoc, refl, sym, ◌∙◌, ap, subst, arith}
-use Rattle.std.specs.Prelude.{slice_get, get_or, All, IfSome, map as list_map, option_map, option_and_then, option_to_list, Contains, ⊤}
+use Rattle.std.specs.Prelude.{slice_get, get_or, All, IfSome, option_map, option_and_then, option_to_list, Contains, ⊤}
 use Rattle.std.proofs.lemmas.Bool.{true≢false, ltb-true, ltb-false}
 use Rattle.std.proofs.lemmas.List.{append-nil}
 use Rattle.std.proofs.lemmas.Option.{none-some, same_Some, slice_get_within}
@@ -9,6 +9,7 @@ use Rattle.std.specs.List.{cons_option}
 use Rattle.ts_base.specs.Held.{Held}
 use Rattle.ts_base.specs.declared.keys.Key.{Key}
 use Rattle.ts_base.specs.declared.heads.Cell.{Cell}
+use Rattle.ts_base.specs.declared.heads.Stop.TheVariants as stop
 use Rattle.ts_base.specs.declared.names.CommitKind.TheVariants.{Wrt, Del}
 use Rattle.ts_base.specs.declared.names.Name.{Name}
 use Rattle.ts_base.specs.declared.names.Name.TheVariants as name
@@ -27,7 +28,7 @@ use Rattle.ts_store.specs.Streams.{AppendsFront}
 use Rattle.ts_model.specs.declared.commands.Job.{Job}
 use Rattle.ts_model.specs.declared.commands.Line.{Line}
 use Rattle.ts_model.specs.declared.commands.Command.{Command}
-use Rattle.ts_model.specs.declared.commands.Command.TheVariants.{Create, Evolve, Write, Read, Delete, Consolidate}
+use Rattle.ts_model.specs.declared.commands.Command.TheVariants.{Create, Evolve, Write, Read, Delete, Consolidate, Vacuum, Unlock, Fragments}
 use Rattle.ts_model.specs.declared.answers.Driven.{Driven}
 use Rattle.ts_model.specs.declared.answers.Driven.TheVariants.{Done, Stopped}
 use Rattle.ts_model.specs.declared.answers.Outcome.{Outcome}
@@ -42,44 +43,49 @@ use Rattle.ts_model.specs.declared.deeds.Deletion.{Deletion}
 use Rattle.ts_model.specs.Commands.{frame_made, laid}
 use Rattle.ts_model.specs.Queries.{delete_condition}
 use Rattle.ts_model.specs.Deeds.{History, IsHistory, IsNewKey, frame_in, schema_there}
-use Rattle.ts_model.specs.Answers.{IsAnswer}
 use Rattle.ts_model.specs.Driven.{IsDriven}
-use Rattle.ts_base.specs.declared.names.Prefix.TheVariants.{Commits, Schemas}
+use Rattle.ts_base.specs.declared.names.Prefix.TheVariants.{Schemas}
 use Rattle.ts_model.specs.Jobs.{key_of, looked_at, looks_at, schema_of_job, written_as, deletion_as}
-use Rattle.ts_model.specs.Stops.{cuts}
+use Rattle.ts_model.specs.Stops.{Uncut, cuts}
 use Rattle.ts_model.specs.States.{Exchange, made_by}
 use Rattle.ts_model.specs.Told.{Told, entries_of, entry_of, exchange_of, held_told, trace_of, grown, deed_told, deed_in, deed_of, declared_by, written_by, written_in, deleted_by, deleted_in, schema_used, schemas_found, cells_of, condition_of, history_from, history_told, Replied, Suits}
-use Rattle.ts_model.proofs.ListLemmas.{Contains-cons, Contains-filter_map, Contains-here, Contains-nil, Contains-there, filter_map-Contains}
+use Rattle.ts_model.proofs.ListLemmas.{Contains-cons, Contains-slice_get, Contains-filter_map, Contains-here, Contains-nil, Contains-there, filter_map-Contains}
 use Rattle.ts_model.proofs.Traces.{exchange_of_other, exchange_of_own, history_told-append, trace_of-append}
 use Rattle.ts_law.specs.Ends.{IsTrueEnd, IsTrueOver, IsUndone, ListedAt}
 use Rattle.ts_law.specs.Refusals.{IsRefusedFor}
-use Rattle.ts_law.specs.Fresh.{IsFreshSeed, IsJobOf, AreJobsOf, Numbered, command_at, id_of, in_lane_order, job_from, lanes_of, lane_of as line_lane}
+use Rattle.ts_law.specs.Fresh.{IsFreshSeed, IsJobOf, AreJobsOf, Numbered, command_at, id_of, in_lane_order, job_from, lanes_of, seed_in, lane_of as line_lane}
 use Rattle.ts_law.specs.Lanes.{lane_by, one_lane, IsOwned, IsWithin, IsBefore, InTurn}
 use Rattle.ts_law.specs.Courses.{IsSegment}
+use Rattle.ts_law.specs.Sweeps.{IsNoSweep}
 use Rattle.ts_law.specs.Kept.{HeldSince}
 use Rattle.ts_law.specs.Runs.{AreDriven, AreSegments, exchanges, IsRunOver, IsTrueRun}
-use Rattle.ts_law.proofs.Clipped.{true_end_of}
-use Rattle.ts_law.specs.Stands.{IsNoLease}
+use Rattle.ts_law.proofs.TrueOver.{true_end_of}
+use Rattle.ts_law.specs.Stands.{IsNoLease, Stands}
 use Rattle.ts_law.proofs.FirstStands.{nothing_stands, fresh_over_nothing}
 use Rattle.ts_law.proofs.Doing.{ran-no_call}
 use Rattle.ts_law.proofs.Journals.{journal_held}
 use Rattle.ts_law.proofs.KeptLaws.{Replied-front}
 use Rattle.ts_law.proofs.Lists.{item_at}
-use Rattle.ts_law.proofs.LineJobs.{AreInOrder, each_line, in_order}
+use Rattle.ts_law.proofs.LineJobs.{AreInOrder, IsFitItem, each_line, in_order, seed_of_id}
 use Rattle.ts_law.proofs.TrueRuns.{kept_first, true_run, works_where_used}
 use Rattle.ts_actor.specs.PlainCodec.{NeverWaits}
 use Rattle.ts_actor.specs.PlainLaws.{plain_laws}
 use Rattle.ts_top.specs.Ends.{ends_text}
-use Rattle.ts_top.specs.Promise.{HasNoLease, HeldOnce, IsDone, IsDeedOf, IsLineDone, Tells, IsStored, Promise, Began, Promised}
+use Rattle.ts_top.specs.Promise.{CameOut, HasNoLease, HeldOnce, IsDone, IsDeedOf, IsLineDone, Tells, IsStored, Promise, Began, Promised}
 use Rattle.ts_top.specs.Runners.{run_codec, run_spelled}
 use Rattle.ts_script.specs.Script.{AreLimited}
 use Rattle.ts_top.specs.Seen.{Seen, AskFor, Stopped as HasStopped, Performed, PrintsEnds, whole, sink_failed, no_text, status_printed, Plays, ended, ran_short}
-use Rattle.ts_top.proofs.Places.{Early, Late, cancelled, fronts, goes_on, listed_after, listed_now}
+use Rattle.ts_top.proofs.Places.{Early, Late, cancelled, fronts, goes_on, listed_after}
 use Rattle.ts_top.proofs.LeasesTold.{EndsWell, no_lease}
 use Rattle.ts_top.proofs.MergesTold.{calls_in, merged_tells, schema_found}
+use Rattle.ts_top.proofs.Removed.{Replied-back}
+use Rattle.ts_top.proofs.StopsTold.{keeps_stop}
+use Rattle.ts_top.proofs.SweepsTold.{vacuumed_tells}
+use Rattle.ts_top.proofs.UnlocksTold.{listed_tells, unlocked_tells}
+use Rattle.ts_top.proofs.ReadsTold.{answers_told}
 use Rattle.ts_top.proofs.RefusalsTold.{DoesNone, IsQuiet, none_first, nothing_done, refusal_tells}
 use Rattle.ts_top.specs.declared.top.Stop.{Stop}
-use Rattle.ts_top.specs.declared.top.Stop.TheVariants.{Usage, BadScript, NoForm, ReadFault, OutOfMemory}
+use Rattle.ts_top.specs.declared.top.Stop.TheVariants.{Usage, BadScript, ReadFault, OutOfMemory}
 
 -- ---- what an end tells
 
@@ -112,61 +118,74 @@ module _ (jobs : List Job) (past : History) (a c told : List Told) (parts : told
       → HeldOnce (history_told jobs past a) (history_told jobs past told) k there
   held_once at k there new holds = (history_told jobs past at.before, listed_after jobs past a c told parts number early Schemas at, goes_on jobs past at.before (at.listing ∷ at.later) told at.place, new, holds)
 
-  module _ (m : Held) (lane : Option ℕ → ℕ) (job : Job) where
+  module _ (m : Held) (lane : Option ℕ → ℕ) (job : Job) (is_job : slice_get jobs number ≡ Some job) (mine : (e : Told) → Contains c e → e.job ≡ Some number) (suits : All Suits c) (replied : Replied (held_told m a) c)
+      (stood : (front back : List Told) → told ≡ front ++ back → Stands run_spelled (held_told m front) (history_told jobs past front)) where
     -- what an end tells of the command
     abbrev TellsOf : Outcome → Command → Type 0
     TellsOf end command = Tells (calls_in m lane a c) (history_told jobs past a) (history_told jobs past told) (key_of job) end command
 
     -- an end that is true of a job tells so of its command
     end_tells : (end : Outcome) → (DoesNone job.command → (history_told jobs past told ≡ history_told jobs past a) × IsNewKey (history_told jobs past told) (key_of job))
-        → ((front back : List Told) → told ≡ front ++ back → HeldSince (held_told m front) (held_told m told)) → (EndsWell end → HasNoLease (calls_in m lane a c) (key_of job) job.command)
+        → ((front mid : List Told) → told ≡ front ++ mid → All (IsNoSweep jobs) mid → HeldSince (held_told m front) (held_told m told)) → (EndsWell end → HasNoLease (calls_in m lane a c) (key_of job) job.command)
         → (end ≡ outcome.OutOfMemory → IsUndone (history_told jobs past told) job)
         → ((r : Refusal) → end ≡ outcome.Refused r → IsRefusedFor run_spelled m jobs past told number job r × (IsQuiet r → history_told jobs past told ≡ history_told jobs past a))
-        → IsTrueEnd run_spelled m jobs past told number job end → TellsOf end job.command
-    end_tells outcome.Created still stays left short cause is = subst (TellsOf outcome.Created) (sym is.creates) (is.framed, is.declared)
-    end_tells (outcome.Evolved k) still stays left short cause (same, is) =
+        → IsSegment run_codec job (trace_of number c) (Done end) → IsTrueEnd run_spelled m jobs past told number job end → TellsOf end job.command
+    end_tells outcome.Created still stays left short cause segment is = subst (TellsOf outcome.Created) (sym is.creates) (is.framed, is.declared)
+    end_tells (outcome.Evolved k) still stays left short cause segment (same, is) =
         subst (TellsOf (outcome.Evolved k)) (sym is.evolves) (same, is.there, held_once is.schemas (key_of job) is.there is.undone is.holds, is.declared)
-    end_tells (outcome.Written f) still stays left short cause (same, is) =
+    end_tells (outcome.Written f) still stays left short cause segment (same, is) =
         subst (TellsOf (outcome.Written f)) (sym is.writes_them)
         (same, is.there, held_once is.schemas (key_of job) is.there is.undone is.holds, is.frame, is.framed, is.cells, is.lays, is.written)
-    end_tells (outcome.Deleted f) still stays left short cause (same, is) =
+    end_tells (outcome.Deleted f) still stays left short cause segment (same, is) =
         subst (TellsOf (outcome.Deleted f)) (sym is.deletes)
         (same, is.there, held_once is.schemas (key_of job) is.there is.undone is.holds, is.frame, is.framed, is.condition, is.says, is.erased)
-    end_tells (outcome.Read answer) still stays left short cause (from, to, query, reads, is) =
+    end_tells (outcome.Read answer) still stays left short cause segment (from, to, query, reads, is) =
         let same = (still (subst DoesNone (sym reads) tt)).0 in
         subst (TellsOf (outcome.Read answer)) (sym reads) (
-          subst (λ h. IsAnswer h (history_told jobs past told) from to query answer) (listed_now jobs past a c told parts number early Commits is.commits same)
-              (subst (λ h. IsAnswer (history_told jobs past is.commits.before) h from to query answer) (listed_now jobs past a c told parts number early Schemas is.schemas same) is.answers),
+          answers_told m jobs past lane a c told parts number early same from to query answer is,
           subst (HasNoLease (calls_in m lane a c) (key_of job)) reads (left tt),
         )
-    end_tells (outcome.Consolidated f count) still stays left short cause (undone, is) =
+    end_tells (outcome.Consolidated f count) still stays left short cause segment (undone, is) =
         let same = (still (subst DoesNone (sym is.merges) tt)).0 in
-        let found = schema_found m jobs past lane a c told parts number early same job is.from is.to is.limits is.merges is.found in
+        let found = schema_found m jobs past lane a c told parts number early same job (ap (looks_at job) is.merges) is.found in
         subst (TellsOf (outcome.Consolidated f count)) (sym is.merges)
-        (same, undone, found.0, found.1, merged_tells m jobs past lane a c told parts number early same stays job f count is, subst (HasNoLease (calls_in m lane a c) (key_of job)) is.merges (left tt))
-    end_tells (outcome.Refused r) still stays left short cause is = refusal_tells m jobs past lane a c told parts number early job r (λ quiet. (still quiet).1) is (cause r refl).0 (cause r refl).1
-    end_tells outcome.OutOfMemory still stays left short cause is = short refl
+        (same, undone, found.0, found.1, merged_tells m jobs past lane a c told parts number early same stays job is_job mine f count is, subst (HasNoLease (calls_in m lane a c) (key_of job)) is.merges (left tt))
+    end_tells (outcome.Vacuumed count) still stays left short cause segment (undone, is) =
+        let same = (still (subst DoesNone (sym is.vacuums) tt)).0 in
+        let found = schema_found m jobs past lane a c told parts number early same job (ap (looks_at job) is.vacuums) is.found in
+        subst (TellsOf (outcome.Vacuumed count)) (sym is.vacuums) (
+          same,
+          undone,
+          found.0,
+          found.1,
+          vacuumed_tells m jobs past lane a c told parts number early job mine suits replied stood count is (left tt) segment,
+          subst (HasNoLease (calls_in m lane a c) (key_of job)) is.vacuums (left tt),
+        )
+    end_tells (outcome.Unlocked count) still stays left short cause segment (undone, is) =
+        subst (TellsOf (outcome.Unlocked count)) (sym is.unlocks)
+        ((still (subst DoesNone (sym is.unlocks) tt)).0, undone, unlocked_tells m lane a c number job mine suits replied is.seed is.lane count is.unlocks segment)
+    end_tells (outcome.Listed names) still stays left short cause segment (undone, is) =
+        subst (TellsOf (outcome.Listed names)) (sym is.lists) ((still (subst DoesNone (sym is.lists) tt)).0, undone, listed_tells m lane a c number job mine suits replied names is.lists segment)
+    end_tells (outcome.Refused r) still stays left short cause segment is = refusal_tells m jobs past lane a c told parts number early job r (λ quiet. (still quiet).1) is (cause r refl).0 (cause r refl).1
+    end_tells outcome.OutOfMemory still stays left short cause segment is = short refl
 
--- a read does no deed, nor does a consolidation
+-- such a command does no deed
 no_deed : (before h : History) (k : Key) (c : Command) (d : Deed) → DoesNone c → IsDeedOf before h k c d → ⊥
 no_deed before h k (Create made) d none is = none
 no_deed before h k (Evolve change) d none is = none
 no_deed before h k (Write columns) d none is = none
 no_deed before h k (Delete text) d none is = none
-no_deed before h k (Read from to query) (Framed frame) none is = is
-no_deed before h k (Read from to query) (Declared s) none is = is
-no_deed before h k (Read from to query) (Wrote w) none is = is
-no_deed before h k (Read from to query) (Erased e) none is = is
-no_deed before h k (Consolidate from to limits) (Framed frame) none is = is
-no_deed before h k (Consolidate from to limits) (Declared s) none is = is
-no_deed before h k (Consolidate from to limits) (Wrote w) none is = is
-no_deed before h k (Consolidate from to limits) (Erased e) none is = is
+no_deed before h k (Read from to query) d none is = is
+no_deed before h k (Consolidate from to limits) d none is = is
+no_deed before h k Vacuum d none is = is
+no_deed before h k (Unlock seed lane) d none is = is
+no_deed before h k Fragments d none is = is
 
 -- a job of a line is the one that is made of it at its stamp
 same_job : (gives : ℕ → Bool) (id : ℕ) (line : Line) (job : Job) → IsJobOf gives id line job → job ≡ job_from id line job.at
 same_job gives id line job is =
     let step : (j : Job) (c : Command) → j.command ≡ c → j.id ≡ id → j.stop ≡ (job_from id line job.at).stop → j ≡ record { command = c; at = j.at; id = id; stop = (job_from id line job.at).stop } = λ j c a b d. rw (← a, ← b, ← d) refl in
-    step job (command_at line job.at) is.command is.id_is is.stop
+    step job (command_at (seed_in id) line job.at) is.command is.id_is is.stop
 
 -- ---- whose deeds came
 
@@ -195,28 +214,22 @@ WorksIn (Delete text) = ⊤
 WorksIn _ = ⊥
 
 no_create : (c : Command) → WorksIn c → (f : FrameIn) → c ≡ Create f → ⊥
-no_create (Create g) works f is = works
 no_create (Evolve change) works f is = cc
 no_create (Write columns) works f is = cc
-no_create (Read from to query) works f is = works
 no_create (Delete text) works f is = cc
-no_create (Consolidate from to limits) works f is = works
+no_create _ works f is = works
 
 no_merge : (c : Command) → WorksIn c → (from to : ℕ) (limits : Limits) → c ≡ Consolidate from to limits → ⊥
-no_merge (Create f) works from to limits is = works
 no_merge (Evolve change) works from to limits is = cc
 no_merge (Write columns) works from to limits is = cc
-no_merge (Read a b query) works from to limits is = works
 no_merge (Delete text) works from to limits is = cc
-no_merge (Consolidate a b l) works from to limits is = works
+no_merge _ works from to limits is = works
 
 looks_here : (job : Job) (c : Command) → WorksIn c → looks_at job c ≡ job.at
-looks_here job (Create f) works = absurd works
 looks_here job (Evolve change) works = refl
 looks_here job (Write columns) works = refl
-looks_here job (Read from to query) works = absurd works
 looks_here job (Delete text) works = refl
-looks_here job (Consolidate from to limits) works = absurd works
+looks_here job _ works = absurd works
 
 module _ (before h : History) (job : Job) (found : Option (List Key)) where
   -- the schema that the job uses held at its stamp
@@ -384,24 +397,6 @@ silent_deeds jobs i a c told h parts below above own none = none_first own.deeds
         let at_i : came.number ≡ i = omega (arith, below e among came.number came.mine, above e among came.number came.mine) in
         let there : Contains told e = subst (λ l. Contains l e) (sym parts) (Contains-append_right a c e among) in
         Contains-nil x (subst (λ t. Contains t x) none (Contains-filter_map (exchange_of i) told e x there (exchange_of_own i e (came.mine ∙ ap Some at_i))))
-
--- ---- each command has an end
-
--- results of which none is a stop are ends
-all_ends : (results : List (Driven Outcome)) → ((i : ℕ) → slice_get results i ≡ Some Stopped → ⊥) → (ends : List Outcome) × (results ≡ list_map Done ends)
-all_ends [] none = ([], refl)
-all_ends (Done end ∷ results) none = let rest = all_ends results (λ i. none (suc i)) in (end ∷ rest.0, ap (λ rs. Done end ∷ rs) rest.1)
-all_ends (Stopped ∷ results) none = absurd (none zero refl)
-
--- the end of a command is what it came out with
-end_at : (ends : List Outcome) (i : ℕ) (end : Outcome) → slice_get ends i ≡ Some end → slice_get (list_map {B = Driven Outcome} Done ends) i ≡ Some (Done end)
-end_at [] i end is = absurd (none-some end is)
-end_at (e ∷ ends) zero end is = ap (option_map Done) is
-end_at (e ∷ ends) (suc i) end is = end_at ends i end is
-
-ends_count : (ends : List Outcome) → length (list_map {B = Driven Outcome} Done ends) ≡ length ends
-ends_count [] = refl
-ends_count (e ∷ ends) = ap suc (ends_count ends)
 
 -- ---- the first commands of a run are a run
 
@@ -615,9 +610,9 @@ module _ (gives : ℕ → Bool) (seed : ℕ) (items : List Numbered) (jobs : Lis
       deed
 
   -- a command was done between the commands before it and those after it
-  is_done : AreSegments run_codec jobs results told → (i : ℕ) (item : Numbered) (end : Outcome) → slice_get items i ≡ Some item → slice_get results i ≡ Some (Done end)
-      → (calls : List Entry) × (entered_by (i + 1) ≡ entered_by i ++ calls) × IsLineDone gives seed (record { opening = held_after m (entered_by i); entries = calls }) (after i) (after (i + 1)) item end
-  is_done segments i item end is_item result_at =
+  is_done : AreSegments run_codec jobs results told → (i : ℕ) (item : Numbered) (result : Driven Outcome) → slice_get items i ≡ Some item → slice_get results i ≡ Some result
+      → (calls : List Entry) × (entered_by (i + 1) ≡ entered_by i ++ calls) × IsLineDone gives seed (record { opening = held_after m (entered_by i); entries = calls }) (after i) (after (i + 1)) item result
+  is_done segments i item result is_item result_at =
       let (a, b, parts, early, late) = cut i told owned in_turn in
       let (a', b', parts', early', late') = cut (i + 1) told owned in_turn in
       let apart : (x : Told) (xs : List Told) → b' ≡ x ∷ xs → Contains a x → ⊥ = λ x xs q among.
@@ -631,9 +626,6 @@ module _ (gives : ℕ → Bool) (seed : ℕ) (items : List Numbered) (jobs : Lis
       let of_line = are.each i item job is_item is_job in
       let id : ℕ = id_of seed (item.line).lane item.number in
       let same = same_job gives id item.line job of_line in
-      let is_over : IsTrueOver run_spelled m jobs past (calls_before (i + 1)) i job end = (front_run (i + 1)).answers i job end is_job (short_at results (i + 1) i (Done end) (omega arith) result_at) in
-      let is_true = true_end_of run_spelled m jobs past (calls_before (i + 1)) i job end is_over in
-      let short : end ≡ outcome.OutOfMemory → IsUndone (history_told jobs past a') job = λ is. subst (IsTrueOver run_spelled m jobs past (calls_before (i + 1)) i job) is is_over in
       let own = own_deeds jobs (history_told jobs past a) a c in
       let deeds = own.deeds in
       let whole : history_told jobs past a' ≡ history_from jobs (history_told jobs past a) a c = ap (history_told jobs past) grows ∙ history_told-append jobs past a c in
@@ -642,39 +634,61 @@ module _ (gives : ℕ → Bool) (seed : ℕ) (items : List Numbered) (jobs : Lis
       let above : Late i c = λ e among. late e (subst (λ l. Contains l e) (sym behind) (Contains-append_left c b' e among)) in
       let of_job : (front back : List Deed) (d : Deed) → deeds ≡ front ++ d ∷ back → IsDeedOf (history_told jobs past a) (history_told jobs past a ++ front) (key_of job) job.command d = λ front back d split.
       deed_is i job is_job a c b' place early below above front d (own.came front back d split) in
-      let undone : IsUndone (history_told jobs past a) job = (front_run i).answers i job outcome.OutOfMemory is_job (short_there results i (Done end) result_at) in
+      let undone : IsUndone (history_told jobs past a) job = (front_run i).answers i job outcome.OutOfMemory is_job (short_there results i result result_at) in
       let still : DoesNone job.command → (history_told jobs past a' ≡ history_told jobs past a) × IsNewKey (history_told jobs past a') (key_of job) = λ quiet.
       let none : deeds ≡ [] = none_first deeds (λ back d split. no_deed (history_told jobs past a) (history_told jobs past a ++ []) (key_of job) job.command d quiet (of_job [] back d split)) in
       let same : history_told jobs past a' ≡ history_told jobs past a = whole ∙ own.goes_on_so ∙ ap (λ l. history_told jobs past a ++ l) none ∙ append-nil (history_told jobs past a) in
       (same, subst (λ h. IsNewKey h (key_of job)) (sym same) undone) in
       let grows_by : history_told jobs past a' ≡ history_told jobs past a ++ deeds = whole ∙ own.goes_on_so in
       let silent : trace_of i a' ≡ [] → deeds ≡ [] = silent_deeds jobs i a c a' (history_told jobs past a) grows below above own in
-      let history : IsHistory (history_told jobs past a') = ((front_run (i + 1)).stands a' [] (sym (append-nil a'))).history in
-      let causes : (r : Refusal) → end ≡ outcome.Refused r → IsRefusedFor run_spelled m jobs past a' i job r × (IsQuiet r → history_told jobs past a' ≡ history_told jobs past a) = λ r is.
-      let cause : IsRefusedFor run_spelled m jobs past a' i job r = (front_run (i + 1)).causes i job r is_job (short_at results (i + 1) i (Done (outcome.Refused r)) (omega arith) (result_at ∙ ap (λ o. Some (Done o)) is)) in (
-        cause,
-        λ quiet.
-            let none : deeds ≡ [] = nothing_done m jobs past lane a c a' grows i early job deeds grows_by history of_job silent r quiet (subst (IsTrueEnd run_spelled m jobs past a' i job) is is_true) cause in
-            grows_by ∙ ap (λ l. history_told jobs past a ++ l) none ∙ append-nil (history_told jobs past a),
-      ) in
+      let stood : (front back : List Told) → a' ≡ front ++ back → IsStored (held_told m front) (history_told jobs past front) = λ front back split.
+      subst (λ h. IsStored h (history_told jobs past front)) (sym (journal_held (lane_by one_lane) m front)) ((front_run (i + 1)).stands front back split) in
+      let history : IsHistory (history_told jobs past a') = (stood a' [] (sym (append-nil a'))).history in
       let owns : All IsOwned c = all_back IsOwned a c (all_front IsOwned (a ++ c) b' (subst (All IsOwned) place owned)) in
       let mine : (e : Told) → Contains c e → e.job ≡ Some i = λ e among.
       let (number, is) = All-contains IsOwned c e owns among in
       is ∙ ap Some (let at_i : number ≡ i = omega (arith, below e among number is, above e among number is) in at_i) in
       let suits : All Suits c = all_back Suits a c (all_front Suits (a ++ c) b' (subst (All Suits) place suit)) in
+      let replies : Replied (held_told m a) c = Replied-back m a c (subst (Replied m) grows (Replied-front m a' b' (subst (Replied m) parts' replied))) in
       let none_early : trace_of i a ≡ [] = no_trace i a (λ e among is. let less = early e among i is in omega (arith, less)) in
       let none_late : trace_of i b' ≡ [] = no_trace i b' (λ e among is. let more = late' e among i is in omega (arith, more)) in
       let traced : trace_of i told ≡ trace_of i c =
       ap (trace_of i) place ∙ trace_of-append i (a ++ c) b' ∙ ap (λ t. trace_of i (a ++ c) ++ t) none_late ∙ append-nil (trace_of i (a ++ c)) ∙ trace_of-append i a c ∙ ap (λ t. t ++ trace_of i c) none_early in
-      let left : EndsWell end → HasNoLease (calls_in m lane a c) (key_of job) job.command = λ well.
-      no_lease m lane a c i job mine suits end well (subst (λ t. IsSegment run_codec job t (Done end)) traced (segments i job (Done end) is_job result_at)) in
-      let done : IsDone (calls_in m lane a c) (history_told jobs past a) (history_told jobs past a') (key_of job) end job.command =
-      record { deeds = deeds; goes_on = grows_by; own = of_job; tells = end_tells jobs past a c a' grows i early m lane job end still (front_run (i + 1)).stays left short causes is_true } in (
+      let segment : IsSegment run_codec job (trace_of i c) result = subst (λ t. IsSegment run_codec job t result) traced (segments i job result is_job result_at) in
+      let ended : (end : Outcome) → slice_get results i ≡ Some (Done end) → IsSegment run_codec job (trace_of i c) (Done end) → Tells (calls_in m lane a c) (history_told jobs past a) (history_told jobs past a') (key_of job) end job.command = λ end end_at ends.
+      let is_over : IsTrueOver run_spelled m jobs past a' i job end = (front_run (i + 1)).answers i job end is_job (short_at results (i + 1) i (Done end) (omega arith) end_at) in
+      let is_true = true_end_of run_spelled m jobs past a' i job end is_over in
+      let short : end ≡ outcome.OutOfMemory → IsUndone (history_told jobs past a') job = λ is. subst (IsTrueOver run_spelled m jobs past a' i job) is is_over in
+      let causes : (r : Refusal) → end ≡ outcome.Refused r → IsRefusedFor run_spelled m jobs past a' i job r × (IsQuiet r → history_told jobs past a' ≡ history_told jobs past a) = λ r is.
+      let cause : IsRefusedFor run_spelled m jobs past a' i job r = (front_run (i + 1)).causes i job r is_job (short_at results (i + 1) i (Done (outcome.Refused r)) (omega arith) (end_at ∙ ap (λ o. Some (Done o)) is)) in (
+        cause,
+        λ quiet.
+            let none : deeds ≡ [] = nothing_done m jobs past lane a c a' grows i early job deeds grows_by history of_job silent r quiet (subst (IsTrueEnd run_spelled m jobs past a' i job) is is_true) cause in
+            grows_by ∙ ap (λ l. history_told jobs past a ++ l) none ∙ append-nil (history_told jobs past a),
+      ) in
+      let left : EndsWell end → HasNoLease (calls_in m lane a c) (key_of job) job.command = λ well. no_lease m lane a c i job mine suits end well ends in
+      let stays : (front mid : List Told) → a' ≡ front ++ mid → All (IsNoSweep jobs) mid → HeldSince (held_told m front) (held_told m a') = λ front mid split quiet.
+      subst (λ t. HeldSince (held_told m front) (held_told m t)) (sym split) ((front_run (i + 1)).stays front mid [] (split ∙ ap (λ l. front ++ l) (sym (append-nil mid))) quiet) in
+      end_tells jobs past a c a' grows i early m lane job is_job mine suits replies stood end still stays left short causes ends is_true in
+      let stopped : slice_get results i ≡ Some Stopped → (item.line).stop ≡ stop.Never → ⊥ = λ at never.
+      let (call, may, cut_off) = (driven.driven i job Stopped is_job at).ends in
+      true≢false (sym cut_off ∙ ap (λ s. cuts s (length (trace_of i told)) call) (of_line.stop ∙ never)) in
+      let came : CameOut (calls_in m lane a c) (history_told jobs past a) (history_told jobs past a') (key_of job) (item.line).stop result job.command =
+      elim result as (λ r. slice_get results i ≡ Some r → IsSegment run_codec job (trace_of i c) r → CameOut (calls_in m lane a c) (history_told jobs past a) (history_told jobs past a') (key_of job) (item.line).stop r job.command) [
+        | Done end ↦ ended end
+        | Stopped ↦ λ at ends. stopped at
+      ] result_at segment in
+      let done : IsDone (calls_in m lane a c) (history_told jobs past a) (history_told jobs past a') (key_of job) (item.line).stop result job.command = record { deeds = deeds; goes_on = grows_by; own = of_job; tells = came } in
+      let small = All-contains IsFitItem items item order.fit (Contains-slice_get items i item is_item) in
+      let seed_is : seed_in id ≡ seed = seed_of_id seed (item.line).lane item.number (omega (arith, (small.fit).lane)) small.few in
+      let as_line : IsDone (calls_in m lane a c) (history_told jobs past a) (history_told jobs past a') (record { t = job.at; id = id }) (item.line).stop result (command_at (seed_in id) item.line job.at) =
+      subst (λ j. IsDone (calls_in m lane a c) (history_told jobs past a) (history_told jobs past a') (key_of j) (item.line).stop result j.command) same done in (
         entries_of lane c,
         ap (entries_of lane) grows ∙ filter_map-append (entry_of lane) a c,
         (
           entries_lane i item is_item c owns below above,
-          (job.at, of_line.stamp, subst (λ j. IsDone (calls_in m lane a c) (history_told jobs past a) (history_told jobs past a') (key_of j) end j.command) same done),
+          keeps_stop lane i m a c mine (item.line).stop (subst (λ s. Uncut s 0 (trace_of i c)) of_line.stop (subst (Uncut job.stop 0) traced (driven.driven i job result is_job result_at).uncut)),
+          (job.at, of_line.stamp, subst (λ s. IsDone (calls_in m lane a c) (history_told jobs past a) (history_told jobs past a') (record { t = job.at; id = id }) (item.line).stop result (command_at s item.line job.at)) seed_is as_line),
         ),
       )
 
@@ -691,16 +705,6 @@ module _ {S : Type 0} (held : S → Option Held) (made : S → List Exchange →
   -- the lines in lane order
   abbrev items : List Numbered
   items = in_lane_order lines
-
-  -- no command was stopped
-  none_stopped : (i : ℕ) → slice_get results i ≡ Some Stopped → ⊥
-  none_stopped i at =
-      let all = performed.run.driven in
-      let (job, is_job) = item_at results performed.jobs i all.one_each (slice_get_within results i Stopped at) in
-      let (item, is_item) = item_at performed.jobs items i performed.of_lines.one_each (slice_get_within performed.jobs i job is_job) in
-      let is = performed.of_lines.each i item job is_item is_job in
-      let (call, may, cut) = (all.driven i job Stopped is_job at).ends in
-      true≢false (sym cut ∙ ap (λ stop. cuts stop (length (trace_of i performed.run.told)) call) is.stop)
 
   -- a text that was printed has a front that was
   front_of : (text : List ℕ) (printed : ℕ) → PrintsEnds seen.out text printed seen.status → AppendsFront seen.out.old seen.out.new text
@@ -722,11 +726,10 @@ module _ {S : Type 0} (held : S → Option Held) (made : S → List Exchange →
       let run = performed.run in
       let jobs = performed.jobs in
       let over = subst (λ o. IfSome o (λ n. IsRunOver run_spelled seen.seed (lanes_of items) jobs n (held seen.later) seen.journal run.told results)) holds run.over in
-      let (ends, are) = all_ends results none_stopped in
       let now = history_told jobs past run.told in
       let stored : IsStored (held_after m seen.journal) now = subst (λ es. IsStored (held_after m es) now) run.entries ((over.true_run past stands fresh).stands run.told [] (sym (append-nil run.told))) in
       let order : AreInOrder items = in_order lines (omega (arith, limited.few)) limited.fit in
-      let count : length ends ≡ length items = sym (ends_count ends) ∙ ap length (sym are) ∙ run.driven.one_each ∙ performed.of_lines.one_each in
+      let count : length results ≡ length items = run.driven.one_each ∙ performed.of_lines.one_each in
       let so_far : ℕ → History = after seen.gives seen.seed items jobs past m run.told results performed.of_lines order stands fresh seed_fits over.replied run.suit run.owned run.in_lanes.within performed.in_turn run.driven in
       let journal : ℕ → List Entry = entered_by seen.gives seen.seed items jobs past m run.told results performed.of_lines order stands fresh seed_fits over.replied run.suit run.owned run.in_lanes.within performed.in_turn run.driven in
       let all = all_calls seen.gives seen.seed items jobs past m run.told results performed.of_lines order stands fresh seed_fits over.replied run.suit run.owned run.in_lanes.within performed.in_turn run.driven in
@@ -734,19 +737,17 @@ module _ {S : Type 0} (held : S → Option Held) (made : S → List Exchange →
       record {
         lines = lines;
         asked = asks;
-        ends = ends;
+        ends = results;
         one_each = count ∙ each_line lines limited.fit;
         after = so_far;
         made = journal;
         first = (ap (history_told jobs past) none, ap (entries_of (lane_by (lanes_of items))) none);
         last = ap journal count ∙ ap (entries_of (lane_by (lanes_of items))) all ∙ run.entries;
-        done = λ i item end is_item is_end.
-            is_done seen.gives seen.seed items jobs past m run.told results performed.of_lines order stands fresh seed_fits over.replied run.suit run.owned run.in_lanes.within performed.in_turn run.driven run.segments i item end is_item
-            (ap (λ rs. slice_get rs i) are ∙ end_at ends i end is_end);
+        done = is_done seen.gives seen.seed items jobs past m run.told results performed.of_lines order stands fresh seed_fits over.replied run.suit run.owned run.in_lanes.within performed.in_turn run.driven run.segments;
         stood = λ i few. stood_by seen.gives seen.seed items jobs past m run.told results performed.of_lines order stands fresh seed_fits over.replied run.suit run.owned run.in_lanes.within performed.in_turn run.driven i;
         stored = (over.held, subst (IsStored (held_after m seen.journal)) (sym (ap so_far count ∙ ap (history_told jobs past) all)) stored);
-        front = subst (λ rs. AppendsFront seen.out.old seen.out.new (ends_text items rs)) are (front_of (ends_text items results) (status_printed single results) prints);
-        whole = λ done. subst (λ rs. Appends seen.out.old seen.out.new (ends_text items rs)) are (whole_of (ends_text items results) (status_printed single results) prints done);
+        front = front_of (ends_text items results) (status_printed single results) prints;
+        whole = whole_of (ends_text items results) (status_printed single results) prints;
       }
 
 -- ---- every run
@@ -761,9 +762,6 @@ module _ {S : Type 0} (held : S → Option Held) (made : S → List Exchange →
   not_begun (BadScript n) h (inl e) = let none : ⊥ = omega (arith, h.status, e) in none
   not_begun (BadScript n) h (inr (inl e)) = let none : ⊥ = omega (arith, h.status, e) in none
   not_begun (BadScript n) h (inr (inr (inl e))) = let none : ⊥ = omega (arith, h.status, e) in none
-  not_begun (NoForm n) h (inl e) = let none : ⊥ = omega (arith, h.status, e) in none
-  not_begun (NoForm n) h (inr (inl e)) = let none : ⊥ = omega (arith, h.status, e) in none
-  not_begun (NoForm n) h (inr (inr (inl e))) = let none : ⊥ = omega (arith, h.status, e) in none
   not_begun ReadFault h (inl e) = let none : ⊥ = omega (arith, h.status, e) in none
   not_begun ReadFault h (inr (inl e)) = let none : ⊥ = omega (arith, h.status, e) in none
   not_begun ReadFault h (inr (inr (inl e))) = let none : ⊥ = omega (arith, h.status, e) in none

@@ -22,7 +22,7 @@ use Rattle.ts_store.specs.Calls.{is_no_memory, names_under}
 use Rattle.ts_store.specs.Journals.{held_after}
 use Rattle.ts_store.specs.declared.journal.Entry.{Entry}
 use Rattle.ts_model.specs.declared.commands.Command.{Command}
-use Rattle.ts_model.specs.declared.commands.Command.TheVariants.{Create, Evolve, Write, Read, Delete, Consolidate}
+use Rattle.ts_model.specs.declared.commands.Command.TheVariants.{Create, Evolve, Write, Read, Delete, Consolidate, Vacuum, Unlock, Fragments}
 use Rattle.ts_model.specs.declared.commands.FrameIn.{FrameIn}
 use Rattle.ts_model.specs.declared.commands.Job.{Job}
 use Rattle.ts_model.specs.declared.answers.Refusal.{Refusal}
@@ -38,7 +38,7 @@ use Rattle.ts_model.specs.Told.{Told, entries_of, entry_of, held_told, history_t
 use Rattle.ts_model.proofs.HistoryLaws.{absent_from_new, frame_in-append, schemas-append}
 use Rattle.ts_model.proofs.ListLemmas.{Contains-filter_map, Contains-here, Contains-cons, Contains-nil, Contains-there, filter_map-Contains}
 use Rattle.ts_law.specs.Ends.{IsTrueRefusal, kind_of}
-use Rattle.ts_law.specs.Refusals.{FindsArray, FindsFault, FindsLease, FindsNoSchema, HasFailed, IsRefusedAs, IsRefusedFor, refusal_in}
+use Rattle.ts_law.specs.Refusals.{FindsArray, FindsFault, FindsLease, FindsNoSchema, HasFailed, IsRefusedAs, IsRefusedFor, WorksInSchema, refusal_in}
 use Rattle.ts_top.specs.Causes.{HasCause, IsOpposed, OneFailed, TellsRefusal, looks_for, own_faults}
 use Rattle.ts_top.specs.Promise.{Extends, IsDeedOf}
 use Rattle.ts_top.specs.Merges.{Calls}
@@ -149,17 +149,26 @@ module _ (before : History) (deeds : List Deed) (k : Key) (c : Command) (new : I
 abbrev pub DoesNone : Command → Type 0
 DoesNone (Read from to query) = ⊤
 DoesNone (Consolidate from to limits) = ⊤
+DoesNone Vacuum = ⊤
+DoesNone (Unlock seed lane) = ⊤
+DoesNone Fragments = ⊤
 DoesNone _ = ⊥
 
 -- a command does no deed, or the faults of the puts of its commit and of its schema are its own
 own_commit : (k : Key) (c : Command) → DoesNone c ⊎ Contains (own_faults k c) (refusal.StoreFault (place.Name (name.Commit (frag_of k) (kind_of c))))
 own_commit k (Read from to query) = inl tt
 own_commit k (Consolidate from to limits) = inl tt
+own_commit k Vacuum = inl tt
+own_commit k (Unlock seed lane) = inl tt
+own_commit k Fragments = inl tt
 own_commit k c = inr (Contains-here (refusal.StoreFault (place.Name (name.Commit (frag_of k) (kind_of c)))) (refusal.StoreFault (place.Name (name.Schema k)) ∷ []))
 
 own_schema : (k : Key) (c : Command) → DoesNone c ⊎ Contains (own_faults k c) (refusal.StoreFault (place.Name (name.Schema k)))
 own_schema k (Read from to query) = inl tt
 own_schema k (Consolidate from to limits) = inl tt
+own_schema k Vacuum = inl tt
+own_schema k (Unlock seed lane) = inl tt
+own_schema k Fragments = inl tt
 own_schema k c =
     let mine = refusal.StoreFault (place.Name (name.Schema k)) in
     inr (Contains-there (refusal.StoreFault (place.Name (name.Commit (frag_of k) (kind_of c)))) (mine ∷ []) mine (Contains-here mine []))
@@ -182,6 +191,9 @@ looks_same job (Write columns) = refl
 looks_same job (Read from to query) = refl
 looks_same job (Delete text) = refl
 looks_same job (Consolidate from to limits) = refl
+looks_same job Vacuum = refl
+looks_same job (Unlock seed lane) = refl
+looks_same job Fragments = refl
 
 module _ (m : Held) (jobs : List Job) (past : History) (lane : Option ℕ → ℕ) (a c told : List Told) (parts : told ≡ a ++ c) (number : ℕ) (early : Early number a) (job : Job) where
   -- the history before the command, and the one after it
@@ -243,14 +255,22 @@ module _ (m : Held) (jobs : List Job) (past : History) (lane : Option ℕ → �
         )
 
     no_schema : (at : ℕ) (command : Command) → job.command ≡ command → FindsNoSchema jobs past told number job at → HasCause calls_of now (key_of job) (refusal.NoSchema at) command
-    no_schema at (Create made) is found = absurd (none-some made (sym (ap made_by (sym is) ∙ found.works)))
+    no_schema at (Create made) is found = absurd (subst WorksInSchema is found.works)
+    no_schema at (Unlock seed lane) is found = absurd (subst WorksInSchema is found.works)
+    no_schema at Fragments is found = absurd (subst WorksInSchema is found.works)
     no_schema at command is found = (
       found.looks ∙ looks_same job job.command ∙ ap (looks_for (key_of job)) is,
       ap (λ h. schema_there h at) (sym (listed_now jobs past a c told parts number early Schemas found.schemas still)) ∙ found.none,
     )
 
+    -- a command without a lease finds none in its way
+    no_lease_of : (command : Command) (other : Name) → job.command ≡ command → mode_of command ≡ None → FindsLease m told number job other → ⊥
+    no_lease_of command other is none found = none-some found.own (ap (option_map (name.Lease (key_of job))) (sym (ap mode_of is ∙ none)) ∙ found.has)
+
     leased : (other : Name) (command : Command) → job.command ≡ command → FindsLease m told number job other → HasCause calls_of now (key_of job) (refusal.Leased other) command
-    leased other (Create made) is found = absurd (none-some found.own (ap (λ q. option_map (name.Lease (key_of job)) (mode_of q)) (sym is) ∙ found.has))
+    leased other (Create made) is found = absurd (no_lease_of (Create made) other is refl found)
+    leased other (Unlock seed lane) is found = absurd (no_lease_of (Unlock seed lane) other is refl found)
+    leased other Fragments is found = absurd (no_lease_of Fragments other is refl found)
     leased other command is found = subst (λ q. IsOpposed calls_of (key_of job) q other) is (opposed other found)
 
     array : (made : FrameIn) → FindsArray jobs past told number made → HasCause calls_of now (key_of job) refusal.ArrayExists (Create made)
@@ -263,7 +283,7 @@ module _ (m : Held) (jobs : List Job) (past : History) (lane : Option ℕ → �
     cause_tells (refusal.NoSchema at) quiet is = no_schema at job.command refl is
     cause_tells (refusal.Leased other) quiet is = leased other job.command refl is
     cause_tells (refusal.NothingToDo count) quiet is =
-        let found = schema_found m jobs past lane a c told parts number early still job is.from is.to is.limits is.merges is.found in
+        let found = schema_found m jobs past lane a c told parts number early still job (ap (looks_at job) is.merges) is.found in
         subst (HasCause calls_of now (key_of job) (refusal.NothingToDo count)) (sym is.merges) (found.0, found.1, plans m jobs past lane a c told parts number early still is.from is.to is.limits (Nothing count) is.commits is.by_plan)
     cause_tells (refusal.StoreFault p) quiet is = absurd quiet
     cause_tells (refusal.Taken n) quiet is = absurd is
@@ -273,6 +293,8 @@ module _ (m : Held) (jobs : List Job) (past : History) (lane : Option ℕ → �
       where
         by_command : (command : Command) → job.command ≡ command → IsRefusedAs jobs past told number job r command → HasCause calls_of now (key_of job) r command
         by_command (Create made) same refused = refused.0
+        by_command (Unlock seed lane) same refused = absurd (none-some r (subst (λ q. refusal_in refused.frame (refused.there).attrs q ≡ Some r) same refused.refused))
+        by_command Fragments same refused = absurd (none-some r (subst (λ q. refusal_in refused.frame (refused.there).attrs q ≡ Some r) same refused.refused))
         by_command command same refused = subst (IsRefusedIn r) same (fault_found r refused)
 
   -- a refusal that is true of a job tells so of its command
@@ -319,7 +341,7 @@ module _ (m : Held) (jobs : List Job) (past : History) (lane : Option ℕ → �
           by_array (inr (at, s, among)) =
               no_deeds_of_create before deeds (key_of job) job.command new own made creates (subst IsHistory grows history) (history_told jobs past at.before)
               (subst (Extends (history_told jobs past at.before)) grows (goes_on jobs past at.before (at.listing ∷ at.later) told at.place)) (inr (s, among))
-      by_create made creates (refusal.NoSchema at) quiet is = absurd (none-some made (sym (ap made_by (sym creates) ∙ is.works)))
+      by_create made creates (refusal.NoSchema at) quiet is = absurd (subst WorksInSchema creates is.works)
       by_create made creates (refusal.Leased other) quiet is = absurd (none-some is.own (ap (λ q. option_map (name.Lease (key_of job)) (mode_of q)) (sym creates) ∙ is.has))
       by_create made creates (refusal.NothingToDo count) quiet is = let other : Create made ≡ Consolidate is.from is.to is.limits = sym creates ∙ is.merges in cc
       by_create made creates (refusal.StoreFault p) quiet is = absurd quiet
@@ -335,3 +357,6 @@ module _ (m : Held) (jobs : List Job) (past : History) (lane : Option ℕ → �
       by_command (Read from to query) same = no_deeds_but_create before deeds (key_of job) job.command new own (ap made_by same)
       by_command (Delete text) same = no_deeds_but_create before deeds (key_of job) job.command new own (ap made_by same)
       by_command (Consolidate from to limits) same = no_deeds_but_create before deeds (key_of job) job.command new own (ap made_by same)
+      by_command Vacuum same = no_deeds_but_create before deeds (key_of job) job.command new own (ap made_by same)
+      by_command (Unlock seed lane) same = no_deeds_but_create before deeds (key_of job) job.command new own (ap made_by same)
+      by_command Fragments same = no_deeds_but_create before deeds (key_of job) job.command new own (ap made_by same)

@@ -18,7 +18,7 @@ use Rattle.ts_store.specs.Journals.{held_after}
 use Rattle.ts_schema.specs.declared.frames.Frame.{Frame}
 use Rattle.ts_schema.specs.declared.schemas.Schema.{Schema}
 use Rattle.ts_model.specs.declared.commands.Command.{Command}
-use Rattle.ts_model.specs.declared.commands.Command.TheVariants.{Create, Read, Consolidate}
+use Rattle.ts_model.specs.declared.commands.Command.TheVariants.{Create, Read, Consolidate, Vacuum, Unlock, Fragments}
 use Rattle.ts_model.specs.declared.answers.Refusal.{Refusal}
 use Rattle.ts_model.specs.declared.answers.Refusal.TheVariants as refusal
 use Rattle.ts_model.specs.Commands.{create_refusal, frame_made}
@@ -33,6 +33,9 @@ use Rattle.ts_top.specs.Merges.{Calls, Plans}
 abbrev pub own_faults : Key → Command → List Refusal
 own_faults k (Read from to query) = []
 own_faults k (Consolidate from to limits) = []
+own_faults k Vacuum = []
+own_faults k (Unlock seed lane) = []
+own_faults k Fragments = []
 own_faults k command = refusal.StoreFault (place.Name (name.Commit (frag_of k) (kind_of command))) ∷ refusal.StoreFault (place.Name (name.Schema k)) ∷ []
 
 -- one of the calls failed, which speaks of this object or prefix
@@ -52,11 +55,14 @@ looks_for k _ = k.t
 
 -- the cause of a refusal in a history.
 -- A create finds another frame than its own, or a schema, or is refused for itself.
+-- An unlock and a list of the commits are refused for failed calls alone.
 -- Another command finds no schema, or a lease in its way, or is refused in the frame and the schema there.
 -- A consolidation that has nothing to do finds a schema at its stamp, and its plan takes nothing, where so many fragments may be merged.
 abbrev pub HasCause : Calls → History → Key → Refusal → Command → Type 0
 HasCause calls h k refusal.ArrayExists (Create made) = ((frame : Frame) × (frame_in h ≡ Some frame) × (frame ≢ frame_made made)) ⊎ ((s : Schema) × Contains (schemas h) s)
 HasCause calls h k r (Create made) = create_refusal made ≡ Some r
+HasCause calls h k r (Unlock seed lane) = ⊥
+HasCause calls h k r Fragments = ⊥
 HasCause calls h k (refusal.NoSchema at) command = (at ≡ looks_for k command) × (schema_there h at ≡ None)
 HasCause calls h k (refusal.Leased other) command = IsOpposed calls k command other
 HasCause calls h k (refusal.NothingToDo eligible) (Consolidate from to limits) = (there : Schema) × (schema_there h k.t ≡ Some there) × Plans calls h from to limits (Nothing eligible)

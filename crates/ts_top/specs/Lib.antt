@@ -4,5 +4,6 @@ pub mod Items
 pub mod Runners
 pub mod Seen
 pub mod Merges
+pub mod Sweeps
 pub mod Causes
 pub mod Promise

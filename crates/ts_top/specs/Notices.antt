@@ -8,7 +8,3 @@ usage_text = codes "usage: tilestore STORE COMMAND [OPTIONS]\n"
 -- a line of the script is none
 abbrev pub bad_script_text : ℕ → List ℕ
 bad_script_text line = codes "bad script\t" ++ decimal line ++ codes "\n"
-
--- a line of the script names a command that is not built yet
-abbrev pub not_built_text : ℕ → List ℕ
-not_built_text line = codes "not built\t" ++ decimal line ++ codes "\n"

@@ -1,32 +1,40 @@
 -- What a run promises: what its printed text and the end of each command mean, in words of the history.
-use Rattle.std.specs.Prelude.{◌≡◌, ℕ, ◌+◌, ◌≤◌, Bool, List, [], ◌∷◌, ◌++◌, Option, Some, None, Ok, length, slice_get, map as list_map, All, Contains, IfSome, ◌⊎◌}
+use Rattle.std.specs.Prelude.{◌≡◌, ◌≢◌, ℕ, ◌+◌, ◌≤◌, Bool, false, List, [], ◌∷◌, ◌++◌, Option, Some, None, Ok, length, slice_get, All, Contains, IfSome, ⊤, ◌⊎◌}
 use Rattle.std.specs.Io.KnownBytes.{Appends}
 use Rattle.std.specs.FinMap as map
 use Rattle.ts_base.specs.Held.{Held}
 use Rattle.ts_base.specs.declared.keys.Key.{Key}
 use Rattle.ts_base.specs.declared.heads.Cell.{Cell}
+use Rattle.ts_base.specs.declared.heads.Stop.{Stop}
+use Rattle.ts_base.specs.declared.heads.Stop.TheVariants as stop
 use Rattle.ts_base.specs.Keys.{frag_of}
 use Rattle.ts_base.specs.declared.names.Name.TheVariants as name
+use Rattle.ts_base.specs.declared.names.Prefix.TheVariants.{Commits}
 use Rattle.ts_store.specs.declared.journal.Entry.{Entry}
+use Rattle.ts_store.specs.Calls.{names_under}
 use Rattle.ts_store.specs.Journals.{held_after}
 use Rattle.ts_store.specs.Streams.{AppendsFront}
 use Rattle.ts_schema.specs.declared.frames.Frame.{Frame}
 use Rattle.ts_schema.specs.declared.schemas.Schema.{Schema}
 use Rattle.ts_schema.specs.Evolutions.{evolved_attrs}
 use Rattle.ts_cond.specs.Tests.{Condition}
+use Rattle.ts_cond.specs.declared.query.Query.{Query}
 use Rattle.ts_model.specs.declared.commands.Line.{Line}
 use Rattle.ts_model.specs.declared.commands.Command.{Command}
-use Rattle.ts_model.specs.declared.commands.Command.TheVariants.{Create, Evolve, Write, Read, Delete, Consolidate}
+use Rattle.ts_model.specs.declared.commands.Command.TheVariants.{Create, Evolve, Write, Read, Delete, Consolidate, Vacuum, Unlock, Fragments}
+use Rattle.ts_model.specs.declared.answers.Answer.{Answer}
 use Rattle.ts_model.specs.declared.answers.Outcome.{Outcome}
 use Rattle.ts_model.specs.declared.answers.Outcome.TheVariants as outcome
-use Rattle.ts_model.specs.declared.answers.Driven.TheVariants.{Done}
+use Rattle.ts_model.specs.declared.answers.Driven.{Driven}
+use Rattle.ts_model.specs.declared.answers.Driven.TheVariants.{Done, Stopped}
 use Rattle.ts_model.specs.declared.deeds.Deed.{Deed}
 use Rattle.ts_model.specs.declared.deeds.Deed.TheVariants.{Framed, Declared, Wrote, Erased}
 use Rattle.ts_model.specs.Deeds.{History, frame_in, schema_with, schema_there, writes, deletions, IsNewKey}
-use Rattle.ts_model.specs.Answers.{IsAnswer}
 use Rattle.ts_model.specs.Commands.{frame_made, laid}
 use Rattle.ts_model.specs.Queries.{delete_condition}
 use Rattle.ts_model.specs.Stages.{mode_of}
+use Rattle.ts_model.specs.Stops.{is_point}
+use Rattle.ts_law.specs.Ends.{IsAnswerOver}
 use Rattle.ts_law.specs.Fresh.{IsFreshSeed, IsStampOf, Numbered, command_at, id_of, in_lane_order}
 use Rattle.ts_law.specs.Stands.{Stands}
 use Rattle.ts_top.specs.Causes.{TellsRefusal}
@@ -34,6 +42,7 @@ use Rattle.ts_top.specs.Ends.{ends_text}
 use Rattle.ts_top.specs.Merges.{Calls, Merged, held_by}
 use Rattle.ts_top.specs.Runners.{run_spelled}
 use Rattle.ts_top.specs.Seen.{Seen, AskFor}
+use Rattle.ts_top.specs.Sweeps.{Unlocked, Vacuumed}
 
 -- a history goes on from another: deeds came after it
 abbrev pub Extends : History → History → Type 0
@@ -47,13 +56,23 @@ HeldOnce before now k schema = (once : History) × Extends before once × Extend
 abbrev pub HasNoLease : Calls → Key → Command → Type 0
 HasNoLease calls k command = IfSome (mode_of command) (λ mode. map.get (held_by calls calls.entries) (name.Lease k mode) ≡ None)
 
+-- the answer to a read of [from, to]: over the fragments that were committed after some front of its calls.
+-- It names those that are clipped, and is that of the history without its clipped writes.
+-- Where it names none, it is that of the whole history.
+pub record Answers (calls : Calls) (h : History) (from to : ℕ) (query : Query) (answer : Answer) : Type 0 where
+  pub front : List Entry
+  pub back : List Entry
+  pub parts : calls.entries ≡ front ++ back
+  pub over : IsAnswerOver run_spelled h (held_by calls front) h from to query answer
+
 -- what the end of a command with the key tells of the histories before and after it.
--- A read and a consolidation do no deed.
--- A read answers by the one history; a consolidation tells what it merged.
--- Neither leaves its lease.
+-- A read, a consolidation, a vacuum, an unlock and a list of the commits do no deed.
+-- A read answers by the one history.
+-- A consolidation tells what it merged, a vacuum and an unlock what they removed, and a list of the commits those that were held before its calls.
+-- A read, a consolidation and a vacuum that ended well leave no lease.
 -- A command that ran short of memory has no deed of its key.
 abbrev pub Tells : Calls → History → History → Key → Outcome → Command → Type 0
-Tells calls before now k (outcome.Read answer) (Read from to query) = IsAnswer now now from to query answer × HasNoLease calls k (Read from to query)
+Tells calls before now k (outcome.Read answer) (Read from to query) = Answers calls now from to query answer × HasNoLease calls k (Read from to query)
 Tells calls before now k outcome.Created (Create made) = (frame_in now ≡ Some (frame_made made)) × (schema_with now k ≡ Some (record { key = k; attrs = made.attrs }))
 Tells calls before now k (outcome.Evolved n) (Evolve change) = (n ≡ k) × (there : Schema) × HeldOnce before now k there × (schema_with now k ≡ Some (record { key = k; attrs = evolved_attrs there.attrs change }))
 Tells calls before now k (outcome.Written f) (Write columns) =
@@ -64,6 +83,9 @@ Tells calls before now k (outcome.Deleted f) (Delete text) =
     × (condition : Condition) × (delete_condition frame there.attrs text ≡ Ok condition) × Contains (deletions now) (record { key = k; cond = condition })
 Tells calls before now k (outcome.Consolidated f count) (Consolidate from to limits) =
     (now ≡ before) × IsNewKey now k × (there : Schema) × (schema_there now k.t ≡ Some there) × Merged calls now k from to limits f count × HasNoLease calls k (Consolidate from to limits)
+Tells calls before now k (outcome.Vacuumed count) Vacuum = (now ≡ before) × IsNewKey now k × (there : Schema) × (schema_there now k.t ≡ Some there) × Vacuumed calls count × HasNoLease calls k Vacuum
+Tells calls before now k (outcome.Unlocked count) (Unlock seed lane) = (now ≡ before) × IsNewKey now k × Unlocked calls seed lane count
+Tells calls before now k (outcome.Listed names) Fragments = (now ≡ before) × IsNewKey now k × (names ≡ names_under Commits calls.opening)
 Tells calls before now k (outcome.Refused r) command = TellsRefusal calls before now k command r
 Tells calls before now k outcome.OutOfMemory command = IsNewKey now k
 Tells calls before now k _ _ = ⊥
@@ -81,45 +103,56 @@ IsDeedOf before h k (Delete text) (Erased e) =
     × (condition : Condition) × (delete_condition frame there.attrs text ≡ Ok condition) × (e ≡ record { key = k; cond = condition })
 IsDeedOf before h k _ _ = ⊥
 
--- a command was done: each deed that came is one of it, over the history before the deed, and its end tells the truth
-pub record IsDone (calls : Calls) (before now : History) (k : Key) (end : Outcome) (command : Command) : Type 0 where
+-- how a command came out tells the truth: its end does, and one that was stopped was to be stopped
+abbrev pub CameOut : Calls → History → History → Key → Stop → Driven Outcome → Command → Type 0
+CameOut calls before now k stops (Done end) command = Tells calls before now k end command
+CameOut calls before now k stops Stopped command = stops ≢ stop.Never
+
+-- a command was done, to its end or to where it was stopped: each deed that came is one of it, over the history before the deed
+pub record IsDone (calls : Calls) (before now : History) (k : Key) (stops : Stop) (result : Driven Outcome) (command : Command) : Type 0 where
   pub deeds : List Deed
   pub goes_on : now ≡ before ++ deeds
   pub own : (front back : List Deed) (d : Deed) → deeds ≡ front ++ d ∷ back → IsDeedOf before (before ++ front) k command d
-  pub tells : Tells calls before now k end command
+  pub tells : CameOut calls before now k stops result command
 
--- the command of a line was done, at a stamp of the line, by calls in the line's lane.
+-- none of the calls is one at which the command was to be stopped: they are no more than so many, or none is of that kind
+abbrev pub KeepsStop : Stop → Calls → Type 0
+KeepsStop stop.Never calls = ⊤
+KeepsStop (stop.Calls most) calls = length calls.entries ≤ most
+KeepsStop (stop.Before point) calls = All (λ e. is_point point e.call ≡ false) calls.entries
+
+-- the command of a line was done, at a stamp of the line, by calls in the line's lane, and by none at which the line stops it.
 -- Its key is that stamp, with the identifier that is made of the seed, the lane and the line's number there.
-abbrev pub IsLineDone : (ℕ → Bool) → ℕ → Calls → History → History → Numbered → Outcome → Type 0
-IsLineDone gives seed calls before now item end =
-    All (λ e. e.lane ≡ item.line.lane) calls.entries
-    × ((at : ℕ) × IsStampOf gives item.line at × IsDone calls before now (record { t = at; id = id_of seed item.line.lane item.number }) end (command_at item.line at))
+abbrev pub IsLineDone : (ℕ → Bool) → ℕ → Calls → History → History → Numbered → Driven Outcome → Type 0
+IsLineDone gives seed calls before now item result =
+    All (λ e. e.lane ≡ item.line.lane) calls.entries × KeepsStop item.line.stop calls
+    × ((at : ℕ) × IsStampOf gives item.line at × IsDone calls before now (record { t = at; id = id_of seed item.line.lane item.number }) item.line.stop result (command_at seed item.line at))
 
 -- the objects stand for the history, as the program spells them
 abbrev pub IsStored : Held → History → Type 0
 IsStored m h = Stands run_spelled m h
 
 -- what a run promises over objects and the history that they stand for.
--- The commands that were asked for were done one after the other in lane order, with these ends.
+-- The commands that were asked for were done one after the other in lane order, and came out so: each with an end, or stopped.
 -- After each of them the objects stand for the history, and the store holds those after the last.
 -- What was printed is the text of the ends, with status 0 or 6, or a front of it.
 pub record Promise {S : Type 0} (held : S → Option Held) (seen : Seen S) (m : Held) (past : History) : Type 0 where
   pub lines : List Line
   pub asked : AskFor seen.words seen.input.old (Ok lines)
-  pub ends : List Outcome
+  pub ends : List (Driven Outcome)
   pub one_each : length ends ≡ length lines
   -- the history after so many commands, and the journal up to there
   pub after : ℕ → History
   pub made : ℕ → List Entry
   pub first : (after 0 ≡ past) × (made 0 ≡ [])
   pub last : made (length ends) ≡ seen.journal
-  pub done : (i : ℕ) (item : Numbered) (end : Outcome) → slice_get (in_lane_order lines) i ≡ Some item → slice_get ends i ≡ Some end
+  pub done : (i : ℕ) (item : Numbered) (end : Driven Outcome) → slice_get (in_lane_order lines) i ≡ Some item → slice_get ends i ≡ Some end
       → (calls : List Entry) × (made (i + 1) ≡ made i ++ calls) × IsLineDone seen.gives seen.seed (record { opening = held_after m (made i); entries = calls }) (after i) (after (i + 1)) item end
-  -- after each command the objects stand for the history
+  -- after each command, also a stopped one, the objects stand for the history
   pub stood : (i : ℕ) → i ≤ length ends → IsStored (held_after m (made i)) (after i)
   pub stored : (held seen.later ≡ Some (held_after m seen.journal)) × IsStored (held_after m seen.journal) (after (length ends))
-  pub front : AppendsFront seen.out.old seen.out.new (ends_text (in_lane_order lines) (list_map Done ends))
-  pub whole : (seen.status ≡ 0) ⊎ (seen.status ≡ 6) → Appends seen.out.old seen.out.new (ends_text (in_lane_order lines) (list_map Done ends))
+  pub front : AppendsFront seen.out.old seen.out.new (ends_text (in_lane_order lines) ends)
+  pub whole : (seen.status ≡ 0) ⊎ (seen.status ≡ 6) → Appends seen.out.old seen.out.new (ends_text (in_lane_order lines) ends)
 
 -- the run began with its commands, by its status or by a call that it made of the store
 abbrev pub Began : {S : Type 0} → Seen S → Type 0

@@ -16,16 +16,16 @@ use Rattle.ts_law.specs.Lanes.{InTurn, one_lane}
 use Rattle.ts_law.specs.Runs.{IsRun}
 use Rattle.ts_top.specs.declared.top.Prepared.{Prepared}
 use Rattle.ts_top.specs.declared.top.Stop.{Stop}
-use Rattle.ts_top.specs.declared.top.Stop.TheVariants.{Usage, BadScript, NoForm, ReadFault, OutOfMemory}
+use Rattle.ts_top.specs.declared.top.Stop.TheVariants.{Usage, BadScript, ReadFault, OutOfMemory}
 use Rattle.ts_model.specs.declared.answers.Driven.TheVariants.{Done}
 use Rattle.ts_model.specs.declared.answers.Outcome.TheVariants.{Refused, OutOfMemory as NoMemory}
 use Rattle.ts_script.specs.declared.words.Asked.{Asked}
 use Rattle.ts_script.specs.declared.words.Asked.TheVariants.{Command as Alone}
 use Rattle.ts_top.specs.Runners.{run_codec, run_spelled}
 use Rattle.ts_script.specs.Words.{asked}
-use Rattle.ts_script.specs.Script.{Fault, Bad, NotBuilt}
+use Rattle.ts_script.specs.Script.{Fault, Bad}
 use Rattle.ts_script.specs.Meanings.{has_input, is_single, meaning}
-use Rattle.ts_top.specs.Notices.{usage_text, bad_script_text, not_built_text}
+use Rattle.ts_top.specs.Notices.{usage_text, bad_script_text}
 use Rattle.ts_top.specs.Ends.{ends_text}
 
 -- what a stream shows: its bytes before and after, where it tells them, and its counts of faults
@@ -57,7 +57,6 @@ pub record Seen (S : Type 0) : Type 0 where
 abbrev pub status_of : Stop → ℕ
 status_of Usage = 2
 status_of (BadScript n) = 3
-status_of (NoForm n) = 8
 status_of ReadFault = 4
 status_of OutOfMemory = 7
 
@@ -65,7 +64,6 @@ status_of OutOfMemory = 7
 abbrev pub stop_text : Stop → List ℕ
 stop_text Usage = usage_text
 stop_text (BadScript n) = bad_script_text n
-stop_text (NoForm n) = not_built_text n
 stop_text ReadFault = []
 stop_text OutOfMemory = []
 
@@ -99,7 +97,6 @@ pub record IsNoInput (words : List (List ℕ)) (input : Stream) (fault : Fault) 
 abbrev pub HasReason : List (List ℕ) → Stream → Stop → Type 0
 HasReason words input Usage = (asked words ≡ None) × IsUnread input
 HasReason words input (BadScript n) = IsNoInput words input (Bad n)
-HasReason words input (NoForm n) = IsNoInput words input (NotBuilt n)
 HasReason words input ReadFault = (job : Asked) × (asked words ≡ Some job) × (has_input job ≡ true) × Rose input.before input.now
 HasReason words input OutOfMemory = ⊤
 

@@ -1,6 +1,6 @@
 //! The lines that are printed in place of answers. They take no memory.
 ghost use Rattle.std.specs.Prelude.{◌≡◌, ◌++◌, ◌≤◌, length, codes, decimal};
-ghost use Rattle.ts_top.specs.Notices.{usage_text, bad_script_text, not_built_text};
+ghost use Rattle.ts_top.specs.Notices.{usage_text, bad_script_text};
 
 use arrayvec::ArrayString;
 use itoa::Buffer;
@@ -22,13 +22,6 @@ pub(crate) fn bad_script_notice(line: u64) -> Notice
     ensures { result.bytes ≡ bad_script_text line }
 {
     numbered("bad script\t", line)
-}
-
-/// The line of a script that names a command which is not built yet, counted from 1.
-pub(crate) fn not_built_notice(line: u64) -> Notice
-    ensures { result.bytes ≡ not_built_text line }
-{
-    numbered("not built\t", line)
 }
 
 /// A line that ends in a number.

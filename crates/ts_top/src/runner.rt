@@ -1,7 +1,7 @@
 //! Doing jobs one after the other over a store that enters their calls in a journal.
 ghost use Rattle.std.specs.Prelude.{◌≡◌, ℕ, All, length, IfOk, OnErr, IsTrue};
 ghost use Rattle.ts_law.specs.Doing.{RanOver};
-ghost use Rattle.ts_law.specs.Fresh.{IsStampOf, ends_at, id_of, job_from, lanes_of};
+ghost use Rattle.ts_law.specs.Fresh.{IsStampOf, ends_at, id_of, job_from, lanes_of, seeded};
 ghost use Rattle.ts_model.specs.Commands.{fits};
 ghost use Rattle.ts_model.specs.Jobs.{IsFit, IsFitLine};
 ghost use Rattle.ts_top.specs.Items.{numbered, numbered_line};
@@ -11,7 +11,7 @@ use crate::items::Item;
 use std::alloc::Global;
 use std::thread::Threads;
 use ts_actor::{Driven, PlainPieces, drive};
-use ts_base::{Duplicate, OutOfMemory, Stop};
+use ts_base::{Duplicate, OutOfMemory};
 use ts_commands::AnyActor;
 use ts_model::{Command, Job, Line, Outcome};
 use ts_store::{Clock, Recorder, Store};
@@ -94,18 +94,18 @@ fn stamp_of<C: Clock>(clock: &C, line: &Line) -> u64
 }
 
 // The job of a line at a stamp: its identifier is made of the seed, the lane and the number of the
-// command.
+// command, and it is stopped where the line says.
 fn job_of(alloc: Global, seed: u64, number: u32, line: &Line, at: u64) -> Result<Job, OutOfMemory>
     requires fit { IsFitLine line.now }
     ensures is { IfOk result (λ job. job ≡ job_from (id_of seed line.now.lane number) line.now at) }
     ensures fit { IfOk result IsFit }
 {
-    let command = line.command.copy(alloc)?;
+    let command = ending_at(line.command.copy(alloc)?, line.to_stamp, at);
     Ok(Job {
-        command: ending_at(command, line.to_stamp, at),
+        command: with_seed(command, seed),
         at,
         id: (u128::from(seed) << 64) + (u128::from(line.lane) << 32) + u128::from(number),
-        stop: Stop::Never,
+        stop: line.stop,
     })
 }
 
@@ -131,6 +131,18 @@ fn ending_at(command: Command, to_stamp: bool, at: u64) -> Command
             to: at,
             limits,
         },
+        command => command,
+    }
+}
+
+// The command in a run of a seed, which an unlock has from its start on.
+fn with_seed(command: Command, seed: u64) -> Command
+    requires fit { IsTrue (fits command) }
+    ensures is { result ≡ seeded seed command }
+    ensures fit { IsTrue (fits result) }
+{
+    match command {
+        Command::Unlock { seed: _, lane } => Command::Unlock { seed, lane },
         command => command,
     }
 }

@@ -6,7 +6,7 @@ ghost use Rattle.ts_script.specs.Words.{asked, spelled};
 ghost use Rattle.ts_top.specs.Runners.{JustMade};
 ghost use Rattle.ts_script.specs.declared.words.Asked.{Asked};
 ghost use Rattle.ts_script.specs.Meanings.{has_input, meaning};
-ghost use Rattle.ts_script.specs.Script.{Bad, NotBuilt, AreLimited};
+ghost use Rattle.ts_script.specs.Script.{Bad, AreLimited};
 ghost use Rattle.ts_law.specs.Fresh.{in_lane_order};
 ghost use Rattle.ts_top.specs.Ends.{ends_text};
 ghost use Rattle.ts_top.specs.Items.{numbered};
@@ -15,7 +15,7 @@ ghost use Rattle.ts_top.specs.Seen.{Stream, stream, AskFor, HasReason, IsPrepare
 
 use crate::ends::print_ends;
 use crate::items::{Item, in_lane_order};
-use crate::notices::{bad_script_notice, not_built_notice, usage_notice};
+use crate::notices::{bad_script_notice, usage_notice};
 use crate::runner::run_items;
 use std::alloc::Global;
 use std::thread::Threads;
@@ -32,8 +32,7 @@ pub struct Ran<S> {
     /// 0: the commands were done and their ends printed. 2: the words ask for nothing that can be
     /// done. 3: a line of the input is bad. 4: the input could not be read. 5: the text could not be
     /// written. 6: the words were a single command, which was refused. 7: out of memory; of a single
-    /// command its line may have been printed. 8: a line of the script names a command that is not
-    /// built yet.
+    /// command its line may have been printed.
     pub status: u8,
     /// The store that was handed over.
     pub store: S,
@@ -48,9 +47,6 @@ pub(crate) enum Stop {
     Usage,
     /// The line of the input with this number, counted from 1, is bad.
     BadScript(u64),
-    /// The line of the script with this number, counted from 1, names a command that is not built
-    /// yet.
-    NoForm(u64),
     /// The source failed.
     ReadFault,
     /// There was no memory.
@@ -65,7 +61,6 @@ impl Stop {
         match self {
             Stop::Usage => 2,
             Stop::BadScript(_) => 3,
-            Stop::NoForm(_) => 8,
             Stop::ReadFault => 4,
             Stop::OutOfMemory => 7,
         }
@@ -79,7 +74,6 @@ fn print_stop<O: Sink>(out: &mut O, stop: Stop)
     match stop {
         Stop::Usage => print_line(out, usage_notice().as_str().as_bytes()),
         Stop::BadScript(line) => print_line(out, bad_script_notice(line).as_str().as_bytes()),
-        Stop::NoForm(line) => print_line(out, not_built_notice(line).as_str().as_bytes()),
         Stop::ReadFault => print_line(out, &[]),
         Stop::OutOfMemory => print_line(out, &[]),
     }
@@ -121,7 +115,6 @@ fn prepare<I: Source>(alloc: Global, words: &[&str], input: &mut I) -> Result<Pr
     match read_lines(alloc, asked, bytes.as_slice()) {
         Ok(lines) => Ok(Prepared { lines, single }),
         Err(ScriptFault::Bad { line }) => Err(Stop::BadScript(line)),
-        Err(ScriptFault::NotBuilt { line }) => Err(Stop::NoForm(line)),
         Err(ScriptFault::OutOfMemory) => Err(Stop::OutOfMemory),
     }
 }
@@ -220,7 +213,7 @@ fn left_by<S: Store>(recorder: Recorder<S>, status: u8) -> Ran<S>
 }
 
 /// Reads the words, and the input of what they ask for, does the commands one after the other, lane by
-/// lane, and prints how each ended.
+/// lane, and prints how each came out.
 ///
 /// The words ask for a script, or for a single command, which is done as a script of one line.
 /// Everything that is printed goes to `out`. The lines of lane 0 are done first, then those of lane 1,
@@ -232,12 +225,14 @@ fn left_by<S: Store>(recorder: Recorder<S>, status: u8) -> Ran<S>
 ///
 /// `Ran::status` says how the run ended. The clause `promise` says what that means, over a store that
 /// told what it held, where that stands for a history and no identifier there has the seed. The commands
-/// are done one after the other. Each appends deeds of its own, and its end tells the truth of the
-/// history before and after it. What was printed is the text of these ends.
+/// are done one after the other, each to its end or to where its line stops it. Each appends deeds of its
+/// own, and its end tells the truth of the history before and after it. After each, also a stopped one,
+/// the store stands for the history. What was printed is the text of how they came out.
 ///
-/// So a read shows of each cell the last write, in the order of timestamp and identifier, among those
-/// stamped in its interval, of the writes committed when the read lists them, unless a later delete
-/// stamped there matches it, through the schema that holds at the end of the interval.
+/// So a read that names no clipped fragment shows of each cell the last write, in the order of timestamp
+/// and identifier, among those stamped in its interval, of the writes committed when the read lists them,
+/// unless a later delete stamped there matches it, through the schema that holds at the end of the
+/// interval. A read that names clipped fragments shows the same of the writes that are not clipped.
 ///
 /// The clause `run` says of every command which calls it made and how it ended, and that no other calls
 /// were made of the store.
@@ -285,9 +280,6 @@ pub fn run<R: Threads + Sync, S: Store, I: Source, O: Sink, C: Clock>(
     ensures bad_script { result.status ≡ 3 → (n : ℕ) × AskFor (spelled words.entry.now) (I.left input.old) (Err (Bad n)) }
     ensures bad_script_there { (job : Asked) → asked (spelled words.entry.now) ≡ Some job → (n : ℕ) → IsSomeAnd (I.left input.old) (λ all. meaning job all ≡ Err (Bad n))
         → (result.status ≡ 3) ⊎ (result.status ≡ 4) ⊎ (result.status ≡ 7) }
-    ensures not_built { result.status ≡ 8 → (n : ℕ) × AskFor (spelled words.entry.now) (I.left input.old) (Err (NotBuilt n)) }
-    ensures not_built_there { (job : Asked) → asked (spelled words.entry.now) ≡ Some job → (n : ℕ) → IsSomeAnd (I.left input.old) (λ all. meaning job all ≡ Err (NotBuilt n))
-        → (result.status ≡ 8) ⊎ (result.status ≡ 4) ⊎ (result.status ≡ 7) }
     ensures read_fault { result.status ≡ 4 → IsSomeAnd (asked (spelled words.entry.now)) (λ job. has_input job ≡ true) × Rose (I.faults input.old) (I.faults input.new) }
     ensures write_fault { result.status ≡ 5 → Rose (O.faults out.old) (O.faults out.new) }
     ensures refused { result.status ≡ 6 → WasRefused S.held (JustMade S.held S.last S.faults S.notes) (record {
@@ -303,7 +295,7 @@ pub fn run<R: Threads + Sync, S: Store, I: Source, O: Sink, C: Clock>(
     }) }
 
     // Without a command no call is made of the store.
-    ensures untouched { (result.status ≡ 2) ⊎ (result.status ≡ 3) ⊎ (result.status ≡ 4) ⊎ (result.status ≡ 8) → (result.journal ≡ []) × (result.store ≡ store) }
+    ensures untouched { (result.status ≡ 2) ⊎ (result.status ≡ 3) ⊎ (result.status ≡ 4) → (result.journal ≡ []) × (result.store ≡ store) }
 {
     match prepare(alloc, words, input) {
         Ok(prepared) => {

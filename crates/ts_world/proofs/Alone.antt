@@ -75,7 +75,7 @@ module _ {S : Type 0} (held : S → Option Held) (last : S → Fate) (faults : S
   module _ {W F : Type 0} (codec : Codec F) (spelled : Spelled) (tracks : Tracking F) (laws : CodecLaws codec spelled tracks) where
     -- over a store that held m, which stands for a history, the actor of any job with a new identifier and any stop leaves what stands for the history after its calls, and its end tells the truth of it
     pub driven_alone : (job : Job) (h : History) (m : Held) (first final : AnyActor W F) (before later : S) (result : Driven Outcome)
-        → held before ≡ Some m → Stands spelled m h → IsNewId m h [] job.id → IsFit job → job_of first ≡ job → job_of final ≡ job
+        → held before ≡ Some m → Stands spelled m h → IsNewId m h m [] job.id → IsFit job → job_of first ≡ job → job_of final ≡ job
         → (drove : Drove job_of (Follows codec) (job_ends codec) (Called held last faults notes) first final before later job.stop result)
         → DroveAlone held spelled job h m drove.trace later result
     driven_alone job h m first final before later result holds stands new fit first_is final_is drove =

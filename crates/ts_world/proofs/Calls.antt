@@ -31,8 +31,11 @@ module _ {P F : Type 0} (codec : Codec F) (spelled : Spelled) (tracks : Tracking
   abbrev held_before : Held
   held_before = held_in before.store
 
+  abbrev opened : Held
+  opened = held_in before.opening.value
+
   pub of_job : (job : Job) × (slice_get before.jobs number ≡ Some job)
-  of_job = job_at codec spelled tracks before.past before.jobs before.told.items held_before before.journal before.slots.items is number (slot.Runs called.running) called.runs
+  of_job = job_at codec spelled tracks opened before.past before.jobs before.told.items held_before before.journal before.slots.items is number (slot.Runs called.running) called.runs
 
   held_now : held_in later.store ≡ after_told held_before told_now
   held_now = called.made.answer.held ∙ sym (cond-false (is_no_memory r) held_before (after held_before called.running.asked fate) called.made.answer.memory)
@@ -42,27 +45,28 @@ module _ {P F : Type 0} (codec : Codec F) (spelled : Spelled) (tracks : Tracking
 
   -- the parts with the actor's next slot
   pub parts_kept : CodecLaws codec spelled tracks → (s : Slot P F) → IsSlot codec of_job.0 (trace_of number before.told.items ++ record { call = called.running.asked; reply = r } ∷ []) s
-      → IsKept codec spelled tracks later.past later.jobs later.told.items (held_in later.store) later.journal (set later.slots.items number s)
+      → IsKept codec spelled tracks (held_in later.opening.value) later.past later.jobs later.told.items (held_in later.store) later.journal (set later.slots.items number s)
   parts_kept laws s slot_is =
-      rw (called.made.past, called.made.jobs, called.made.told, held_now, called.made.entered, called.made.slots)
-      (called_kept codec spelled tracks before.past before.jobs before.told.items held_before before.journal before.slots.items is number called.running of_job.0 called.runs of_job.1 told_now refl refl called.made.answer.memory replied_now called.made.short laws s slot_is)
+      rw (called.made.opening, called.made.past, called.made.jobs, called.made.told, held_now, called.made.entered, called.made.slots)
+      (called_kept codec spelled tracks opened before.past before.jobs before.told.items held_before before.journal before.slots.items is number called.running of_job.0 called.runs of_job.1 told_now refl refl called.made.answer.memory replied_now called.made.short laws called.spares s slot_is)
 
   -- what is seen of them
   pub call_seen : (may : Standing → Type 0) (s : Slot P F) → may (standing_of s)
-      → Called codec number fate may (view_of before) (record { past = later.past; jobs = later.jobs; told = later.told.items; held = held_in later.store; journal = later.journal; actors = standings (set later.slots.items number s) })
+      → Called codec number fate may (view_of before) (record { opening = held_in later.opening.value; past = later.past; jobs = later.jobs; told = later.told.items; held = held_in later.store; journal = later.journal; actors = standings (set later.slots.items number s) })
   call_seen may s holds = record {
     job = of_job.0;
     is_job = of_job.1;
     ran = seen_at before.slots.items number (slot.Runs called.running) called.runs;
     call = called.running.asked;
-    asked = running_asks codec spelled tracks before.past before.jobs before.told.items held_before before.journal before.slots.items is number called.running of_job.0 called.runs of_job.1;
+    asked = running_asks codec spelled tracks opened before.past before.jobs before.told.items held_before before.journal before.slots.items is number called.running of_job.0 called.runs of_job.1;
+    spares = called.spares;
     reply = r;
     memory = called.made.answer.memory;
     changed = changes held_before called.running.asked fate;
     standing = standing_of s;
     stands = holds;
     replied = replied_now;
-    is = rw (called.made.past, called.made.jobs, called.made.told, held_now, called.made.entered, called.made.slots, map-set standing_of before.slots.items number s) refl;
+    is = rw (called.made.opening, called.made.past, called.made.jobs, called.made.told, held_now, called.made.entered, called.made.slots, map-set standing_of before.slots.items number s) refl;
   }
 
   -- the actor can take the reply
@@ -75,7 +79,7 @@ module _ {P F : Type 0} (codec : Codec F) (spelled : Spelled) (tracks : Tracking
       running = called.running;
       runs = refl;
       trace = trace_of number before.told.items;
-      follows = (running_at codec spelled tracks before.past before.jobs before.told.items held_before before.journal before.slots.items is number called.running of_job.0 called.runs of_job.1).follows;
+      follows = (running_at codec spelled tracks opened before.past before.jobs before.told.items held_before before.journal before.slots.items is number called.running of_job.0 called.runs of_job.1).follows;
       fits = called.made.answer.fits;
       spelled = called.made.answer.spelled;
     };
@@ -87,7 +91,7 @@ module _ {P F : Type 0} (codec : Codec F) (spelled : Spelled) (tracks : Tracking
   next_is_slot run next at next_is =
       let same : run ≡ called.running = one_running (same_Some (slot.Runs run) (slot.Runs called.running) (sym at ∙ ap (λ (l : List (Slot P F)). slice_get l number) called.made.slots ∙ called.runs)) in
       let is_next = subst (λ (q : Running P F). IsNextSlot codec q r next) same next_is in
-      let runs = running_at codec spelled tracks before.past before.jobs before.told.items held_before before.journal before.slots.items is number called.running of_job.0 called.runs of_job.1 in
+      let runs = running_at codec spelled tracks opened before.past before.jobs before.told.items held_before before.journal before.slots.items is number called.running of_job.0 called.runs of_job.1 in
       subst (λ (job : Job). IsSlot codec job (trace_of number before.told.items ++ record { call = called.running.asked; reply = r } ∷ []) next) runs.task (is_next.is_slot (trace_of number before.told.items) runs.follows)
     where
       one_running : slot.Runs run ≡ slot.Runs called.running → run ≡ called.running
@@ -102,5 +106,5 @@ written_back {P} {F} v number s now later seen is =
 -- the call that a running actor waits for has a spelling
 pub spelled_at : {P F : Type 0} (codec : Codec F) (spelled : Spelled) (tracks : Tracking F) (p : Parts P F) (number : ℕ) (r : Running P F) → ArePartsOk codec spelled tracks p → slice_get p.slots.items number ≡ Some (slot.Runs r) → IsSpelledCall r.asked
 spelled_at codec spelled tracks p number r is at =
-    let of = job_at codec spelled tracks p.past p.jobs p.told.items (held_in p.store) p.journal p.slots.items is number (slot.Runs r) at in
-    (running_at codec spelled tracks p.past p.jobs p.told.items (held_in p.store) p.journal p.slots.items is number r of.0 at of.1).spelled
+    let of = job_at codec spelled tracks (held_in p.opening.value) p.past p.jobs p.told.items (held_in p.store) p.journal p.slots.items is number (slot.Runs r) at in
+    (running_at codec spelled tracks (held_in p.opening.value) p.past p.jobs p.told.items (held_in p.store) p.journal p.slots.items is number r of.0 at of.1).spelled

@@ -10,11 +10,9 @@ use Rattle.std.proofs.lemmas.Cmp.{eq_by_cmp_equiv}
 use Rattle.std.proofs.lemmas.Option.{same_Some, none-some}
 use Rattle.std.proofs.lemmas.List.Folds.{Any-from_list_any}
 use Rattle.std.proofs.lemmas.Map.Views.{list_any-from_Contains}
-use Rattle.ts_base.specs.declared.keys.Key.{Key}
 use Rattle.ts_base.specs.Names.{name_cmp}
 use Rattle.ts_base.specs.Exact.{name_total, name_exact}
-use Rattle.ts_model.specs.Deeds.{keys}
-use Rattle.ts_law.specs.Fresh.{id_in, IsNewId}
+use Rattle.ts_law.specs.Fresh.{id_in, IsCarried, IsNewId}
 use Rattle.ts_model.proofs.ListLemmas.{slice_get-Contains}
 use Rattle.ts_model.proofs.KeyLemmas.{same_from_tie}
 use Rattle.ts_world.specs.Views.{WorldView}
@@ -32,7 +30,8 @@ any_at p (y ∷ xs) (suc i) x at holds = elim (p y) as (λ b. (b || list_any p x
 some_at : {X : Type 0} (p : X → Bool) (xs : List X) → list_any p xs ≡ true → (x : X) × Contains xs x × (p x ≡ true)
 some_at p xs is = let some = Any-from_list_any p xs is in (some.1, (some.0, some.2, some.3), some.4)
 
-carried : (id : ℕ) (o : Option ℕ) → option_map_or (λ own. nat_eq own id) o false ≡ true → o ≡ Some id
+-- the identifier that is found is the one that is carried
+pub carried : (id : ℕ) (o : Option ℕ) → option_map_or (λ own. nat_eq own id) o false ≡ true → o ≡ Some id
 carried id None is = absurd (true≢false (sym is))
 carried id (Some own) is = ap Some (eqb-true own id is)
 
@@ -48,7 +47,8 @@ taken_from w id is = elim (list_any (is_job_id id) w.jobs) as (λ b. list_any (i
       inr (some.0, finite.contains_key-keys w.held some.0 ∙ list_any-from_Contains (eq_by_cmp_equiv name_total) some.0 (finite.keys w.held) some.1, carried id (id_in some.0) some.2)
 ] refl is
 
-or_right : (a b : Bool) → b ≡ true → (a || b) ≡ true
+-- one of two tests passes if the second does
+pub or_right : (a b : Bool) → b ≡ true → (a || b) ≡ true
 or_right true b is = refl
 or_right false b is = is
 
@@ -62,12 +62,6 @@ taken_to w id (inr (n, held, carries_it)) =
     or_right (list_any (is_job_id id) w.jobs) (list_any (carries id) (finite.keys w.held))
     (any_at (carries id) (finite.keys w.held) place.0 some.1 place.1 (ap (λ o. option_map_or (λ own. nat_eq own id) o false) (ap id_in (sym same) ∙ carries_it) ∙ eq-eqb id id refl))
 
--- an identifier that is not taken, and not that of a deed of the past, is new
-pub new_id : (w : WorldView) (id : ℕ) → (IsTaken w id → ⊥) → ((k : Key) → Contains (keys w.past) k → k.id ≡ id → ⊥) → IsNewId w.held w.past w.jobs id
-new_id w id free new = record {
-  free = λ carried. elim carried [
-    | inl deed ↦ new deed.0 deed.1 deed.2
-    | inr held ↦ free (inr held)
-  ];
-  other = λ number job at same. free (inl (number, job, at, same));
-}
+-- an identifier that is not taken, and that nothing carried at the beginning, is new
+pub new_id : (w : WorldView) (id : ℕ) → (IsTaken w id → ⊥) → (IsCarried w.opening w.past id → ⊥) → IsNewId w.opening w.past w.held w.jobs id
+new_id w id free new = record { uncarried = new; free = λ held. free (inr held); other = λ number job at same. free (inl (number, job, at, same)) }

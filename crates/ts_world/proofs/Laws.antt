@@ -1,48 +1,72 @@
 -- Each event keeps what a world keeps.
 use Rattle.std.proofs.Common.{◌≡◌, ℕ, Bool, false, cond, inl, inr, List, [], ◌∷◌, ◌++◌, Option, Some, None, length, map, set, refl, sym, ◌∙◌, ap, subst, arith}
-use Rattle.std.specs.Prelude.{slice_get, option_map}
+use Rattle.std.specs.Prelude.{Contains, slice_get, option_map}
 use Rattle.std.specs.List.{cons_option}
 use Rattle.std.proofs.lemmas.Bool.{cases_eq}
 use Rattle.std.proofs.lemmas.Option.{same_Some, none-some, slice_get_within, slice_get-map}
-use Rattle.std.proofs.lemmas.List.{length-set, length-map, length_push}
-use Rattle.std.proofs.lemmas.List.Elements.{All-weaker, filter_map-append}
+use Rattle.std.proofs.lemmas.List.{length-set, length-map, length_push, map-append}
+use Rattle.std.proofs.lemmas.List.Elements.{All-nil, All-weaker, filter_map-append}
 use Rattle.ts_base.specs.declared.heads.Stop.TheVariants.{Never}
 use Rattle.ts_base.specs.Held.{Held}
+use Rattle.ts_base.specs.declared.names.Name.{Name}
 use Rattle.ts_store.specs.declared.journal.Entry.{Entry}
 use Rattle.ts_store.specs.Calls.{is_no_memory}
 use Rattle.ts_store.specs.Journals.{entry}
 use Rattle.ts_model.specs.declared.commands.Job.{Job}
 use Rattle.ts_model.specs.Deeds.{History}
-use Rattle.ts_model.specs.Jobs.{IsFit}
+use Rattle.ts_model.specs.Jobs.{IsFit, key_of}
 use Rattle.ts_model.specs.States.{Exchange}
-use Rattle.ts_model.specs.Stages.{stage_of}
+use Rattle.ts_model.specs.Stages.{lease_of, stage_of}
 use Rattle.ts_law.specs.Stands.{Stands}
-use Rattle.ts_law.specs.Fresh.{IsNewId}
+use Rattle.ts_law.specs.Fresh.{IsNewId, id_in}
 use Rattle.ts_law.specs.Lanes.{IsWithin}
 use Rattle.ts_model.specs.Told.{Told, IsShortCall, trace_of, entry_of, entries_of, after_told, IsReplied}
 use Rattle.ts_model.specs.Driven.{MayAsk}
-use Rattle.ts_law.specs.Kept.{IsAllowed, Kept}
-use Rattle.ts_model.proofs.ListLemmas.{Contains-nil, slice_get_push}
-use Rattle.ts_model.proofs.Traces.{held_told-append, trace_of-own, trace_of-other}
+use Rattle.ts_law.specs.Kept.{AreAmong, IsAllowed, Kept}
+use Rattle.ts_law.specs.Leases.{IsNobodys, Spares}
+use Rattle.ts_model.proofs.ListLemmas.{slice_get_left, slice_get_push}
+use Rattle.ts_model.proofs.Traces.{trace_of-own, trace_of-other}
 use Rattle.ts_model.specs.Codecs.{Codec, CodecLaws, Spelled, Tracking}
+use Rattle.ts_law.proofs.Broken.{drop_kept}
 use Rattle.ts_law.proofs.KeptLaws.{step_kept}
-use Rattle.ts_law.proofs.Openings.{allowed_more, allowed_push, new_at_first}
+use Rattle.ts_law.proofs.LeaseSteps.{lease_is}
+use Rattle.ts_law.proofs.Leasing.{ended_unheld}
+use Rattle.ts_law.proofs.Openings.{allowed_drop, allowed_more, allowed_push, new_at_first}
 use Rattle.ts_law.proofs.Lanes.{none_made, no_lanes, one_more_call, one_more_job}
 use Rattle.ts_law.proofs.Spawns.{spawn_kept, starts_kept}
 use Rattle.ts_commands.proofs.Asked.{asks_it}
 use Rattle.ts_world.specs.declared.slots.Running.{Running}
 use Rattle.ts_world.specs.declared.slots.Slot.{Slot}
 use Rattle.ts_world.specs.declared.slots.Slot.TheVariants as slot
-use Rattle.ts_world.specs.Views.{lane_of}
-use Rattle.ts_world.specs.Slots.{IsRunning, IsSlot, IsActor, IsKept, dropped_slot}
+use Rattle.ts_world.specs.Views.{Runs, Dropped, dropped, lane_of}
+use Rattle.ts_world.specs.Breaks.{TakesLive, dropped_in}
+use Rattle.ts_world.specs.Slots.{IsRunning, IsSlot, IsActor, IsKept, dropped_slot, standing_of, standings}
 use Rattle.ts_law.proofs.Lists.{item_at}
 use Rattle.ts_world.proofs.Began.{replied-push}
+use Rattle.ts_world.proofs.Dropped.{dropped_from_seen, dropped_on, not_dropped}
+use Rattle.ts_world.proofs.LiveLeases.{removed_is}
 use Rattle.ts_world.proofs.Lists.{get_changed, get_unchanged}
+use Rattle.ts_world.proofs.Views.{restart_seen, seen_at}
 
-module _ {P F : Type 0} (codec : Codec F) (spelled : Spelled) (tracks : Tracking F) (past : History) (jobs : List Job) (told : List Told) (held : Held) (journal : List Entry) (slots : List (Slot P F)) (is : IsKept codec spelled tracks past jobs told held journal slots) where
+module _ {P F : Type 0} (codec : Codec F) (spelled : Spelled) (tracks : Tracking F) (opening : Held) (past : History) (jobs : List Job) (told : List Told) (held : Held) (journal : List Entry) (slots : List (Slot P F)) (is : IsKept codec spelled tracks opening past jobs told held journal slots) where
   -- the job of an actor
   pub job_at : (number : ℕ) (s : Slot P F) → slice_get slots number ≡ Some s → (job : Job) × (slice_get jobs number ≡ Some job)
   job_at number s at = item_at slots jobs number is.one_each (slice_get_within slots number s at)
+
+  -- the numbers of the actors that were dropped
+  abbrev gone : List ℕ
+  gone = dropped_in (standings slots)
+
+  -- a lease that is no running actor's is nobody's
+  pub nobodys : (lease : Name) → ((number : ℕ) (job : Job) → slice_get jobs number ≡ Some job → slice_get (standings slots) number ≡ Some Runs → lease_of job ≡ Some lease → ⊥) → IsNobodys codec jobs gone told lease
+  nobodys lease none number job holds =
+      let (s, at) = item_at jobs slots number (sym is.one_each) (slice_get_within jobs number job holds.is_job) in
+      by_slot s at (is.actors number job s holds.is_job at).slot_is
+    where
+      by_slot : (s : Slot P F) → slice_get slots number ≡ Some s → IsSlot codec job (trace_of number told) s → ⊥
+      by_slot (slot.Runs r) at slot_is = none number job holds.is_job (seen_at slots number (slot.Runs r) at) holds.has
+      by_slot (slot.Ended end) at slot_is = ended_unheld codec job lease (trace_of number told) end holds.has slot_is holds.stage
+      by_slot slot.Dropped at slot_is = holds.alive (dropped_from_seen (standings slots) number (seen_at slots number slot.Dropped at))
 
   -- the actor that runs
   pub running_at : (number : ℕ) (r : Running P F) (job : Job) → slice_get slots number ≡ Some (slot.Runs r) → slice_get jobs number ≡ Some job → IsRunning codec job (trace_of number told) r
@@ -63,11 +87,32 @@ module _ {P F : Type 0} (codec : Codec F) (spelled : Spelled) (tracks : Tracking
     asked_now : MayAsk codec job (stage_of codec job (trace_of number told)) e.call
     asked_now = subst (MayAsk codec job (stage_of codec job (trace_of number told))) (sym calls) (running_asks number r job at of)
 
-    allowed_now : IsAllowed codec jobs [] told e
-    allowed_now = record { number = number; job = job; own = own; is_job = of; alive = Contains-nil number; asked = asked_now; short = short }
+    -- it was not dropped
+    alive_now : Contains gone number → ⊥
+    alive_now = not_dropped (standings slots) number Runs (seen_at slots number (slot.Runs r) at) (λ same. cc)
 
-    kept_now : CodecLaws codec spelled tracks → Kept codec spelled tracks is.opening past jobs [] (told ++ e ∷ []) (after_told held e)
-    kept_now laws = step_kept codec spelled tracks laws is.opening past jobs [] told held e is.kept allowed_now replied
+    module _ (spares : (lease : Name) → TakesLive jobs (standings slots) (Some number) e.call lease → ⊥) where
+      -- its call removes no lease that the job of another actor holds
+      spares_now : Spares codec jobs gone told job e.call
+      spares_now lease removes other = nobodys lease (λ k j j_at runs has.
+          let (mode, named) = lease_is j lease has in
+          spares lease (record {
+            removes = removed_is e.call lease (key_of j) mode removes named;
+            live = record {
+              number = k;
+              job = j;
+              is_job = j_at;
+              runs = runs;
+              other = λ same. other (ap lease_of (same_Some job j (sym of ∙ ap (slice_get jobs) (same_Some number k same) ∙ j_at)) ∙ has);
+              carries = ap id_in named;
+            };
+          }))
+
+      allowed_now : IsAllowed codec jobs gone told e
+      allowed_now = record { number = number; job = job; own = own; is_job = of; alive = alive_now; asked = asked_now; spares = spares_now; short = short }
+
+      kept_now : CodecLaws codec spelled tracks → Kept codec spelled tracks opening past jobs gone (told ++ e ∷ []) (after_told held e)
+      kept_now laws = step_kept codec spelled tracks laws opening past jobs gone told held e is.kept (inl allowed_now) replied
 
     entered : entries_of lane_of (told ++ e ∷ []) ≡ entries_of lane_of told ++ entry number e.call e.fate ∷ []
     entered =
@@ -87,14 +132,20 @@ module _ {P F : Type 0} (codec : Codec F) (spelled : Spelled) (tracks : Tracking
         let trace = trace_of-other k told e (λ mine. apart (same_Some number k (sym own ∙ mine))) in
         record { free = before.free; slot_is = subst (λ (t : List Exchange). IsSlot codec j t s) (sym trace) before.slot_is }
 
+    -- whatever becomes of it, those that were dropped stay so
+    gone_on : (s : Slot P F) → AreAmong gone (dropped_in (standings (set slots number s)))
+    gone_on s = dropped_on (standings slots) (standings (set slots number s)) (λ k dropped_k.
+        let apart : number ≡ k → ⊥ = λ same. alive_now (subst (Contains gone) (sym same) (dropped_from_seen (standings slots) k dropped_k)) in
+        slice_get-map standing_of (set slots number s) k ∙ ap (option_map standing_of) (get_unchanged slots number k s apart) ∙ sym (slice_get-map standing_of slots k) ∙ dropped_k)
+
     -- a running actor that makes its call leaves a world that keeps the same
-    pub called_kept : CodecLaws codec spelled tracks → (s : Slot P F) → IsSlot codec job (trace_of number told ++ last ∷ []) s → IsKept codec spelled tracks past jobs (told ++ e ∷ []) (after_told held e) (journal ++ entry number e.call e.fate ∷ []) (set slots number s)
-    called_kept laws s slot_is = record {
-      opening = is.opening;
+    pub called_kept : CodecLaws codec spelled tracks → ((lease : Name) → TakesLive jobs (standings slots) (Some number) e.call lease → ⊥) → (s : Slot P F) → IsSlot codec job (trace_of number told ++ last ∷ []) s
+        → IsKept codec spelled tracks opening past jobs (told ++ e ∷ []) (after_told held e) (journal ++ entry number e.call e.fate ∷ []) (set slots number s)
+    called_kept laws spares s slot_is = record {
       begins = is.begins;
-      may = allowed_push codec jobs [] told e is.may allowed_now;
-      replied = replied-push is.opening told e is.replied (subst (λ m. IsReplied m e) is.kept.is_held replied);
-      kept = kept_now laws;
+      may = allowed_drop codec jobs [] gone (dropped_in (standings (set slots number s))) [] (told ++ e ∷ []) (gone_on s) (allowed_push codec jobs [] gone [] told e is.may (inl (allowed_now spares)));
+      replied = replied-push opening told e is.replied (subst (λ m. IsReplied m e) is.kept.is_held replied);
+      kept = drop_kept codec spelled tracks opening past jobs gone (dropped_in (standings (set slots number s))) (told ++ e ∷ []) (after_told held e) (gone_on s) (kept_now spares laws);
       entries = ap (λ es. es ++ entry number e.call e.fate ∷ []) is.entries ∙ sym entered;
       in_lanes = one_more_call codec jobs told e number job is.in_lanes own of asked_now;
       one_each = length-set slots number s ∙ is.one_each;
@@ -118,13 +169,17 @@ module _ {P F : Type 0} (codec : Codec F) (spelled : Spelled) (tracks : Tracking
       subst (λ (i : Job). IsActor codec told k i t) same_job (subst (λ (i : Slot P F). IsActor codec told k job i) same_slot
       (record { free = free; slot_is = subst (λ (x : List Exchange). IsSlot codec job x s) (sym (no_calls k end)) slot_is }))
 
-  pub spawned_kept : CodecLaws codec spelled tracks → (job : Job) (s : Slot P F) → IsNewId held past jobs job.id → IsFit job → job.stop ≡ Never → IsSlot codec job [] s → IsKept codec spelled tracks past (jobs ++ job ∷ []) told held journal (slots ++ s ∷ [])
-  spawned_kept laws job s new fit free slot_is = record {
-    opening = is.opening;
-    begins = spawn_kept codec spelled tracks is.opening past jobs [] [] is.opening job is.begins fit (new_at_first codec spelled tracks laws past jobs told is.opening held job.id is.begins is.may is.replied is.kept.is_held new);
-    may = allowed_more codec jobs job [] told is.may;
+  -- those that were dropped stay so
+  gone_more : (s : Slot P F) → AreAmong gone (dropped_in (standings (slots ++ s ∷ [])))
+  gone_more s = dropped_on (standings slots) (standings (slots ++ s ∷ [])) (λ k dropped_k.
+      ap (λ l. slice_get l k) (map-append standing_of slots (s ∷ [])) ∙ slice_get_left (standings slots) (standing_of s ∷ []) k Dropped dropped_k)
+
+  pub spawned_kept : (job : Job) (s : Slot P F) → IsNewId opening past held jobs job.id → IsFit job → job.stop ≡ Never → IsSlot codec job [] s → IsKept codec spelled tracks opening past (jobs ++ job ∷ []) told held journal (slots ++ s ∷ [])
+  spawned_kept job s new fit free slot_is = record {
+    begins = spawn_kept codec spelled tracks opening past jobs [] [] opening job is.begins fit (new_at_first opening past held jobs job.id new);
+    may = allowed_drop codec (jobs ++ job ∷ []) [] gone (dropped_in (standings (slots ++ s ∷ []))) [] told (gone_more s) (allowed_more codec jobs job [] gone [] told (All-nil (IsWithin jobs)) is.in_lanes.within is.may);
     replied = is.replied;
-    kept = spawn_kept codec spelled tracks is.opening past jobs [] told held job is.kept fit new;
+    kept = drop_kept codec spelled tracks opening past (jobs ++ job ∷ []) gone (dropped_in (standings (slots ++ s ∷ []))) told held (gone_more s) (spawn_kept codec spelled tracks opening past jobs gone told held job is.kept fit new);
     entries = is.entries;
     in_lanes = one_more_job codec jobs told job is.in_lanes;
     one_each = let a = length_push slots s in let b = length_push jobs job in omega (arith, a, b, is.one_each);
@@ -153,13 +208,17 @@ module _ {P F : Type 0} (codec : Codec F) (spelled : Spelled) (tracks : Tracking
       let before = is.actors k j s j_at at in
       subst (λ (i : Slot P F). IsActor codec told k j i) (same_Some (dropped_slot s) t now) (record { free = before.free; slot_is = dropped_is j (trace_of k told) s before.slot_is })
 
-  pub restarted_kept : IsKept codec spelled tracks past jobs told held journal (map dropped_slot slots)
+  -- those that were dropped stay so
+  gone_all : AreAmong gone (dropped_in (standings (map dropped_slot slots)))
+  gone_all = dropped_on (standings slots) (standings (map dropped_slot slots)) (λ k dropped_k.
+      ap (λ l. slice_get l k) (restart_seen slots) ∙ slice_get-map dropped (standings slots) k ∙ ap (option_map dropped) dropped_k)
+
+  pub restarted_kept : IsKept codec spelled tracks opening past jobs told held journal (map dropped_slot slots)
   restarted_kept = record {
-    opening = is.opening;
     begins = is.begins;
-    may = is.may;
+    may = allowed_drop codec jobs [] gone (dropped_in (standings (map dropped_slot slots))) [] told gone_all is.may;
     replied = is.replied;
-    kept = is.kept;
+    kept = drop_kept codec spelled tracks opening past jobs gone (dropped_in (standings (map dropped_slot slots))) told held gone_all is.kept;
     entries = is.entries;
     in_lanes = is.in_lanes;
     one_each = length-map slots dropped_slot ∙ is.one_each;
@@ -167,11 +226,10 @@ module _ {P F : Type 0} (codec : Codec F) (spelled : Spelled) (tracks : Tracking
   }
 
 -- a world to which nothing has happened keeps what a world keeps
-pub first_kept : {P F : Type 0} (codec : Codec F) (spelled : Spelled) (tracks : Tracking F) (past : History) (m : Held) → Stands spelled m past → IsKept {P = P} codec spelled tracks past [] [] m [] []
+pub first_kept : {P F : Type 0} (codec : Codec F) (spelled : Spelled) (tracks : Tracking F) (past : History) (m : Held) → Stands spelled m past → IsKept {P = P} codec spelled tracks m past [] [] m [] []
 first_kept codec spelled tracks past m stands = record {
-  opening = m;
   begins = starts_kept codec spelled tracks past m stands;
-  may = tt;
+  may = λ n at. at;
   replied = tt;
   kept = starts_kept codec spelled tracks past m stands;
   entries = refl;

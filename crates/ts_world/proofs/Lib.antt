@@ -1,5 +1,8 @@
 pub mod Lists
+pub mod Dropped
+pub mod LiveLeases
 pub mod Laws
+pub mod Broken
 pub mod Ids
 pub mod Views
 pub mod Calls

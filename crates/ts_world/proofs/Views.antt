@@ -1,14 +1,13 @@
 -- What contracts see of slots.
-use Rattle.std.proofs.Common.{◌≡◌, ℕ, List, [], ◌∷◌, Option, Some, None, Bor, inl, inr, map, refl, sym, ◌∙◌, ap, arith}
+use Rattle.std.proofs.Common.{◌≡◌, ◌<◌, ◌≤◌, ℕ, true, false, List, [], ◌∷◌, Option, Some, None, Bor, length, get_or, map, refl, sym, ◌∙◌, ap}
 use Rattle.std.specs.Prelude.{option_map, option_and_then, slice_get}
-use Rattle.std.specs.Slice.{IsItemAt}
-use Rattle.std.proofs.lemmas.Option.{same_Some, none-some, slice_get-map, slice_get-get_or, slice_get_cases}
+use Rattle.std.proofs.lemmas.Option.{same_Some, none-some, slice_get-map, slice_get-get_or, slice_get_past}
 use Rattle.ts_model.specs.declared.answers.Outcome.{Outcome}
 use Rattle.ts_world.specs.declared.slots.Running.{Running}
 use Rattle.ts_world.specs.declared.slots.Slot.{Slot}
 use Rattle.ts_world.specs.declared.slots.Slot.TheVariants as slot
 use Rattle.ts_world.specs.Views.{Standing, Runs, Ended, dropped, end_in, end_of}
-use Rattle.ts_world.specs.Slots.{standing_of, standings, dropped_slot}
+use Rattle.ts_world.specs.Slots.{standing_of, standings, dropped_slot, is_up}
 
 -- where an actor stands is seen
 pub seen_at : {P F : Type 0} (slots : List (Slot P F)) (number : ℕ) (s : Slot P F) → slice_get slots number ≡ Some s → slice_get (standings slots) number ≡ Some (standing_of s)
@@ -54,16 +53,24 @@ pub restart_seen : {P F : Type 0} (slots : List (Slot P F)) → standings (map d
 restart_seen [] = refl
 restart_seen (s ∷ slots) = ap (λ x. x ∷ standings (map dropped_slot slots)) (dropped_seen s) ∙ ap (λ xs. dropped (standing_of s) ∷ xs) (restart_seen slots)
 
--- the item that was got is the one at the place
-pub got_at : {X : Type 0} (xs : List X) (i : ℕ) (x : Bor X) → IsItemAt xs i (Some x) → slice_get xs i ≡ Some x.now
-got_at xs i x is = slice_get-get_or xs i x.now is.3.0 ∙ ap Some (sym is.1)
+-- the item that is read at a place is the one there
+pub index_at : {X : Type 0} (xs : List X) (i : ℕ) (x : X) → i < length xs → x ≡ get_or xs i x → slice_get xs i ≡ Some x
+index_at xs i x within is = slice_get-get_or xs i x within ∙ ap Some (sym is)
 
--- where none was got there is none
-pub none_at : {X : Type 0} (xs : List X) (i : ℕ) → IsItemAt xs i None → slice_get xs i ≡ None
-none_at xs i is = elim (slice_get_cases xs i).1 [
-  | inl there ↦ let within = there.1 in let past = is.3 in absurd (omega (arith, within, past))
-  | inr past ↦ past.1
-]
+-- the test of a slot
+pub no_slot_up : {P F : Type 0} (slots : List (Slot P F)) (i : ℕ) → length slots ≤ i → is_up (slice_get slots i) ≡ false
+no_slot_up {P} {F} slots i past = ap (λ (o : Option (Slot P F)). is_up o) (slice_get_past slots i past)
+
+pub slot_up : {P F : Type 0} (slots : List (Slot P F)) (i : ℕ) (s : Slot P F) (r : Running P F) → i < length slots → s ≡ get_or slots i s → s ≡ slot.Runs r → is_up (slice_get slots i) ≡ true
+slot_up {P} {F} slots i s r within is runs = ap (λ (o : Option (Slot P F)). is_up o) (index_at slots i s within is ∙ ap Some runs)
+
+not_up : {P F : Type 0} (s : Slot P F) → ((r : Running P F) → s ≡ slot.Runs r → ⊥) → is_up (Some s) ≡ false
+not_up (slot.Runs r) none = absurd (none r refl)
+not_up (slot.Ended end) none = refl
+not_up slot.Dropped none = refl
+
+pub slot_down : {P F : Type 0} (slots : List (Slot P F)) (i : ℕ) (s : Slot P F) → i < length slots → s ≡ get_or slots i s → ((r : Running P F) → s ≡ slot.Runs r → ⊥) → is_up (slice_get slots i) ≡ false
+slot_down {P} {F} slots i s within is none = ap (λ (o : Option (Slot P F)). is_up o) (index_at slots i s within is) ∙ not_up s none
 
 -- the end of an actor whose slot is this
 pub end_at : {P F : Type 0} (slots : List (Slot P F)) (number : ℕ) (s : Slot P F) → slice_get slots number ≡ Some s → end_of (standings slots) number ≡ end_in (standing_of s)

@@ -1,3 +1,4 @@
 pub mod Views
+pub mod Breaks
 pub mod Slots
 pub mod Clauses

@@ -1,5 +1,5 @@
 -- What is kept of the actors of a world, beside what every call keeps.
-use Rattle.std.specs.Prelude.{◌≡◌, ◌≢◌, ◌<◌, ℕ, Bool, false, ◌||◌, nat_eq, List, [], ◌∷◌, ◌++◌, Some, Result, Ok, Err, map, length, slice_get, slice_set, ⊤}
+use Rattle.std.specs.Prelude.{◌≡◌, ◌≢◌, ◌<◌, ℕ, suc, Bool, true, false, not, ◌&&◌, ◌||◌, nat_eq, List, [], ◌∷◌, ◌++◌, Option, Some, None, Result, Ok, Err, map, length, slice_get, slice_set, ⊤}
 use Rattle.std.specs.List.{list_any}
 use Rattle.std.specs.Option.{option_map_or}
 use Rattle.std.specs.FinMap as finite
@@ -16,7 +16,7 @@ use Rattle.ts_store.specs.Memory.{held_in}
 use Rattle.ts_model.specs.declared.commands.Job.{Job}
 use Rattle.ts_model.specs.Deeds.{History}
 use Rattle.ts_model.specs.States.{Exchange}
-use Rattle.ts_model.specs.Told.{Told, IsShortCall, Replied, trace_of, entries_of, changes, held_told}
+use Rattle.ts_model.specs.Told.{Told, IsShortCall, Replied, trace_of, entries_of, changes}
 use Rattle.ts_model.specs.Codecs.{Codec, Spelled, Tracking}
 use Rattle.ts_law.specs.Fresh.{id_in}
 use Rattle.ts_law.specs.Lanes.{own_lane, AreInLanes}
@@ -24,13 +24,14 @@ use Rattle.ts_model.specs.Driven.{EndsBy}
 use Rattle.ts_law.specs.Kept.{AreAllowed, Kept}
 use Rattle.ts_actor.specs.Traces.{asking}
 use Rattle.ts_world.specs.declared.events.WorldFault.{WorldFault}
-use Rattle.ts_world.specs.declared.events.WorldFault.TheVariants.{IdTaken, NoActor, OutOfMemory}
+use Rattle.ts_world.specs.declared.events.WorldFault.TheVariants.{IdTaken, NoActor, LeaseLive, OutOfMemory}
 use Rattle.ts_world.specs.declared.slots.Running.{Running}
 use Rattle.ts_world.specs.declared.slots.Slot.{Slot}
 use Rattle.ts_world.specs.declared.slots.Slot.TheVariants as slot
 use Rattle.ts_world.specs.declared.parts.Parts.{Parts}
 use Rattle.ts_commands.specs.Actors.{job_of, Follows}
 use Rattle.ts_world.specs.Views.{Standing, WorldView, Runs, Ended, Dropped, lane_of}
+use Rattle.ts_world.specs.Breaks.{TakesLive, dropped_in}
 
 -- where the actor of a slot stands
 abbrev pub standing_of : {P F : Type 0} → Slot P F → Standing
@@ -59,15 +60,14 @@ pub record IsActor {P F : Type 0} (codec : Codec F) (told : List Told) (number :
   pub free : job.stop ≡ Never
   pub slot_is : IsSlot codec job (trace_of number told) s
 
--- what a world keeps: what every call keeps from the beginning on, the journal of the calls, whose they are, and its actors
-pub record IsKept {P F : Type 0} (codec : Codec F) (spelled : Spelled) (tracks : Tracking F) (past : History) (jobs : List Job) (told : List Told) (held : Held) (journal : List Entry) (slots : List (Slot P F)) : Type 0 where
-  -- what the store held at the beginning, what every call keeps there, and that each call could come and was replied to
-  pub opening : Held
+-- what a world keeps whose store held `opening` when it began: what every call keeps from the beginning on, the journal of the calls, whose they are, and its actors
+pub record IsKept {P F : Type 0} (codec : Codec F) (spelled : Spelled) (tracks : Tracking F) (opening : Held) (past : History) (jobs : List Job) (told : List Told) (held : Held) (journal : List Entry) (slots : List (Slot P F)) : Type 0 where
+  -- what every call keeps at the beginning, and that each call could come, where actors were dropped between calls, and was replied to
   pub begins : Kept codec spelled tracks opening past jobs [] [] opening
-  pub may : AreAllowed codec jobs [] [] told
+  pub may : AreAllowed codec jobs [] (dropped_in (standings slots)) [] told
   pub replied : Replied opening told
   -- and what every call keeps now
-  pub kept : Kept codec spelled tracks opening past jobs [] told held
+  pub kept : Kept codec spelled tracks opening past jobs (dropped_in (standings slots)) told held
   pub entries : journal ≡ entries_of lane_of told
   pub in_lanes : AreInLanes codec own_lane jobs told
   pub one_each : length slots ≡ length jobs
@@ -92,6 +92,7 @@ abbrev pub AsksFor : {P F : Type 0} → List (Slot P F) → ℕ → Result Call 
 AsksFor {P} {F} slots number (Ok c) = (r : Running P F) × (slice_get slots number ≡ Some (slot.Runs r)) × (c ≡ r.asked)
 AsksFor {P} {F} slots number (Err (NoActor none)) = (none ≡ number) × ((r : Running P F) → slice_get slots number ≡ Some (slot.Runs r) → ⊥)
 AsksFor slots number (Err (IdTaken id)) = ⊥
+AsksFor slots number (Err (LeaseLive live)) = ⊥
 AsksFor slots number (Err OutOfMemory) = ⊤
 
 -- a restart drops an actor that runs
@@ -103,11 +104,11 @@ dropped_slot s = s
 
 -- what contracts see of the parts of a world
 abbrev pub view_of : {P F : Type 0} → Parts P F → WorldView
-view_of p = record { past = p.past; jobs = p.jobs; told = p.told.items; held = held_in p.store; journal = p.journal; actors = standings p.slots.items }
+view_of p = record { opening = held_in p.opening.value; past = p.past; jobs = p.jobs; told = p.told.items; held = held_in p.store; journal = p.journal; actors = standings p.slots.items }
 
 -- the parts of a world keep what a world keeps
 abbrev pub ArePartsOk : {P F : Type 0} → Codec F → Spelled → Tracking F → Parts P F → Type 0
-ArePartsOk codec spelled tracks p = IsKept codec spelled tracks p.past p.jobs p.told.items (held_in p.store) p.journal p.slots.items
+ArePartsOk codec spelled tracks p = IsKept codec spelled tracks (held_in p.opening.value) p.past p.jobs p.told.items (held_in p.store) p.journal p.slots.items
 
 -- ---- what each step of the code does to the parts
 
@@ -124,6 +125,7 @@ pub record IsAdded {P F : Type 0} (job : Job) (s : Slot P F) (before later : Par
   pub journal : later.journal ≡ before.journal
   pub store : later.store ≡ before.store
   pub past : later.past ≡ before.past
+  pub opening : later.opening ≡ before.opening
 
 -- the identifier is that of a job
 abbrev pub is_job_id : ℕ → Job → Bool
@@ -137,6 +139,25 @@ carries id n = option_map_or (λ own. nat_eq own id) (id_in n) false
 abbrev pub is_taken : List Job → Held → ℕ → Bool
 is_taken jobs m id = list_any (is_job_id id) jobs || list_any (carries id) (finite.keys m)
 
+-- a slot in which an actor runs
+abbrev pub is_up : {P F : Type 0} → Option (Slot P F) → Bool
+is_up (Some (slot.Runs r)) = true
+is_up _ = false
+
+-- the number is not that of the actor which makes a call, if one does
+abbrev pub is_other : Option ℕ → ℕ → Bool
+is_other (Some own) number = not (nat_eq own number)
+is_other None number = true
+
+-- the job with a number has the identifier of the lease, and its actor runs and is not the one that makes a call
+abbrev pub is_live_at : {P F : Type 0} → List (Slot P F) → Option ℕ → Name → ℕ → Job → Bool
+is_live_at slots by lease number job = carries job.id lease && (is_up (slice_get slots number) && is_other by number)
+
+-- so has one of these jobs, the first of which has this number
+abbrev pub is_live_from : {P F : Type 0} → ℕ → List Job → List (Slot P F) → Option ℕ → Name → Bool
+is_live_from number [] slots by lease = false
+is_live_from number (job ∷ jobs) slots by lease = is_live_at slots by lease number job || is_live_from (suc number) jobs slots by lease
+
 -- a store that held m was asked this call with this fate, replied so, and holds n
 pub record IsAnswer (m : Held) (c : Call) (fate : Fate) (r : Reply) (n : Held) : Type 0 where
   pub fits : FitsCall c r
@@ -145,21 +166,31 @@ pub record IsAnswer (m : Held) (c : Call) (fate : Fate) (r : Reply) (n : Held) :
   pub reply : r ≡ reply_of m c fate
   pub held : n ≡ after m c fate
 
--- a call was made with this fate and entered with all that is known of it
-pub record IsMade {P F : Type 0} (number : ℕ) (c : Call) (fate : Fate) (before later : Parts P F) (r : Reply) : Type 0 where
+-- a call was made by an actor or by nobody, with this fate, and entered with all that is known of it
+pub record IsMade {P F : Type 0} (by : Option ℕ) (c : Call) (fate : Fate) (before later : Parts P F) (r : Reply) : Type 0 where
   pub short : IsShortCall c
   pub answer : IsAnswer (held_in before.store) c fate r (held_in later.store)
-  pub told : later.told.items ≡ before.told.items ++ record { job = Some number; call = c; fate = fate; reply = r; changed = changes (held_in before.store) c fate } ∷ []
-  pub entered : later.journal ≡ before.journal ++ entry number c fate ∷ []
+  pub told : later.told.items ≡ before.told.items ++ record { job = by; call = c; fate = fate; reply = r; changed = changes (held_in before.store) c fate } ∷ []
+  pub entered : later.journal ≡ before.journal ++ entry (lane_of by) c fate ∷ []
   pub slots : later.slots.items ≡ before.slots.items
   pub jobs : later.jobs ≡ before.jobs
   pub past : later.past ≡ before.past
+  pub opening : later.opening ≡ before.opening
 
--- the call that a running actor waits for was made
+-- why a call of an actor was not made: it would take a lease from another actor which runs, or there was no memory
+abbrev pub IsOwnFault : {P F : Type 0} → Parts P F → ℕ → Call → Result Reply WorldFault → Type 0
+IsOwnFault before number c (Ok reply) = (lease : Name) → TakesLive before.jobs (standings before.slots.items) (Some number) c lease → ⊥
+IsOwnFault before number c (Err (LeaseLive lease)) = TakesLive before.jobs (standings before.slots.items) (Some number) c lease
+IsOwnFault before number c (Err (IdTaken id)) = ⊥
+IsOwnFault before number c (Err (NoActor none)) = ⊥
+IsOwnFault before number c (Err OutOfMemory) = ⊤
+
+-- the call that a running actor waits for was made, and took no lease from another one
 pub record IsCalled {P F : Type 0} (number : ℕ) (fate : Fate) (before later : Parts P F) (r : Reply) : Type 0 where
   pub running : Running P F
   pub runs : slice_get before.slots.items number ≡ Some (slot.Runs running)
-  pub made : IsMade number running.asked fate before later r
+  pub spares : (lease : Name) → TakesLive before.jobs (standings before.slots.items) (Some number) running.asked lease → ⊥
+  pub made : IsMade (Some number) running.asked fate before later r
 
 -- the actor with a number takes a reply that can come
 pub record IsDueAt {P F : Type 0} (codec : Codec F) (slots : List (Slot P F)) (number : ℕ) (reply : Reply) : Type 0 where

@@ -16,8 +16,9 @@ pub data Standing : Type 0 where
   Ended : Outcome → Standing
   Dropped : Standing
 
--- a world: the past, the job of each actor that ever came, the calls that were made since with all that is known of each, what the store holds, the journal, and where each actor stands
+-- a world: what the store held when it began, the past, the job of each actor that ever came, the calls that were made since with all that is known of each, what the store holds now, the journal, and where each actor stands
 pub record WorldView : Type 0 where
+  pub opening : Held
   pub past : History
   pub jobs : List Job
   pub told : List Told

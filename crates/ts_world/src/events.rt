@@ -1,6 +1,6 @@
 //! What may happen in a world, and why an event cannot be.
 
-use ts_base::OutOfMemory;
+use ts_base::{Name, OutOfMemory};
 use ts_model::Command;
 use ts_store::Fate;
 
@@ -15,6 +15,8 @@ pub enum Event {
     /// The actor of this number makes its next call, with this fate, and is dropped before it takes
     /// the reply.
     Stop(u32, Fate),
+    /// Somebody who is no actor removes the lease of this name, as that of an actor which is gone.
+    Break(Name),
     /// Every running actor is dropped.
     Restart,
 }
@@ -26,6 +28,8 @@ pub enum WorldFault {
     IdTaken(u128),
     /// No running actor has this number.
     NoActor(u32),
+    /// A running actor has the identifier of this lease, which was to be taken from it.
+    LeaseLive(Name),
     /// There was no memory for the event.
     OutOfMemory,
 }

@@ -1,7 +1,9 @@
 //! The world of every interleaving: actors that share one store, and whatever may happen to them.
 #![tactic(auto)]
 
+mod breaks;
 mod events;
+mod leases;
 mod parts;
 mod slots;
 #[cfg(test)]

@@ -4,17 +4,19 @@ ghost use Rattle.std.specs.List.{list_any};
 ghost use Rattle.ts_store.specs.declared.fate.Fate.TheVariants.{Unknown};
 ghost use Rattle.ts_store.specs.Calls.{IsSpelledCall};
 ghost use Rattle.ts_store.specs.Memory.{held_in};
-ghost use Rattle.ts_law.specs.Fresh.{id_in};
 ghost use Rattle.ts_model.specs.Told.{IsShortCall};
 ghost use Rattle.ts_world.specs.declared.events.Event.TheVariants as event;
-ghost use Rattle.ts_world.specs.Views.{Dropped};
-ghost use Rattle.ts_world.specs.Slots.{view_of, is_taken, is_job_id, carries, AreSame, ArePartsOk, IsAdded, IsAnswer, IsMade, IsCalled};
+ghost use Rattle.ts_world.specs.Views.{Dropped, lane_of};
+ghost use Rattle.ts_world.specs.Breaks.{TakesLive};
+ghost use Rattle.ts_world.specs.Slots.{view_of, standings, is_taken, is_job_id, carries, AreSame, ArePartsOk, IsAdded, IsAnswer, IsMade, IsOwnFault, IsCalled};
 ghost use Rattle.ts_world.specs.Clauses.{MaySpawn, job_spawned, Spawned, Called, Happens, HasCause, IsCallFault};
 
 use crate::events::WorldFault;
+use crate::leases::{carries, spare};
 use crate::slots::{Slot, advance, asked_by, drop_running, first_slot, put_slot};
 use crate::told::{MadeCall, changes, copy_reply};
 use std::alloc::Global;
+use std::snapshot::Snapshot;
 use std::thread::Threads;
 use ts_actor::Pieces;
 use ts_base::{Duplicate, Name, OutOfMemory, Stop};
@@ -24,6 +26,8 @@ use ts_store::{Call, Entry, Fate, Journal, MemStore, Reply, apply};
 /// The parts of a world.
 #[derive(Drop)]
 pub(crate) struct Parts<P: Pieces> {
+    /// The store when the world began, for contracts alone.
+    pub(crate) opening: Snapshot<MemStore>,
     /// What all actors share.
     pub(crate) store: MemStore,
     /// What had been done when the world began.
@@ -54,7 +58,7 @@ pub(crate) fn spawn<P: Pieces, R: Threads + Sync>(
     ensures kept { ArePartsOk P.codec P.spelled P.tracks parts.new }
     ensures spawned { OnOk result (Spawned (job_spawned command at id) (view_of parts.old) (view_of parts.new)) }
     ensures same { OnErr result (view_of parts.new ≡ view_of parts.old) }
-    ensures cause { HasCause (event.Spawn command at id) (view_of parts.old) result }
+    ensures cause { HasCause P.codec (event.Spawn command at id) (view_of parts.old) result }
 {
     if is_taken(alloc, parts, id)? {
         return Err(WorldFault::IdTaken(id));
@@ -96,29 +100,6 @@ fn has_name(names: &[Name], id: u128) -> bool
     names.iter().any(|name| carries(*name, id))
 }
 
-// Whether a name carries the identifier.
-fn carries(name: Name, id: u128) -> bool
-    ensures { result ≡ carries id name }
-{
-    match id_of(name) {
-        Some(own) => own == id,
-        None => false,
-    }
-}
-
-// The identifier that a name carries.
-fn id_of(name: Name) -> Option<u128>
-    ensures { result ≡ id_in name }
-{
-    match name {
-        Name::Schema(key) => Some(key.id),
-        Name::Commit(frag, _) => Some(frag.id),
-        Name::Part(frag, _) => Some(frag.id),
-        Name::Lease(key, _) => Some(key.id),
-        Name::Domain => None,
-    }
-}
-
 // Adds an actor, with its job and its slot. Want of memory leaves the parts as they were.
 fn add<P: Pieces>(parts: &mut Parts<P>, job: Job, slot: Slot<P>) -> Result<(), OutOfMemory>
     ensures added { OnOk result (IsAdded job slot parts.old parts.new) }
@@ -147,7 +128,7 @@ pub(crate) fn step<P: Pieces, R: Threads + Sync>(
     ensures kept { ArePartsOk P.codec P.spelled P.tracks parts.new }
     ensures called { OnOk result (Called P.codec number fate (λ s. s ≢ Dropped) (view_of parts.old) (view_of parts.new)) }
     ensures same { OnErr result (view_of parts.new ≡ view_of parts.old) }
-    ensures cause { HasCause (event.Step number fate) (view_of parts.old) result }
+    ensures cause { HasCause P.codec (event.Step number fate) (view_of parts.old) result }
 {
     let reply = call(parts, alloc, number, fate)?;
     advance(rt, alloc, &mut parts.slots, number, reply);
@@ -166,7 +147,7 @@ pub(crate) fn stop<P: Pieces>(
     ensures kept { ArePartsOk P.codec P.spelled P.tracks parts.new }
     ensures called { OnOk result (Called P.codec number fate (λ s. s ≡ Dropped) (view_of parts.old) (view_of parts.new)) }
     ensures same { OnErr result (view_of parts.new ≡ view_of parts.old) }
-    ensures cause { HasCause (event.Stop number fate) (view_of parts.old) result }
+    ensures cause { HasCause P.codec (event.Stop number fate) (view_of parts.old) result }
 {
     let reply = call(parts, alloc, number, fate)?;
     drop(reply);
@@ -185,10 +166,35 @@ fn call<P: Pieces>(
     requires known { fate ≢ Unknown }
     ensures called { IfOk result (λ reply. IsCalled number fate parts.old parts.new reply) }
     ensures same { OnErr result (AreSame parts.old parts.new) }
-    ensures cause { IsCallFault (view_of parts.old) number result }
+    ensures cause { IsCallFault P.codec (view_of parts.old) number result }
 {
     match asked_by(alloc, parts.slots.as_slice(), number) {
-        Ok(call) => match make(parts, alloc, number, call, fate) {
+        Ok(call) => make_own(parts, alloc, number, call, fate),
+        Err(fault) => Err(fault),
+    }
+}
+
+// Makes a call of an actor, unless it would take a lease from another actor which runs.
+fn make_own<P: Pieces>(
+    parts: &mut Parts<P>,
+    alloc: Global,
+    number: u32,
+    call: Call,
+    fate: Fate,
+) -> Result<Reply, WorldFault>
+    requires spelled { IsSpelledCall call }
+    requires known { fate ≢ Unknown }
+    ensures made { IfOk result (λ reply. IsMade (Some number) call fate parts.old parts.new reply) }
+    ensures same { OnErr result (AreSame parts.old parts.new) }
+    ensures fault { IsOwnFault parts.old number call result }
+{
+    match spare(
+        parts.jobs.as_slice(),
+        parts.slots.as_slice(),
+        Some(number),
+        &call,
+    ) {
+        Ok(()) => match make(parts, alloc, Some(number), call, fate) {
             Ok(reply) => Ok(reply),
             Err(OutOfMemory) => Err(WorldFault::OutOfMemory),
         },
@@ -196,22 +202,23 @@ fn call<P: Pieces>(
     }
 }
 
-// Makes a call in the lane of an actor, and enters it with all that is known of it. The memory for
-// that is taken first; want of memory leaves the parts as they were.
-fn make<P: Pieces>(
+/// Makes a call in the lane of an actor or in nobody's, and enters it with all that is known of it.
+///
+/// The memory for that is taken first; want of memory leaves the parts as they were.
+pub(crate) fn make<P: Pieces>(
     parts: &mut Parts<P>,
     alloc: Global,
-    number: u32,
+    actor: Option<u32>,
     call: Call,
     fate: Fate,
 ) -> Result<Reply, OutOfMemory>
     requires spelled { IsSpelledCall call }
     requires known { fate ≢ Unknown }
-    ensures made { IfOk result (λ reply. IsMade number call fate parts.old parts.new reply) }
+    ensures made { IfOk result (λ reply. IsMade actor call fate parts.old parts.new reply) }
     ensures same { OnErr result (AreSame parts.old parts.new) }
 {
     let entry = Entry {
-        lane: number,
+        lane: lane_of(actor),
         call: call.copy(alloc)?,
         fate,
     };
@@ -224,13 +231,23 @@ fn make<P: Pieces>(
         return Err(OutOfMemory);
     };
     parts.told.push(MadeCall {
-        actor: number,
+        actor,
         call,
         fate,
         reply: twin,
         changed,
     })?;
     Ok(reply)
+}
+
+// The lane of who makes a call.
+fn lane_of(actor: Option<u32>) -> u32
+    ensures { result ≡ lane_of actor }
+{
+    match actor {
+        Some(number) => number,
+        None => u32::MAX,
+    }
 }
 
 // An object that is put is short enough to be got at once. The call itself does nothing.

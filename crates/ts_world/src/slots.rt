@@ -5,8 +5,8 @@ ghost use Rattle.ts_store.specs.Calls.{IsSpelledReply};
 ghost use Rattle.ts_model.specs.Jobs.{IsFit};
 ghost use Rattle.ts_actor.specs.Traces.{Trace, CanCome, Expects, filled};
 ghost use Rattle.ts_commands.specs.Actors.{job_of, Follows};
-ghost use Rattle.ts_world.specs.Slots.{standing_of, IsSlot, IsDue, IsNextSlot, IsDueAt, IsAdvanced, AsksFor, dropped_slot};
-ghost use Rattle.ts_world.specs.Views.{Dropped, end_in};
+ghost use Rattle.ts_world.specs.Slots.{standing_of, standings, IsSlot, IsDue, IsNextSlot, IsDueAt, IsAdvanced, AsksFor, dropped_slot};
+ghost use Rattle.ts_world.specs.Views.{Dropped, end_in, end_of};
 
 use crate::events::WorldFault;
 use std::alloc::Global;
@@ -105,13 +105,24 @@ pub(crate) fn put_slot<P: Pieces>(slots: &mut [Slot<P>], place: usize, slot: Slo
 }
 
 // The end of an actor that ended.
-pub(crate) fn end_in<P: Pieces>(slot: &Slot<P>) -> Option<&Outcome>
+fn end_in<P: Pieces>(slot: &Slot<P>) -> Option<&Outcome>
     ensures { option_copied result ≡ end_in (standing_of slot.now) }
 {
     match slot {
         Slot::Ended(end) => Some(end),
         _ => None,
     }
+}
+
+// The end of the actor with a number, if it ended.
+pub(crate) fn end_of<P: Pieces>(slots: &[Slot<P>], number: u32) -> Option<&Outcome>
+    ensures { option_copied result ≡ end_of (standings slots.now) number }
+{
+    let place = number as usize;
+    if slots.len() <= place {
+        return None;
+    }
+    end_in(&slots[place])
 }
 
 // A copy of the call that the actor with a number waits to make.
@@ -122,10 +133,11 @@ pub(crate) fn asked_by<P: Pieces>(
 ) -> Result<Call, WorldFault>
     ensures { AsksFor slots.now number result }
 {
-    let Some(slot) = slots.get(number as usize) else {
+    let place = number as usize;
+    if slots.len() <= place {
         return Err(WorldFault::NoActor(number));
-    };
-    match slot {
+    }
+    match &slots[place] {
         Slot::Runs(running) => Ok(running.asked.copy(alloc)?),
         _ => Err(WorldFault::NoActor(number)),
     }

@@ -1,11 +1,13 @@
 //! Worlds of one array over a store in memory.
 mod merging;
+mod vacuums;
 
 ghost use Rattle.std.specs.Prelude.{◌≡◌, ◌<◌, ◌≤◌, ◌+◌, [], true, IfOk, IsTrue, length};
 ghost use Rattle.std.specs.List.{list_all};
 ghost use Rattle.ts_domain.specs.Dims.{IsDim};
 ghost use Rattle.ts_model.specs.declared.commands.Command.TheVariants.{Create, Evolve, Write};
 ghost use Rattle.ts_model.specs.Commands.{fits, is_spelled_attr, is_spelled_col, is_spelled_dim, is_spelled_query};
+ghost use Rattle.ts_world.specs.Clauses.{BeganEmpty};
 
 use crate::{Event, World, WorldFault};
 use std::alloc::Global;
@@ -21,7 +23,8 @@ use ts_store::{Fate, FaultList, MemStore};
 
 // A world without actors and without a past.
 fn first_world(alloc: Global) -> World<PlainPieces>
-    ensures { (result.past ≡ []) × (result.jobs ≡ []) }
+    ensures began { BeganEmpty result }
+    ensures jobs { result.jobs ≡ [] }
 {
     let store = MemStore::new(alloc, FaultList::new(alloc));
     World::new(alloc, store, History::new(alloc))
@@ -36,10 +39,10 @@ fn spawn<R: Threads + Sync>(
     at: u64,
     id: u128,
 ) -> Result<(), WorldFault>
-    requires past { world.old.past ≡ [] }
-    requires few { length world.old.jobs < 9 }
+    requires began { BeganEmpty world.old }
+    requires few { length world.old.jobs < 12 }
     requires fits { IsTrue (fits command) }
-    ensures past { world.new.past ≡ [] }
+    ensures began { BeganEmpty world.new }
     ensures few { length world.new.jobs ≤ length world.old.jobs + 1 }
 {
     world.step(rt, alloc, Event::Spawn(command, at, id))
@@ -175,7 +178,7 @@ fn has_read(
 // A world with its array, made by the actor 0, and a write of 20 (identifier 2) and one of 30
 // (identifier 3) at 5, both stamped 4, by the actors 1 and 2.
 fn two_writers<R: Threads + Sync>(rt: &R, alloc: Global) -> Result<World<PlainPieces>, Fail>
-    ensures past { IfOk result (λ world. world.past ≡ []) }
+    ensures began { IfOk result (λ world. BeganEmpty world) }
     ensures few { IfOk result (λ world. length world.jobs ≤ 3) }
 {
     let mut world = first_world(alloc);
@@ -205,9 +208,9 @@ fn read<R: Threads + Sync>(
     world: &mut World<PlainPieces>,
     id: u128,
 ) -> Result<(), WorldFault>
-    requires past { world.old.past ≡ [] }
-    requires few { length world.old.jobs < 9 }
-    ensures past { world.new.past ≡ [] }
+    requires began { BeganEmpty world.old }
+    requires few { length world.old.jobs < 12 }
+    ensures began { BeganEmpty world.new }
     ensures few { length world.new.jobs ≤ length world.old.jobs + 1 }
 {
     spawn(
@@ -222,6 +225,21 @@ fn read<R: Threads + Sync>(
         9,
         id,
     )
+}
+
+// Adds a vacuum.
+fn vacuum<R: Threads + Sync>(
+    rt: &R,
+    alloc: Global,
+    world: &mut World<PlainPieces>,
+    id: u128,
+) -> Result<(), WorldFault>
+    requires began { BeganEmpty world.old }
+    requires few { length world.old.jobs < 12 }
+    ensures began { BeganEmpty world.new }
+    ensures few { length world.new.jobs ≤ length world.old.jobs + 1 }
+{
+    spawn(rt, alloc, world, Command::Vacuum, 9, id)
 }
 
 #[test]

@@ -1,4 +1,4 @@
-//! A call that an actor of a world made, with all that is known of it.
+//! A call that was made in a world, with all that is known of it.
 ghost use Rattle.std.specs.Prelude.{◌≡◌, false, IfOk, OnErr};
 ghost use Rattle.ts_store.specs.Calls.{is_no_memory};
 ghost use Rattle.ts_store.specs.Memory.{held_in};
@@ -10,12 +10,13 @@ use std::marker::Model;
 use ts_base::{Duplicate, OutOfMemory};
 use ts_store::{Call, Fate, MemStore, Reply};
 
-/// A call that an actor made, with its fate, its reply, and whether it changed what is held.
+/// A call that an actor made, or nobody, with its fate, its reply, and whether it changed what is
+/// held.
 ///
-/// Contracts see it as the call of the job that has the actor's number.
+/// Contracts see it as the call of the job that has the actor's number, if there is one.
 #[derive(Drop)]
 pub(crate) struct MadeCall {
-    pub(crate) actor: u32,
+    pub(crate) actor: Option<u32>,
     pub(crate) call: Call,
     pub(crate) fate: Fate,
     pub(crate) reply: Reply,
@@ -23,12 +24,11 @@ pub(crate) struct MadeCall {
 }
 
 impl Model for MadeCall {
-    ghost use Rattle.std.specs.Prelude.{Some};
     ghost use Rattle.ts_model.specs.Told.{Told};
 
     ghost Value = { Told };
 
-    ghost view = { λ made. record { job = Some made.actor; call = made.call; fate = made.fate; reply = made.reply; changed = made.changed } };
+    ghost view = { λ made. record { job = made.actor; call = made.call; fate = made.fate; reply = made.reply; changed = made.changed } };
 }
 
 // Whether a call with this fate changes what the store holds.

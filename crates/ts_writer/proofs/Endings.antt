@@ -6,7 +6,7 @@ use Rattle.ts_store.specs.declared.call.Reply.{Reply}
 use Rattle.ts_store.specs.declared.call.Reply.TheVariants as reply
 use Rattle.ts_model.specs.declared.commands.Job.{Job}
 use Rattle.ts_model.specs.declared.states.State.{State}
-use Rattle.ts_model.specs.declared.states.State.TheVariants.{Creates, Seeks, Puts, Collects, Merges, Over}
+use Rattle.ts_model.specs.declared.states.State.TheVariants.{Creates, Seeks, Puts, Collects, Merges, Lists, Sweeps, Removes, Over}
 use Rattle.ts_model.specs.declared.states.Creating.TheVariants.{PutsFrame, ComparesFrame}
 use Rattle.ts_model.specs.States.{asks, on_made, on_bytes, ended, with_item, after_frame, frame_put, made_by, goes, get_frame, put_of, putting}
 use Rattle.ts_model.specs.declared.states.NewObject.{NewObject}
@@ -17,7 +17,7 @@ use Rattle.ts_schema.specs.FrameTexts.{frame_object}
 use Rattle.ts_base.specs.declared.names.Name.TheVariants as name
 use Rattle.ts_store.specs.declared.call.Call.TheVariants as call
 use Rattle.ts_model.specs.declared.commands.Command.{Command}
-use Rattle.ts_model.specs.declared.commands.Command.TheVariants.{Create, Evolve, Write, Read, Delete, Consolidate}
+use Rattle.ts_model.specs.declared.commands.Command.TheVariants.{Create, Evolve, Write, Read, Delete, Consolidate, Vacuum, Unlock, Fragments}
 use Rattle.ts_writer.specs.Writing.{IsCreate, IsOver, IsPutState, IsCreateState, calls_left}
 
 -- a put that did not make its object ends the job
@@ -54,6 +54,9 @@ none_left (Seeks s) over = absurd over
 none_left (Puts objects next end) over = absurd over
 none_left (Collects s) over = absurd over
 none_left (Merges s) over = absurd over
+none_left Lists over = absurd over
+none_left (Sweeps s) over = absurd over
+none_left (Removes names next end) over = absurd over
 
 -- each job can be over
 pub over_puts : {F : Type 0} (s : State F) → IsOver s → IsPutState s
@@ -63,6 +66,9 @@ over_puts (Seeks s) over = over
 over_puts (Puts objects next end) over = absurd over
 over_puts (Collects s) over = over
 over_puts (Merges s) over = over
+over_puts Lists over = over
+over_puts (Sweeps s) over = over
+over_puts (Removes names next end) over = over
 
 -- a create can put its objects
 pub create_puts : {F : Type 0} (job : Job) (s : State F) → IsPutState s → IsCreateState job s
@@ -72,6 +78,9 @@ create_puts job (Creates s) may = absurd may
 create_puts job (Seeks s) may = may
 create_puts job (Collects s) may = may
 create_puts job (Merges s) may = may
+create_puts job Lists may = may
+create_puts job (Sweeps s) may = may
+create_puts job (Removes names next end) may = may
 
 -- the put of the frame that neither made it nor found its name taken ends a create
 frame_kept : {F : Type 0} (job : Job) (c : Call) (r : Reply) → (r ≡ reply.Made → ⊥) → (r ≡ reply.Taken → ⊥) → after_frame {F = F} job c r ≡ ended c r
@@ -94,6 +103,9 @@ frame_in_other job (Write w) s r is made taken e = absurd is
 frame_in_other job (Read from to query) s r is made taken e = absurd is
 frame_in_other job (Delete text) s r is made taken e = absurd is
 frame_in_other job (Consolidate from to limits) s r is made taken e = absurd is
+frame_in_other job Vacuum s r is made taken e = absurd is
+frame_in_other job (Unlock seed lane) s r is made taken e = absurd is
+frame_in_other job Fragments s r is made taken e = absurd is
 
 -- so it does in the words of a create's state
 pub frame_other : {F : Type 0} (codec : Codec F) (job : Job) (s : State F) (r : Reply) → IsCreate job.command → (r ≡ reply.Made → ⊥) → (r ≡ reply.Taken → ⊥) → ((bytes : List ℕ) → s ≡ ended (call.Put name.Domain bytes) r)

@@ -2,6 +2,7 @@
 ghost use Rattle.std.specs.Prelude.{◌≡◌, ◌≢◌, ◌<◌, ◌^◌, ◌+◌, true, None, Some, option_map, IfOk, IfSome, OnErr, IsTrue};
 ghost use Rattle.ts_store.specs.Calls.{IsSpelledReply};
 ghost use Rattle.ts_actor.specs.Fetches.{IsWorkCall};
+ghost use Rattle.ts_actor.specs.Machines.{work_spares};
 ghost use Rattle.ts_model.specs.declared.commands.Command.TheVariants.{Create};
 ghost use Rattle.ts_model.specs.Commands.{create_refusal, fits, frame_made};
 ghost use Rattle.ts_model.specs.Jobs.{refused_before};
@@ -39,6 +40,10 @@ impl<P: Pieces> Automaton for Creates<P> {
     ghost left = { calls_left };
 
     ghost ends = { λ job end. tt };
+
+    ghost calls = { λ job c. IsWorkCall c };
+
+    ghost spares = { work_spares IsCreateJob };
 
     fn begin(alloc: Global, job: &Job) -> State<P::Fetch> {
         match &job.command {

@@ -6,6 +6,7 @@ ghost use Rattle.ts_store.specs.Calls.{IsSpelledReply};
 ghost use Rattle.ts_schema.specs.FrameTexts.{IsFrame};
 ghost use Rattle.ts_schema.specs.SchemaTexts.{AreAttrs};
 ghost use Rattle.ts_actor.specs.Fetches.{IsWorkCall};
+ghost use Rattle.ts_actor.specs.Machines.{work_spares};
 ghost use Rattle.ts_model.specs.declared.commands.Job.{Job as AnyJob};
 ghost use Rattle.ts_model.specs.declared.states.Listed.{Listed as AnyListed};
 ghost use Rattle.ts_model.specs.declared.states.Seeking.TheVariants as seeking_state;
@@ -80,6 +81,10 @@ impl<M: Makes> Automaton for Making<M> {
     ghost left = { calls_left };
 
     ghost ends = { λ job end. tt };
+
+    ghost calls = { λ job c. IsWorkCall c };
+
+    ghost spares = { work_spares M.serves };
 
     fn begin(alloc: Global, job: &Job) -> State<M::Fetch> {
         M::begin(alloc, job)

@@ -4,7 +4,7 @@ import json
 V = {"name": "v", "type": "int64"}
 X = {"name": "x", "type": "int64", "domain": [0, 9], "extent": 10}
 READ = {"cmd": "read", "at": 9}
-NOT_BUILT, BAD = 8, 3
+BAD = 3
 
 
 def create(dims=(X,), attrs=(V,)):
@@ -78,10 +78,11 @@ def labels():
 
 
 def nesting():
-    """JSON is read 127 levels deep, the line's own object among them."""
-    for depth, said, status in ((126, "not built", NOT_BUILT), (127, "bad script", BAD), (100_000, "bad script", BAD)):
-        line = b'{"cmd":"vacuum","deep":' + b"[" * depth + b"]" * depth + b"}\n"
-        yield f"{depth} lists", line, text((said, 1)), status
+    """JSON is read 127 levels deep, the line's own object among them. Of a key that comes twice the last value counts, so the lists are read and left."""
+    done, bad = ("0.1", "read", "refused", "NoSchema", 9), ("bad script", 1)
+    for depth, said, status in ((126, done, 0), (127, bad, BAD), (100_000, bad, BAD)):
+        line = b'{"cmd":"read","at":' + b"[" * depth + b"]" * depth + b',"at":9}\n'
+        yield f"{depth} lists", line, text(said), status
 
 
 def commands():

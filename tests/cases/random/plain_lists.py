@@ -3,8 +3,11 @@
 The lists are searched from end to end for each cell, as docs/FORMATS.md says which write, delete and schema counts. Nothing here
 is taken from the program. Each script is made from a seed, which is its name.
 
-Consolidations stand among the commands. They leave the lists as they are, since no read may show anything of them. Only for what they print
-the fragments are listed too, with those that were merged.
+Consolidations and vacuums stand among the commands. They leave the lists as they are. For what they print, and for the writes that are clipped
+from reads of dense arrays, the fragments are listed too, each with the writes that went into it, and the names that stand in each `.vac`.
+
+In some scripts commands are stopped, leases are removed, and the commits are listed. A stop falls where a command has the same calls whatever there is to read,
+or before a call of a kind. The leases are listed, since one that a vacuum left holds others up, and any holds up a vacuum.
 """
 import itertools
 import json
@@ -13,6 +16,8 @@ import random
 SCRIPTS = 300
 COMMANDS = 30
 STAMPS = 6
+WRT, DEL, VAC = range(3)
+ENDINGS = ("wrt", "del", "vac")
 DEFAULT_FILLS = {"int8": -128, "uint8": 255, "int64": -(2**63), "text": ""}
 
 
@@ -98,8 +103,12 @@ class Array:
         self.schemas = [((0, 1), [some_attribute(chance, "v"), some_attribute(chance, "w")])]
         self.writes = []  # (key, attributes, coordinates, row by name)
         self.deletes = []  # (key, attributes that are named, whether a row matches)
-        self.fragments = []  # (least stamp, greatest stamp, number, key of the schema)
-        self.merged = set()  # the numbers of those that were merged into another
+        self.fragments = []  # those that are committed: (least stamp, greatest stamp, number, key of the schema)
+        self.origins = {}  # by the number of a fragment the keys of the writes that went into it
+        self.vacs = {}  # by the number of a fragment the fragments that its `.vac` names, each as (least stamp, greatest stamp, number)
+        self.commits = set()  # (least stamp, greatest stamp, number, place of its ending among ENDINGS)
+        self.leases = set()  # those that were left by commands that were stopped: (stamp, number, ending)
+        self.stopping = None  # what chooses the stops, where there are any
 
     def create(self):
         types = {"x": "int8", "y": "int16"}
@@ -138,6 +147,38 @@ class Array:
             return sorted(cells, key=lambda c: (turned(self.tile_order, tiles(c)), turned(self.cell_order, c)))
         return sorted(cells, key=lambda c: c if layout == "row" else c[::-1])
 
+    # ---- stops
+
+    def some_stop(self, said, calls, points=()):
+        """Stops a command perhaps, after fewer than so many calls or before one of these points. It gives the stop, or None where the command goes on."""
+        if not self.stopping or self.stopping.random() < 0.8:
+            return None
+        said["stop"] = stop = self.stopping.choice([*range(calls), "vac", "wrt", "part", calls + 999])
+        return stop if stop in range(calls) or stop in points else None
+
+    def end_beside_leases(self, number, said, calls, ending):
+        """How a command ends that puts its lease by its first call, where its stop ends it early or another lease holds it up. It makes so many calls at least, and three where it is held up."""
+        others = sorted(it for it in self.leases if "exc" in (ending, it[2]))
+        stop = self.some_stop(said, 3 if others else calls)
+        if stop is not None:
+            return self.stopped_with_its_lease(number, said, ending) if stop else ["stopped"]
+        if others:
+            at, by, held = others[0]
+            return ["refused", "Leased", f"__leases/__{at}_{at}_{by:032x}.{held}"]
+        return None
+
+    def stopped_with_its_lease(self, number, said, ending):
+        self.leases.add((said["at"], number, ending))
+        return ["stopped"]
+
+    def unlock(self, number):
+        removed, self.leases = self.leases, set()
+        return {"cmd": "unlock"}, ["ok", str(len(removed))]
+
+    def listing(self, number):
+        names = [f"__commits/__{first}_{last}_{by:032x}_1.{ENDINGS[place]}" for first, last, by, place in sorted(self.commits)]
+        return {"cmd": "fragments"}, ["ok", str(len(names))], [[name] for name in names]
+
     # ---- commands: each gives its object and what is printed behind its name
 
     def evolve(self, number):
@@ -148,6 +189,8 @@ class Array:
         free = [name for name in ("v", "w", "u") if name not in [it.name for it in left]]
         added = [some_attribute(self.chance, name) for name in free if self.chance.random() < 0.7]
         said = {"cmd": "evolve", "at": at, "drop": dropped, "add": [it.declared(self.chance) for it in added]}
+        if self.some_stop(said, 3) is not None:
+            return said, ["stopped"]
         if not left + added:
             return said, ["refused", "NoAttrLeft"]
         self.schemas.append(((at, number), left + added))
@@ -169,9 +212,13 @@ class Array:
                 none = it.nullable and self.chance.random() < 0.3
                 row[it.name] = None if none else some_value(self.chance, it.kind)
             said["cols"][it.name] = [row[it.name] for row in rows]
+        if self.some_stop(said, 5, ["wrt"]) is not None:
+            return said, ["stopped"]
+        self.commits.add((at, at, number, WRT))
         for cell, row in zip(cells, rows):
             self.writes.append(((at, number), attributes, cell, row))
         self.fragments.append((at, at, number, self.schema_there(at)[0]))
+        self.origins[number] = {(at, number)}
         return said, ["ok", f"__{at}_{at}_{number:032x}_1"]
 
     def consolidate(self, number):
@@ -185,24 +232,66 @@ class Array:
             said["min"] = least = self.chance.randrange(2, 5)
         if self.chance.random() < 0.3:
             said["max"] = most = self.chance.randrange(least, least + 3)
-        whole = sorted(it for it in self.fragments if begin <= it[0] and it[1] <= end and it[2] not in self.merged)
+        early = self.end_beside_leases(number, said, 5, "shr")
+        if early:
+            return said, early
+        merged = self.merged()
+        whole = sorted(it for it in self.fragments if begin <= it[0] and it[1] <= end and it[:3] not in merged)
         of_schema = lambda key: [it for it in whole if it[3] == key]
         shared = [of_schema(it[3]) for it in whole if len(of_schema(it[3])) >= least]
         if not shared:
             return said, ["refused", "NothingToDo", str(len(whole))]
         taken = shared[0][:most]
         first, last = min(it[0] for it in taken), max(it[1] for it in taken)
-        self.merged |= {it[2] for it in taken}
+        point = said.get("stop")
+        if point != "vac":
+            self.commits.add((first, last, number, VAC))
+            self.vacs[number] = {it[:3] for it in taken}.union(*(self.vacs.get(it[2], ()) for it in taken))
+        if point in ("vac", "wrt"):
+            return said, self.stopped_with_its_lease(number, said, "shr")
+        self.commits.add((first, last, number, WRT))
         self.fragments.append((first, last, number, taken[0][3]))
+        self.origins[number] = set().union(*(self.origins[it[2]] for it in taken))
         return said, ["ok", f"__{first}_{last}_{number:032x}_1", str(len(taken))]
+
+    def counting(self):
+        """The numbers of the committed fragments that have a `.vac`."""
+        return {it[2] for it in self.fragments if it[2] in self.vacs}
+
+    def merged(self):
+        """What the `.vac` objects of committed fragments name."""
+        return set().union(*(self.vacs[it] for it in self.counting()))
+
+    def remove_commit(self, fragment):
+        self.fragments = [it for it in self.fragments if it[:3] != fragment]
+        self.commits.discard((*fragment, WRT))
+
+    def vacuum(self, number):
+        said = {"cmd": "vacuum", "at": self.chance.randrange(STAMPS)}
+        early = self.end_beside_leases(number, said, 5, "exc")
+        if early:
+            return said, early
+        removed, read = self.merged(), self.counting()
+        if removed and said.get("stop") == "part":
+            self.remove_commit(min(removed))
+            return said, self.stopped_with_its_lease(number, said, "exc")
+        for fragment in removed:
+            self.remove_commit(fragment)
+        gone = read | {it[2] for it in removed}
+        self.vacs = {by: names for by, names in self.vacs.items() if by not in gone}
+        self.commits = {it for it in self.commits if it[3] != VAC or it[2] not in gone}
+        return said, ["ok", str(len(removed))]
 
     def delete(self, number):
         at = self.chance.randrange(STAMPS)
         text, named, matches = some_condition(self.chance, self.fields_at(at))
         said = {"cmd": "delete", "at": at, "where": text}
+        if self.some_stop(said, 3) is not None:
+            return said, ["stopped"]
         if self.dense:
             return said, ["refused", "DenseArray"]
         self.deletes.append(((at, number), [it for it in self.schema_at(at) if it.name in named], matches))
+        self.commits.add((at, at, number, DEL))
         return said, ["ok", f"__{at}_{at}_{number:032x}_1"]
 
     def coordinates(self, cell):
@@ -216,10 +305,17 @@ class Array:
             said[it.name] = row[it.name] if any(it.is_like(other) for other in attributes) else it.fill
         return said
 
-    def row_at(self, cell, begin, end):
-        """The row that a read of an interval has at a cell, before its condition, or None."""
+    def clipped(self, begin, end):
+        """The keys of the writes that are clipped from a read of an interval, and the fragments that they went into. A sparse fragment is of use wherever it meets the interval, a dense one where it lies in it."""
+        meeting = [it for it in self.fragments if begin <= end and it[0] <= end and begin <= it[1]]
+        usable = [it for it in meeting if not self.dense or begin <= it[0] and it[1] <= end]
+        keys = {it[0] for it in self.writes if begin <= it[0][0] <= end}.difference(*(self.origins[it[2]] for it in usable))
+        return keys, sorted(it[:3] for it in meeting if it not in usable and self.origins[it[2]] & keys)
+
+    def row_at(self, cell, begin, end, clipped):
+        """The row that a read of an interval has at a cell, before its condition and without the clipped writes, or None."""
         attributes = self.schema_at(end)
-        writes = [it for it in self.writes if it[2] == cell and begin <= it[0][0] <= end]
+        writes = [it for it in self.writes if it[2] == cell and begin <= it[0][0] <= end and it[0] not in clipped]
         if not writes:
             return {**self.coordinates(cell), **{it.name: it.fill for it in attributes}} if self.dense else None
         last = max(writes, key=lambda it: it[0])
@@ -245,9 +341,14 @@ class Array:
         fields = list(self.fields_at(end))
         if self.chance.random() < 0.4:
             said["fields"] = fields = [self.chance.choice(fields) for _ in range(self.chance.randrange(1, 4))]
-        rows = [self.row_at(cell, begin, end) for cell in self.sorted_by(layout, self.cells_of(box))]
+        early = self.end_beside_leases(number, said, 7, "shr")
+        if early:
+            return said, early
+        clipped, left = self.clipped(begin, end)
+        rows = [self.row_at(cell, begin, end, clipped) for cell in self.sorted_by(layout, self.cells_of(box))]
         rows = [row for row in rows if row is not None and matches(row)]
-        return said, ["ok", str(len(rows)), "0"], [[shown(row[name]) for name in fields] for row in rows]
+        names = [["clipped", f"__{first}_{last}_{by:032x}_1"] for first, last, by in left]
+        return said, ["ok", str(len(rows)), str(len(names))], names + [[shown(row[name]) for name in fields] for row in rows]
 
 
 def shown(value):
@@ -259,7 +360,11 @@ def script_of(seed):
     array = Array(chance, dense=seed % 3 == 0)
     commands, lines = [array.create()], [["0.1", "create", "ok"]]
     ways = [array.write] * 5 + [array.read] * 4 + [array.delete] * (1 if array.dense else 3) + [array.evolve]
-    ways += [array.consolidate] * (2 if seed % 2 else 0)
+    if seed % 2:
+        ways += [array.consolidate] * 2 + [array.vacuum] * 2
+    if seed % 4 > 1:
+        array.stopping = random.Random(f"stops of {seed}")
+        ways += [array.unlock] * 2 + [array.listing]
     for number in range(2, COMMANDS + 2):
         said, end, *rows = chance.choice(ways)(number)
         commands.append(said)

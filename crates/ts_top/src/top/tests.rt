@@ -2,6 +2,7 @@
 //! stands in tests/cases.
 mod consolidations;
 mod deletes;
+mod vacuums;
 mod words;
 
 ghost use Rattle.std.specs.Prelude.{◌≡◌};

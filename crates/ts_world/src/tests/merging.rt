@@ -1,4 +1,4 @@
-//! Worlds of two consolidators: what readers find beside them and after them.
+//! Worlds of two consolidators: what readers find beside them and after them, and after vacuums.
 
 ghost use Rattle.std.specs.Prelude.{◌≡◌, ◌<◌, ◌≤◌, ◌+◌, false, [], ◌∷◌, pos, IfOk, IsTrue, length};
 ghost use Rattle.ts_base.specs.declared.values.Val.TheVariants.{Int};
@@ -7,11 +7,10 @@ ghost use Rattle.ts_schema.specs.FrameTexts.{IsFrame};
 ghost use Rattle.ts_schema.specs.SchemaTexts.{AreAttrs};
 ghost use Rattle.ts_model.specs.declared.deeds.Deed.TheVariants.{Wrote};
 ghost use Rattle.ts_model.specs.Deeds.{IsHistory, RowFits};
-ghost use Rattle.ts_world.specs.Clauses.{MayCome};
-ghost use Rattle.ts_world.specs.Views.{WorldView};
+ghost use Rattle.ts_world.specs.Clauses.{BeganEmpty};
 
 use super::{
-    attr, create, dim, everything, finish, first_world, has_read, label, read, spawn, write,
+    attr, create, dim, everything, finish, first_world, has_read, label, read, spawn, vacuum, write,
 };
 use crate::{Event, World, WorldFault};
 use std::alloc::Global;
@@ -19,7 +18,8 @@ use std::test::Fail;
 use std::thread::Threads;
 use ts_actor::PlainPieces;
 use ts_base::{
-    Cell, CellList, CommitKind, Coords, FragKey, Key, Name, OutOfMemory, Prefix, Row, Val, ValType,
+    Cell, CellList, CommitKind, Coords, FragKey, Key, LeaseMode, Name, OutOfMemory, Prefix, Row,
+    Val, ValType,
 };
 use ts_commit::Limits;
 use ts_domain::{Domain, Order};
@@ -30,15 +30,15 @@ use ts_store::{Call, Entry, Fate};
 // ---- worlds
 
 // Adds a consolidator of the fragments that are stamped up to 3.
-fn consolidate<R: Threads + Sync>(
+pub(super) fn consolidate<R: Threads + Sync>(
     rt: &R,
     alloc: Global,
     world: &mut World<PlainPieces>,
     id: u128,
 ) -> Result<(), WorldFault>
-    requires past { world.old.past ≡ [] }
-    requires few { length world.old.jobs < 9 }
-    ensures past { world.new.past ≡ [] }
+    requires began { BeganEmpty world.old }
+    requires few { length world.old.jobs < 12 }
+    ensures began { BeganEmpty world.new }
     ensures few { length world.new.jobs ≤ length world.old.jobs + 1 }
 {
     let command = Command::Consolidate {
@@ -51,8 +51,11 @@ fn consolidate<R: Threads + Sync>(
 
 // A world with its array, made by the actor 0, and writes of 1 at 1 and of 2 at 2 by the actors 1 and
 // 2, stamped so. Each actor has its number and 1 as its identifier.
-fn written_twice<R: Threads + Sync>(rt: &R, alloc: Global) -> Result<World<PlainPieces>, Fail>
-    ensures past { IfOk result (λ world. world.past ≡ []) }
+pub(super) fn written_twice<R: Threads + Sync>(
+    rt: &R,
+    alloc: Global,
+) -> Result<World<PlainPieces>, Fail>
+    ensures began { IfOk result (λ world. BeganEmpty world) }
     ensures few { IfOk result (λ world. length world.jobs ≤ 3) }
 {
     let mut world = first_world(alloc);
@@ -64,7 +67,7 @@ fn written_twice<R: Threads + Sync>(rt: &R, alloc: Global) -> Result<World<Plain
 
 // Such a world with two consolidators, the actors 3 and 4.
 fn merged_twice<R: Threads + Sync>(rt: &R, alloc: Global) -> Result<World<PlainPieces>, Fail>
-    ensures past { IfOk result (λ world. world.past ≡ []) }
+    ensures began { IfOk result (λ world. BeganEmpty world) }
     ensures few { IfOk result (λ world. length world.jobs ≤ 5) }
 {
     let mut world = written_twice(rt, alloc)?;
@@ -94,11 +97,15 @@ fn what_two_consolidations_merged_shows_once(rt: HostRuntime) -> Result<(), Fail
     let alloc = rt.alloc();
     let mut world = merged_twice(&rt, alloc)?;
     read(&rt, alloc, &mut world, 6)?;
+    vacuum(&rt, alloc, &mut world, 7)?;
+    read(&rt, alloc, &mut world, 8)?;
     for actor in 0..3 {
         finish(&rt, alloc, &mut world, actor)?;
     }
     take_turns(&rt, alloc, &mut world)?;
-    finish(&rt, alloc, &mut world, 5)?;
+    for actor in 5..8 {
+        finish(&rt, alloc, &mut world, actor)?;
+    }
     for (actor, id) in [(3, 4), (4, 5)] {
         let merged = FragKey {
             t1: 1,
@@ -111,20 +118,27 @@ fn what_two_consolidations_merged_shows_once(rt: HostRuntime) -> Result<(), Fail
             Some(&Outcome::Consolidated(merged, 2))
         );
     }
-    assert!(rt; has_read(alloc, &world, 5, &[[1, 1], [2, 2]])?);
+    assert_eq!(rt; world.answer_of(6), Some(&Outcome::Vacuumed(2)));
+    // The reader before the vacuum, and the one after it.
+    for reader in [5, 7] {
+        assert!(rt; has_read(alloc, &world, reader, &[[1, 1], [2, 2]])?);
+    }
     Ok(())
 }
 
 // ---- random schedules
 
 /// How many schedules are tried.
-const SCHEDULES: u64 = 2000;
+const SCHEDULES: u64 = 1000;
 
 /// The number of the reader that runs beside the others.
 const BESIDE: u32 = 7;
 
 /// The number of the reader that runs after the others.
 const AFTER: u32 = 8;
+
+/// The numbers of the vacuums.
+const VACUUMS: [u32; 2] = [9, 10];
 
 /// The identifier of the first consolidator.
 const MERGED: u128 = 5;
@@ -154,7 +168,7 @@ impl Dice {
 
 // A world as above with a third write, of 2 at 1 stamped 3, and two consolidators.
 fn three_merged<R: Threads + Sync>(rt: &R, alloc: Global) -> Result<World<PlainPieces>, Fail>
-    ensures past { IfOk result (λ world. world.past ≡ []) }
+    ensures began { IfOk result (λ world. BeganEmpty world) }
     ensures few { IfOk result (λ world. length world.jobs ≤ 6) }
 {
     let mut world = written_twice(rt, alloc)?;
@@ -164,25 +178,65 @@ fn three_merged<R: Threads + Sync>(rt: &R, alloc: Global) -> Result<World<PlainP
     Ok(world)
 }
 
-// Such a world with a further write, of 1 at 3 stamped 3, and two readers. No actor has made a call.
+// Such a world with a further write, of 1 at 3 stamped 3, two readers and two vacuums. No actor has
+// made a call.
 fn crowd<R: Threads + Sync>(rt: &R, alloc: Global) -> Result<World<PlainPieces>, Fail> {
     let mut world = three_merged(rt, alloc)?;
     spawn(rt, alloc, &mut world, write(alloc, 3, 1)?, 3, FURTHER)?;
     read(rt, alloc, &mut world, 8)?;
     read(rt, alloc, &mut world, 9)?;
+    vacuum(rt, alloc, &mut world, 10)?;
+    vacuum(rt, alloc, &mut world, 11)?;
     Ok(world)
 }
 
-// The next call of the actor, which fails at times, and at times is its last.
-fn some_call(dice: &mut Dice, actor: u32) -> Event
-    ensures { (w : WorldView) → MayCome w result }
-{
+// Lets the actor make its next call, which fails at times, and at times is its last.
+fn some_call<R: Threads + Sync>(
+    rt: &R,
+    alloc: Global,
+    world: &mut World<PlainPieces>,
+    dice: &mut Dice,
+    actor: u32,
+) -> Result<(), WorldFault> {
     match dice.roll(200) {
-        0 => Event::Step(actor, Fate::FailedDone),
-        1 => Event::Step(actor, Fate::FailedSkipped),
-        2 => Event::Stop(actor, Fate::Done),
-        3 => Event::Stop(actor, Fate::FailedSkipped),
-        _ => Event::Step(actor, Fate::Done),
+        0 => world.step(rt, alloc, Event::Step(actor, Fate::FailedDone)),
+        1 => world.step(rt, alloc, Event::Step(actor, Fate::FailedSkipped)),
+        2 => world.step(rt, alloc, Event::Stop(actor, Fate::Done)),
+        3 => world.step(rt, alloc, Event::Stop(actor, Fate::FailedSkipped)),
+        _ => world.step(rt, alloc, Event::Step(actor, Fate::Done)),
+    }
+}
+
+// Breaks each lease that is held, but for those of running actors.
+fn break_leases<R: Threads + Sync>(
+    rt: &R,
+    alloc: Global,
+    world: &mut World<PlainPieces>,
+) -> Result<(), Fail> {
+    let names = world.store().names(alloc)?;
+    for name in names.as_slice() {
+        if let Name::Lease(key, mode) = name {
+            match world.step(rt, alloc, Event::Break(Name::Lease(*key, *mode))) {
+                Ok(()) | Err(WorldFault::LeaseLive(_)) => {}
+                Err(_) => return Err(Fail::from("a broken lease")),
+            }
+        }
+    }
+    Ok(())
+}
+
+// Lets something else happen at times: leases of dropped actors are broken, and now and then all
+// running actors are dropped.
+fn disturb<R: Threads + Sync>(
+    rt: &R,
+    alloc: Global,
+    world: &mut World<PlainPieces>,
+    dice: &mut Dice,
+) -> Result<(), Fail> {
+    match dice.roll(2000) {
+        0 => Ok(world.step(rt, alloc, Event::Restart)?),
+        chance if chance < 100 => break_leases(rt, alloc, world),
+        _ => Ok(()),
     }
 }
 
@@ -207,8 +261,9 @@ fn shuffle<R: Threads + Sync>(
         if dice.roll(patience) == 0 {
             turn = dice.roll(count as u64) as usize;
         }
+        disturb(rt, alloc, world, dice)?;
         let place = turn % count;
-        match world.step(rt, alloc, some_call(dice, running[place])) {
+        match some_call(rt, alloc, world, dice, running[place]) {
             Ok(()) => {}
             Err(WorldFault::NoActor(_)) => {
                 running.swap_remove(place);
@@ -219,8 +274,28 @@ fn shuffle<R: Threads + Sync>(
     Ok(())
 }
 
+// Lets the last reader make its calls, with no fault. It answers, unless a restart dropped it.
+fn read_last<R: Threads + Sync>(
+    rt: &R,
+    alloc: Global,
+    world: &mut World<PlainPieces>,
+) -> Result<(), Fail> {
+    match finish(rt, alloc, world, AFTER) {
+        Ok(()) => {
+            if has_answered(world, AFTER) {
+                Ok(())
+            } else {
+                Err(Fail::from("no answer of the last reader"))
+            }
+        }
+        Err(WorldFault::NoActor(_)) => Ok(()),
+        Err(_) => Err(Fail::from("an event")),
+    }
+}
+
 // A random schedule: first the create and the writes, with no fault; then the consolidators and the
-// further write, and from some time on a reader too; last a read, with no fault.
+// further write, from some time on a reader too, and later the vacuums; last a read, once no lease is
+// left.
 fn play<R: Threads + Sync>(rt: &R, alloc: Global, seed: u64) -> Result<World<PlainPieces>, Fail> {
     let mut dice = Dice { state: seed };
     let mut world = crowd(rt, alloc)?;
@@ -229,8 +304,18 @@ fn play<R: Threads + Sync>(rt: &R, alloc: Global, seed: u64) -> Result<World<Pla
     }
     let alone = dice.roll(60);
     shuffle(rt, alloc, &mut world, &mut dice, &[4, 5, 6], alone)?;
-    shuffle(rt, alloc, &mut world, &mut dice, &[4, 5, 6, BESIDE], 9_999)?;
-    finish(rt, alloc, &mut world, AFTER)?;
+    let beside = dice.roll(60);
+    shuffle(rt, alloc, &mut world, &mut dice, &[4, 5, 6, BESIDE], beside)?;
+    shuffle(
+        rt,
+        alloc,
+        &mut world,
+        &mut dice,
+        &[4, 5, 6, BESIDE, 9, 10],
+        9_999,
+    )?;
+    break_leases(rt, alloc, &mut world)?;
+    read_last(rt, alloc, &mut world)?;
     Ok(world)
 }
 
@@ -400,8 +485,17 @@ fn wanted(alloc: Global, histories: &Histories, further: bool) -> Result<Outcome
     reference(alloc, seen, &histories.with, 0, 9, &everything(alloc))
 }
 
-// Whether the reader ended as it may: with all that it saw, by a call of its own that failed, or
-// dropped.
+// Whether a read named fragments that are clipped, so that its answer is not that of the whole
+// history.
+fn is_clipped(end: &Outcome) -> bool {
+    match end {
+        Outcome::Read(answer) => !answer.clipped.is_empty(),
+        _ => false,
+    }
+}
+
+// Whether the reader ended as it may: with all that it saw, by a call of its own that failed, for the
+// lease of a vacuum, or dropped.
 fn ends_well(
     alloc: Global,
     world: &World<PlainPieces>,
@@ -414,9 +508,10 @@ fn ends_well(
     match world.answer_of(reader) {
         None => Ok(true),
         Some(Outcome::Refused(Refusal::StoreFault(_))) => Ok(has_failed(journal, reader)),
+        Some(Outcome::Refused(Refusal::Leased(Name::Lease(_, LeaseMode::Exc)))) => Ok(true),
         Some(end) => {
             let further = sees(journal, reader, FURTHER);
-            Ok(*end == wanted(alloc, histories, further)?)
+            Ok(is_clipped(end) || *end == wanted(alloc, histories, further)?)
         }
     }
 }
@@ -426,11 +521,20 @@ fn has_answered(world: &World<PlainPieces>, actor: u32) -> bool {
     matches!(world.answer_of(actor), Some(Outcome::Read(_)))
 }
 
+// Whether a vacuum removed fragments.
+fn has_swept(world: &World<PlainPieces>) -> bool {
+    VACUUMS.iter().any(|vacuum| match world.answer_of(*vacuum) {
+        Some(Outcome::Vacuumed(count)) => *count > 0,
+        _ => false,
+    })
+}
+
 #[test]
-fn readers_find_what_was_written_whatever_consolidations_do(rt: HostRuntime) -> Result<(), Fail> {
+fn readers_find_what_was_written_whatever_happens(rt: HostRuntime) -> Result<(), Fail> {
     let alloc = rt.alloc();
     let histories = both_histories(alloc)?;
     let mut merged = 0_u64;
+    let mut swept = 0_u64;
     for seed in 0..SCHEDULES {
         let world = play(&rt, alloc, seed)?;
         for reader in [BESIDE, AFTER] {
@@ -439,13 +543,17 @@ fn readers_find_what_was_written_whatever_consolidations_do(rt: HostRuntime) -> 
                 "reader {reader} with the seed {seed}"
             );
         }
-        assert!(rt; has_answered(&world, AFTER), "the seed {seed}");
         let found = sees(world.journal().as_slice(), BESIDE, MERGED);
         if found && has_answered(&world, BESIDE) {
             merged = merged.saturating_add(1);
         }
+        if has_swept(&world) && has_answered(&world, AFTER) {
+            swept = swept.saturating_add(1);
+        }
     }
-    // In many schedules the reader answers from what the first consolidator merged.
-    assert!(rt; merged > SCHEDULES / 4, "{merged} schedules");
+    // In many schedules the reader beside the others answers from what the first consolidator merged,
+    // and in many the last reader answers after a vacuum that removed fragments.
+    assert!(rt; merged > SCHEDULES / 8, "{merged} schedules");
+    assert!(rt; swept > SCHEDULES / 8, "{swept} schedules");
     Ok(())
 }

@@ -6,7 +6,7 @@ use Rattle.ts_store.specs.Streams.{TakesInput}
 use Rattle.ts_model.specs.declared.commands.Line.{Line}
 use Rattle.ts_script.specs.declared.words.Asked.{Asked}
 use Rattle.ts_script.specs.declared.words.Asked.TheVariants.{Play, Object, Command as Alone}
-use Rattle.ts_script.specs.Script.{Fault, Bad, NotBuilt, byte_limit}
+use Rattle.ts_script.specs.Script.{Fault, Bad, byte_limit}
 use Rattle.ts_script.specs.Meanings.{has_input, meaning}
 use Rattle.ts_script.proofs.Meanings.{meaning_front, meaning_ok}
 use Rattle.ts_top.specs.Seen.{Stream, IsFrontRead, IsInputRead, IsTaken, Means}
@@ -71,24 +71,6 @@ returns-in-Err-Bad-clause-reason g c =
     let f = Bad c.in-Err-Bad.line in
     let input : Stream = record { old = g.I.Source.left c.args.input.now; new = g.I.Source.left c.take_input.new.input; before = g.I.Source.faults c.args.input.now; now = g.I.Source.faults c.take_input.new.input } in
     let is = ap (meaning job) (sym c.as_slice.ensures) ∙ (rw c.in-Err-Bad.field-0-is at c.in-Err-Bad.ensures).lines in
-    let has = c.has_input.ensures ∙ faulty_has job bytes f is in
-    let (front_read, unhurt) = fronts c.has_input.result input bytes has c.in-Ok-take_input.ensures.taken in
-    record {
-      job = job;
-      asks = c.in-Ok.ensures.asked;
-      has = faulty_has job bytes f is;
-      means = means job c.has_input.result input bytes (Err f) c.has_input.ensures c.in-Ok-take_input.ensures.taken is;
-      front = front_read;
-      unhurt = unhurt;
-    }
-
-pub returns-in-Err-NotBuilt-clause-reason : goal.returns-in-Err-NotBuilt-clause-reason
-returns-in-Err-NotBuilt-clause-reason g c =
-    let job = c.in-Ok.asked in
-    let bytes = c.in-Ok-take_input.bytes in
-    let f = NotBuilt c.in-Err-NotBuilt.line in
-    let input : Stream = record { old = g.I.Source.left c.args.input.now; new = g.I.Source.left c.take_input.new.input; before = g.I.Source.faults c.args.input.now; now = g.I.Source.faults c.take_input.new.input } in
-    let is = ap (meaning job) (sym c.as_slice.ensures) ∙ (rw c.in-Err-NotBuilt.field-0-is at c.in-Err-NotBuilt.ensures).lines in
     let has = c.has_input.ensures ∙ faulty_has job bytes f is in
     let (front_read, unhurt) = fronts c.has_input.result input bytes has c.in-Ok-take_input.ensures.taken in
     record {

@@ -9,7 +9,7 @@ use Rattle.ts_top.specs.Runners.{JustMade}
 use Rattle.ts_top.specs.Seen.{Seen, Stream, stream, Plays, Stopped, IsRunOf, stopped, played}
 use Rattle.ts_script.specs.Words.{spelled}
 use Rattle.ts_top.proofs.Promises.{promise_stopped, promise_played}
-use Rattle.ts_top.proofs.Exact.{usage, usage_there, refused, bad_script, bad_script_there, not_built, not_built_there, read_fault, write_fault, untouched}
+use Rattle.ts_top.proofs.Exact.{usage, usage_there, refused, bad_script, bad_script_there, read_fault, write_fault, untouched}
 use Rattle.ts_top.proofs.top.run.Goals as goal
 
 pub returns-in-Ok : goal.returns-in-Ok
@@ -34,8 +34,6 @@ returns-in-Ok g c =
       usage_there = usage_there held made seen is;
       bad_script = bad_script held made seen is;
       bad_script_there = bad_script_there held made seen is;
-      not_built = not_built held made seen is;
-      not_built_there = not_built_there held made seen is;
       read_fault = read_fault held made seen is;
       write_fault = write_fault held made seen is;
       refused = refused held made seen is;
@@ -61,8 +59,6 @@ returns-in-Err g c =
       usage_there = usage_there held made seen is;
       bad_script = bad_script held made seen is;
       bad_script_there = bad_script_there held made seen is;
-      not_built = not_built held made seen is;
-      not_built_there = not_built_there held made seen is;
       read_fault = read_fault held made seen is;
       write_fault = write_fault held made seen is;
       refused = refused held made seen is;

@@ -16,11 +16,11 @@ slots_are g c =
 
 pub returns-clause-kept : goal.returns-clause-kept
 returns-clause-kept g c =
-    let P : _ → Type 0 = λ l. IsKept g.P.Pieces.codec g.P.Spelling.spelled g.P.Pieces.tracks c.args.parts.now.past c.args.parts.now.jobs c.args.parts.now.told.items (held_in c.args.parts.now.store) c.args.parts.now.journal l in
-    subst P (sym (slots_are g c)) (restarted_kept _ _ _ _ _ _ _ _ _ c.requires)
+    let P : _ → Type 0 = λ l. IsKept g.P.Pieces.codec g.P.Spelling.spelled g.P.Pieces.tracks (held_in c.args.parts.now.opening.value) c.args.parts.now.past c.args.parts.now.jobs c.args.parts.now.told.items (held_in c.args.parts.now.store) c.args.parts.now.journal l in
+    subst P (sym (slots_are g c)) (restarted_kept _ _ _ _ _ _ _ _ _ _ c.requires)
 
 pub returns-clause-restarted : goal.returns-clause-restarted
 returns-clause-restarted g c =
-    let P : _ → WorldView = λ l. record { past = c.args.parts.now.past; jobs = c.args.parts.now.jobs; told = c.args.parts.now.told.items; held = held_in c.args.parts.now.store; journal = c.args.parts.now.journal; actors = standings l } in
-    let Q : _ → WorldView = λ l. record { past = c.args.parts.now.past; jobs = c.args.parts.now.jobs; told = c.args.parts.now.told.items; held = held_in c.args.parts.now.store; journal = c.args.parts.now.journal; actors = l } in
+    let P : _ → WorldView = λ l. record { opening = held_in c.args.parts.now.opening.value; past = c.args.parts.now.past; jobs = c.args.parts.now.jobs; told = c.args.parts.now.told.items; held = held_in c.args.parts.now.store; journal = c.args.parts.now.journal; actors = standings l } in
+    let Q : _ → WorldView = λ l. record { opening = held_in c.args.parts.now.opening.value; past = c.args.parts.now.past; jobs = c.args.parts.now.jobs; told = c.args.parts.now.told.items; held = held_in c.args.parts.now.store; journal = c.args.parts.now.journal; actors = l } in
     ap P (slots_are g c) ∙ ap Q (restart_seen c.args.parts.now.slots.items)

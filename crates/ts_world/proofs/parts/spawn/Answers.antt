@@ -13,9 +13,9 @@ returns-clause-kept g c =
     let added = c.in_ok-add.ensures.added in
     let before = c.args.parts.now in
     let free : IsTaken (view_of before) c.args.id → ⊥ = λ taken. true≢false (sym (taken_to (view_of before) c.args.id taken) ∙ (sym c.in_ok-is_taken.ensures ∙ c.if-branch.false)) in
-    rw (added.past, added.jobs, added.told, added.store, added.journal, added.slots)
-    (spawned_kept g.P.Pieces.codec g.P.Spelling.spelled g.P.Pieces.tracks before.past before.jobs before.told.items (held_in before.store) before.journal before.slots.items c.requires.kept g.met.P.Pieces.laws _ _
-    (new_id (view_of before) c.args.id free (λ k there same. free (c.requires.may.new k there same))) (record { stamp = c.ranges.at.fits; id = c.ranges.id.fits; command = c.requires.may.value }) refl (subst (λ j. IsSlot g.P.Pieces.codec j [] c.first_slot-slot.result) c.in_ok-twin.ensures c.first_slot-slot.ensures.slot_is))
+    rw (added.opening, added.past, added.jobs, added.told, added.store, added.journal, added.slots)
+    (spawned_kept g.P.Pieces.codec g.P.Spelling.spelled g.P.Pieces.tracks (held_in before.opening.value) before.past before.jobs before.told.items (held_in before.store) before.journal before.slots.items c.requires.kept _ _
+    (new_id (view_of before) c.args.id free (λ carried. free (c.requires.may.new carried))) (record { stamp = c.ranges.at.fits; id = c.ranges.id.fits; command = c.requires.may.value }) refl (subst (λ j. IsSlot g.P.Pieces.codec j [] c.first_slot-slot.result) c.in_ok-twin.ensures c.first_slot-slot.ensures.slot_is))
 
 pub returns-clause-cause : goal.returns-clause-cause
 returns-clause-cause g c = λ taken. true≢false (sym (taken_to (view_of c.args.parts.now) c.args.id taken) ∙ (sym c.in_ok-is_taken.ensures ∙ c.if-branch.false))

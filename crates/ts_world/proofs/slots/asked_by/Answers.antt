@@ -1,18 +1,18 @@
 -- The call is that of the slot with the number, if that runs.
-use Rattle.std.proofs.Common.{Some, refl, sym, ◌∙◌, ap}
-use Rattle.std.proofs.lemmas.Option.{same_Some, none-some}
-use Rattle.ts_world.proofs.Views.{got_at, none_at}
+use Rattle.std.proofs.Common.{Some, refl, sym, ◌∙◌, ap, arith}
+use Rattle.std.proofs.lemmas.Option.{same_Some, slice_get_within}
+use Rattle.ts_world.proofs.Views.{index_at}
 use Rattle.ts_world.proofs.slots.asked_by.Goals as goal
 
-pub returns-in_default : goal.returns-in_default
-returns-in_default g c = (refl, λ r at. none-some _ (sym (none_at c.args.slots.now c.args.number c.in_default.ensures.lookup) ∙ at))
+pub returns-then-slots-place : goal.returns-then-slots-place
+returns-then-slots-place g c = (refl, λ r at. let within = slice_get_within c.args.slots.now c.args.number _ at in absurd (omega (arith, within, c.if-slots-place.true)))
 
 pub returns-in_ok-copy-in-Runs : goal.returns-in_ok-copy-in-Runs
 returns-in_ok-copy-in-Runs g c = (
   c.in-Runs.running,
-  got_at c.args.slots.now c.args.number c.in-Some.slot c.in-Some.ensures.lookup ∙ ap Some c.in-Runs.is,
+  index_at c.args.slots.now c.args.number c.index-slots-place.result (omega (arith, c.if-slots-place.false)) c.index-slots-place.is ∙ ap Some c.in-Runs.is,
   c.in_ok-copy-in-Runs.ensures,
 )
 
-pub returns-in_default-slot : goal.returns-in_default-slot
-returns-in_default-slot g c = (refl, λ r at. c.in_default-slot.not-Runs r (same_Some _ _ (sym (got_at c.args.slots.now c.args.number c.in-Some.slot c.in-Some.ensures.lookup) ∙ at)))
+pub returns-in_default : goal.returns-in_default
+returns-in_default g c = (refl, λ r at. c.in_default.not-Runs r (same_Some _ _ (sym (index_at c.args.slots.now c.args.number c.index-slots-place.result (omega (arith, c.if-slots-place.false)) c.index-slots-place.is) ∙ at)))

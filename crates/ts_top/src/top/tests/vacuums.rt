@@ -1,0 +1,119 @@
+//! Vacuums: what one leaves, calls of one that fail, and leases that hold one up.
+
+use super::{C1, READ, Second, Shown, WRITE, fails_at, is_second, play_over, play_well, said};
+use std::test::Fail;
+use std::thread::Threads;
+use ts_store::MemStore;
+
+/// Two writes and a consolidation of them.
+const MERGED: &str = "{'cmd':'write','at':1,'cols':{'x':[5],'v':[10]}}\n\
+    {'cmd':'write','at':1,'cols':{'x':[6],'v':[11]}}\n\
+    {'cmd':'consolidate','at':6}\n";
+
+/// A vacuum of what was merged.
+const VACUUM: &str = "{'cmd':'vacuum','at':8}\n";
+
+const UNLOCK: &str = "{'cmd':'unlock'}\n";
+
+/// A read that is stopped while it holds its lease.
+const STOPPED: &str = "{'cmd':'read','at':9,'stop':2}\n";
+
+/// What is printed of a create, of the writes and of the consolidation.
+const DONE: &str = "0.1|create|ok\n0.2|write|ok|__1_1_<2>_1\n0.3|write|ok|__1_1_<3>_1\n\
+    0.4|consolidate|ok|__1_1_<4>_1|2\n";
+
+#[test]
+fn a_vacuum_leaves_the_merged_fragment_alone(rt: HostRuntime) -> Result<(), Fail> {
+    let alloc = rt.alloc();
+    let script = format!(in alloc; "{C1}{MERGED}{VACUUM}{READ}")?;
+    let Shown {
+        status,
+        printed,
+        journal,
+        store,
+    } = play_well(&rt, script.as_str())?;
+    let text = format!(in alloc; "{DONE}0.5|vacuum|ok|2\n0.6|read|ok|2|0\n5|10\n6|11\n")?;
+    assert_eq!(rt; status, 0);
+    assert_eq!(rt; printed, said(alloc, text.as_str())?);
+    // The put of a lease and three listings, a get and two listings more, and five removals before
+    // that of the lease; the read behind makes eight calls.
+    assert_eq!(rt; journal.len(), 45);
+    // The frame, the schema, and the part and the commit of the merged fragment.
+    assert_eq!(rt; store.names(alloc)?.len(), 4);
+    Ok(())
+}
+
+/// The calls of a vacuum, by their places among those of a script, with the object or prefix that each
+/// speaks of.
+const CALLS: [(u64, &str); 13] = [
+    (24, "__leases/__8_8_<5>.exc"),
+    (25, "__leases/"),
+    (26, "__commits/"),
+    (27, "__schema/"),
+    (28, "__commits/__1_1_<4>_1.vac"),
+    (29, "__fragments/__1_1_<2>_1/"),
+    (30, "__fragments/__1_1_<3>_1/"),
+    (31, "__commits/__1_1_<2>_1.wrt"),
+    (32, "__fragments/__1_1_<2>_1/plain.tdb"),
+    (33, "__commits/__1_1_<3>_1.wrt"),
+    (34, "__fragments/__1_1_<3>_1/plain.tdb"),
+    (35, "__commits/__1_1_<4>_1.vac"),
+    (36, "__leases/__8_8_<5>.exc"),
+];
+
+// Whether a call of a vacuum that fails is told, and a read behind it shows what was written. An unlock
+// before the read removes the lease that is left where its removal failed.
+fn is_told<R: Threads + Sync + AllocGlobal>(
+    rt: &R,
+    call: u64,
+    whole: bool,
+    object: &str,
+) -> Result<bool, Fail> {
+    let alloc = rt.alloc();
+    let script = format!(in alloc; "{C1}{MERGED}{VACUUM}{UNLOCK}{READ}")?;
+    let store = MemStore::new(alloc, fails_at(alloc, call, whole)?);
+    let shown = play_over(rt, 0, script.as_str(), store)?;
+    let left = if call == 36 && !whole { "1" } else { "0" };
+    let end = format!(in alloc; "0.5|vacuum|refused|StoreFault|{object}\n0.6|unlock|ok|{left}\n")?;
+    let text = format!(in alloc; "{DONE}{end}0.7|read|ok|2|0\n5|10\n6|11\n")?;
+    Ok(shown.status == 0 && shown.printed == said(alloc, text.as_str())?)
+}
+
+#[test]
+fn a_failed_call_of_a_vacuum_is_told_and_hides_nothing(rt: HostRuntime) -> Result<(), Fail> {
+    for (call, object) in CALLS {
+        assert!(rt; is_told(&rt, call, false, object)?, "{call} was not done");
+        assert!(rt; is_told(&rt, call, true, object)?, "{call} was done");
+    }
+    Ok(())
+}
+
+/// What a second run does over a store with the lease of a read of another run, which was stopped: a
+/// read leaves its own lease too, an unlock in another lane takes that of the other run alone, and so a
+/// vacuum is held up.
+const HELD_UP: Second = Second {
+    script: "{'cmd':'read','at':9,'stop':2}\n\
+        {'cmd':'unlock','lane':1}\n\
+        {'cmd':'vacuum','at':9,'lane':2}\n",
+    text: "0.1|read|stopped\n1.1|unlock|ok|1\n\
+        2.1|vacuum|refused|Leased|__leases/__9_9_00000000000000010000000000000001.shr\n",
+};
+
+#[test]
+fn an_unlock_takes_the_leases_of_other_runs(rt: HostRuntime) -> Result<(), Fail> {
+    let alloc = rt.alloc();
+    let script = format!(in alloc; "{C1}{WRITE}{STOPPED}")?;
+    let Shown {
+        status,
+        printed,
+        journal,
+        store,
+    } = play_well(&rt, script.as_str())?;
+    let text = "0.1|create|ok\n0.2|write|ok|__1_1_<2>_1\n0.3|read|stopped\n";
+    assert_eq!(rt; status, 0);
+    assert_eq!(rt; printed, said(alloc, text)?);
+    // Seven calls, and two of the read.
+    assert_eq!(rt; journal.len(), 9);
+    assert!(rt; is_second(&rt, store, HELD_UP)?, "the lease of this run");
+    Ok(())
+}

@@ -1,0 +1,2 @@
+mod RemovalLaws
+mod RemovedLaws
