@@ -7,14 +7,14 @@ use Rattle.clap.specs.Simple.{is_simple, subcommand_of}
 use Rattle.clap.specs.Faults.{fault_of, is_simple_and_free}
 use Rattle.clap.specs.declared.error.kind.ErrorKind.{ErrorKind}
 use Rattle.clap.proofs.OnLiterals.{clap_on_literals}
-use Rattle.ts_script.specs.Words.{asked, asked_by, parsed, tilestore_app, upkeep_app, optioned_app, objects_app, stamped_app, interval_app, read_app, delete_app, consolidate_app, bare_app}
+use Rattle.ts_script.specs.Words.{asked, asked_by, parsed, tilestore_app, upkeep_app, optioned_app, objects_app, stamped_app, interval_app, read_app, delete_app, consolidate_app, gen_app, bare_app}
 
 pub simple : is_simple tilestore_app ≡ true
-unfolding tilestore_app upkeep_app optioned_app objects_app stamped_app interval_app read_app delete_app consolidate_app bare_app clap_on_literals
+unfolding tilestore_app upkeep_app optioned_app objects_app stamped_app interval_app read_app delete_app consolidate_app gen_app bare_app clap_on_literals
 simple = refl
 
 pub simple_and_free : is_simple_and_free tilestore_app ≡ true
-unfolding tilestore_app upkeep_app optioned_app objects_app stamped_app interval_app read_app delete_app consolidate_app bare_app clap_on_literals
+unfolding tilestore_app upkeep_app optioned_app objects_app stamped_app interval_app read_app delete_app consolidate_app gen_app bare_app clap_on_literals
 simple_and_free = refl
 
 -- where clap takes the words

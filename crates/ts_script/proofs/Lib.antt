@@ -4,3 +4,4 @@ pub mod Whole
 pub mod Typed
 pub mod Meanings
 pub mod Asking
+pub mod Generating

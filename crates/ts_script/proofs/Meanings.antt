@@ -5,7 +5,7 @@ use Rattle.std.proofs.lemmas.Bool.{ltb-true, ltb-false, lt-ltb, true≢false}
 use Rattle.ts_model.specs.declared.commands.Command.{Command}
 use Rattle.ts_model.specs.declared.commands.Line.{Line}
 use Rattle.ts_script.specs.declared.words.Asked.{Asked}
-use Rattle.ts_script.specs.declared.words.Asked.TheVariants.{Play, Object, Command as Alone}
+use Rattle.ts_script.specs.declared.words.Asked.TheVariants.{Play, Object, Command as Alone, Generate}
 use Rattle.ts_script.specs.declared.words.ObjectForm.{ObjectForm}
 use Rattle.ts_script.specs.Script.{Fault, ◌then◌, byte_limit, object_in}
 use Rattle.ts_script.specs.Meanings.{has_input, meaning}
@@ -37,6 +37,7 @@ meaning_front Play all taken rest split whole = script_of_front all taken rest s
 meaning_front (Object form at) all taken rest split whole =
     ap (λ said. said then λ command. Ok (line_alone at false command ∷ [])) (object_by form taken rest _ refl whole ∙ ap (object_in form) (sym split))
 meaning_front (Alone line) all taken rest split whole = refl
+meaning_front (Generate cells) all taken rest split whole = refl
 
 -- an input with a meaning is within the limit
 pub meaning_ok : (job : Asked) (input : List ℕ) (lines : List Line) → has_input job ≡ true → meaning job input ≡ Ok lines → length input ≤ byte_limit
@@ -45,3 +46,4 @@ meaning_ok (Object form at) input lines has e =
     let found = then_ok (object_in form input) (λ command. Ok (line_alone at false command ∷ [])) lines e in
     object_ok form input found.0 _ refl found.1
 meaning_ok (Alone line) input lines has e = absurd (true≢false (sym has))
+meaning_ok (Generate cells) input lines has e = absurd (true≢false (sym has))

@@ -6,4 +6,5 @@ pub mod Parts
 pub mod Script
 pub mod Options
 pub mod Words
+pub mod Generator
 pub mod Meanings

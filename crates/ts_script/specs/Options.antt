@@ -1,5 +1,5 @@
 -- The texts of options: numbers, lists of fields, and boxes.
-use Rattle.std.specs.Prelude.{ℕ, ◌+◌, ◌*◌, ◌-◌, ◌^◌, ℤ, List, [], ◌∷◌, ◌++◌, length, Bool, ◌||◌, ◌&&◌, nat_lt, nat_le, ◌==◌, if◌then◌else◌, Option, Some, None}
+use Rattle.std.specs.Prelude.{ℕ, ◌+◌, ◌*◌, ◌-◌, ◌^◌, ℤ, List, [], ◌∷◌, ◌++◌, length, Bool, false, ◌||◌, ◌&&◌, nat_lt, nat_le, ◌==◌, if◌then◌else◌, Option, Some, None}
 use Rattle.std.specs.List.{list_all, list_any, position, insert}
 use Rattle.std.specs.Option.{unwrap_or}
 use Rattle.std.specs.Str.{bytes_eq}
@@ -24,6 +24,19 @@ is_number_text text = nat_lt 0 (length text) && (nat_le (length text) 20 && list
 -- a number below 2^64, in 1 to 20 decimal digits
 unfoldable pub number_of : List ℕ → Option ℕ
 number_of text = if is_number_text text then when (nat_lt (number_from 0 text) (2 ^ 64)) (number_from 0 text) else None
+
+-- the text begins with a zero
+abbrev pub begins_with_zero : List ℕ → Bool
+begins_with_zero [] = false
+begins_with_zero (d ∷ ds) = d == 48
+
+-- the most cells that a generated script brings
+abbrev pub most_cells : ℕ
+most_cells = 100000
+
+-- how many cells a generated script brings: a number from 1 to 100,000, in decimal digits with no zero before them
+unfoldable pub cell_count_of : List ℕ → Option ℕ
+cell_count_of text = if begins_with_zero text then None else (number_of text >>= λ n. when (nat_lt 0 n && nat_le n most_cells) n)
 
 -- a byte of a whole number
 abbrev pub is_number_byte : ℕ → Bool

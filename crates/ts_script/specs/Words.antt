@@ -20,7 +20,7 @@ use Rattle.ts_script.specs.declared.words.ObjectForm.{ObjectForm}
 use Rattle.ts_script.specs.declared.words.ObjectForm.TheVariants as form
 use Rattle.ts_script.specs.Shapes.{◌>>=◌, when}
 use Rattle.ts_script.specs.Values.{layout_named}
-use Rattle.ts_script.specs.Options.{number_of, labels_of, boxes_of}
+use Rattle.ts_script.specs.Options.{cell_count_of, number_of, labels_of, boxes_of}
 
 -- the words, each as its bytes
 abbrev pub spelled : List (Bor (List ℕ)) → List (List ℕ)
@@ -53,6 +53,10 @@ delete_app = with_rule (with_rule (new_app (codes "delete")) (option_named (code
 unfoldable pub consolidate_app : App
 consolidate_app = with_rule (with_rule (interval_app (codes "consolidate")) (option_named (codes "min"))) (option_named (codes "max"))
 
+-- `gen`, whose one word is how many cells there are to be
+unfoldable pub gen_app : App
+gen_app = with_rule (new_app (codes "gen")) (record (new_rule (codes "cells")) { required = true })
+
 -- `unlock`, `fragments` or `play`, which have no options
 unfoldable pub bare_app : Text → App
 bare_app name = new_app name
@@ -78,7 +82,7 @@ upkeep_app =
 
 -- the whole command line
 unfoldable pub tilestore_app : App
-tilestore_app = with_subcommand upkeep_app (bare_app (codes "play")).top
+tilestore_app = with_subcommand (with_subcommand upkeep_app gen_app.top) (bare_app (codes "play")).top
 
 -- the command that the words name, with what was found for its options, where clap takes them
 unfoldable pub parsed : List Text → Option (Text × List Row)
@@ -154,6 +158,13 @@ consolidate_asked rows = do
 unfoldable pub vacuum_asked : List Row → Option Asked
 vacuum_asked rows = number_in rows (codes "at") >>= λ at. Some (asks.Command (line_alone at false Vacuum))
 
+-- a generated script of so many cells
+unfoldable pub generate_asked : List Row → Option Asked
+generate_asked rows = do
+  text ← first_of (codes "cells") rows
+  cells ← cell_count_of text
+  Some (asks.Generate cells)
+
 -- what a command of this name asks for, with what was found for its options; one that has none is stamped by the clock
 unfoldable pub asked_by : Text → List Row → Option Asked
 asked_by name rows =
@@ -166,7 +177,8 @@ asked_by name rows =
     else (if bytes_eq name (codes "vacuum") then vacuum_asked rows
     else (if bytes_eq name (codes "unlock") then Some (asks.Command (line_alone None false (Unlock 0 0)))
     else (if bytes_eq name (codes "fragments") then Some (asks.Command (line_alone None false Fragments))
-    else (if bytes_eq name (codes "play") then Some asks.Play else None)))))))))
+    else (if bytes_eq name (codes "gen") then generate_asked rows
+    else (if bytes_eq name (codes "play") then Some asks.Play else None))))))))))
 
 -- what the words ask for, if it is something that can be done
 unfoldable pub asked : List Text → Option Asked

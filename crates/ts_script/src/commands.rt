@@ -3,7 +3,7 @@ ghost use Rattle.std.specs.Prelude.{◌≡◌, codes, false, IfOk};
 ghost use Rattle.clap.specs.Walk.{rule_of};
 ghost use Rattle.clap.specs.Simple.{app_of, new_app, with_rule, with_subcommand};
 ghost use Rattle.clap.specs.declared.builder.command.Command.TheViews.{out-Command};
-ghost use Rattle.ts_script.specs.Words.{option_named, stamped_app, interval_app, read_app, delete_app, consolidate_app, bare_app, without_name, objects_app, optioned_app, upkeep_app, tilestore_app};
+ghost use Rattle.ts_script.specs.Words.{option_named, stamped_app, interval_app, read_app, delete_app, consolidate_app, gen_app, bare_app, without_name, objects_app, optioned_app, upkeep_app, tilestore_app};
 
 use clap::{Arg, Command};
 use std::alloc::{AllocError, Global};
@@ -14,6 +14,7 @@ pub(crate) fn tilestore_command<'a>(alloc: Global) -> Result<Command<'a>, AllocE
     ensures { IfOk result (λ command. app_of command ≡ tilestore_app) }
 {
     let command = upkeep_command(alloc)?;
+    let command = with_command(command, gen_command(alloc)?)?;
     with_command(command, bare_command(alloc, "play"))
 }
 
@@ -145,6 +146,15 @@ fn consolidate_command<'a>(alloc: Global) -> Result<Command<'a>, AllocError>
     let command = interval_command(alloc, "consolidate")?;
     let command = with_option(alloc, command, "min")?;
     with_option(alloc, command, "max")
+}
+
+/// `gen`, whose one word is how many cells there are to be.
+#[tactic(auto, unfolding(crate::specs::Words::gen_app))]
+fn gen_command<'a>(alloc: Global) -> Result<Command<'a>, AllocError>
+    ensures app { IfOk result (λ command. app_of command ≡ gen_app) }
+    ensures local { IfOk result (λ command. (out-Command command).has_globals ≡ false) }
+{
+    Command::new(alloc, "gen").arg(Arg::new(alloc, "cells").required(true))
 }
 
 /// `unlock`, `fragments` or `play`, which have no options.

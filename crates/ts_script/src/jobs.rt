@@ -1,11 +1,12 @@
 //! What is asked for, with its input: the lines that are to be done.
 ghost use Rattle.std.specs.Prelude.{◌≡◌, [], ◌∷◌, IfOk};
 ghost use Rattle.ts_model.specs.Jobs.{IsFitLine};
-ghost use Rattle.ts_script.specs.Meanings.{IsFitAsked, has_input, is_single, meaning};
+ghost use Rattle.ts_script.specs.Meanings.{IsFitAsked, has_input, meaning, report_of};
 ghost use Rattle.ts_script.specs.Script.{AreLimited, IsScript};
 
+use crate::generator::gen_script;
 use crate::script::{ScriptFault, read_object, read_script};
-use crate::words::{Asked, line_alone};
+use crate::words::{Asked, Report, line_alone};
 use std::alloc::Global;
 use ts_base::OutOfMemory;
 use ts_model::{Line, LineList};
@@ -16,24 +17,25 @@ impl Asked {
         ensures { result ≡ has_input self.now }
     {
         match self {
-            Asked::Command(_) => false,
+            Asked::Command(_) | Asked::Generate { .. } => false,
             _ => true,
         }
     }
 
-    /// Whether it is a single command.
-    pub fn is_single(&self) -> bool
-        ensures { result ≡ is_single self.now }
+    /// What is printed of how its commands came out.
+    pub fn report(&self) -> Report
+        ensures { result ≡ report_of self.now }
     {
         match self {
-            Asked::Play => false,
-            _ => true,
+            Asked::Play => Report::Script,
+            Asked::Object { .. } | Asked::Command(_) => Report::Single,
+            Asked::Generate { .. } => Report::Summary,
         }
     }
 }
 
-/// Reads the lines that are asked for from their input, which counts for nothing where there is none.
-/// A single command is one line, in lane 0.
+/// The lines that are asked for. They are read from their input, which counts for nothing where there is
+/// none. A single command is one line, in lane 0; the lines of the generator are made.
 pub fn read_lines(alloc: Global, asked: Asked, input: &[u8]) -> Result<LineList, ScriptFault>
     requires { IsFitAsked asked }
     ensures lines { IsScript result (meaning asked input.now) }
@@ -46,6 +48,7 @@ pub fn read_lines(alloc: Global, asked: Asked, input: &[u8]) -> Result<LineList,
             Ok(one_line(alloc, line_alone(command, at, false))?)
         }
         Asked::Command(line) => Ok(one_line(alloc, line)?),
+        Asked::Generate { cells } => Ok(gen_script(alloc, cells)?),
     }
 }
 

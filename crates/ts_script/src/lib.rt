@@ -4,6 +4,7 @@
 
 mod commands;
 mod fitting;
+mod generator;
 mod jobs;
 mod json;
 mod lines;
@@ -13,7 +14,8 @@ mod script;
 mod values;
 mod words;
 
+pub use generator::gen_script;
 pub use jobs::read_lines;
 pub use json::FormFault;
 pub use script::{ScriptFault, read_object, read_script};
-pub use words::{Asked, ObjectForm, read_words};
+pub use words::{Asked, ObjectForm, Report, read_words};

@@ -32,7 +32,7 @@ pub(crate) const MIN: u32 = 2;
 pub(crate) const MAX: u32 = 64;
 
 /// The number of cells in a data tile where a create does not say it.
-const CAPACITY: u32 = 10_000;
+pub(crate) const CAPACITY: u32 = 10_000;
 
 /// Reads a line: a command in its lane, with its stamp and its stop where it has them.
 impl FromJson for Line {

@@ -3,8 +3,9 @@ ghost use Rattle.std.specs.Prelude.{◌≡◌, ◌≤◌, ◌<◌, ◌^◌, [], 
 ghost use Rattle.std.specs.Char.{is_ascii_digit};
 ghost use Rattle.std.specs.List.{list_all};
 ghost use Rattle.ts_base.specs.Labels.{is_label};
+ghost use Rattle.ts_script.specs.Generator.{IsCellCount};
 ghost use Rattle.ts_script.specs.Shapes.{Gives, both_items, when};
-ghost use Rattle.ts_script.specs.Options.{number_from, is_number_text, number_of, is_number_byte, integer_of, labels_onto, labels_of, three_items, bounds_of, named_box_of, has_name, is_below, place_of, placed, boxes_onto, boxes_of};
+ghost use Rattle.ts_script.specs.Options.{begins_with_zero, cell_count_of, number_from, is_number_text, number_of, is_number_byte, integer_of, labels_onto, labels_of, three_items, bounds_of, named_box_of, has_name, is_below, place_of, placed, boxes_onto, boxes_of};
 
 use crate::json::{FormFault, FromJson};
 use crate::parts::parts_at;
@@ -12,6 +13,9 @@ use crate::script::read_json;
 use std::alloc::Global;
 use ts_base::{Label, LabelList};
 use ts_cond::{NamedBox, NamedBoxList};
+
+/// The most cells that a generated script brings.
+const MOST_CELLS: u64 = 100_000;
 
 /// A number below 2^64, in 1 to 20 decimal digits.
 #[tactic(auto, unfolding(crate::specs::Options::number_of))]
@@ -22,6 +26,31 @@ pub(crate) fn number_of(text: &[u8]) -> Option<u64>
         return None;
     }
     narrow(decimal(text))
+}
+
+/// How many cells a generated script brings: a number from 1 to 100,000, in decimal digits with no
+/// zero before them.
+#[tactic(auto, unfolding(crate::specs::Options::cell_count_of))]
+pub(crate) fn cell_count_of(text: &[u8]) -> Option<u32>
+    ensures is { result ≡ cell_count_of text.now }
+    ensures fit { IfSome result IsCellCount }
+{
+    if begins_with_zero(text) {
+        return None;
+    }
+    let cells = number_of(text)?;
+    if 0 < cells && cells <= MOST_CELLS {
+        Some(cells as u32)
+    } else {
+        None
+    }
+}
+
+/// Whether a text begins with a zero.
+fn begins_with_zero(text: &[u8]) -> bool
+    ensures { result ≡ begins_with_zero text.now }
+{
+    matches!(text, [b'0', ..])
 }
 
 /// Whether a text is 1 to 20 decimal digits.

@@ -9,13 +9,13 @@ ghost use Rattle.clap.specs.Matches.{found_of};
 ghost use Rattle.clap.specs.Simple.{subcommand_rows_of};
 ghost use Rattle.ts_script.specs.Shapes.{Gives};
 ghost use Rattle.ts_script.specs.Meanings.{IsFitAsked};
-ghost use Rattle.ts_script.specs.Words.{asked, asked_by, box_in, consolidate_asked, delete_asked, fields_in, layout_in, limit_in, line_alone, number_in, object_asked, read_asked, spelled, vacuum_asked};
+ghost use Rattle.ts_script.specs.Words.{asked, asked_by, box_in, consolidate_asked, delete_asked, fields_in, generate_asked, layout_in, limit_in, line_alone, number_in, object_asked, read_asked, spelled, vacuum_asked};
 
 use crate::commands::tilestore_command;
 use crate::fitting::{as_text, fits};
 use crate::json::FormFault;
 use crate::lines::{MAX, MIN};
-use crate::options::{number_of, read_boxes, read_labels};
+use crate::options::{cell_count_of, number_of, read_boxes, read_labels};
 use crate::values::layout_named;
 use clap::ArgMatches;
 use clap::error::ErrorKind;
@@ -41,6 +41,22 @@ pub enum Asked {
     },
     /// To do this one command, which has no input.
     Command(Line),
+    /// To do the commands of a generated script, and to sum up what came of them. It has no input.
+    Generate {
+        /// How many cells the script brings, from 1 to 100,000.
+        cells: u32,
+    },
+}
+
+/// What is printed of how the commands came out.
+#[derive(Clone, Copy, Debug, PartialEq, Eq)]
+pub enum Report {
+    /// Of a script: the end of each command. The status tells nothing of them.
+    Script,
+    /// Of a single command: its end. The status tells whether it was refused.
+    Single,
+    /// Of a generated script: a summary, or the first command that was refused.
+    Summary,
 }
 
 /// The commands that a single command reads from its input.
@@ -57,7 +73,7 @@ pub enum ObjectForm {
 /// What the words ask for, those of a command line after the program's name and the store.
 ///
 /// They are read as `clap` reads them, by one command with the subcommands `create`, `evolve`,
-/// `write`, `read`, `delete`, `consolidate`, `vacuum`, `unlock`, `fragments` and `play`. `Form` comes
+/// `write`, `read`, `delete`, `consolidate`, `vacuum`, `unlock`, `fragments`, `gen` and `play`. `Form` comes
 /// exactly where `clap` refuses them, as it does a request for help too, or where the value of an option has
 /// another form.
 pub fn read_words(alloc: Global, words: &[&str]) -> Result<Asked, FormFault>
@@ -111,6 +127,8 @@ fn read_command(alloc: Global, name: &str, options: &ArgMatches<'_>) -> Result<A
         Ok(Asked::Command(line_alone(command, None, false)))
     } else if name == "fragments" {
         Ok(Asked::Command(line_alone(Command::Fragments, None, false)))
+    } else if name == "gen" {
+        read_gen(options)
     } else if name == "play" {
         Ok(Asked::Play)
     } else {
@@ -215,6 +233,21 @@ fn read_consolidate(options: &ArgMatches<'_>) -> Result<Asked, FormFault>
         return Err(FormFault::Form);
     }
     Ok(Asked::Command(line_alone(command, at, to.is_none())))
+}
+
+/// A generated script.
+#[tactic(auto, unfolding(crate::specs::Words::generate_asked))]
+fn read_gen(options: &ArgMatches<'_>) -> Result<Asked, FormFault>
+    ensures asked { Gives result (generate_asked (rows_of (found_of options.now))) }
+    ensures fit { IfOk result IsFitAsked }
+{
+    let Some(text) = text_in(options, "cells") else {
+        return Err(FormFault::Form);
+    };
+    match cell_count_of(text.as_bytes()) {
+        Some(cells) => Ok(Asked::Generate { cells }),
+        None => Err(FormFault::Form),
+    }
 }
 
 /// The value of an option, if the option is there.

@@ -14,17 +14,22 @@ use Rattle.ts_model.specs.declared.answers.Outcome.TheVariants.{Created, Evolved
 use Rattle.ts_model.specs.States.{Exchange}
 use Rattle.ts_top.specs.declared.top.Stop.TheVariants.{Usage, BadScript, ReadFault, OutOfMemory}
 use Rattle.ts_script.specs.declared.words.Asked.{Asked}
-use Rattle.ts_script.specs.declared.words.Asked.TheVariants.{Play, Object, Command as Alone}
+use Rattle.ts_script.specs.declared.words.Asked.TheVariants.{Play, Object, Command as Alone, Generate}
+use Rattle.ts_script.specs.declared.words.Report.{Report}
+use Rattle.ts_script.specs.declared.words.Report.TheVariants.{Script, Single, Summary}
 use Rattle.ts_script.specs.Words.{asked}
 use Rattle.ts_script.specs.Script.{Fault, Bad}
-use Rattle.ts_script.specs.Meanings.{has_input, is_single, meaning}
+use Rattle.ts_script.specs.Meanings.{has_input, meaning, report_of}
 use Rattle.ts_law.specs.Fresh.{in_lane_order}
-use Rattle.ts_top.specs.Ends.{ends_text}
-use Rattle.ts_top.specs.Seen.{Stream, Seen, Means, AskFor, Performed, Plays, ended, ran_short, PrintsEnds, whole, sink_failed, no_text, status_alone, status_printed, EndsRefused, WasRefused, IsRunOf, stopped, played}
+use Rattle.std.specs.List.{list_any}
+use Rattle.ts_top.specs.Summaries.{lacks_memory, status_generated, was_refused}
+use Rattle.ts_top.specs.Reports.{report_text, status_alone, status_printed}
+use Rattle.ts_top.specs.Seen.{Stream, Seen, Means, AskFor, Performed, Plays, ended, ran_short, PrintsEnds, whole, sink_failed, no_text, EndsRefused, WasRefused, IsRunOf, stopped, played}
 
 -- two meanings of one input are one
 one_meaning : (job : Asked) (told : Option (List ℕ)) (a b : Result (List Line) Fault) → has_input job ≡ true → Means job told a → IsSomeAnd told (λ all. meaning job all ≡ b) → a ≡ b
 one_meaning (Alone line) told a b has m is = absurd (true≢false (sym has))
+one_meaning (Generate cells) told a b has m is = absurd (true≢false (sym has))
 one_meaning Play None a b has m is = absurd is
 one_meaning Play (Some all) a b has m is = sym m.2 ∙ ap (meaning Play) m.1 ∙ is
 one_meaning (Object form at) None a b has m is = absurd is
@@ -33,6 +38,7 @@ one_meaning (Object form at) (Some all) a b has m is = sym m.2 ∙ ap (meaning (
 -- what stands for a fault has an input
 faulty_has : (job : Asked) (all : List ℕ) (f : Fault) → meaning job all ≡ Err f → has_input job ≡ true
 faulty_has (Alone line) all f e = cc
+faulty_has (Generate cells) all f e = cc
 faulty_has Play all f e = refl
 faulty_has (Object form at) all f e = refl
 
@@ -65,35 +71,42 @@ status_alone_few (Vacuumed count) = inl refl
 status_alone_few (Unlocked count) = inl refl
 status_alone_few (Listed names) = inl refl
 
-pub printed_few : (single : Bool) (results : List (Driven Outcome)) → (status_printed single results ≡ 0) ⊎ (status_printed single results ≡ 6) ⊎ (status_printed single results ≡ 7)
-printed_few false results = inl refl
-printed_few true [] = inl refl
-printed_few true (Done end ∷ []) = status_alone_few end
-printed_few true (Stopped ∷ []) = inl refl
-printed_few true (Done end ∷ b ∷ rest) = inl refl
-printed_few true (Stopped ∷ b ∷ rest) = inl refl
+generated_few : (short refused : Bool) (results : List (Driven Outcome)) → list_any lacks_memory results ≡ short → list_any was_refused results ≡ refused → (status_generated results ≡ 0) ⊎ (status_generated results ≡ 6) ⊎ (status_generated results ≡ 7)
+unfolding status_generated
+generated_few true refused results s r = rw s (inr (inr refl))
+generated_few false true results s r = rw (s, r) (inr (inl refl))
+generated_few false false results s r = rw (s, r) (inl refl)
+
+pub printed_few : (report : Report) (results : List (Driven Outcome)) → (status_printed report results ≡ 0) ⊎ (status_printed report results ≡ 6) ⊎ (status_printed report results ≡ 7)
+printed_few Script results = inl refl
+printed_few Summary results = generated_few _ _ results refl refl
+printed_few Single [] = inl refl
+printed_few Single (Done end ∷ []) = status_alone_few end
+printed_few Single (Stopped ∷ []) = inl refl
+printed_few Single (Done end ∷ b ∷ rest) = inl refl
+printed_few Single (Stopped ∷ b ∷ rest) = inl refl
 
 -- the status of a run that printed its ends
 abbrev pub IsEnding : ℕ → Type 0
 IsEnding status = (status ≡ 0) ⊎ (status ≡ 5) ⊎ (status ≡ 6) ⊎ (status ≡ 7)
 
-pub prints_status : (out : Stream) (text : List ℕ) (single : Bool) (results : List (Driven Outcome)) (status : ℕ) → PrintsEnds out text (status_printed single results) status → IsEnding status
-prints_status out text single results status (whole is unhurt all) = elim (printed_few single results) [
+pub prints_status : (out : Stream) (text : List ℕ) (report : Report) (results : List (Driven Outcome)) (status : ℕ) → PrintsEnds out text (status_printed report results) status → IsEnding status
+prints_status out text report results status (whole is unhurt all) = elim (printed_few report results) [
   | inl e ↦ inl (is ∙ e)
   | inr rest ↦ elim rest [ inl e ↦ inr (inr (inl (is ∙ e))) | inr e ↦ inr (inr (inr (is ∙ e))) ]
 ]
-prints_status out text single results status (sink_failed is rose front) = inr (inl is)
-prints_status out text single results status (no_text is nothing) = inr (inr (inr is))
+prints_status out text report results status (sink_failed is rose front) = inr (inl is)
+prints_status out text report results status (no_text is nothing) = inr (inr (inr is))
 
 module _ {S : Type 0} (held : S → Option Held) (made : S → List Exchange → S → Type 0) where
   -- the status of a run that did its commands
-  played_status : (seen : Seen S) (single : Bool) (lines : List Line) → Plays held made seen single lines → IsEnding seen.status
-  played_status seen single lines (ended ends performed printed) = prints_status seen.out _ single ends seen.status printed
-  played_status seen single lines (ran_short status journal same nothing) = inr (inr (inr status))
+  played_status : (seen : Seen S) (report : Report) (lines : List Line) → Plays held made seen report lines → IsEnding seen.status
+  played_status seen report lines (ended ends performed printed) = prints_status seen.out _ report ends seen.status printed
+  played_status seen report lines (ran_short status journal same nothing) = inr (inr (inr status))
 
   -- no such run has the status n
-  not_played : (seen : Seen S) (single : Bool) (lines : List Line) (n : ℕ) → Plays held made seen single lines → seen.status ≡ n → (IsEnding n → ⊥) → ⊥
-  not_played seen single lines n plays is never = never (subst IsEnding is (played_status seen single lines plays))
+  not_played : (seen : Seen S) (report : Report) (lines : List Line) (n : ℕ) → Plays held made seen report lines → seen.status ≡ n → (IsEnding n → ⊥) → ⊥
+  not_played seen report lines n plays is never = never (subst IsEnding is (played_status seen report lines plays))
 
   -- these are the statuses of no such run
   two : IsEnding 2 → ⊥
@@ -138,17 +151,17 @@ module _ {S : Type 0} (held : S → Option Held) (made : S → List Exchange →
   read_fault seen (stopped OutOfMemory h) e = absurd (let none : ⊥ = omega (arith, h.status) in none)
   read_fault seen (played job lines h) e = absurd (not_played seen _ lines 4 h.plays e four)
 
-  write_fault_printed : (seen : Seen S) (text : List ℕ) (single : Bool) (results : List (Driven Outcome)) → PrintsEnds seen.out text (status_printed single results) seen.status → seen.status ≡ 5 → Rose seen.out.before seen.out.now
-  write_fault_printed seen text single results (whole is unhurt all) e = absurd (elim (printed_few single results) [
+  write_fault_printed : (seen : Seen S) (text : List ℕ) (report : Report) (results : List (Driven Outcome)) → PrintsEnds seen.out text (status_printed report results) seen.status → seen.status ≡ 5 → Rose seen.out.before seen.out.now
+  write_fault_printed seen text report results (whole is unhurt all) e = absurd (elim (printed_few report results) [
     | inl q ↦ let none : ⊥ = omega arith in none
     | inr r ↦ elim r [ inl q ↦ let none : ⊥ = omega arith in none | inr q ↦ let none : ⊥ = omega arith in none ]
   ])
-  write_fault_printed seen text single results (sink_failed is rose front) e = rose
-  write_fault_printed seen text single results (no_text is nothing) e = absurd (let none : ⊥ = omega arith in none)
+  write_fault_printed seen text report results (sink_failed is rose front) e = rose
+  write_fault_printed seen text report results (no_text is nothing) e = absurd (let none : ⊥ = omega arith in none)
 
-  write_fault_played : (seen : Seen S) (single : Bool) (lines : List Line) → Plays held made seen single lines → seen.status ≡ 5 → Rose seen.out.before seen.out.now
-  write_fault_played seen single lines (ended ends performed printed) e = write_fault_printed seen _ single ends printed e
-  write_fault_played seen single lines (ran_short status journal same nothing) e = absurd (let none : ⊥ = omega arith in none)
+  write_fault_played : (seen : Seen S) (report : Report) (lines : List Line) → Plays held made seen report lines → seen.status ≡ 5 → Rose seen.out.before seen.out.now
+  write_fault_played seen report lines (ended ends performed printed) e = write_fault_printed seen _ report ends printed e
+  write_fault_played seen report lines (ran_short status journal same nothing) e = absurd (let none : ⊥ = omega arith in none)
 
   pub write_fault : (seen : Seen S) → IsRunOf held made seen → seen.status ≡ 5 → Rose seen.out.before seen.out.now
   write_fault seen (stopped Usage h) e = absurd (let none : ⊥ = omega (arith, h.status) in none)
@@ -175,36 +188,18 @@ module _ {S : Type 0} (held : S → Option Held) (made : S → List Exchange →
     ]
   ])
 
-  refused_by : (seen : Seen S) (single : Bool) (lines : List Line) (results : List (Driven Outcome)) → Performed held made seen lines results → Appends seen.out.old seen.out.new (ends_text (in_lane_order lines) results) → status_printed single results ≡ 6 → EndsRefused held made seen single lines
-  refused_by seen false lines results performed all e = absurd (let none : ⊥ = omega arith in none)
-  refused_by seen true lines [] performed all e = absurd (let none : ⊥ = omega arith in none)
-  refused_by seen true lines (Done (Refused r) ∷ []) performed all e = record { alone = refl; reason = r; performed = performed; printed = all }
-  refused_by seen true lines (Done NoMemory ∷ []) performed all e = absurd (let none : ⊥ = omega arith in none)
-  refused_by seen true lines (Done Created ∷ []) performed all e = absurd (let none : ⊥ = omega arith in none)
-  refused_by seen true lines (Done (Evolved k) ∷ []) performed all e = absurd (let none : ⊥ = omega arith in none)
-  refused_by seen true lines (Done (Written f) ∷ []) performed all e = absurd (let none : ⊥ = omega arith in none)
-  refused_by seen true lines (Done (Deleted f) ∷ []) performed all e = absurd (let none : ⊥ = omega arith in none)
-  refused_by seen true lines (Done (Read answer) ∷ []) performed all e = absurd (let none : ⊥ = omega arith in none)
-  refused_by seen true lines (Done (Consolidated f count) ∷ []) performed all e = absurd (let none : ⊥ = omega arith in none)
-  refused_by seen true lines (Done (Vacuumed count) ∷ []) performed all e = absurd (let none : ⊥ = omega arith in none)
-  refused_by seen true lines (Done (Unlocked count) ∷ []) performed all e = absurd (let none : ⊥ = omega arith in none)
-  refused_by seen true lines (Done (Listed names) ∷ []) performed all e = absurd (let none : ⊥ = omega arith in none)
-  refused_by seen true lines (Stopped ∷ []) performed all e = absurd (let none : ⊥ = omega arith in none)
-  refused_by seen true lines (Done a ∷ b ∷ rest) performed all e = absurd (let none : ⊥ = omega arith in none)
-  refused_by seen true lines (Stopped ∷ b ∷ rest) performed all e = absurd (let none : ⊥ = omega arith in none)
+  refused_printed : (seen : Seen S) (report : Report) (lines : List Line) (results : List (Driven Outcome)) → Performed held made seen lines results → PrintsEnds seen.out (report_text report (in_lane_order lines) results) (status_printed report results) seen.status → seen.status ≡ 6 → EndsRefused held made seen report lines
+  refused_printed seen report lines results performed (whole is unhurt all) e = record { results = results; performed = performed; refused = sym is ∙ e; printed = all }
+  refused_printed seen report lines results performed (sink_failed is rose front) e = absurd (let none : ⊥ = omega arith in none)
+  refused_printed seen report lines results performed (no_text is nothing) e = absurd (let none : ⊥ = omega arith in none)
 
-  refused_printed : (seen : Seen S) (single : Bool) (lines : List Line) (results : List (Driven Outcome)) → Performed held made seen lines results → PrintsEnds seen.out (ends_text (in_lane_order lines) results) (status_printed single results) seen.status → seen.status ≡ 6 → EndsRefused held made seen single lines
-  refused_printed seen single lines results performed (whole is unhurt all) e = refused_by seen single lines results performed all (sym is ∙ e)
-  refused_printed seen single lines results performed (sink_failed is rose front) e = absurd (let none : ⊥ = omega arith in none)
-  refused_printed seen single lines results performed (no_text is nothing) e = absurd (let none : ⊥ = omega arith in none)
-
-  refused_played : (seen : Seen S) (single : Bool) (lines : List Line) → Plays held made seen single lines → seen.status ≡ 6 → EndsRefused held made seen single lines
-  refused_played seen single lines (ended ends performed printed) e = refused_printed seen single lines ends performed printed e
-  refused_played seen single lines (ran_short status journal same nothing) e = absurd (let none : ⊥ = omega arith in none)
+  refused_played : (seen : Seen S) (report : Report) (lines : List Line) → Plays held made seen report lines → seen.status ≡ 6 → EndsRefused held made seen report lines
+  refused_played seen report lines (ended ends performed printed) e = refused_printed seen report lines ends performed printed e
+  refused_played seen report lines (ran_short status journal same nothing) e = absurd (let none : ⊥ = omega arith in none)
 
   pub refused : (seen : Seen S) → IsRunOf held made seen → seen.status ≡ 6 → WasRefused held made seen
   refused seen (stopped Usage h) e = absurd (let none : ⊥ = omega (arith, h.status) in none)
   refused seen (stopped (BadScript n) h) e = absurd (let none : ⊥ = omega (arith, h.status) in none)
   refused seen (stopped ReadFault h) e = absurd (let none : ⊥ = omega (arith, h.status) in none)
   refused seen (stopped OutOfMemory h) e = absurd (let none : ⊥ = omega (arith, h.status) in none)
-  refused seen (played job lines h) e = record { job = job; lines = lines; read = h.read; ended = refused_played seen (is_single job) lines h.plays e }
+  refused seen (played job lines h) e = record { job = job; lines = lines; read = h.read; ended = refused_played seen (report_of job) lines h.plays e }

@@ -74,7 +74,11 @@ use Rattle.ts_top.specs.Ends.{ends_text}
 use Rattle.ts_top.specs.Promise.{CameOut, HasNoLease, HeldOnce, IsDone, IsDeedOf, IsLineDone, Tells, IsStored, Promise, Began, Promised}
 use Rattle.ts_top.specs.Runners.{run_codec, run_spelled}
 use Rattle.ts_script.specs.Script.{AreLimited}
-use Rattle.ts_top.specs.Seen.{Seen, AskFor, Stopped as HasStopped, Performed, PrintsEnds, whole, sink_failed, no_text, status_printed, Plays, ended, ran_short}
+use Rattle.ts_script.specs.declared.words.Asked.{Asked}
+use Rattle.ts_script.specs.Words.{asked}
+use Rattle.ts_script.specs.Meanings.{report_of}
+use Rattle.ts_top.specs.Reports.{report_text, status_printed}
+use Rattle.ts_top.specs.Seen.{Seen, Means, Stopped as HasStopped, Performed, PrintsEnds, whole, sink_failed, no_text, Plays, ended, ran_short}
 use Rattle.ts_top.proofs.Places.{Early, Late, cancelled, fronts, goes_on, listed_after}
 use Rattle.ts_top.proofs.LeasesTold.{EndsWell, no_lease}
 use Rattle.ts_top.proofs.MergesTold.{calls_in, merged_tells, schema_found}
@@ -720,9 +724,9 @@ module _ {S : Type 0} (held : S → Option Held) (made : S → List Exchange →
   whole_of text printed (no_text is nothing) (inl e) = absurd (let none : ⊥ = omega (arith, is, e) in none)
   whole_of text printed (no_text is nothing) (inr e) = absurd (let none : ⊥ = omega (arith, is, e) in none)
 
-  kept_promise : (single : Bool) → seen.seed < 2 ^ 64 → AreLimited lines → AskFor seen.words seen.input.old (Ok lines) → PrintsEnds seen.out (ends_text items results) (status_printed single results) seen.status
+  kept_promise : (job : Asked) → seen.seed < 2 ^ 64 → AreLimited lines → asked seen.words ≡ Some job → Means job seen.input.old (Ok lines) → PrintsEnds seen.out (report_text (report_of job) items results) (status_printed (report_of job) results) seen.status
       → (m : Held) → held seen.store ≡ Some m → (past : History) → IsStored m past → IsFreshSeed m past seen.seed → Promise held seen m past
-  kept_promise single seed_fits limited asks prints m holds past stands fresh =
+  kept_promise job seed_fits limited asks means prints m holds past stands fresh =
       let run = performed.run in
       let jobs = performed.jobs in
       let over = subst (λ o. IfSome o (λ n. IsRunOver run_spelled seen.seed (lanes_of items) jobs n (held seen.later) seen.journal run.told results)) holds run.over in
@@ -735,8 +739,10 @@ module _ {S : Type 0} (held : S → Option Held) (made : S → List Exchange →
       let all = all_calls seen.gives seen.seed items jobs past m run.told results performed.of_lines order stands fresh seed_fits over.replied run.suit run.owned run.in_lanes.within performed.in_turn run.driven in
       let none = no_calls seen.gives seen.seed items jobs past m run.told results performed.of_lines order stands fresh seed_fits over.replied run.suit run.owned run.in_lanes.within performed.in_turn run.driven in
       record {
+        job = job;
+        asks = asks;
         lines = lines;
-        asked = asks;
+        means = means;
         ends = results;
         one_each = count ∙ each_line lines limited.fit;
         after = so_far;
@@ -746,8 +752,8 @@ module _ {S : Type 0} (held : S → Option Held) (made : S → List Exchange →
         done = is_done seen.gives seen.seed items jobs past m run.told results performed.of_lines order stands fresh seed_fits over.replied run.suit run.owned run.in_lanes.within performed.in_turn run.driven run.segments;
         stood = λ i few. stood_by seen.gives seen.seed items jobs past m run.told results performed.of_lines order stands fresh seed_fits over.replied run.suit run.owned run.in_lanes.within performed.in_turn run.driven i;
         stored = (over.held, subst (IsStored (held_after m seen.journal)) (sym (ap so_far count ∙ ap (history_told jobs past) all)) stored);
-        front = front_of (ends_text items results) (status_printed single results) prints;
-        whole = whole_of (ends_text items results) (status_printed single results) prints;
+        front = front_of (report_text (report_of job) items results) (status_printed (report_of job) results) prints;
+        whole = whole_of (report_text (report_of job) items results) (status_printed (report_of job) results) prints;
       }
 
 -- ---- every run
@@ -780,13 +786,13 @@ module _ {S : Type 0} (held : S → Option Held) (made : S → List Exchange →
   pub promise_stopped : (stop : Stop) → HasStopped seen stop → Promised held seen
   promise_stopped stop h = record { over = λ begun m holds past stands fresh. absurd (not_begun stop h begun); from_nothing = λ begun holds. absurd (not_begun stop h begun) }
 
-  module _ (single : Bool) (lines : List Line) (seed_fits : seen.seed < 2 ^ 64) (limited : AreLimited lines) (asks : AskFor seen.words seen.input.old (Ok lines)) where
-    over_any : Plays held made seen single lines → Began seen → (m : Held) → held seen.store ≡ Some m → (past : History) → IsStored m past → IsFreshSeed m past seen.seed → Promise held seen m past
-    over_any (ended results performed prints) begun m holds past stands fresh = kept_promise held made seen lines results performed single seed_fits limited asks prints m holds past stands fresh
+  module _ (job : Asked) (lines : List Line) (seed_fits : seen.seed < 2 ^ 64) (limited : AreLimited lines) (asks : asked seen.words ≡ Some job) (means : Means job seen.input.old (Ok lines)) where
+    over_any : Plays held made seen (report_of job) lines → Began seen → (m : Held) → held seen.store ≡ Some m → (past : History) → IsStored m past → IsFreshSeed m past seen.seed → Promise held seen m past
+    over_any (ended results performed prints) begun m holds past stands fresh = kept_promise held made seen lines results performed job seed_fits limited asks means prints m holds past stands fresh
     over_any (ran_short seven silent same nothing) begun m holds past stands fresh = absurd (not_begun_short seven silent begun)
 
     -- a run that did its commands keeps its promise
-    pub promise_played : Plays held made seen single lines → Promised held seen
+    pub promise_played : Plays held made seen (report_of job) lines → Promised held seen
     promise_played plays = record {
       over = over_any plays;
       from_nothing = λ begun holds. over_any plays begun _ holds [] (nothing_stands run_spelled) (fresh_over_nothing seen.seed);

@@ -1,4 +1,6 @@
 pub mod Ends
+pub mod Summaries
+pub mod Reports
 pub mod Notices
 pub mod Items
 pub mod Runners

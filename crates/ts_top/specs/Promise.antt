@@ -38,10 +38,13 @@ use Rattle.ts_law.specs.Ends.{IsAnswerOver}
 use Rattle.ts_law.specs.Fresh.{IsFreshSeed, IsStampOf, Numbered, command_at, id_of, in_lane_order}
 use Rattle.ts_law.specs.Stands.{Stands}
 use Rattle.ts_top.specs.Causes.{TellsRefusal}
-use Rattle.ts_top.specs.Ends.{ends_text}
+use Rattle.ts_script.specs.declared.words.Asked.{Asked}
+use Rattle.ts_script.specs.Words.{asked}
+use Rattle.ts_script.specs.Meanings.{report_of}
+use Rattle.ts_top.specs.Reports.{report_text}
 use Rattle.ts_top.specs.Merges.{Calls, Merged, held_by}
 use Rattle.ts_top.specs.Runners.{run_spelled}
-use Rattle.ts_top.specs.Seen.{Seen, AskFor}
+use Rattle.ts_top.specs.Seen.{Seen, Means}
 use Rattle.ts_top.specs.Sweeps.{Unlocked, Vacuumed}
 
 -- a history goes on from another: deeds came after it
@@ -135,10 +138,12 @@ IsStored m h = Stands run_spelled m h
 -- what a run promises over objects and the history that they stand for.
 -- The commands that were asked for were done one after the other in lane order, and came out so: each with an end, or stopped.
 -- After each of them the objects stand for the history, and the store holds those after the last.
--- What was printed is the text of the ends, with status 0 or 6, or a front of it.
+-- What was printed tells the ends, with status 0 or 6, or is a front of that.
 pub record Promise {S : Type 0} (held : S → Option Held) (seen : Seen S) (m : Held) (past : History) : Type 0 where
+  pub job : Asked
+  pub asks : asked seen.words ≡ Some job
   pub lines : List Line
-  pub asked : AskFor seen.words seen.input.old (Ok lines)
+  pub means : Means job seen.input.old (Ok lines)
   pub ends : List (Driven Outcome)
   pub one_each : length ends ≡ length lines
   -- the history after so many commands, and the journal up to there
@@ -151,8 +156,8 @@ pub record Promise {S : Type 0} (held : S → Option Held) (seen : Seen S) (m : 
   -- after each command, also a stopped one, the objects stand for the history
   pub stood : (i : ℕ) → i ≤ length ends → IsStored (held_after m (made i)) (after i)
   pub stored : (held seen.later ≡ Some (held_after m seen.journal)) × IsStored (held_after m seen.journal) (after (length ends))
-  pub front : AppendsFront seen.out.old seen.out.new (ends_text (in_lane_order lines) ends)
-  pub whole : (seen.status ≡ 0) ⊎ (seen.status ≡ 6) → Appends seen.out.old seen.out.new (ends_text (in_lane_order lines) ends)
+  pub front : AppendsFront seen.out.old seen.out.new (report_text (report_of job) (in_lane_order lines) ends)
+  pub whole : (seen.status ≡ 0) ⊎ (seen.status ≡ 6) → Appends seen.out.old seen.out.new (report_text (report_of job) (in_lane_order lines) ends)
 
 -- the run began with its commands, by its status or by a call that it made of the store
 abbrev pub Began : {S : Type 0} → Seen S → Type 0

@@ -8,7 +8,6 @@ use Rattle.ts_store.specs.declared.journal.Entry.{Entry}
 use Rattle.ts_model.specs.declared.commands.Line.{Line}
 use Rattle.ts_model.specs.declared.answers.Driven.{Driven}
 use Rattle.ts_model.specs.declared.answers.Outcome.{Outcome}
-use Rattle.ts_model.specs.declared.answers.Refusal.{Refusal}
 use Rattle.ts_model.specs.declared.commands.Job.{Job}
 use Rattle.ts_model.specs.States.{Exchange}
 use Rattle.ts_law.specs.Fresh.{AreJobsOf, in_lane_order, lanes_of}
@@ -17,16 +16,16 @@ use Rattle.ts_law.specs.Runs.{IsRun}
 use Rattle.ts_top.specs.declared.top.Prepared.{Prepared}
 use Rattle.ts_top.specs.declared.top.Stop.{Stop}
 use Rattle.ts_top.specs.declared.top.Stop.TheVariants.{Usage, BadScript, ReadFault, OutOfMemory}
-use Rattle.ts_model.specs.declared.answers.Driven.TheVariants.{Done}
-use Rattle.ts_model.specs.declared.answers.Outcome.TheVariants.{Refused, OutOfMemory as NoMemory}
 use Rattle.ts_script.specs.declared.words.Asked.{Asked}
-use Rattle.ts_script.specs.declared.words.Asked.TheVariants.{Command as Alone}
+use Rattle.ts_script.specs.declared.words.Asked.TheVariants.{Command as Alone, Generate}
+use Rattle.ts_script.specs.declared.words.Report.{Report}
+use Rattle.ts_script.specs.Generator.{generated}
 use Rattle.ts_top.specs.Runners.{run_codec, run_spelled}
 use Rattle.ts_script.specs.Words.{asked}
 use Rattle.ts_script.specs.Script.{Fault, Bad}
-use Rattle.ts_script.specs.Meanings.{has_input, is_single, meaning}
+use Rattle.ts_script.specs.Meanings.{has_input, meaning, report_of}
 use Rattle.ts_top.specs.Notices.{usage_text, bad_script_text}
-use Rattle.ts_top.specs.Ends.{ends_text}
+use Rattle.ts_top.specs.Reports.{report_text, status_printed}
 
 -- what a stream shows: its bytes before and after, where it tells them, and its counts of faults
 pub record Stream : Type 0 where
@@ -70,6 +69,7 @@ stop_text OutOfMemory = []
 -- what is asked for stands for this: where there is an input, some bytes tell it, and they are the whole input where the source tells that
 abbrev pub Means : Asked → Option (List ℕ) → Result (List Line) Fault → Type 0
 Means (Alone line) told said = said ≡ Ok (line ∷ [])
+Means (Generate cells) told said = said ≡ Ok (generated cells)
 Means job told said = (input : List ℕ) × IfSome told (λ all. input ≡ all) × (meaning job input ≡ said)
 
 -- the words ask for what stands for this
@@ -118,6 +118,7 @@ pub record Stopped {S : Type 0} (seen : Seen S) (stop : Stop) : Type 0 where
 -- the input was read to its end, with no failed read; a command without one read nothing
 abbrev pub IsInputRead : Asked → Stream → Type 0
 IsInputRead (Alone line) input = IsUnread input
+IsInputRead (Generate cells) input = IsUnread input
 IsInputRead job input = IfSome input.old (λ _. input.new ≡ Some []) × (input.now ≡ input.before)
 
 -- the lines are those that were asked for
@@ -126,25 +127,14 @@ pub record IsRead (words : List (List ℕ)) (input : Stream) (job : Asked) (line
   pub means : Means job input.old (Ok lines)
   pub read : IsInputRead job input
 
--- the lines were read that the words ask for, and whether they are a single command
+-- the lines are there that the words ask for, and what is to be printed of their ends
 abbrev pub IsPrepared : List (List ℕ) → Stream → Prepared → Type 0
-IsPrepared words input prepared = (job : Asked) × IsRead words input job prepared.lines × (prepared.single ≡ is_single job)
+IsPrepared words input prepared = (job : Asked) × IsRead words input job prepared.lines × (prepared.report ≡ report_of job)
 
 -- the input was read up to its limit where there is one, and else nothing was
 abbrev pub IsTaken : Bool → Stream → List ℕ → Type 0
 IsTaken true input bytes = TakesInput input.old input.new bytes × (input.now ≡ input.before)
 IsTaken false input bytes = (bytes ≡ []) × IsUnread input
-
--- the status of a single command that ended so: 6 where it was refused, 7 where it found no memory, and else 0
-abbrev pub status_alone : Outcome → ℕ
-status_alone (Refused r) = 6
-status_alone NoMemory = 7
-status_alone _ = 0
-
--- the status of these ends, once they are printed: that of the single command, and 0 of a script
-abbrev pub status_printed : Bool → List (Driven Outcome) → ℕ
-status_printed true (Done end ∷ []) = status_alone end
-status_printed _ _ = 0
 
 -- the ends were printed, no write failed, and the run has the status that they give; or the sink failed, with status 5 and a front of the text; or there was no memory for the text, with status 7 and nothing printed
 pub data PrintsEnds (out : Stream) (text : List ℕ) (printed status : ℕ) : Type 0 where
@@ -162,30 +152,30 @@ pub record Performed {S : Type 0} (held : S → Option Held) (made : S → List 
   pub in_turn : InTurn one_lane run.told
 
 -- the commands were done and their ends printed, or there was no memory to begin with them
-pub data Plays {S : Type 0} (held : S → Option Held) (made : S → List Exchange → S → Type 0) (seen : Seen S) (single : Bool) (lines : List Line) : Type 0 where
-  ended : (results : List (Driven Outcome)) → Performed held made seen lines results → PrintsEnds seen.out (ends_text (in_lane_order lines) results) (status_printed single results) seen.status → Plays held made seen single lines
-  ran_short : seen.status ≡ 7 → seen.journal ≡ [] → seen.later ≡ seen.store → Appends seen.out.old seen.out.new [] → Plays held made seen single lines
+pub data Plays {S : Type 0} (held : S → Option Held) (made : S → List Exchange → S → Type 0) (seen : Seen S) (report : Report) (lines : List Line) : Type 0 where
+  ended : (results : List (Driven Outcome)) → Performed held made seen lines results → PrintsEnds seen.out (report_text report (in_lane_order lines) results) (status_printed report results) seen.status → Plays held made seen report lines
+  ran_short : seen.status ≡ 7 → seen.journal ≡ [] → seen.later ≡ seen.store → Appends seen.out.old seen.out.new [] → Plays held made seen report lines
 
--- the run played its script: it read the lines, and did their commands or found no memory to begin
+-- the run had its lines, and did their commands or found no memory to begin
 pub record Played {S : Type 0} (held : S → Option Held) (made : S → List Exchange → S → Type 0) (seen : Seen S) (job : Asked) (lines : List Line) : Type 0 where
   pub read : IsRead seen.words seen.input job lines
-  pub plays : Plays held made seen (is_single job) lines
+  pub plays : Plays held made seen (report_of job) lines
 
 -- what a run may be
 pub data IsRunOf {S : Type 0} (held : S → Option Held) (made : S → List Exchange → S → Type 0) (seen : Seen S) : Type 0 where
   stopped : (stop : Stop) → Stopped seen stop → IsRunOf held made seen
   played : (job : Asked) (lines : List Line) → Played held made seen job lines → IsRunOf held made seen
 
--- the one command was refused, and its line was printed
-pub record EndsRefused {S : Type 0} (held : S → Option Held) (made : S → List Exchange → S → Type 0) (seen : Seen S) (single : Bool) (lines : List Line) : Type 0 where
-  pub alone : single ≡ true
-  pub reason : Refusal
-  pub performed : Performed held made seen lines (Done (Refused reason) ∷ [])
-  pub printed : Appends seen.out.old seen.out.new (ends_text (in_lane_order lines) (Done (Refused reason) ∷ []))
+-- the commands came out so that one of them counts as refused, and its line was printed: the single command, or the first of a generated script
+pub record EndsRefused {S : Type 0} (held : S → Option Held) (made : S → List Exchange → S → Type 0) (seen : Seen S) (report : Report) (lines : List Line) : Type 0 where
+  pub results : List (Driven Outcome)
+  pub performed : Performed held made seen lines results
+  pub refused : status_printed report results ≡ 6
+  pub printed : Appends seen.out.old seen.out.new (report_text report (in_lane_order lines) results)
 
--- a single command was asked for; it was refused, and its line was printed
+-- a single command or a generated script was asked for; a command was refused, and its line was printed
 pub record WasRefused {S : Type 0} (held : S → Option Held) (made : S → List Exchange → S → Type 0) (seen : Seen S) : Type 0 where
   pub job : Asked
   pub lines : List Line
   pub read : IsRead seen.words seen.input job lines
-  pub ended : EndsRefused held made seen (is_single job) lines
+  pub ended : EndsRefused held made seen (report_of job) lines

@@ -1,6 +1,7 @@
 //! The printed text of all ends of a script.
 ghost use Rattle.std.specs.Prelude.{◌≡◌, length, IfOk, option_map};
 ghost use Rattle.ts_top.specs.Ends.{end_of, ends_text};
+ghost use Rattle.ts_query.specs.Ends.{text_of};
 ghost use Rattle.ts_top.specs.Items.{numbered};
 
 use crate::items::Item;
@@ -20,13 +21,23 @@ pub(crate) fn print_ends(
 {
     let mut bytes = ByteList::new(alloc);
     for (index, result) in results.iter().enumerate() {
-        let item = &items[index];
-        let line = item.line;
-        let end = end_of(result);
-        let text = print_outcome(alloc, line.lane, item.number, &line.command, end)?;
+        let text = print_one(alloc, &items[index], result)?;
         bytes.append(text.as_slice())?;
     }
     Ok(bytes)
+}
+
+/// Prints how the command of a line came out.
+pub(crate) fn print_one(
+    alloc: Global,
+    item: &Item,
+    came: &Driven<Outcome>,
+) -> Result<ByteList, OutOfMemory>
+    ensures { IfOk result (λ text. text ≡ text_of (item.now.line.now).lane item.now.number (item.now.line.now).command (end_of came.now)) }
+{
+    let line = item.line;
+    let end = end_of(came);
+    print_outcome(alloc, line.lane, item.number, &line.command, end)
 }
 
 /// The end of a command, or None where it was stopped before.

@@ -5,6 +5,7 @@ mod ends;
 mod items;
 mod notices;
 mod runner;
+mod summaries;
 mod top;
 
 pub use top::{Ran, run};

@@ -8,20 +8,22 @@ ghost use Rattle.ts_script.specs.declared.words.Asked.{Asked};
 ghost use Rattle.ts_script.specs.Meanings.{has_input, meaning};
 ghost use Rattle.ts_script.specs.Script.{Bad, AreLimited};
 ghost use Rattle.ts_law.specs.Fresh.{in_lane_order};
-ghost use Rattle.ts_top.specs.Ends.{ends_text};
+ghost use Rattle.ts_script.specs.declared.words.Report.TheVariants.{Single};
+ghost use Rattle.ts_top.specs.Reports.{report_text, status_alone, status_printed};
 ghost use Rattle.ts_top.specs.Items.{numbered};
 ghost use Rattle.ts_top.specs.Promise.{Promised};
-ghost use Rattle.ts_top.specs.Seen.{Stream, stream, AskFor, HasReason, IsPrepared, IsTaken, Plays, Prints, PrintsEnds, IsRunOf, WasRefused, status_alone, status_of, status_printed, stop_text};
+ghost use Rattle.ts_top.specs.Seen.{Stream, stream, AskFor, HasReason, IsPrepared, IsTaken, Plays, Prints, PrintsEnds, IsRunOf, WasRefused, status_of, stop_text};
 
 use crate::ends::print_ends;
 use crate::items::{Item, in_lane_order};
 use crate::notices::{bad_script_notice, usage_notice};
 use crate::runner::run_items;
+use crate::summaries::{print_summary, status_generated};
 use std::alloc::Global;
 use std::thread::Threads;
-use ts_base::ByteList;
+use ts_base::{ByteList, OutOfMemory};
 use ts_model::{Driven, Line, LineList, Outcome};
-use ts_script::{FormFault, ScriptFault, read_lines, read_words};
+use ts_script::{FormFault, Report, ScriptFault, read_lines, read_words};
 use ts_store::{Clock, InputFault, Journal, Recorder, Sink, Source, Store, read_input, write_all};
 
 #[cfg(test)]
@@ -29,10 +31,10 @@ mod tests;
 
 /// What a run leaves: its status, the store, and every call that was made of it, in order.
 pub struct Ran<S> {
-    /// 0: the commands were done and their ends printed. 2: the words ask for nothing that can be
-    /// done. 3: a line of the input is bad. 4: the input could not be read. 5: the text could not be
-    /// written. 6: the words were a single command, which was refused. 7: out of memory; of a single
-    /// command its line may have been printed.
+    /// 0: the commands were done and what came of them was printed. 2: the words ask for nothing that
+    /// can be done. 3: a line of the input is bad. 4: the input could not be read. 5: the text could not
+    /// be written. 6: a single command was refused, or one of a generated script, and its line was
+    /// printed. 7: out of memory; of a single command its line may have been printed.
     pub status: u8,
     /// The store that was handed over.
     pub store: S,
@@ -91,8 +93,8 @@ fn print_line<O: Sink>(out: &mut O, text: &[u8])
 struct Prepared {
     // The lines, in order.
     lines: LineList,
-    // Whether they are the one line of a single command.
-    single: bool,
+    // What is printed of how they came out.
+    report: Report,
 }
 
 // Reads the words, and the input where they ask for something that has one.
@@ -106,14 +108,14 @@ fn prepare<I: Source>(alloc: Global, words: &[&str], input: &mut I) -> Result<Pr
         Err(FormFault::Form) => return Err(Stop::Usage),
         Err(FormFault::OutOfMemory) => return Err(Stop::OutOfMemory),
     };
-    let single = asked.is_single();
+    let report = asked.report();
     let bytes = match take_input(alloc, asked.has_input(), input) {
         Ok(bytes) => bytes,
         Err(InputFault::Failed) => return Err(Stop::ReadFault),
         Err(InputFault::OutOfMemory) => return Err(Stop::OutOfMemory),
     };
     match read_lines(alloc, asked, bytes.as_slice()) {
-        Ok(lines) => Ok(Prepared { lines, single }),
+        Ok(lines) => Ok(Prepared { lines, report }),
         Err(ScriptFault::Bad { line }) => Err(Stop::BadScript(line)),
         Err(ScriptFault::OutOfMemory) => Err(Stop::OutOfMemory),
     }
@@ -131,33 +133,60 @@ fn take_input<I: Source>(alloc: Global, has: bool, input: &mut I) -> Result<Byte
     }
 }
 
-// Prints the ends of the commands, and gives the status: the one that they give, or 5 where the sink
+// Prints how the commands came out, and gives the status: the one that this gives, or 5 where the sink
 // fails, or 7 for want of memory.
 fn print_all<O: Sink>(
     alloc: Global,
     out: &mut O,
     items: &[Item],
     results: &[Driven<Outcome>],
-    single: bool,
+    report: Report,
 ) -> u8
     requires count { length items.now ≡ length results.now }
-    ensures { PrintsEnds (stream O.contents O.faults out.old out.new) (ends_text (numbered items.now) results.now) (status_printed single results.now) result }
+    ensures { PrintsEnds (stream O.contents O.faults out.old out.new) (report_text report (numbered items.now) results.now) (status_printed report results.now) result }
 {
-    let Ok(text) = print_ends(alloc, items, results) else {
+    let Ok(text) = print_report(alloc, report, items, results) else {
         return 7;
     };
     match write_all(out, text.as_slice()) {
-        Ok(()) => status_printed(single, results),
+        Ok(()) => status_printed(report, results),
         Err(_) => 5,
     }
 }
 
+// What is printed of how the commands came out.
+fn print_report(
+    alloc: Global,
+    report: Report,
+    items: &[Item],
+    results: &[Driven<Outcome>],
+) -> Result<ByteList, OutOfMemory>
+    requires count { length items.now ≡ length results.now }
+    ensures { IfOk result (λ text. text ≡ report_text report (numbered items.now) results.now) }
+{
+    match report {
+        Report::Script | Report::Single => print_ends(alloc, items, results),
+        Report::Summary => print_summary(alloc, items, results),
+    }
+}
+
 // The status that these ends give once they are printed.
-fn status_printed(single: bool, results: &[Driven<Outcome>]) -> u8
-    ensures { result ≡ status_printed single results.now }
+fn status_printed(report: Report, results: &[Driven<Outcome>]) -> u8
+    ensures { result ≡ status_printed report results.now }
+{
+    match report {
+        Report::Script => 0,
+        Report::Single => status_single(results),
+        Report::Summary => status_generated(results),
+    }
+}
+
+// The status of a single command, whose end is the only one.
+fn status_single(results: &[Driven<Outcome>]) -> u8
+    ensures { result ≡ status_printed Single results.now }
 {
     match results {
-        [Driven::Done(end)] if single => status_alone(end),
+        [Driven::Done(end)] => status_alone(end),
         _ => 0,
     }
 }
@@ -181,11 +210,11 @@ fn play<R: Threads + Sync, S: Store, O: Sink, C: Clock>(
     store: S,
     out: &mut O,
     lines: &[Line],
-    single: bool,
+    report: Report,
     clock: &C,
 ) -> Ran<S>
     requires { AreLimited lines.now }
-    ensures plays { (words : List (List ℕ)) (input : Stream) → Plays S.held (JustMade S.held S.last S.faults S.notes) (record { words = words; seed = seed; gives = C.gives clock.now; input = input; out = stream O.contents O.faults out.old out.new; store = store; later = result.store; status = result.status; journal = result.journal }) single lines.now }
+    ensures plays { (words : List (List ℕ)) (input : Stream) → Plays S.held (JustMade S.held S.last S.faults S.notes) (record { words = words; seed = seed; gives = C.gives clock.now; input = input; out = stream O.contents O.faults out.old out.new; store = store; later = result.store; status = result.status; journal = result.journal }) report lines.now }
     ensures counted { capped (S.faults store + failures result.journal) ≤ S.faults result.store }
 {
     let mut recorder = Recorder::new(store, Journal::new(alloc), 0);
@@ -196,7 +225,7 @@ fn play<R: Threads + Sync, S: Store, O: Sink, C: Clock>(
     let Ok(results) = run_items(rt, alloc, clock, &mut recorder, seed, items) else {
         return left_by(recorder, 7);
     };
-    let status = print_all(alloc, out, items, results.as_slice(), single);
+    let status = print_all(alloc, out, items, results.as_slice(), report);
     left_by(recorder, status)
 }
 
@@ -215,7 +244,8 @@ fn left_by<S: Store>(recorder: Recorder<S>, status: u8) -> Ran<S>
 /// Reads the words, and the input of what they ask for, does the commands one after the other, lane by
 /// lane, and prints how each came out.
 ///
-/// The words ask for a script, or for a single command, which is done as a script of one line.
+/// The words ask for a script, or for a single command, which is done as a script of one line. Or they
+/// ask for a generated script, of which a summary is printed.
 /// Everything that is printed goes to `out`. The lines of lane 0 are done first, then those of lane 1,
 /// up to lane 7. A line without a stamp gets the number of the `clock`, in milliseconds since
 /// 1970-01-01, as its command starts. `seed` stands in the upper 64 bits of each identifier that the
@@ -300,7 +330,7 @@ pub fn run<R: Threads + Sync, S: Store, I: Source, O: Sink, C: Clock>(
     match prepare(alloc, words, input) {
         Ok(prepared) => {
             let lines = prepared.lines.as_slice();
-            play(rt, alloc, seed, store, out, lines, prepared.single, clock)
+            play(rt, alloc, seed, store, out, lines, prepared.report, clock)
         }
         Err(stop) => {
             print_stop(out, stop);

@@ -5,7 +5,7 @@ use Rattle.std.proofs.lemmas.Bool.{true≢false}
 use Rattle.ts_store.specs.Streams.{TakesInput}
 use Rattle.ts_model.specs.declared.commands.Line.{Line}
 use Rattle.ts_script.specs.declared.words.Asked.{Asked}
-use Rattle.ts_script.specs.declared.words.Asked.TheVariants.{Play, Object, Command as Alone}
+use Rattle.ts_script.specs.declared.words.Asked.TheVariants.{Play, Object, Command as Alone, Generate}
 use Rattle.ts_script.specs.Script.{Fault, Bad, byte_limit}
 use Rattle.ts_script.specs.Meanings.{has_input, meaning}
 use Rattle.ts_script.proofs.Meanings.{meaning_front, meaning_ok}
@@ -20,6 +20,7 @@ front job (Some all) (Some rest) taken said takes is = (all, refl, sym (meaning_
 
 means : (job : Asked) (has : Bool) (input : Stream) (taken : List ℕ) (said : Result (List Line) Fault) → has ≡ has_input job → IsTaken has input taken → meaning job taken ≡ said → Means job input.old said
 means (Alone line) has input taken said same takes is = sym is
+means (Generate cells) has input taken said same takes is = sym is
 means Play true input taken said same takes is = front Play input.old input.new taken said takes.0 is
 means Play false input taken said same takes is = absurd (true≢false (sym same))
 means (Object form at) true input taken said same takes is = front (Object form at) input.old input.new taken said takes.0 is
@@ -34,6 +35,8 @@ to_end job (Some all) (Some rest) taken lines has takes is = ap Some (takes.to_e
 input_read : (job : Asked) (has : Bool) (input : Stream) (taken : List ℕ) (lines : List Line) → has ≡ has_input job → IsTaken has input taken → meaning job taken ≡ Ok lines → IsInputRead job input
 input_read (Alone line) true input taken lines same takes is = absurd (true≢false same)
 input_read (Alone line) false input taken lines same takes is = takes.1
+input_read (Generate cells) true input taken lines same takes is = absurd (true≢false same)
+input_read (Generate cells) false input taken lines same takes is = takes.1
 input_read Play true input taken lines same takes is = (to_end Play input.old input.new taken lines refl takes.0 is, takes.1)
 input_read Play false input taken lines same takes is = absurd (true≢false (sym same))
 input_read (Object form at) true input taken lines same takes is = (to_end (Object form at) input.old input.new taken lines refl takes.0 is, takes.1)
@@ -42,6 +45,7 @@ input_read (Object form at) false input taken lines same takes is = absurd (true
 -- what means a fault has an input, of which a front was read
 faulty_has : (job : Asked) (taken : List ℕ) (f : Fault) → meaning job taken ≡ Err f → has_input job ≡ true
 faulty_has (Alone line) taken f e = cc
+faulty_has (Generate cells) taken f e = cc
 faulty_has Play taken f e = refl
 faulty_has (Object form at) taken f e = refl
 
@@ -61,7 +65,7 @@ returns-in-Ok-read_lines-clause-read g c =
         means = means job c.has_input.result input bytes (Ok c.in-Ok-read_lines.lines) c.has_input.ensures c.in-Ok-take_input.ensures.taken is;
         read = input_read job c.has_input.result input bytes c.in-Ok-read_lines.lines c.has_input.ensures c.in-Ok-take_input.ensures.taken is;
       },
-      c.is_single-single.ensures,
+      c.report.ensures,
     )
 
 pub returns-in-Err-Bad-clause-reason : goal.returns-in-Err-Bad-clause-reason

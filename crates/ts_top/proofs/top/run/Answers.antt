@@ -1,6 +1,6 @@
 -- A run stops before its first command, or it does the commands of its script; each status is told by what is seen of it.
-use Rattle.std.proofs.Common.{◌+◌, ◌≤◌, arith, refl, sym, subst, List, Bool}
-use Rattle.ts_script.specs.Meanings.{is_single}
+use Rattle.std.proofs.Common.{◌+◌, ◌≤◌, arith, refl, sym, subst, List}
+use Rattle.ts_script.specs.declared.words.Report.{Report}
 use Rattle.ts_store.specs.declared.journal.Entry.{Entry}
 use Rattle.ts_store.specs.Counts.{capped}
 use Rattle.ts_store.specs.Journals.{failures}
@@ -22,13 +22,13 @@ returns-in-Ok g c =
     let seen : Seen g.row.S.Denot = record { words = words; seed = c.args.seed; gives = g.C.Clock.gives c.args.clock.now; input = input; out = out; store = c.args.store; later = c.play.result.store; status = c.play.result.status; journal = c.play.result.journal } in
     let lines = c.in-Ok.prepared.lines in
     let (job, read, same) = c.in-Ok.ensures.read in
-    let P : List Line → Type 0 = λ ls. Plays held made seen c.in-Ok.prepared.single ls in
-    let Q : Bool → Type 0 = λ single. Plays held made seen single lines in
+    let P : List Line → Type 0 = λ ls. Plays held made seen c.in-Ok.prepared.report ls in
+    let Q : Report → Type 0 = λ report. Plays held made seen report lines in
     let plays = subst Q same (subst P c.as_slice-lines.ensures (c.play.ensures.plays words input)) in
     let is : IsRunOf held made seen = played job lines (record { read = read; plays = plays }) in
     record {
       run = is;
-      promise = promise_played held made seen (is_single job) lines (omega arith) c.in-Ok.ensures.limited (job, read.asks, read.means) plays;
+      promise = promise_played held made seen job lines (omega arith) c.in-Ok.ensures.limited read.asks read.means plays;
       counted = c.play.ensures.counted;
       usage = usage held made seen is;
       usage_there = usage_there held made seen is;

@@ -1,0 +1,8 @@
+use Rattle.std.proofs.Common.{rules}
+use Rattle.ts_script.specs.Generator.{place_of}
+use Rattle.ts_script.proofs.Generating.{values_more}
+use Rattle.ts_script.proofs.generator.places_from.Goals as goal
+
+pub loop-i-preserved : goal.loop-i-preserved
+loop-i-preserved c =
+    rw c.in_ok-push.ensures.items (values_more place_of c.args.first c.loop-i.i c.args.count c.loop-i.values.items _ _ c.loop-i-test.true (search rules) c.loop-i.invariant)

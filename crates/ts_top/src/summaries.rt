@@ -1,0 +1,207 @@
+//! What is printed of a generated script: what came of it, or the first command that was refused.
+ghost use Rattle.std.specs.Prelude.{◌≡◌, ◌++◌, [], filter, length, IfOk, OnOk, option_map, string_bytes};
+ghost use Rattle.std.specs.List.{list_any};
+ghost use Rattle.ts_top.specs.Items.{numbered};
+ghost use Rattle.ts_top.specs.Summaries.{first_in, generated_text, lacks_memory, number_in, refusal_text, removed_in, rows_in, sources_in, status_generated, sum_of, sums_text, was_refused, was_written};
+
+use crate::ends::print_one;
+use crate::items::Item;
+use std::alloc::Global;
+use ts_base::{ByteList, OutOfMemory, Row, Val};
+use ts_model::{Driven, Outcome, Refusal};
+
+/// Prints what came of the commands of a generated script. Where a command found no memory nothing is
+/// printed; where one was refused, other than a consolidation that found nothing to merge, the end of
+/// the first such command is.
+#[tactic(auto, unfolding(crate::specs::Summaries::generated_text))]
+pub(crate) fn print_summary(
+    alloc: Global,
+    items: &[Item],
+    results: &[Driven<Outcome>],
+) -> Result<ByteList, OutOfMemory>
+    requires count { length items.now ≡ length results.now }
+    ensures { IfOk result (λ text. text ≡ generated_text (numbered items.now) results.now) }
+{
+    if is_short(results) {
+        Ok(ByteList::new(alloc))
+    } else if is_refused(results) {
+        print_refusal(alloc, items, results)
+    } else {
+        print_sums(alloc, results)
+    }
+}
+
+/// The status of a generated script: 7 where a command found no memory, else 6 where one was refused,
+/// other than a consolidation that found nothing to merge, and else 0.
+#[tactic(auto, unfolding(crate::specs::Summaries::status_generated))]
+pub(crate) fn status_generated(results: &[Driven<Outcome>]) -> u8
+    ensures { result ≡ status_generated results.now }
+{
+    if is_short(results) {
+        7
+    } else if is_refused(results) {
+        6
+    } else {
+        0
+    }
+}
+
+// Whether a command found no memory.
+fn is_short(results: &[Driven<Outcome>]) -> bool
+    ensures { result ≡ list_any lacks_memory results.now }
+{
+    results.iter().any(|came| lacks_memory(came))
+}
+
+// Whether a command was refused.
+fn is_refused(results: &[Driven<Outcome>]) -> bool
+    ensures { result ≡ list_any was_refused results.now }
+{
+    results.iter().any(|came| was_refused(came))
+}
+
+// Whether it found no memory.
+fn lacks_memory(came: &Driven<Outcome>) -> bool
+    ensures { result ≡ lacks_memory came.now }
+{
+    matches!(came, Driven::Done(Outcome::OutOfMemory))
+}
+
+// Whether it was refused, other than a consolidation that found nothing to merge.
+fn was_refused(came: &Driven<Outcome>) -> bool
+    ensures { result ≡ was_refused came.now }
+{
+    match came {
+        Driven::Done(Outcome::Refused(Refusal::NothingToDo { .. })) => false,
+        Driven::Done(Outcome::Refused(_)) => true,
+        _ => false,
+    }
+}
+
+// Whether it is a write that was done.
+fn was_written(came: &Driven<Outcome>) -> bool
+    ensures { result ≡ was_written came.now }
+{
+    matches!(came, Driven::Done(Outcome::Written(_)))
+}
+
+// Prints the end of the first command that was refused.
+fn print_refusal(
+    alloc: Global,
+    items: &[Item],
+    results: &[Driven<Outcome>],
+) -> Result<ByteList, OutOfMemory>
+    requires count { length items.now ≡ length results.now }
+    ensures { IfOk result (λ text. text ≡ refusal_text (numbered items.now) results.now) }
+{
+    for (index, result) in results.iter().enumerate() {
+        if was_refused(result) {
+            return print_one(alloc, &items[index], result);
+        }
+    }
+    Ok(ByteList::new(alloc))
+}
+
+// Prints the summary.
+#[tactic(auto, unfolding(crate::specs::Summaries::sums_text))]
+fn print_sums(alloc: Global, results: &[Driven<Outcome>]) -> Result<ByteList, OutOfMemory>
+    ensures { IfOk result (λ text. text ≡ sums_text results.now) }
+{
+    let writes = results.iter().filter(|came| was_written(came)).count();
+    let consolidated = sources_merged(results);
+    let removed = fragments_removed(results);
+    let read = rows_read(results);
+    let rows = read.len();
+    let sum = sum_of(read);
+    let mut text = String::new(alloc);
+    write!(text, "writes\t{writes}\nconsolidated\t{consolidated}\n")?;
+    write!(text, "removed\t{removed}\nrows\t{rows}\nsum\t{sum}\n")?;
+    Ok(ByteList::from_vec(text.into_bytes()))
+}
+
+// How many fragments the consolidation merged.
+fn sources_merged(results: &[Driven<Outcome>]) -> u32
+    ensures { result ≡ first_in sources_in 0 results.now }
+{
+    for came in results {
+        if let Some(count) = sources_in(came) {
+            return count;
+        }
+    }
+    0
+}
+
+// How many fragments it merged, if it is a consolidation that was done.
+fn sources_in(came: &Driven<Outcome>) -> Option<u32>
+    ensures { result ≡ sources_in came.now }
+{
+    match came {
+        Driven::Done(Outcome::Consolidated(_, count)) => Some(*count),
+        _ => None,
+    }
+}
+
+// How many fragments the vacuum removed.
+fn fragments_removed(results: &[Driven<Outcome>]) -> u64
+    ensures { result ≡ first_in removed_in 0 results.now }
+{
+    for came in results {
+        if let Some(count) = removed_in(came) {
+            return count;
+        }
+    }
+    0
+}
+
+// How many fragments it removed, if it is a vacuum that was done.
+fn removed_in(came: &Driven<Outcome>) -> Option<u64>
+    ensures { result ≡ removed_in came.now }
+{
+    match came {
+        Driven::Done(Outcome::Vacuumed(count)) => Some(*count),
+        _ => None,
+    }
+}
+
+// The rows that the read shows.
+fn rows_read(results: &[Driven<Outcome>]) -> &[Row]
+    ensures { result.now ≡ first_in rows_in [] results.now }
+{
+    for came in results {
+        if let Some(rows) = rows_in(came) {
+            return rows;
+        }
+    }
+    &[]
+}
+
+// The rows that it shows, if it is a read that was done.
+fn rows_in(came: &Driven<Outcome>) -> Option<&[Row]>
+    ensures { option_map (λ rows. rows.now) result ≡ rows_in came.now }
+{
+    match came {
+        Driven::Done(Outcome::Read(answer)) => Some(answer.rows.as_slice()),
+        _ => None,
+    }
+}
+
+// The values of rows, behind their one coordinate, added up.
+fn sum_of(rows: &[Row]) -> i128
+    ensures { result ≡ sum_of rows.now }
+{
+    let mut sum = 0;
+    for row in rows {
+        sum += number_in(row.as_slice().get(1));
+    }
+    sum
+}
+
+// A whole number of 64 bits, and 0 for any other value.
+fn number_in(value: Option<&Val>) -> i128
+    ensures is { result ≡ number_in (option_map (λ value. value.now) value.entry) }
+{
+    match value {
+        Some(Val::Int(number)) if -(1 << 63) <= *number && *number < (1 << 63) => *number,
+        _ => 0,
+    }
+}
