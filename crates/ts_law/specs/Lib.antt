@@ -14,4 +14,5 @@ pub mod Leases
 pub mod Since
 pub mod Sweeps
 pub mod Kept
+pub mod Shared
 pub mod Steps

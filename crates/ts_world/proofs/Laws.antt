@@ -30,7 +30,7 @@ use Rattle.ts_model.specs.Codecs.{Codec, CodecLaws, Spelled, Tracking}
 use Rattle.ts_law.proofs.Broken.{drop_kept}
 use Rattle.ts_law.proofs.KeptLaws.{step_kept}
 use Rattle.ts_law.proofs.LeaseSteps.{lease_is}
-use Rattle.ts_law.proofs.Leasing.{ended_unheld}
+use Rattle.ts_law.proofs.Leasing.{ended_unrelied}
 use Rattle.ts_law.proofs.Openings.{allowed_drop, allowed_more, allowed_push, new_at_first}
 use Rattle.ts_law.proofs.Lanes.{none_made, no_lanes, one_more_call, one_more_job}
 use Rattle.ts_law.proofs.Spawns.{spawn_kept, starts_kept}
@@ -65,7 +65,7 @@ module _ {P F : Type 0} (codec : Codec F) (spelled : Spelled) (tracks : Tracking
     where
       by_slot : (s : Slot P F) → slice_get slots number ≡ Some s → IsSlot codec job (trace_of number told) s → ⊥
       by_slot (slot.Runs r) at slot_is = none number job holds.is_job (seen_at slots number (slot.Runs r) at) holds.has
-      by_slot (slot.Ended end) at slot_is = ended_unheld codec job lease (trace_of number told) end holds.has slot_is holds.stage
+      by_slot (slot.Ended end) at slot_is = ended_unrelied codec job lease (trace_of number told) end holds.has slot_is holds.stage
       by_slot slot.Dropped at slot_is = holds.alive (dropped_from_seen (standings slots) number (seen_at slots number slot.Dropped at))
 
   -- the actor that runs
