@@ -40,7 +40,8 @@ use Rattle.ts_model.specs.Told.{IsReplied, Replied, Told, after_told, held_told,
 use Rattle.ts_model.proofs.Lacks.{other_goes, release_ends}
 use Rattle.ts_model.proofs.Traces.{held_told-append, stage_from-append, stage_of-own, trace_of-append}
 use Rattle.ts_law.specs.Kept.{Aims, AreAllowed, Claims, Kept, MakesListing, Removing, StageClaims}
-use Rattle.ts_law.specs.Refusals.{ChangedNothing, IsNoFault}
+use Rattle.ts_law.specs.Changes.{ChangedNothing}
+use Rattle.ts_law.specs.Refusals.{IsNoFault}
 use Rattle.ts_law.proofs.CallsLeave.{told_same}
 use Rattle.ts_law.proofs.Effects.{Added, IsLook, PutWent, Still, look_stays, put_went}
 use Rattle.ts_law.proofs.FetchSteps.{speaks_look}
@@ -51,20 +52,20 @@ use Rattle.ts_law.proofs.LeaseSteps.{release_is}
 -- ---- jobs that may have put or removed objects
 
 -- an end that a job may come to once it put or removed an object: each but a refusal for no fault
-abbrev acted_end : Outcome → Bool
+abbrev pub acted_end : Outcome → Bool
 acted_end (outcome.Refused (refusal.StoreFault p)) = true
 acted_end (outcome.Refused (refusal.Taken n)) = true
 acted_end (outcome.Refused r) = false
 acted_end end = true
 
 -- the job is at its puts or removals, or past them
-abbrev acted : {F : Type 0} → State F → Bool
+abbrev pub acted : {F : Type 0} → State F → Bool
 acted (Puts objects next end) = acted_end end
 acted (Removes names next end) = acted_end end
 acted (Over end) = acted_end end
 acted s = false
 
-abbrev acted_stage : {F : Type 0} → Stage F → Bool
+abbrev pub acted_stage : {F : Type 0} → Stage F → Bool
 acted_stage (stages.Works s) = acted s
 acted_stage (Releases lease end) = acted_end end
 acted_stage stage = false
@@ -148,14 +149,14 @@ module _ {F : Type 0} (codec : Codec F) (job : Job) where
           ap acted_stage (release_ends codec job (Releases lease end) x own some releases) ∙ released_acted own end x.reply is
       by_kind false other = ap acted_stage (other_goes codec job (Releases lease end) x other) ∙ released_acted lease end x.reply is
 
-  acted_from : (stage : Stage F) (xs : List Exchange) → acted_stage stage ≡ true → acted_stage (stage_from codec job stage xs) ≡ true
+  pub acted_from : (stage : Stage F) (xs : List Exchange) → acted_stage stage ≡ true → acted_stage (stage_from codec job stage xs) ≡ true
   acted_from stage [] is = is
   acted_from stage (x ∷ xs) is = acted_from (goes_on codec job stage x) xs (stage_acted stage x is)
 
 -- ---- one call
 
 -- a state whose next call may put or remove an object
-abbrev is_acting : {F : Type 0} → State F → Bool
+abbrev pub is_acting : {F : Type 0} → State F → Bool
 is_acting (Creates PutsFrame) = true
 is_acting (Puts objects next end) = true
 is_acting (Removes names next end) = true
@@ -168,7 +169,7 @@ own_listing_looks command (inr is) = subst (λ c. IsLook (listing_of c)) (sym is
 
 module _ {F : Type 0} (codec : Codec F) (spelled : Spelled) (tracks : Tracking F) (laws : CodecLaws codec spelled tracks) (opening : Held) (past : History) (jobs : List Job) (seen : List Told) (m : Held) (number : ℕ) (job : Job) where
   -- in another state the next call is a look
-  looks_else : (s : State F) (c : Call) → Claims codec spelled tracks opening past jobs seen m number job s → asks codec job s ≡ Some c → is_acting s ≡ false → IsLook c
+  pub looks_else : (s : State F) (c : Call) → Claims codec spelled tracks opening past jobs seen m number job s → asks codec job s ≡ Some c → is_acting s ≡ false → IsLook c
   looks_else (Creates PutsFrame) c claims asked other = absurd (true≢false other)
   looks_else (Creates ComparesFrame) c claims asked other = subst IsLook (same_Some _ c asked) tt
   looks_else (Creates ListsDeclared) c claims asked other = subst IsLook (same_Some _ c asked) tt
@@ -219,19 +220,19 @@ module _ {F : Type 0} (codec : Codec F) (spelled : Spelled) (tracks : Tracking F
     exchange = record { call = e.call; reply = e.reply }
 
     -- the object is as it was
-    abbrev IsSame : Type 0
+    abbrev pub IsSame : Type 0
     IsSame = map.get (after_told m e) n ≡ map.get m n
 
     -- a call on the lease leaves the object
-    lease_put : (lease : Name) → lease_of job ≡ Some lease → e.call ≡ put_lease lease → IsSame
+    pub lease_put : (lease : Name) → lease_of job ≡ Some lease → e.call ≡ put_lease lease → IsSame
     lease_put lease has is = told_same m e n (λ bytes puts. other (has ∙ ap Some (one_name lease n [] bytes (sym is ∙ puts)))) (λ removes. let same : put_lease lease ≡ call.Remove n = sym is ∙ removes in cc)
 
-    lease_removed : (lease : Name) → lease_of job ≡ Some lease → e.call ≡ call.Remove lease → IsSame
+    pub lease_removed : (lease : Name) → lease_of job ≡ Some lease → e.call ≡ call.Remove lease → IsSame
     lease_removed lease has is =
         told_same m e n (λ bytes puts. let same : call.Remove lease ≡ call.Put n bytes = sym is ∙ puts in cc)
         (λ removes. other (has ∙ ap Some (let same : call.Remove lease ≡ call.Remove n = sym is ∙ removes in cc)))
 
-    look_same : IsLook e.call → IsSame
+    pub look_same : IsLook e.call → IsSame
     look_same look = ap (λ x. map.get x n) (look_stays m e look replied).0
 
     -- the put of a frame made it, or changed nothing
@@ -257,7 +258,7 @@ module _ {F : Type 0} (codec : Codec F) (spelled : Spelled) (tracks : Tracking F
     work_leaves s claims asked = inl (look_same (looks_else s e.call claims asked refl))
 
     -- so does any call
-    call_leaves : (stage : Stage F) → StageClaims codec spelled tracks opening past jobs seen m number job stage → MayAsk codec job stage e.call → IsSame ⊎ (acted_stage (goes_on codec job stage exchange) ≡ true)
+    pub call_leaves : (stage : Stage F) → StageClaims codec spelled tracks opening past jobs seen m number job stage → MayAsk codec job stage e.call → IsSame ⊎ (acted_stage (goes_on codec job stage exchange) ≡ true)
     call_leaves (PutsLease lease) claims (inl asked) = inl (lease_put lease claims.0.0 (sym (same_Some (put_lease lease) e.call asked)))
     call_leaves (ListsLeases lease) claims (inl asked) = inl (look_same (subst IsLook (same_Some list_leases e.call asked) tt))
     call_leaves (stages.Works s) claims (inl asked) = work_leaves s claims asked

@@ -59,6 +59,7 @@ pub mod OwnLanes
 pub mod OwnFragments
 pub mod CallsLeave
 pub mod Idle
+pub mod SweepsAlone
 pub mod CourseGrows
 pub mod CourseBacked
 pub mod CourseCalls

@@ -1,5 +1,5 @@
 -- Why a job is refused: what its refusal tells of the history that the job found.
-use Rattle.std.specs.Prelude.{◌≡◌, ◌≢◌, ℕ, List, [], ◌∷◌, ◌++◌, Option, Some, None, option_map, Contains, ⊤, ◌⊎◌}
+use Rattle.std.specs.Prelude.{◌≡◌, ◌≢◌, ℕ, List, [], Option, Some, None, option_map, Contains, ⊤, ◌⊎◌}
 use Rattle.std.specs.Result.{result_err}
 use Rattle.ts_base.specs.Held.{Held}
 use Rattle.ts_base.specs.declared.names.Name.{Name}
@@ -30,7 +30,6 @@ pub use Rattle.ts_law.specs.Ends.{ListedAt, MadeAt, FindsNothing}
 use Rattle.ts_store.specs.declared.call.Reply.TheVariants as reply
 use Rattle.ts_store.specs.declared.fate.Fate.TheVariants as fate
 use Rattle.ts_model.specs.declared.answers.Refusal.TheVariants as refusal
-use Rattle.std.specs.FinMap as map
 
 -- the command works in a schema, which it looks for: a create, an unlock and `fragments` do not
 abbrev pub WorksInSchema : Command → Type 0
@@ -94,11 +93,6 @@ abbrev pub IsNoFault : Refusal → Type 0
 IsNoFault (refusal.StoreFault p) = ⊥
 IsNoFault (refusal.Taken n) = ⊥
 IsNoFault r = ⊤
-
--- no call of a job changed an object, but for the job's lease
-abbrev pub ChangedNothing : Held → List Told → ℕ → Job → Type 0
-ChangedNothing opening told number job =
-    (front back : List Told) (e : Told) → told ≡ front ++ e ∷ back → e.job ≡ Some number → (n : Name) → (lease_of job ≡ Some n → ⊥) → map.get (held_told opening (front ++ e ∷ [])) n ≡ map.get (held_told opening front) n
 
 -- a job is refused for this, where a map was held at the beginning: no object is missing, damaged or taken
 abbrev pub IsRefusedFor : Spelled → Held → List Job → History → List Told → ℕ → Job → Refusal → Type 0
