@@ -57,6 +57,7 @@ use Rattle.ts_model.proofs.Traces.{history_told_grows}
 use Rattle.ts_law.proofs.Effects.{IsLook, look_stays, look_history, look_leads}
 use Rattle.ts_law.proofs.Stays.{clean_look, fetching_stays}
 use Rattle.ts_law.proofs.Clipped.{unclipped_same}
+use Rattle.ts_law.proofs.Unclipped.{own_unclipped, sparse_unclipped}
 use Rattle.ts_law.proofs.Fetches.{Contains-map, got_more, knows, knows_attrs, map-Contains, one_head}
 use Rattle.ts_law.proofs.OriginLaws.{any_member, member_any}
 use Rattle.ts_law.proofs.TakenLaws.{newest_taken, none_taken}
@@ -237,6 +238,8 @@ module _ {F : Type 0} (codec : Codec F) (spelled : Spelled) (tracks : Tracking F
           clipped_is = clipped_is;
           is = is;
           whole = λ none. subst (λ x. IsAnswer x later r.from r.to reads.query (answered got)) (unclipped_same spelled then g r.from r.to heads are_heads one stands (sym clipped_is ∙ none)) is;
+          unclipped = λ own. clipped_is ∙ own_unclipped spelled then g r.from r.to heads are_heads one own;
+          sparse = λ frame framed sparse. clipped_is ∙ sparse_unclipped spelled then g r.from r.to heads are_heads frame framed sparse;
         }
 
     -- after the last fragment the answer is that of the history

@@ -52,7 +52,7 @@ filter-append q (x ∷ xs) ys = elim (q x) as (λ t. cond t (x ∷ filter q (xs 
 
 module _ (h more : History) (new : (w : Written) → Contains (writes more) w → IsNewKey h w.key) where
   -- a key of a write of the history
-  key_in_writes : (w : Written) → Contains (writes h) w → (k : Key) → w.key ≡ k → IsNewKey h k → ⊥
+  pub key_in_writes : (w : Written) → Contains (writes h) w → (k : Key) → w.key ≡ k → IsNewKey h k → ⊥
   key_in_writes w at k same fresh = absent_from_new h k fresh (subst (Contains _) same (key_of_write w at))
     where
       key_there_in : (d : Deed) (w : Written) → write_in d ≡ Some w → key_in d ≡ Some w.key

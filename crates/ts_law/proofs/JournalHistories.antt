@@ -22,8 +22,13 @@ use Rattle.ts_store.specs.declared.fate.Fate.{Fate}
 use Rattle.ts_store.specs.declared.journal.Entry.{Entry}
 use Rattle.ts_store.specs.Calls.{after, answer, reply_of, part_reply, length_reply, is_no_memory}
 use Rattle.ts_store.specs.Journals.{held_after}
-use Rattle.ts_model.specs.declared.commands.Command.TheVariants.{Create, Consolidate}
+use Rattle.ts_base.specs.declared.keys.FragKey.{FragKey}
+use Rattle.ts_base.specs.declared.names.Part.{Part}
+use Rattle.ts_base.specs.Names.{wrt_of}
+use Rattle.ts_schema.specs.declared.evolution.Evolution.{Evolution}
+use Rattle.ts_model.specs.declared.commands.Command.TheVariants.{Create, Evolve, Write, Delete, Consolidate}
 use Rattle.ts_model.specs.declared.commands.FrameIn.{FrameIn}
+use Rattle.ts_model.specs.declared.commands.WriteIn.{WriteIn}
 use Rattle.ts_model.specs.declared.commands.Job.{Job}
 use Rattle.ts_model.specs.declared.answers.Outcome.{Outcome}
 use Rattle.ts_model.specs.declared.deeds.Deed.TheVariants.{Framed, Declared, Wrote, Erased}
@@ -36,10 +41,10 @@ use Rattle.ts_model.specs.declared.states.Collecting.TheVariants.{GetsVacs, Gets
 use Rattle.ts_model.specs.declared.states.Merging.TheVariants as merging
 use Rattle.ts_model.specs.declared.states.Sweeping.TheVariants as sweeping
 use Rattle.ts_commit.specs.declared.vacs.Limits.{Limits}
-use Rattle.ts_model.specs.Commands.{frame_made, create_refusal, fits}
+use Rattle.ts_model.specs.Commands.{frame_made, create_refusal, fits, piece_of}
 use Rattle.ts_model.specs.Deeds.{History}
 use Rattle.ts_model.specs.Codecs.{Codec, CodecLaws, Spelled, Tracking}
-use Rattle.ts_model.specs.Jobs.{IsFit, AreApart, job_with, key_of}
+use Rattle.ts_model.specs.Jobs.{IsFit, AreApart, frag_of_job, job_with, key_of, written_as}
 use Rattle.ts_model.specs.States.{all_of, get_vac, list_parts, vac_of, asks, frame_put, get_delete, get_head, get_head_in, get_schema, made_by, put_of, want_of}
 use Rattle.ts_model.specs.Stages.{put_lease, stage_of}
 use Rattle.ts_model.specs.Driven.{MayAsk}
@@ -61,6 +66,7 @@ use Rattle.ts_law.proofs.Journals.{journal_held}
 use Rattle.ts_law.proofs.UnlockSteps.{own_listing_no_put}
 use Rattle.ts_law.proofs.KeptLaws.{one_name, no_listing, no_removal, no_get, asked_by, speaks_no_put, Coming, coming, Replied-front}
 use Rattle.ts_law.proofs.Leasing.{by_job}
+use Rattle.ts_law.proofs.Objects.{ACommit, APart, put_at}
 use Rattle.ts_base.specs.declared.names.Name.TheVariants as name
 use Rattle.ts_store.specs.declared.call.Call.TheVariants as call
 use Rattle.ts_store.specs.declared.call.Reply.TheVariants as reply
@@ -248,7 +254,7 @@ pub record PutsAFrame (job : Job) (n : Name) (bytes : List ℕ) : Type 0 where
   pub made : FrameIn
   pub creates : job.command ≡ Create made
   sound : create_refusal made ≡ None
-  named : n ≡ name.Domain
+  pub named : n ≡ name.Domain
   spelled : bytes ≡ frame_object (frame_made made)
 
 -- a job that puts is a create, it is a consolidation, or it works in a schema
@@ -257,10 +263,11 @@ pub data Finds (past : History) (jobs : List Job) (seen : List Told) (number : �
   Merged : (from to : ℕ) (limits : Limits) → job.command ≡ Consolidate from to limits → Finds past jobs seen number job
   Worked : (there : Schema) → Works past jobs seen number job there → Finds past jobs seen number job
 
--- another put: its name carries the job's identifier
+-- another put: its name carries the job's identifier, and the `.wrt` of a write is that of its own fragment
 pub record PutsItsOwn (past : History) (jobs : List Job) (seen : List Told) (number : ℕ) (job : Job) (n : Name) : Type 0 where
   carries : id_in n ≡ Some job.id
   pub finds : Finds past jobs seen number job
+  pub commits : (f : FragKey) (w : WriteIn) → n ≡ wrt_of f → job.command ≡ Write w → f ≡ frag_of_job job
 
 -- where there is nothing behind any, there is nothing
 none_then : {A B : Type 0} (o : Option A) → ◌≡◌ {A = Option B} None (option_and_then (λ a. None) o)
@@ -286,6 +293,45 @@ module _ {F : Type 0} (codec : Codec F) (spelled : Spelled) (tracks : Tracking F
   aims_find number job objects (outcome.Refused r) none = absurd none
   aims_find number job objects outcome.OutOfMemory none = absurd none
 
+  -- the `.wrt` of a write is that of its own fragment
+  aims_commit : (number : ℕ) (job : Job) (objects : List NewObject) (end : Outcome) → Aims codec spelled opening past jobs seen m number job objects end → (next : ℕ) (o : NewObject) → slice_get objects next ≡ Some o
+      → (f : FragKey) (w : WriteIn) → o.name ≡ wrt_of f → job.command ≡ Write w → f ≡ frag_of_job job
+  aims_commit number job objects outcome.Created (made, creates, is, none, framed) next o at f w named writes_them = absurd (no_create made w (sym creates ∙ writes_them))
+    where
+      no_create : (x : FrameIn) (y : WriteIn) → Create x ≡ Write y → ⊥
+      no_create x y same = cc
+  aims_commit number job objects (outcome.Evolved k) (change, frame, there, evolves, same, is, framed, sound, works) next o at f w named writes_them = absurd (no_evolve change w (sym evolves ∙ writes_them))
+    where
+      no_evolve : (x : Evolution) (y : WriteIn) → Evolve x ≡ Write y → ⊥
+      no_evolve x y same = cc
+  aims_commit number job objects (outcome.Written g) (columns, frame, there, cells, also, same, is, no_vac, framed, lays, works) next o at f w named writes_them =
+      elim (put_at (frag_of_job job) (codec.parts frame there (piece_of frame (written_as job there.key cells))) next o (subst (λ os. slice_get os next ≡ Some o) is at)) [
+        | APart x there_is is_part ↦ absurd (no_part (frag_of_job job) x.part f (ap (λ y. y.name) (sym is_part) ∙ named))
+        | ACommit last is_commit ↦ one_wrt f (frag_of_job job) (sym named ∙ ap (λ y. y.name) is_commit)
+      ]
+    where
+      no_part : (g : FragKey) (part : Part) (k : FragKey) → name.Part g part ≡ wrt_of k → ⊥
+      no_part g part k e = cc
+
+      one_wrt : (g k : FragKey) → wrt_of g ≡ wrt_of k → g ≡ k
+      one_wrt g k e = cc
+  aims_commit number job objects (outcome.Deleted g) (text, frame, there, condition, deletes, same, is, framed, says, works) next o at f w named writes_them = absurd (no_delete text w (sym deletes ∙ writes_them))
+    where
+      no_delete : (x : List ℕ) (y : WriteIn) → Delete x ≡ Write y → ⊥
+      no_delete x y same = cc
+  aims_commit number job objects (outcome.Consolidated g count) aims next o at f w named writes_them =
+      let survey = aims.survey in
+      absurd (no_merge survey.from survey.to survey.limits w (sym (((aims.merges).has).surveys).merges ∙ writes_them))
+    where
+      no_merge : (from to : ℕ) (limits : Limits) (y : WriteIn) → Consolidate from to limits ≡ Write y → ⊥
+      no_merge from to limits y same = cc
+  aims_commit number job objects (outcome.Read answer) none next o at f w named writes_them = absurd none
+  aims_commit number job objects (outcome.Vacuumed count) none next o at f w named writes_them = absurd none
+  aims_commit number job objects (outcome.Unlocked count) none next o at f w named writes_them = absurd none
+  aims_commit number job objects (outcome.Listed names) none next o at f w named writes_them = absurd none
+  aims_commit number job objects (outcome.Refused r) none next o at f w named writes_them = absurd none
+  aims_commit number job objects outcome.OutOfMemory none next o at f w named writes_them = absurd none
+
   -- a put of a job
   pub put_from : (number : ℕ) (job : Job) (s : State F) (n : Name) (bytes : List ℕ) → Claims codec spelled tracks opening past jobs seen m number job s → asks codec job s ≡ Some (call.Put n bytes)
       → PutsAFrame job n bytes ⊎ PutsItsOwn past jobs seen number job n
@@ -301,6 +347,7 @@ module _ {F : Type 0} (codec : Codec F) (spelled : Spelled) (tracks : Tracking F
       inr (record {
         carries = ap id_in (sym (one_name o.name n o.bytes bytes is)) ∙ (aims-carry codec spelled opening past jobs seen m number job objects end claims.aims next o at).0;
         finds = aims_find number job objects end claims.aims;
+        commits = λ f w same writes_them. aims_commit number job objects end claims.aims next o at f w (one_name o.name n o.bytes bytes is ∙ same) writes_them;
       })
   put_from number job (Creates ComparesFrame) n bytes claims asked = absurd (no_get name.Domain 0 _ n bytes (same_Some _ _ asked))
   put_from number job (Creates ListsDeclared) n bytes claims asked = absurd (no_listing Schemas n bytes (same_Some _ _ asked))
@@ -390,7 +437,7 @@ put_deed past jobs seen g found number job n bytes apart at fit short same (inr 
 -- ---- the journal
 
 -- a call in the midst of calls that are replied to
-replied_at : (m : Held) (front back : List Told) (e : Told) → Replied m (front ++ e ∷ back) → IsReplied (held_told m front) e
+pub replied_at : (m : Held) (front back : List Told) (e : Told) → Replied m (front ++ e ∷ back) → IsReplied (held_told m front) e
 replied_at m [] back e replied = replied.0
 replied_at m (d ∷ front) back e replied = replied_at (after_told m d) front back e replied.1
 

@@ -281,7 +281,7 @@ Replied-front m [] b replied = tt
 Replied-front m (e ∷ a) b replied = (replied.0, Replied-front (after_told m e) a b replied.1)
 
 -- so is the rest, over what the front leaves
-Replied-back : (m : Held) (a b : List Told) → Replied m (a ++ b) → Replied (held_told m a) b
+pub Replied-back : (m : Held) (a b : List Told) → Replied m (a ++ b) → Replied (held_told m a) b
 Replied-back m [] b replied = replied
 Replied-back m (e ∷ a) b replied = Replied-back (after_told m e) a b replied.1
 
@@ -331,7 +331,7 @@ module _ {F : Type 0} (codec : Codec F) (spelled : Spelled) (tracks : Tracking F
   own_step opening past jobs seen e m number job (Over end) comes = absurd (none-some e.call comes.asked)
 
   -- where a call that may come leads its job
-  leads_on : (opening : Held) (past : History) (jobs : List Job) (dead : List ℕ) (seen : List Told) (m : Held) (e : Told) → Kept codec spelled tracks opening past jobs dead seen m
+  pub leads_on : (opening : Held) (past : History) (jobs : List Job) (dead : List ℕ) (seen : List Told) (m : Held) (e : Told) → Kept codec spelled tracks opening past jobs dead seen m
       → (may : IsAllowed codec jobs dead seen e) → IsReplied m e → StageAdvances codec spelled tracks opening past jobs seen e m may.number may.job (stage_of codec may.job (trace_of may.number seen))
   leads_on opening past jobs dead seen m e kept may replied =
       stage_step codec spelled tracks opening past jobs seen e m may.number may.job (own_step opening past jobs seen e m may.number may.job) (stage_of codec may.job (trace_of may.number seen)) (record {
@@ -355,7 +355,7 @@ module _ {F : Type 0} (codec : Codec F) (spelled : Spelled) (tracks : Tracking F
   step_kept opening past jobs dead seen m e kept (inr broken) replied = broken_kept codec spelled tracks opening past jobs dead seen m e kept broken replied
 
   -- what is held stays held by it, but for leases, where no vacuum makes it
-  step_held : (opening : Held) (past : History) (jobs : List Job) (dead : List ℕ) (seen : List Told) (m : Held) (e : Told) → Kept codec spelled tracks opening past jobs dead seen m
+  pub step_held : (opening : Held) (past : History) (jobs : List Job) (dead : List ℕ) (seen : List Told) (m : Held) (e : Told) → Kept codec spelled tracks opening past jobs dead seen m
       → MayCome codec jobs dead seen e → IsReplied m e → IsNoSweep jobs e → HeldSince m (after_told m e)
   step_held opening past jobs dead seen m e kept (inl may) replied other = elim (leads_on opening past jobs dead seen m e kept may replied).leads [
     | inl leads ↦ (leads.leaves).keeps

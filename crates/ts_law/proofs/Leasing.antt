@@ -1,4 +1,4 @@
--- Leases exclude: over every call, each lease that a job holds is held, and no two that jobs were granted oppose one another.
+-- Leases exclude: over every call, each lease on which a job relies is held, and no two that jobs were granted oppose one another.
 use Rattle.std.proofs.Common.{◌≡◌, ◌≢◌, ℕ, Bool, true, false, cond, not, ◌&&◌, ◌⊎◌, inl, inr, List, [], ◌∷◌, ◌++◌, Option, Some, None, length, refl, sym, ◌∙◌, ap, subst}
 use Rattle.std.specs.Prelude.{Contains, find, slice_get}
 use Rattle.std.specs.FinMap as map
@@ -35,7 +35,7 @@ use Rattle.ts_model.proofs.Lacks.{other_goes, release_ends}
 use Rattle.ts_model.proofs.ListLemmas.{find_member, slice_get_push}
 use Rattle.ts_model.proofs.Traces.{stage_of-other, stage_of-own}
 use Rattle.ts_law.specs.Kept.{AreAmong, MayCome}
-use Rattle.ts_law.specs.Leases.{AreLeased, HasLease, Holds, IsGranted, IsNobodys, is_granted, is_holding}
+use Rattle.ts_law.specs.Leases.{AreLeased, HasLease, IsGranted, IsNobodys, Relies, is_granted, is_relying}
 use Rattle.ts_law.proofs.Effects.{Added, IsLook, PutWent, Still, listed, look_stays, put_went}
 use Rattle.ts_law.proofs.HeldLemmas.{Holds as IsHeld, Holds-from_get, get_put, holds_stays, listed_from_Holds}
 use Rattle.ts_law.proofs.HeldLemmas.{removal_apart}
@@ -92,7 +92,7 @@ module _ {F : Type 0} (codec : Codec F) (job : Job) (lease : Name) (has : lease_
   put_grants_none own reply.Taken = refl
   put_grants_none own _ = refl
 
-  put_holds : (own : Name) (r : Reply) → is_holding {F = F} (after_lease own r) ≡ true → r ≡ reply.Made
+  put_holds : (own : Name) (r : Reply) → is_relying {F = F} (after_lease own r) ≡ true → r ≡ reply.Made
   put_holds own reply.Made e = refl
   put_holds own reply.Taken e = absurd (true≢false (sym e))
   put_holds own _ e = absurd (true≢false (sym e))
@@ -114,19 +114,19 @@ module _ {F : Type 0} (codec : Codec F) (job : Job) (lease : Name) (has : lease_
   granted_from (Works s) c r under asked e = inl (going s c asked)
   granted_from (Releases own end) c r under asked e = absurd (true≢false (sym e))
 
-  -- a job that holds its lease did so before it, or the call put the lease
-  holding_from : (stage : Stage F) (c : Call) (r : Reply) → IsUnder lease stage → stage_asks codec job stage ≡ Some c → is_holding (stage_goes codec job stage r) ≡ true
-      → (is_holding stage ≡ true) ⊎ ((c ≡ put_lease lease) × (r ≡ reply.Made))
-  holding_from (PutsLease own) c r under asked e = inr (sym (same_Some (put_lease own) c asked) ∙ ap put_lease under, put_holds own r e)
-  holding_from (ListsLeases own) c r under asked e = inl refl
-  holding_from (Works s) c r under asked e = inl (going s c asked)
-  holding_from (Releases own end) c r under asked e = absurd (true≢false (sym e))
+  -- a job that relies on its lease did so before it, or the call put the lease
+  relying_from : (stage : Stage F) (c : Call) (r : Reply) → IsUnder lease stage → stage_asks codec job stage ≡ Some c → is_relying (stage_goes codec job stage r) ≡ true
+      → (is_relying stage ≡ true) ⊎ ((c ≡ put_lease lease) × (r ≡ reply.Made))
+  relying_from (PutsLease own) c r under asked e = inr (sym (same_Some (put_lease own) c asked) ∙ ap put_lease under, put_holds own r e)
+  relying_from (ListsLeases own) c r under asked e = inl refl
+  relying_from (Works s) c r under asked e = inl (going s c asked)
+  relying_from (Releases own end) c r under asked e = absurd (true≢false (sym e))
 
   -- the removal of its lease leaves a job over
   release_over : (test : Stage F → Bool) (stage : Stage F) (x : Exchange) → ((s : State F) → is_over s ≡ true → test (Works s) ≡ false) → is_release job x.call ≡ true → test (goes_on codec job stage x) ≡ false
   release_over test stage x none is = ap test (release_ends codec job stage x lease has is) ∙ none (Over (released lease (end_at stage) x.reply)) refl
 
-  -- where it is over it neither works nor holds its lease
+  -- where it is over it neither works nor relies on its lease
   over_granted : (s : State F) → is_over s ≡ true → is_granted (Works s) ≡ false
   over_granted s over = ap not over
 
@@ -143,36 +143,36 @@ module _ {F : Type 0} (codec : Codec F) (job : Job) (lease : Name) (has : lease_
       by_kind true is = absurd (true≢false (sym e ∙ release_over is_granted stage x over_granted is))
       by_kind false other = granted_from stage x.call x.reply under (next_asked stage x.call other may) (ap is_granted (sym (other_goes codec job stage x other)) ∙ e)
 
-  holding_step : (stage : Stage F) (x : Exchange) → IsUnder lease stage → MayAsk codec job stage x.call → is_holding (goes_on codec job stage x) ≡ true → (is_holding stage ≡ true) ⊎ ((x.call ≡ put_lease lease) × (x.reply ≡ reply.Made))
-  holding_step stage x under may e = by_kind (is_release job x.call) refl
+  relying_step : (stage : Stage F) (x : Exchange) → IsUnder lease stage → MayAsk codec job stage x.call → is_relying (goes_on codec job stage x) ≡ true → (is_relying stage ≡ true) ⊎ ((x.call ≡ put_lease lease) × (x.reply ≡ reply.Made))
+  relying_step stage x under may e = by_kind (is_release job x.call) refl
     where
-      by_kind : (b : Bool) → is_release job x.call ≡ b → (is_holding stage ≡ true) ⊎ ((x.call ≡ put_lease lease) × (x.reply ≡ reply.Made))
-      by_kind true is = absurd (true≢false (sym e ∙ release_over is_holding stage x over_granted is))
-      by_kind false other = holding_from stage x.call x.reply under (next_asked stage x.call other may) (ap is_holding (sym (other_goes codec job stage x other)) ∙ e)
+      by_kind : (b : Bool) → is_release job x.call ≡ b → (is_relying stage ≡ true) ⊎ ((x.call ≡ put_lease lease) × (x.reply ≡ reply.Made))
+      by_kind true is = absurd (true≢false (sym e ∙ release_over is_relying stage x over_granted is))
+      by_kind false other = relying_from stage x.call x.reply under (next_asked stage x.call other may) (ap is_relying (sym (other_goes codec job stage x other)) ∙ e)
 
--- a job that was granted its lease holds it
-granted_holds : {F : Type 0} (stage : Stage F) → is_granted stage ≡ true → is_holding stage ≡ true
-granted_holds (Works s) e = e
-granted_holds (PutsLease own) e = absurd (true≢false (sym e))
-granted_holds (ListsLeases own) e = refl
-granted_holds (Releases own end) e = absurd (true≢false (sym e))
+-- a job that was granted its lease relies on it
+granted_relies : {F : Type 0} (stage : Stage F) → is_granted stage ≡ true → is_relying stage ≡ true
+granted_relies (Works s) e = e
+granted_relies (PutsLease own) e = absurd (true≢false (sym e))
+granted_relies (ListsLeases own) e = refl
+granted_relies (Releases own end) e = absurd (true≢false (sym e))
 
--- what it holds is put and not yet removed
-holding_leased : {F : Type 0} (stage : Stage F) → is_holding stage ≡ true → is_leased stage ≡ true
-holding_leased (Works s) e = e
-holding_leased (PutsLease own) e = absurd (true≢false (sym e))
-holding_leased (ListsLeases own) e = refl
-holding_leased (Releases own end) e = absurd (true≢false (sym e))
+-- what it relies on is put and not yet removed
+relying_leased : {F : Type 0} (stage : Stage F) → is_relying stage ≡ true → is_leased stage ≡ true
+relying_leased (Works s) e = e
+relying_leased (PutsLease own) e = absurd (true≢false (sym e))
+relying_leased (ListsLeases own) e = refl
+relying_leased (Releases own end) e = absurd (true≢false (sym e))
 
--- a job that came to an end does not hold its lease
-pub ended_unheld : {F : Type 0} (codec : Codec F) (job : Job) (lease : Name) (trace : List Exchange) (end : Outcome) → lease_of job ≡ Some lease → EndsBy codec job trace end → is_holding (stage_of codec job trace) ≡ true → ⊥
-ended_unheld codec job lease trace end has (inl over) holding = true≢false (sym holding ∙ ap is_holding over)
-ended_unheld codec job lease trace end has (inr lacking) holding =
-    true≢false (sym (holding_leased (stage_of codec job trace) holding) ∙ ap (λ o. is_some o && is_leased (stage_of codec job trace)) (sym has) ∙ (lacking.1).0)
+-- a job that came to an end does not rely on its lease
+pub ended_unrelied : {F : Type 0} (codec : Codec F) (job : Job) (lease : Name) (trace : List Exchange) (end : Outcome) → lease_of job ≡ Some lease → EndsBy codec job trace end → is_relying (stage_of codec job trace) ≡ true → ⊥
+ended_unrelied codec job lease trace end has (inl over) holding = true≢false (sym holding ∙ ap is_relying over)
+ended_unrelied codec job lease trace end has (inr lacking) holding =
+    true≢false (sym (relying_leased (stage_of codec job trace) holding) ∙ ap (λ o. is_some o && is_leased (stage_of codec job trace)) (sym has) ∙ (lacking.1).0)
 
--- a job that made no call does not hold its lease
-pub first_unheld : {F : Type 0} (test : Stage F → Bool) (job : Job) (lease : Name) → ((own : Name) → test (PutsLease own) ≡ false) → lease_of job ≡ Some lease → test (first_stage job) ≡ false
-first_unheld {F} test job lease none has = ap (λ o. test (begins_at o (begun job.command))) has ∙ none lease
+-- a job that made no call does not rely on its lease
+pub first_unrelied : {F : Type 0} (test : Stage F → Bool) (job : Job) (lease : Name) → ((own : Name) → test (PutsLease own) ≡ false) → lease_of job ≡ Some lease → test (first_stage job) ≡ false
+first_unrelied {F} test job lease none has = ap (λ o. test (begins_at o (begun job.command))) has ∙ none lease
 
 -- ---- what is held
 
@@ -251,32 +251,32 @@ module _ {F : Type 0} (codec : Codec F) (jobs : List Job) (dead : List ℕ) (see
   had_before : (test : Stage F → Bool) (number : ℕ) (job : Job) (lease : Name) → (e.job ≡ Some number → ⊥) → HasLease codec test jobs dead (seen ++ e ∷ []) number job lease → HasLease codec test jobs dead seen number job lease
   had_before test number job lease other is = record { is_job = is.is_job; alive = is.alive; has = is.has; stage = ap test (sym (stage_of-other codec job number seen e other)) ∙ is.stage }
 
-  -- the call removes no lease that a job holds after it
-  none_removed : (number : ℕ) (job : Job) (lease : Name) → Holds codec jobs dead (seen ++ e ∷ []) number job lease → e.call ≡ call.Remove lease → ⊥
+  -- the call removes no lease on which a job relies after it
+  none_removed : (number : ℕ) (job : Job) (lease : Name) → Relies codec jobs dead (seen ++ e ∷ []) number job lease → e.call ≡ call.Remove lease → ⊥
   none_removed number job lease is removes = elim (by_job number e.job) [
     | inl own ↦
         let release : is_release job e.call ≡ true = ap (is_release job) removes ∙ ap (λ o. option_map_or (is_removal (call.Remove lease)) o false) is.has ∙ (name_decides lease lease).1 refl in
-        true≢false (sym is.stage ∙ ap is_holding (stage_of-own codec job number seen e own) ∙ ap is_holding (release_ends codec job (stage_at job number) exchange lease is.has release))
+        true≢false (sym is.stage ∙ ap is_relying (stage_of-own codec job number seen e own) ∙ ap is_relying (release_ends codec job (stage_at job number) exchange lease is.has release))
     | inr other ↦ by_maker other may
   ]
     where
       by_maker : (e.job ≡ Some number → ⊥) → MayCome codec jobs dead seen e → ⊥
       by_maker other (inl allowed) =
           allowed.spares lease removes (λ own. other (allowed.own ∙ ap Some (leases_apart jobs one_id allowed.number number allowed.job job lease allowed.is_job is.is_job own is.has))) number job
-          (had_before is_holding number job lease other is)
+          (had_before is_relying number job lease other is)
       by_maker other (inr broken) =
           let same : lease ≡ name.Lease broken.key broken.mode = one_removed lease (name.Lease broken.key broken.mode) (sym removes ∙ broken.removes) in
-          broken.free number job (subst (λ l. Holds codec jobs dead seen number job l) same (had_before is_holding number job lease other is))
+          broken.free number job (subst (λ l. Relies codec jobs dead seen number job l) same (had_before is_relying number job lease other is))
 
   module _ (leased : AreLeased codec jobs dead seen m) (under : (number : ℕ) (job : Job) (lease : Name) → slice_get jobs number ≡ Some job → (Contains dead number → ⊥) → lease_of job ≡ Some lease → IsUnder lease (stage_at job number)) where
-    -- each lease that a job holds after the call is held
-    held_after_call : (number : ℕ) (job : Job) (lease : Name) → Holds codec jobs dead (seen ++ e ∷ []) number job lease → IsHeld (after_told m e) lease
+    -- each lease on which a job relies after the call is held
+    held_after_call : (number : ℕ) (job : Job) (lease : Name) → Relies codec jobs dead (seen ++ e ∷ []) number job lease → IsHeld (after_told m e) lease
     held_after_call number job lease is = elim (by_job number e.job) [
-      | inl own ↦ elim (holding_step codec job lease is.has (stage_at job number) exchange (under number job lease is.is_job is.alive is.has) (may_own number job is.is_job own) (ap is_holding (sym (stage_of-own codec job number seen e own)) ∙ is.stage)) [
+      | inl own ↦ elim (relying_step codec job lease is.has (stage_at job number) exchange (under number job lease is.is_job is.alive is.has) (may_own number job is.is_job own) (ap is_relying (sym (stage_of-own codec job number seen e own)) ∙ is.stage)) [
         | inl before ↦ stays (leased.held number job lease (record { is_job = is.is_job; alive = is.alive; has = is.has; stage = before }))
         | inr made ↦ made_holds m e lease [] replied made.0 made.1
       ]
-      | inr other ↦ stays (leased.held number job lease (had_before is_holding number job lease other is))
+      | inr other ↦ stays (leased.held number job lease (had_before is_relying number job lease other is))
     ]
       where
         stays : IsHeld m lease → IsHeld (after_told m e) lease
@@ -296,7 +296,7 @@ module _ {F : Type 0} (codec : Codec F) (jobs : List Job) (dead : List ℕ) (see
     -- a lease that the call grants opposes none that was granted before
     new_apart : (i j : ℕ) (a b : Job) (first second : Name) → i ≢ j → slice_get jobs i ≡ Some a → lease_of a ≡ Some first → Granting first e.call e.reply → IsGranted codec jobs dead seen j b second → opposes first second ≡ false
     new_apart i j a b first second apart is_job has new before =
-        let held = leased.held j b second (record { is_job = before.is_job; alive = before.alive; has = before.has; stage = granted_holds (stage_at b j) before.stage }) in
+        let held = leased.held j b second (record { is_job = before.is_job; alive = before.alive; has = before.has; stage = granted_relies (stage_at b j) before.stage }) in
         let (mode, named) = lease_is b second before.has in
         let names_are = listed m e Leases new.names new.lists replied new.tells in
         let there : Contains new.names second = subst (λ ns. Contains ns second) (sym names_are) (listed_from_Holds Leases m second held (ap (is_under Leases) named)) in
@@ -350,36 +350,36 @@ no_leases codec m = record {
   apart = λ i j a b first second apart left right. absurd (none-some a left.is_job);
 }
 
--- where more jobs were dropped fewer hold leases
+-- where more jobs were dropped fewer rely on leases
 pub leased_drop : {F : Type 0} (codec : Codec F) (jobs : List Job) (dead more : List ℕ) (seen : List Told) (m : Held) → AreAmong dead more → AreLeased codec jobs dead seen m → AreLeased codec jobs more seen m
 leased_drop {F} codec jobs dead more seen m among leased = record {
-  held = λ number job lease is. leased.held number job lease (alive number job lease is_holding is);
+  held = λ number job lease is. leased.held number job lease (alive number job lease is_relying is);
   apart = λ i j a b first second apart left right. leased.apart i j a b first second apart (alive i a first is_granted left) (alive j b second is_granted right);
 }
   where
     alive : (number : ℕ) (job : Job) (lease : Name) (test : Stage F → Bool) → HasLease codec test jobs more seen number job lease → HasLease codec test jobs dead seen number job lease
     alive number job lease test is = record { is_job = is.is_job; alive = λ at. is.alive (among number at); has = is.has; stage = is.stage }
 
--- what is held among more jobs, of which the last made no call, was held before that came
+-- what is relied on among more jobs, of which the last made no call, was held before that came
 had_more : {F : Type 0} (codec : Codec F) (test : Stage F → Bool) → ((own : Name) → test (PutsLease own) ≡ false) → (jobs : List Job) (job : Job) (dead : List ℕ) (seen : List Told) → trace_of (length jobs) seen ≡ []
     → (number : ℕ) (j : Job) (lease : Name) → HasLease codec test (jobs ++ job ∷ []) dead seen number j lease → HasLease codec test jobs dead seen number j lease
 had_more codec test unheld jobs job dead seen none number j lease is = elim (slice_get_push jobs job number j is.is_job) [
   | inl there ↦ record { is_job = there; alive = is.alive; has = is.has; stage = is.stage }
   | inr last ↦
-      absurd (true≢false (sym is.stage ∙ ap (λ n. test (stage_of codec j (trace_of n seen))) last.0 ∙ ap (λ t. test (stage_of codec j t)) none ∙ first_unheld test j lease unheld is.has))
+      absurd (true≢false (sym is.stage ∙ ap (λ n. test (stage_of codec j (trace_of n seen))) last.0 ∙ ap (λ t. test (stage_of codec j t)) none ∙ first_unrelied test j lease unheld is.has))
 ]
 
--- a job that comes holds none yet
+-- a job that comes relies on none yet
 pub leased_more : {F : Type 0} (codec : Codec F) (jobs : List Job) (job : Job) (dead : List ℕ) (seen : List Told) (m : Held) → trace_of (length jobs) seen ≡ [] → AreLeased codec jobs dead seen m → AreLeased codec (jobs ++ job ∷ []) dead seen m
 leased_more codec jobs job dead seen m none leased = record {
-  held = λ number j lease is. leased.held number j lease (had_more codec is_holding (λ own. refl) jobs job dead seen none number j lease is);
+  held = λ number j lease is. leased.held number j lease (had_more codec is_relying (λ own. refl) jobs job dead seen none number j lease is);
   apart = λ i j a b first second apart left right.
       leased.apart i j a b first second apart (had_more codec is_granted (λ own. refl) jobs job dead seen none i a first left) (had_more codec is_granted (λ own. refl) jobs job dead seen none j b second right);
 }
 
 -- so a lease that was nobody's stays so
 pub nobodys_more : {F : Type 0} (codec : Codec F) (jobs : List Job) (job : Job) (dead : List ℕ) (seen : List Told) (lease : Name) → trace_of (length jobs) seen ≡ [] → IsNobodys codec jobs dead seen lease → IsNobodys codec (jobs ++ job ∷ []) dead seen lease
-nobodys_more codec jobs job dead seen lease none free number j is = free number j (had_more codec is_holding (λ own. refl) jobs job dead seen none number j lease is)
+nobodys_more codec jobs job dead seen lease none free number j is = free number j (had_more codec is_relying (λ own. refl) jobs job dead seen none number j lease is)
 
 -- ---- what exclusion comes to
 

@@ -1,4 +1,4 @@
--- Jobs that come one after the other: beside the one that makes a call no job holds a lease. Those before it came to their ends or were stopped, those after it made no call. So each of their calls may come.
+-- Jobs that come one after the other: beside the one that makes a call no job relies on a lease. Those before it came to their ends or were stopped, those after it made no call. So each of their calls may come.
 use Rattle.std.proofs.Common.{◌≡◌, ℕ, zero, suc, Bool, true, false, cond, ◌<◌, ◌≤◌, inl, inr, List, [], ◌∷◌, ◌++◌, Option, Some, length, refl, sym, ◌∙◌, ap, subst, append_assoc, arith}
 use Rattle.std.specs.Prelude.{All, Contains, slice_get}
 use Rattle.std.specs.List.{cons_option}
@@ -18,10 +18,10 @@ use Rattle.ts_model.proofs.ListLemmas.{Contains-cons, Contains-here, Contains-ni
 use Rattle.ts_model.proofs.Traces.{exchange_of_other, exchange_of_own, stage_of-other, stage_of-own, trace_of-append}
 use Rattle.ts_law.specs.Kept.{AreAllowed, AreAmong}
 use Rattle.ts_law.specs.Lanes.{IsBefore, IsOwned, IsWithin, InTurn, one_lane}
-use Rattle.ts_law.specs.Leases.{Spares, is_holding}
+use Rattle.ts_law.specs.Leases.{Spares, is_relying}
 use Rattle.ts_law.specs.Runs.{AreDriven}
 use Rattle.ts_law.proofs.Lanes.{none_made}
-use Rattle.ts_law.proofs.Leasing.{ended_unheld, first_unheld}
+use Rattle.ts_law.proofs.Leasing.{ended_unrelied, first_unrelied}
 use Rattle.ts_law.proofs.Lists.{item_at}
 
 -- ---- jobs that were stopped
@@ -88,7 +88,7 @@ abbrev IsFrom : ℕ → Told → Type 0
 IsFrom number e = (i : ℕ) → e.job ≡ Some i → number ≤ i
 
 module _ {F : Type 0} (codec : Codec F) (jobs : List Job) (results : List (Driven Outcome)) (one_each : length results ≡ length jobs) where
-  -- beside the job that makes a call no job holds a lease
+  -- beside the job that makes a call no job relies on a lease
   spares : (seen rest : List Told) (number : ℕ) (job : Job) → slice_get jobs number ≡ Some job → All (IsUpTo number) seen → All (IsFrom number) rest
       → ((k : ℕ) (j : Job) (r : Driven Outcome) → slice_get jobs k ≡ Some j → slice_get results k ≡ Some r → ComesOut codec j (trace_of k (seen ++ rest)) r)
       → (e : Told) → Spares codec jobs (stopped_before results number) seen job e.call
@@ -104,12 +104,12 @@ module _ {F : Type 0} (codec : Codec F) (jobs : List Job) (results : List (Drive
           other (ap lease_of (sym it) ∙ is.has)
       | inr apart ↦
           let none : trace_of k seen ≡ [] = none_made k seen (All-weaker (IsUpTo number) (λ d. d.job ≡ Some k → ⊥) (λ d up own. let less = up k own in omega (arith, less, most, apart)) seen early) in
-          true≢false (sym is.stage ∙ ap (λ t. is_holding (stage_of codec holder t)) none ∙ first_unheld is_holding holder lease (λ own. refl) is.has)
+          true≢false (sym is.stage ∙ ap (λ t. is_relying (stage_of codec holder t)) none ∙ first_unrelied is_relying holder lease (λ own. refl) is.has)
     ]
   ]
     where
       by_result : k < number → (r : Driven Outcome) → slice_get results k ≡ Some r → ComesOut codec holder (trace_of k seen) r → ⊥
-      by_result before (Done end) r_at comes = ended_unheld codec holder lease (trace_of k seen) end is.has comes is.stage
+      by_result before (Done end) r_at comes = ended_unrelied codec holder lease (trace_of k seen) end is.has comes is.stage
       by_result before Stopped r_at comes = is.alive (is_stopped_there results number k before (ap is_stopped r_at))
 
   -- calls of jobs that come one after the other may come, where each job asked for its own

@@ -37,6 +37,9 @@ use Rattle.ts_law.proofs.TrueOver.{true_over}
 use Rattle.ts_law.proofs.KeptLaws.{end_is_true, all_kept, calling, coming, every_prefix, held_from}
 use Rattle.ts_law.proofs.Lanes.{in_turn_lanes}
 use Rattle.ts_law.proofs.LineJobs.{AreInOrder, ids_apart, id_has_seed, jobs_fit}
+use Rattle.ts_law.proofs.Idle.{refused_idle}
+use Rattle.ts_law.proofs.SweepsAlone.{sweeps_alone}
+use Rattle.ts_law.proofs.OwnFragments.{stays_own}
 use Rattle.ts_law.proofs.OneLane.{done_apart, one_lane_allowed, stopped_before}
 use Rattle.ts_law.proofs.Segments.{segment_of}
 use Rattle.ts_law.proofs.Short.{short_undone}
@@ -113,6 +116,7 @@ module _ {F : Type 0} (codec : Codec F) (spelled : Spelled) (tracks : Tracking F
   jobs_true_run = record {
     stands = prefix_stands;
     journal = journal_stands;
+    own = stays_own codec spelled tracks laws m h jobs last told begins may replied;
     stays = λ front mid back parts others. held_from codec spelled tracks laws m h jobs [] last [] m told front mid back begins may replied parts others;
     answers = λ number job end at end_at.
         true_over spelled m jobs h told number job end
@@ -122,6 +126,8 @@ module _ {F : Type 0} (codec : Codec F) (spelled : Spelled) (tracks : Tracking F
         refused_for spelled m jobs h told replied (λ front back parts. ((every_prefix codec spelled tracks laws m h jobs [] last [] m told front back begins may replied parts).kept).stands) number codec job r
         (true_end number job (outcome.Refused r) at end_at)
         (segment_of codec laws.looks job (trace_of number told) (Done (outcome.Refused r)) (driven.driven number job (Done (outcome.Refused r)) at end_at));
+    sweeps = λ number job at vacuums. sweeps_alone codec spelled tracks laws m h jobs last told begins may replied number job at vacuums;
+    idle = λ number job r at end_at. refused_idle codec spelled tracks laws m h jobs last told begins may replied number job r at (driven.driven number job (Done (outcome.Refused r)) at end_at).ends;
   }
 
 -- ---- the start

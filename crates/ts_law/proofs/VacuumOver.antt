@@ -23,7 +23,7 @@ use Rattle.ts_law.specs.Swept.{sweep_over}
 use Rattle.ts_law.proofs.Vacuumed.{each_of_places, sweep_is, vacuumed_by}
 
 -- a vacuum that has as many `.vac` objects as count has all of them
-all_vacs_of : (m : Held) (s : Sweep) → IsFoundIn m s → length s.vacs ≡ length s.counting → AreAllVacs m s.vacs
+pub all_vacs_of : (m : Held) (s : Sweep) → IsFoundIn m s → length s.vacs ≡ length s.counting → AreAllVacs m s.vacs
 all_vacs_of m s found all = record {
   frags = found.are_vacs.frags ∙ take_all (length s.vacs) s.counting (omega (arith, all)) ∙ found.counting_are;
   each = λ v at. (found.are_vacs.each v at).1;

@@ -1,5 +1,5 @@
 -- What the end of a job tells of the history.
-use Rattle.std.specs.Prelude.{◌≡◌, ℕ, Bool, true, not, length, List, [], ◌∷◌, ◌++◌, Some, None, Ok, IsTrue, Contains, filter, ⊤, ◌⊎◌, map as list_map}
+use Rattle.std.specs.Prelude.{◌≡◌, ℕ, Bool, true, false, not, length, List, [], ◌∷◌, ◌++◌, Some, None, Ok, IsTrue, Contains, filter, ⊤, ◌⊎◌, map as list_map}
 use Rattle.std.specs.List.{list_any}
 use Rattle.std.specs.Option.{option_map_or}
 use Rattle.ts_base.specs.declared.names.Name.{Name}
@@ -40,7 +40,7 @@ use Rattle.ts_commit.specs.Selections.{clipped_names, has_origin, is_among, is_c
 use Rattle.ts_model.specs.Told.{Told, held_told, history_told}
 use Rattle.ts_model.specs.States.{committed_in, counting_in, leases_unlocked, meets, vac_of}
 use Rattle.ts_model.specs.Codecs.{Spelled}
-use Rattle.ts_law.specs.Stands.{HoldsIn, IsCommitted, Names}
+use Rattle.ts_law.specs.Stands.{EachInItsOwn, HoldsIn, IsCommitted, Names}
 use Rattle.ts_cond.specs.declared.query.Query.{Query}
 use Rattle.ts_cond.specs.Tests.{Condition}
 use Rattle.ts_model.specs.Queries.{delete_condition}
@@ -90,6 +90,10 @@ pub record IsAnswerOver (spelled : Spelled) (h : History) (m : Held) (later : Hi
   pub is : IsAnswer (without_clipped a b heads h) later a b query answer
   -- where no fragment is clipped, it is that of the whole history
   pub whole : IsWhole answer → IsAnswer h later a b query answer
+  -- no fragment is clipped where each write is in its own fragment
+  pub unclipped : EachInItsOwn spelled m h → IsWhole answer
+  -- nor is one in a sparse array
+  pub sparse : (frame : Frame) → frame_in h ≡ Some frame → frame.dense ≡ false → IsWhole answer
 
 -- the answer of a read is that of the objects and the history at its listing of the commits, shown through the history at its later listing of the schemas
 pub record AnswersAt (spelled : Spelled) (opening : Held) (jobs : List Job) (past : History) (told : List Told) (number from to : ℕ) (query : Query) (answer : Answer) : Type 0 where

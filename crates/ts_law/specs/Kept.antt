@@ -423,7 +423,7 @@ Claims codec spelled tracks opening past jobs seen m number job (states.Sweeps s
 Claims codec spelled tracks opening past jobs seen m number job (Removes names next end) = Removing spelled opening past jobs seen m number job names next end
 Claims codec spelled tracks opening past jobs seen m number job (Over end) = IsTrueEnd spelled opening jobs past seen number job end
 
--- a job holds its lease, or is to put it, and its work has not begun
+-- a job relies on its lease, or is to put it, and its work has not begun
 abbrev pub IsBefore : {F : Type 0} → Codec F → Spelled → Tracking F → Held → History → List Job → List Told → Held → ℕ → Job → Name → Type 0
 IsBefore codec spelled tracks opening past jobs seen m number job lease = (lease_of job ≡ Some lease) × Claims codec spelled tracks opening past jobs seen m number job (begun job.command)
 

@@ -1,4 +1,4 @@
--- Leases that jobs hold: which those are, what is true of them, and which calls spare them.
+-- Leases on which jobs rely: which those are, what is true of them, and which calls spare them.
 use Rattle.std.specs.Prelude.{◌≡◌, ◌≢◌, ℕ, Bool, true, false, not, List, Some, None, slice_get, Contains, IsTrue}
 use Rattle.ts_base.specs.declared.keys.Key.{Key}
 use Rattle.ts_base.specs.declared.names.Name.{Name}
@@ -19,11 +19,11 @@ use Rattle.std.specs.FinMap as map
 
 -- ---- jobs and their leases
 
--- a job with a lease holds it in this stage: from the listing of the leases on, until it comes to remove it
-abbrev pub is_holding : {F : Type 0} → Stage F → Bool
-is_holding (ListsLeases lease) = true
-is_holding (Works s) = not (is_over s)
-is_holding stage = false
+-- a job with a lease relies on it in this stage: once its put was made, until the job comes to remove it
+abbrev pub is_relying : {F : Type 0} → Stage F → Bool
+is_relying (ListsLeases lease) = true
+is_relying (Works s) = not (is_over s)
+is_relying stage = false
 
 -- it was granted the lease: it works
 abbrev pub is_granted : {F : Type 0} → Stage F → Bool
@@ -37,9 +37,9 @@ pub record HasLease {F : Type 0} (codec : Codec F) (test : Stage F → Bool) (jo
   pub has : lease_of job ≡ Some lease
   pub stage : test (stage_of codec job (trace_of number seen)) ≡ true
 
--- the job holds this lease
-abbrev pub Holds : {F : Type 0} → Codec F → List Job → List ℕ → List Told → ℕ → Job → Name → Type 0
-Holds codec jobs dead seen number job lease = HasLease codec is_holding jobs dead seen number job lease
+-- the job relies on this lease
+abbrev pub Relies : {F : Type 0} → Codec F → List Job → List ℕ → List Told → ℕ → Job → Name → Type 0
+Relies codec jobs dead seen number job lease = HasLease codec is_relying jobs dead seen number job lease
 
 -- the job was granted this lease
 abbrev pub IsGranted : {F : Type 0} → Codec F → List Job → List ℕ → List Told → ℕ → Job → Name → Type 0
@@ -47,22 +47,22 @@ IsGranted codec jobs dead seen number job lease = HasLease codec is_granted jobs
 
 -- ---- what is kept
 
--- each lease that a job holds is held by the store, and no two that jobs were granted oppose one another
+-- each lease on which a job relies is held, and no two that jobs were granted oppose one another
 pub record AreLeased {F : Type 0} (codec : Codec F) (jobs : List Job) (dead : List ℕ) (seen : List Told) (m : Held) : Type 0 where
-  pub held : (number : ℕ) (job : Job) (lease : Name) → Holds codec jobs dead seen number job lease → IsTrue (map.contains_key m lease)
+  pub held : (number : ℕ) (job : Job) (lease : Name) → Relies codec jobs dead seen number job lease → IsTrue (map.contains_key m lease)
   pub apart : (i j : ℕ) (a b : Job) (first second : Name) → i ≢ j → IsGranted codec jobs dead seen i a first → IsGranted codec jobs dead seen j b second → opposes first second ≡ false
 
 -- ---- which calls spare them
 
--- no job holds the lease
+-- no job relies on the lease
 abbrev pub IsNobodys : {F : Type 0} → Codec F → List Job → List ℕ → List Told → Name → Type 0
-IsNobodys codec jobs dead seen lease = (number : ℕ) (job : Job) → Holds codec jobs dead seen number job lease → ⊥
+IsNobodys codec jobs dead seen lease = (number : ℕ) (job : Job) → Relies codec jobs dead seen number job lease → ⊥
 
--- a call of a job removes no lease that a job holds, its own aside
+-- a call of a job removes no lease on which a job relies, its own aside
 abbrev pub Spares : {F : Type 0} → Codec F → List Job → List ℕ → List Told → Job → Call → Type 0
 Spares codec jobs dead seen job c = (lease : Name) → c ≡ call.Remove lease → (lease_of job ≡ Some lease → ⊥) → IsNobodys codec jobs dead seen lease
 
--- a lease is broken: nobody removes one that no job holds
+-- a lease is broken: nobody removes one on which no job relies
 pub record IsBroken {F : Type 0} (codec : Codec F) (jobs : List Job) (dead : List ℕ) (seen : List Told) (e : Told) : Type 0 where
   pub nobodys : e.job ≡ None
   pub key : Key

@@ -13,5 +13,7 @@ pub mod Doing
 pub mod Leases
 pub mod Since
 pub mod Sweeps
+pub mod Changes
 pub mod Kept
+pub mod Shared
 pub mod Steps

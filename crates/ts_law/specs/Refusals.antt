@@ -88,6 +88,12 @@ abbrev pub IsRefusedAs : List Job → History → List Told → ℕ → Job → 
 IsRefusedAs jobs past told number job r (Create made) = (create_refusal made ≡ Some r) × (trace_of number told ≡ [])
 IsRefusedAs jobs past told number job r _ = FindsFault jobs past told number job r
 
+-- a refusal for no failed call, and for no name that was taken
+abbrev pub IsNoFault : Refusal → Type 0
+IsNoFault (refusal.StoreFault p) = ⊥
+IsNoFault (refusal.Taken n) = ⊥
+IsNoFault r = ⊤
+
 -- a job is refused for this, where a map was held at the beginning: no object is missing, damaged or taken
 abbrev pub IsRefusedFor : Spelled → Held → List Job → History → List Told → ℕ → Job → Refusal → Type 0
 IsRefusedFor spelled opening jobs past told number job refusal.ArrayExists = (made : FrameIn) × (job.command ≡ Create made) × FindsArray jobs past told number made

@@ -16,9 +16,11 @@ use Rattle.ts_law.specs.Histories.{history_of}
 use Rattle.ts_model.specs.Codecs.{Codec, Spelled}
 use Rattle.ts_law.specs.Stands.{Stands}
 use Rattle.ts_law.specs.Kept.{HeldSince}
-use Rattle.ts_law.specs.Sweeps.{IsNoSweep}
+use Rattle.ts_law.specs.Sweeps.{IsNoSweep, StayInTheirOwn}
 use Rattle.ts_law.specs.Ends.{IsTrueOver}
-use Rattle.ts_law.specs.Refusals.{IsRefusedFor}
+use Rattle.ts_law.specs.Changes.{ChangedNothing, SweepsAlone}
+use Rattle.ts_law.specs.Refusals.{IsNoFault, IsRefusedFor}
+use Rattle.ts_model.specs.declared.commands.Command.TheVariants.{Vacuum}
 use Rattle.ts_model.specs.declared.answers.Refusal.{Refusal}
 use Rattle.ts_model.specs.Deeds.{History}
 use Rattle.ts_law.specs.Courses.{IsSegment}
@@ -38,13 +40,16 @@ abbrev pub AreSegments : {F : Type 0} → Codec F → List Job → List (Driven 
 AreSegments codec jobs results told =
     (number : ℕ) (job : Job) (result : Driven Outcome) → slice_get jobs number ≡ Some job → slice_get results number ≡ Some result → IsSegment codec job (trace_of number told) result
 
--- each first part of what was told leaves objects that stand for its history, and so does each first part of the journal. By calls of which none is of a vacuum, what is held stays held, but for leases. What each end tells of the history is true, and each job that ended refused is so for its cause; a job that was stopped has no end
+-- each first part of what was told leaves objects that stand for its history, and so does each first part of the journal. By calls of which none is of a vacuum, what is held stays held, but for leases, and each write stays in its own fragment. What each end tells of the history is true, and each job that ended refused is so for its cause, and but for a fault changed nothing. A vacuum, however it came out, changed no other objects than it is to remove; a job that was stopped has no end
 pub record IsTrueRun (spelled : Spelled) (lanes : ℕ → ℕ) (jobs : List Job) (h : History) (m : Held) (told : List Told) (results : List (Driven Outcome)) : Type 0 where
   pub stands : (front back : List Told) → told ≡ front ++ back → Stands spelled (held_after m (entries_of (lane_by lanes) front)) (history_told jobs h front)
   pub journal : (front back : List Entry) → entries_of (lane_by lanes) told ≡ front ++ back → Stands spelled (held_after m front) (history_of h m jobs front)
+  pub own : StayInTheirOwn spelled jobs h m told
   pub stays : (front mid back : List Told) → told ≡ front ++ (mid ++ back) → All (IsNoSweep jobs) mid → HeldSince (held_told m front) (held_told m (front ++ mid))
   pub answers : (number : ℕ) (job : Job) (end : Outcome) → slice_get jobs number ≡ Some job → slice_get results number ≡ Some (Done end) → IsTrueOver spelled m jobs h told number job end
   pub causes : (number : ℕ) (job : Job) (r : Refusal) → slice_get jobs number ≡ Some job → slice_get results number ≡ Some (Done (outcome.Refused r)) → IsRefusedFor spelled m jobs h told number job r
+  pub idle : (number : ℕ) (job : Job) (r : Refusal) → slice_get jobs number ≡ Some job → slice_get results number ≡ Some (Done (outcome.Refused r)) → IsNoFault r → ChangedNothing m told number job
+  pub sweeps : (number : ℕ) (job : Job) → slice_get jobs number ≡ Some job → job.command ≡ Vacuum → SweepsAlone m told number job
 
 -- what a run is over a store that held m
 pub record IsRunOver (spelled : Spelled) (seed : ℕ) (lanes : ℕ → ℕ) (jobs : List Job) (m : Held) (later : Option Held) (journal : List Entry) (told : List Told) (results : List (Driven Outcome)) : Type 0 where

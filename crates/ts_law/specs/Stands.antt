@@ -13,6 +13,7 @@ use Rattle.ts_commit.specs.Selections.{has_origin}
 use Rattle.ts_commit.specs.Vacs.{names_of, AreNames}
 use Rattle.ts_base.specs.Held.{Held}
 use Rattle.ts_base.specs.declared.names.CommitKind.TheVariants.{Del}
+use Rattle.ts_base.specs.Keys.{frag_of}
 use Rattle.ts_base.specs.Names.{wrt_of, IsSpelledFrag}
 use Rattle.ts_base.specs.Spelling.{FitsFrag}
 use Rattle.ts_schema.specs.FrameTexts.{frame_object}
@@ -63,6 +64,10 @@ pub record WentInto (spelled : Spelled) (h : History) (m : Held) (f : FragKey) (
   pub piece : Piece
   pub holds : HoldsIn spelled h m f piece
   pub origin : has_origin k piece.head ≡ true
+
+-- each write is in its own fragment, which is committed
+abbrev pub EachInItsOwn : Spelled → Held → History → Type 0
+EachInItsOwn spelled m h = (w : Written) → Contains (writes h) w → IsCommitted m (frag_of w.key) × WentInto spelled h m (frag_of w.key) w.key
 
 -- ---- what the `.vac` objects tell
 

@@ -1,5 +1,5 @@
 -- What a vacuum finds before its first removal, and what is kept while it removes.
-use Rattle.std.specs.Prelude.{◌≡◌, ℕ, ◌<◌, ◌≤◌, List, Some, length, slice_get, Contains}
+use Rattle.std.specs.Prelude.{◌≡◌, ℕ, ◌<◌, ◌≤◌, List, ◌++◌, Some, length, slice_get, All, Contains}
 use Rattle.ts_base.specs.declared.keys.FragKey.{FragKey}
 use Rattle.ts_base.specs.declared.names.Name.{Name}
 use Rattle.ts_base.specs.declared.names.Part.{Part}
@@ -11,6 +11,7 @@ use Rattle.ts_commit.specs.declared.vacs.VacOf.{VacOf}
 use Rattle.ts_commit.specs.Selections.{removal_set}
 use Rattle.ts_model.specs.declared.answers.Outcome.{Outcome}
 use Rattle.ts_model.specs.declared.commands.Job.{Job}
+use Rattle.ts_model.specs.declared.commands.Line.{Line}
 use Rattle.ts_model.specs.declared.commands.Command.TheVariants.{Vacuum}
 use Rattle.ts_model.specs.declared.states.Sweep.{Sweep}
 use Rattle.ts_model.specs.Codecs.{Spelled}
@@ -21,7 +22,7 @@ use Rattle.ts_law.specs.Ends.{FindsSchema, IsGone, ListedAt}
 use Rattle.ts_law.specs.Fresh.{AreSpent, IsSpent}
 use Rattle.ts_law.specs.Removals.{AreCoveredOutside}
 use Rattle.ts_law.specs.Since.{AreVacs, Clean, Since}
-use Rattle.ts_law.specs.Stands.{IsCommitted}
+use Rattle.ts_law.specs.Stands.{EachInItsOwn, IsCommitted}
 use Rattle.ts_law.specs.Swept.{ListsPartsOf}
 use Rattle.ts_base.specs.declared.names.Name.TheVariants as name
 use Rattle.ts_model.specs.declared.answers.Outcome.TheVariants as outcome
@@ -112,3 +113,12 @@ pub record Vacuuming (spelled : Spelled) (opening : Held) (past : History) (jobs
 -- no vacuum made the call
 abbrev pub IsNoSweep : List Job → Told → Type 0
 IsNoSweep jobs e = (number : ℕ) (job : Job) → e.job ≡ Some number → slice_get jobs number ≡ Some job → job.command ≡ Vacuum → ⊥
+
+-- the line asks for no vacuum
+abbrev pub IsNoVacuum : Line → Type 0
+IsNoVacuum line = line.command ≡ Vacuum → ⊥
+
+-- as long as no vacuum makes a call each write stays in its own fragment
+abbrev pub StayInTheirOwn : Spelled → List Job → History → Held → List Told → Type 0
+StayInTheirOwn spelled jobs past opening told =
+    EachInItsOwn spelled opening past → (front back : List Told) → told ≡ front ++ back → All (IsNoSweep jobs) front → EachInItsOwn spelled (held_told opening front) (history_told jobs past front)

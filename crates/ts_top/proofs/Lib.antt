@@ -8,6 +8,7 @@ pub mod LeasesTold
 pub mod Removed
 pub mod UnlocksTold
 pub mod SweepsTold
+pub mod StaysTold
 pub mod StopsTold
 pub mod RefusalsTold
 pub mod Promises

@@ -52,7 +52,7 @@ use Rattle.ts_model.specs.Told.{Told, entries_of, entry_of, exchange_of, held_to
 use Rattle.ts_model.proofs.ListLemmas.{Contains-cons, Contains-slice_get, Contains-filter_map, Contains-here, Contains-nil, Contains-there, filter_map-Contains}
 use Rattle.ts_model.proofs.Traces.{exchange_of_other, exchange_of_own, history_told-append, trace_of-append}
 use Rattle.ts_law.specs.Ends.{IsTrueEnd, IsTrueOver, IsUndone, ListedAt}
-use Rattle.ts_law.specs.Refusals.{IsRefusedFor}
+use Rattle.ts_law.specs.Refusals.{IsNoFault, IsRefusedFor}
 use Rattle.ts_law.specs.Fresh.{IsFreshSeed, IsJobOf, AreJobsOf, Numbered, command_at, id_of, in_lane_order, job_from, lanes_of, seed_in, lane_of as line_lane}
 use Rattle.ts_law.specs.Lanes.{lane_by, one_lane, IsOwned, IsWithin, IsBefore, InTurn}
 use Rattle.ts_law.specs.Courses.{IsSegment}
@@ -66,13 +66,15 @@ use Rattle.ts_law.proofs.Doing.{ran-no_call}
 use Rattle.ts_law.proofs.Journals.{journal_held}
 use Rattle.ts_law.proofs.KeptLaws.{Replied-front}
 use Rattle.ts_law.proofs.Lists.{item_at}
+use Rattle.ts_law.proofs.NoSweeps.{no_sweeps, unclipped_run}
 use Rattle.ts_law.proofs.LineJobs.{AreInOrder, IsFitItem, each_line, in_order, seed_of_id}
 use Rattle.ts_law.proofs.TrueRuns.{kept_first, true_run, works_where_used}
 use Rattle.ts_actor.specs.PlainCodec.{NeverWaits}
 use Rattle.ts_actor.specs.PlainLaws.{plain_laws}
 use Rattle.ts_top.specs.Ends.{ends_text}
-use Rattle.ts_top.specs.Promise.{CameOut, HasNoLease, HeldOnce, IsDone, IsDeedOf, IsLineDone, Tells, IsStored, Promise, Began, Promised}
+use Rattle.ts_top.specs.Promise.{CameOut, HasNoLease, HeldOnce, IsDone, IsDeedOf, IsLineDone, LeavesAll, LeavesOthers, Tells, IsStored, Promise, Began, Promised}
 use Rattle.ts_top.specs.Runners.{run_codec, run_spelled}
+use Rattle.ts_top.specs.Sweeps.{MaySweep}
 use Rattle.ts_script.specs.Script.{AreLimited}
 use Rattle.ts_script.specs.declared.words.Asked.{Asked}
 use Rattle.ts_script.specs.Words.{asked}
@@ -83,6 +85,7 @@ use Rattle.ts_top.proofs.Places.{Early, Late, cancelled, fronts, goes_on, listed
 use Rattle.ts_top.proofs.LeasesTold.{EndsWell, no_lease}
 use Rattle.ts_top.proofs.MergesTold.{calls_in, merged_tells, schema_found}
 use Rattle.ts_top.proofs.Removed.{Replied-back}
+use Rattle.ts_top.proofs.StaysTold.{keeps_held, leaves_all, leaves_others}
 use Rattle.ts_top.proofs.StopsTold.{keeps_stop}
 use Rattle.ts_top.proofs.SweepsTold.{vacuumed_tells}
 use Rattle.ts_top.proofs.UnlocksTold.{listed_tells, unlocked_tells}
@@ -659,6 +662,8 @@ module _ (gives : ℕ → Bool) (seed : ℕ) (items : List Numbered) (jobs : Lis
       let traced : trace_of i told ≡ trace_of i c =
       ap (trace_of i) place ∙ trace_of-append i (a ++ c) b' ∙ ap (λ t. trace_of i (a ++ c) ++ t) none_late ∙ append-nil (trace_of i (a ++ c)) ∙ trace_of-append i a c ∙ ap (λ t. t ++ trace_of i c) none_early in
       let segment : IsSegment run_codec job (trace_of i c) result = subst (λ t. IsSegment run_codec job t result) traced (segments i job result is_job result_at) in
+      let stays : (front mid : List Told) → a' ≡ front ++ mid → All (IsNoSweep jobs) mid → HeldSince (held_told m front) (held_told m a') = λ front mid split quiet.
+      subst (λ t. HeldSince (held_told m front) (held_told m t)) (sym split) ((front_run (i + 1)).stays front mid [] (split ∙ ap (λ l. front ++ l) (sym (append-nil mid))) quiet) in
       let ended : (end : Outcome) → slice_get results i ≡ Some (Done end) → IsSegment run_codec job (trace_of i c) (Done end) → Tells (calls_in m lane a c) (history_told jobs past a) (history_told jobs past a') (key_of job) end job.command = λ end end_at ends.
       let is_over : IsTrueOver run_spelled m jobs past a' i job end = (front_run (i + 1)).answers i job end is_job (short_at results (i + 1) i (Done end) (omega arith) end_at) in
       let is_true = true_end_of run_spelled m jobs past a' i job end is_over in
@@ -671,8 +676,6 @@ module _ (gives : ℕ → Bool) (seed : ℕ) (items : List Numbered) (jobs : Lis
             grows_by ∙ ap (λ l. history_told jobs past a ++ l) none ∙ append-nil (history_told jobs past a),
       ) in
       let left : EndsWell end → HasNoLease (calls_in m lane a c) (key_of job) job.command = λ well. no_lease m lane a c i job mine suits end well ends in
-      let stays : (front mid : List Told) → a' ≡ front ++ mid → All (IsNoSweep jobs) mid → HeldSince (held_told m front) (held_told m a') = λ front mid split quiet.
-      subst (λ t. HeldSince (held_told m front) (held_told m t)) (sym split) ((front_run (i + 1)).stays front mid [] (split ∙ ap (λ l. front ++ l) (sym (append-nil mid))) quiet) in
       end_tells jobs past a c a' grows i early m lane job is_job mine suits replies stood end still stays left short causes ends is_true in
       let stopped : slice_get results i ≡ Some Stopped → (item.line).stop ≡ stop.Never → ⊥ = λ at never.
       let (call, may, cut_off) = (driven.driven i job Stopped is_job at).ends in
@@ -682,7 +685,12 @@ module _ (gives : ℕ → Bool) (seed : ℕ) (items : List Numbered) (jobs : Lis
         | Done end ↦ ended end
         | Stopped ↦ λ at ends. stopped at
       ] result_at segment in
-      let done : IsDone (calls_in m lane a c) (history_told jobs past a) (history_told jobs past a') (key_of job) (item.line).stop result job.command = record { deeds = deeds; goes_on = grows_by; own = of_job; tells = came } in
+      let idle : (r : Refusal) → result ≡ Done (outcome.Refused r) → IsNoFault r → LeavesAll (calls_in m lane a c) (key_of job) job.command = λ r is none.
+      leaves_all m jobs lane a c a' grows i job is_job mine ((front_run (i + 1)).idle i job r is_job (short_at results (i + 1) i (Done (outcome.Refused r)) (omega arith) (result_at ∙ ap Some is)) none) in
+      let sweeps : job.command ≡ Vacuum → LeavesOthers (calls_in m lane a c) (key_of job) job.command (MaySweep (calls_in m lane a c)) = λ vacuums.
+      leaves_others m jobs lane a c a' grows i job is_job mine past early ((front_run (i + 1)).sweeps i job is_job vacuums) in
+      let done : IsDone (calls_in m lane a c) (history_told jobs past a) (history_told jobs past a') (key_of job) (item.line).stop result job.command =
+      record { deeds = deeds; goes_on = grows_by; own = of_job; tells = came; stays = keeps_held m jobs lane a c a' grows i job is_job mine stays; sweeps = sweeps; idle = idle } in
       let small = All-contains IsFitItem items item order.fit (Contains-slice_get items i item is_item) in
       let seed_is : seed_in id ≡ seed = seed_of_id seed (item.line).lane item.number (omega (arith, (small.fit).lane)) small.few in
       let as_line : IsDone (calls_in m lane a c) (history_told jobs past a) (history_told jobs past a') (record { t = job.at; id = id }) (item.line).stop result (command_at (seed_in id) item.line job.at) =
@@ -750,6 +758,9 @@ module _ {S : Type 0} (held : S → Option Held) (made : S → List Exchange →
         first = (ap (history_told jobs past) none, ap (entries_of (lane_by (lanes_of items))) none);
         last = ap journal count ∙ ap (entries_of (lane_by (lanes_of items))) all ∙ run.entries;
         done = is_done seen.gives seen.seed items jobs past m run.told results performed.of_lines order stands fresh seed_fits over.replied run.suit run.owned run.in_lanes.within performed.in_turn run.driven run.segments;
+        unclipped = λ own none i answer end_at.
+            let (job, at) = item_at results jobs i run.driven.one_each (slice_get_within results i (Done (outcome.Read answer)) end_at) in
+            unclipped_run run_spelled (lanes_of items) jobs past m run.told results (over.true_run past stands fresh) own (no_sweeps seen.gives seen.seed lines jobs performed.of_lines none) i job answer at end_at;
         stood = λ i few. stood_by seen.gives seen.seed items jobs past m run.told results performed.of_lines order stands fresh seed_fits over.replied run.suit run.owned run.in_lanes.within performed.in_turn run.driven i;
         stored = (over.held, subst (IsStored (held_after m seen.journal)) (sym (ap so_far count ∙ ap (history_told jobs past) all)) stored);
         front = front_of (report_text (report_of job) items results) (status_printed (report_of job) results) prints;

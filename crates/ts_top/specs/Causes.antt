@@ -71,7 +71,7 @@ HasCause calls h k r command = (there : Schema) × (schema_there h (looks_for k 
 -- what a refusal tells.
 -- No object is missing, damaged or taken.
 -- Where a call failed, the history has no deed of the command, but perhaps that of the put that failed.
--- A command that is refused else did nothing, for a cause.
+-- A command that is refused else did no deed, for a cause.
 abbrev pub TellsRefusal : Calls → History → History → Key → Command → Refusal → Type 0
 TellsRefusal calls before now k command (refusal.Missing n) = ⊥
 TellsRefusal calls before now k command (refusal.Damaged n at) = ⊥

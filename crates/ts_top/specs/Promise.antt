@@ -1,5 +1,5 @@
 -- What a run promises: what its printed text and the end of each command mean, in words of the history.
-use Rattle.std.specs.Prelude.{◌≡◌, ◌≢◌, ℕ, ◌+◌, ◌≤◌, Bool, false, List, [], ◌∷◌, ◌++◌, Option, Some, None, Ok, length, slice_get, All, Contains, IfSome, ⊤, ◌⊎◌}
+use Rattle.std.specs.Prelude.{◌≡◌, ◌≢◌, ℕ, ◌+◌, ◌≤◌, Bool, false, List, [], ◌∷◌, ◌++◌, Option, Some, None, Ok, option_map, length, slice_get, All, Contains, IfSome, ⊤, ◌⊎◌}
 use Rattle.std.specs.Io.KnownBytes.{Appends}
 use Rattle.std.specs.FinMap as map
 use Rattle.ts_base.specs.Held.{Held}
@@ -8,6 +8,7 @@ use Rattle.ts_base.specs.declared.heads.Cell.{Cell}
 use Rattle.ts_base.specs.declared.heads.Stop.{Stop}
 use Rattle.ts_base.specs.declared.heads.Stop.TheVariants as stop
 use Rattle.ts_base.specs.Keys.{frag_of}
+use Rattle.ts_base.specs.declared.names.Name.{Name}
 use Rattle.ts_base.specs.declared.names.Name.TheVariants as name
 use Rattle.ts_base.specs.declared.names.Prefix.TheVariants.{Commits}
 use Rattle.ts_store.specs.declared.journal.Entry.{Entry}
@@ -25,10 +26,12 @@ use Rattle.ts_model.specs.declared.commands.Command.TheVariants.{Create, Evolve,
 use Rattle.ts_model.specs.declared.answers.Answer.{Answer}
 use Rattle.ts_model.specs.declared.answers.Outcome.{Outcome}
 use Rattle.ts_model.specs.declared.answers.Outcome.TheVariants as outcome
+use Rattle.ts_model.specs.declared.answers.Refusal.{Refusal}
 use Rattle.ts_model.specs.declared.answers.Driven.{Driven}
 use Rattle.ts_model.specs.declared.answers.Driven.TheVariants.{Done, Stopped}
 use Rattle.ts_model.specs.declared.deeds.Deed.{Deed}
 use Rattle.ts_model.specs.declared.deeds.Deed.TheVariants.{Framed, Declared, Wrote, Erased}
+use Rattle.ts_model.specs.Answers.{IsWhole}
 use Rattle.ts_model.specs.Deeds.{History, frame_in, schema_with, schema_there, writes, deletions, IsNewKey}
 use Rattle.ts_model.specs.Commands.{frame_made, laid}
 use Rattle.ts_model.specs.Queries.{delete_condition}
@@ -36,7 +39,10 @@ use Rattle.ts_model.specs.Stages.{mode_of}
 use Rattle.ts_model.specs.Stops.{is_point}
 use Rattle.ts_law.specs.Ends.{IsAnswerOver}
 use Rattle.ts_law.specs.Fresh.{IsFreshSeed, IsStampOf, Numbered, command_at, id_of, in_lane_order}
-use Rattle.ts_law.specs.Stands.{Stands}
+use Rattle.ts_law.specs.Refusals.{IsNoFault}
+use Rattle.ts_law.specs.Since.{HeldSince}
+use Rattle.ts_law.specs.Stands.{EachInItsOwn, Stands}
+use Rattle.ts_law.specs.Sweeps.{IsNoVacuum}
 use Rattle.ts_top.specs.Causes.{TellsRefusal}
 use Rattle.ts_script.specs.declared.words.Asked.{Asked}
 use Rattle.ts_script.specs.Words.{asked}
@@ -45,7 +51,7 @@ use Rattle.ts_top.specs.Reports.{report_text}
 use Rattle.ts_top.specs.Merges.{Calls, Merged, held_by}
 use Rattle.ts_top.specs.Runners.{run_spelled}
 use Rattle.ts_top.specs.Seen.{Seen, Means}
-use Rattle.ts_top.specs.Sweeps.{Unlocked, Vacuumed}
+use Rattle.ts_top.specs.Sweeps.{MaySweep, Unlocked, Vacuumed}
 
 -- a history goes on from another: deeds came after it
 abbrev pub Extends : History → History → Type 0
@@ -58,6 +64,14 @@ HeldOnce before now k schema = (once : History) × Extends before once × Extend
 -- at the end of its calls no lease of a command with the key is held
 abbrev pub HasNoLease : Calls → Key → Command → Type 0
 HasNoLease calls k command = IfSome (mode_of command) (λ mode. map.get (held_by calls calls.entries) (name.Lease k mode) ≡ None)
+
+-- at the end of its calls each object is as it was before them, but the lease of a command with the key
+abbrev pub LeavesAll : Calls → Key → Command → Type 0
+LeavesAll calls k command = (n : Name) → (option_map (name.Lease k) (mode_of command) ≡ Some n → ⊥) → map.get (held_by calls calls.entries) n ≡ map.get calls.opening n
+
+-- the same, but also for objects of a kind
+abbrev pub LeavesOthers : Calls → Key → Command → (Name → Type 0) → Type 0
+LeavesOthers calls k command kind = (n : Name) → (option_map (name.Lease k) (mode_of command) ≡ Some n → ⊥) → (map.get (held_by calls calls.entries) n ≡ map.get calls.opening n) ⊎ kind n
 
 -- the answer to a read of [from, to]: over the fragments that were committed after some front of its calls.
 -- It names those that are clipped, and is that of the history without its clipped writes.
@@ -117,6 +131,12 @@ pub record IsDone (calls : Calls) (before now : History) (k : Key) (stops : Stop
   pub goes_on : now ≡ before ++ deeds
   pub own : (front back : List Deed) (d : Deed) → deeds ≡ front ++ d ∷ back → IsDeedOf before (before ++ front) k command d
   pub tells : CameOut calls before now k stops result command
+  -- all but a vacuum keep each object that is no lease
+  pub stays : (command ≡ Vacuum → ⊥) → HeldSince calls.opening (held_by calls calls.entries)
+  -- a vacuum, to its end or not, leaves each object as it was, but its lease and those that it may remove
+  pub sweeps : command ≡ Vacuum → LeavesOthers calls k command (MaySweep calls)
+  -- one that is refused for no fault leaves each object as it was, but its lease
+  pub idle : (r : Refusal) → result ≡ Done (outcome.Refused r) → IsNoFault r → LeavesAll calls k command
 
 -- none of the calls is one at which the command was to be stopped: they are no more than so many, or none is of that kind
 abbrev pub KeepsStop : Stop → Calls → Type 0
@@ -153,6 +173,8 @@ pub record Promise {S : Type 0} (held : S → Option Held) (seen : Seen S) (m : 
   pub last : made (length ends) ≡ seen.journal
   pub done : (i : ℕ) (item : Numbered) (end : Driven Outcome) → slice_get (in_lane_order lines) i ≡ Some item → slice_get ends i ≡ Some end
       → (calls : List Entry) × (made (i + 1) ≡ made i ++ calls) × IsLineDone seen.gives seen.seed (record { opening = held_after m (made i); entries = calls }) (after i) (after (i + 1)) item end
+  -- without a vacuum no answer is clipped, where at the beginning each write is in its own fragment, as from nothing
+  pub unclipped : EachInItsOwn run_spelled m past → All IsNoVacuum lines → (i : ℕ) (answer : Answer) → slice_get ends i ≡ Some (Done (outcome.Read answer)) → IsWhole answer
   -- after each command, also a stopped one, the objects stand for the history
   pub stood : (i : ℕ) → i ≤ length ends → IsStored (held_after m (made i)) (after i)
   pub stored : (held seen.later ≡ Some (held_after m seen.journal)) × IsStored (held_after m seen.journal) (after (length ends))

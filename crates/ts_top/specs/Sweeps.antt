@@ -36,6 +36,10 @@ IsObjectOf f n = (n ≡ wrt_of f) ⊎ ((n ≡ vac_of f) ⊎ ((part : Part) × (n
 abbrev pub IsSwept : List VacOf → Name → Type 0
 IsSwept vacs n = ((f : FragKey) × Contains (removal_set vacs) f × IsObjectOf f n) ⊎ ((v : VacOf) × Contains vacs v × (n ≡ vac_of v.frag))
 
+-- a vacuum may remove the object: it is one that it sweeps where it finds the `.vac` objects of the fragments that were committed before its calls
+abbrev pub MaySweep : Calls → Name → Type 0
+MaySweep calls n = (vacs : List VacOf) × AreAllVacs calls.opening vacs × IsSwept vacs n
+
 -- the removal set of a vacuum has so many fragments: all that the `.vac` objects of fragments name that were committed before its calls, also those that were gone already.
 -- It removed just their objects and these `.vac` objects.
 pub record Vacuumed (calls : Calls) (count : ℕ) : Type 0 where

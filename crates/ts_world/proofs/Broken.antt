@@ -109,5 +109,6 @@ module _ {P F : Type 0} (codec : Codec F) (spelled : Spelled) (tracks : Tracking
     entries = ap (λ es. es ++ entry nobodys_lane (call.Remove lease) Done ∷ []) is.entries ∙ sym (filter_map-append (entry_of lane_of) told (removal ∷ []));
     in_lanes = nobodys_call codec jobs told removal is.in_lanes refl;
     one_each = is.one_each;
+    few = is.few;
     actors = λ k j s j_at s_at. actor_on k j s (is.actors k j s j_at s_at);
   }

@@ -1,5 +1,5 @@
 -- Each event keeps what a world keeps.
-use Rattle.std.proofs.Common.{◌≡◌, ℕ, Bool, false, cond, inl, inr, List, [], ◌∷◌, ◌++◌, Option, Some, None, length, map, set, refl, sym, ◌∙◌, ap, subst, arith}
+use Rattle.std.proofs.Common.{◌≡◌, ℕ, ◌<◌, Bool, false, cond, inl, inr, List, [], ◌∷◌, ◌++◌, Option, Some, None, length, map, set, refl, sym, ◌∙◌, ap, subst, arith}
 use Rattle.std.specs.Prelude.{Contains, slice_get, option_map}
 use Rattle.std.specs.List.{cons_option}
 use Rattle.std.proofs.lemmas.Bool.{cases_eq}
@@ -19,7 +19,7 @@ use Rattle.ts_model.specs.States.{Exchange}
 use Rattle.ts_model.specs.Stages.{lease_of, stage_of}
 use Rattle.ts_law.specs.Stands.{Stands}
 use Rattle.ts_law.specs.Fresh.{IsNewId, id_in}
-use Rattle.ts_law.specs.Lanes.{IsWithin}
+use Rattle.ts_law.specs.Lanes.{IsWithin, nobodys_lane}
 use Rattle.ts_model.specs.Told.{Told, IsShortCall, trace_of, entry_of, entries_of, after_told, IsReplied}
 use Rattle.ts_model.specs.Driven.{MayAsk}
 use Rattle.ts_law.specs.Kept.{AreAmong, IsAllowed, Kept}
@@ -30,7 +30,7 @@ use Rattle.ts_model.specs.Codecs.{Codec, CodecLaws, Spelled, Tracking}
 use Rattle.ts_law.proofs.Broken.{drop_kept}
 use Rattle.ts_law.proofs.KeptLaws.{step_kept}
 use Rattle.ts_law.proofs.LeaseSteps.{lease_is}
-use Rattle.ts_law.proofs.Leasing.{ended_unheld}
+use Rattle.ts_law.proofs.Leasing.{ended_unrelied}
 use Rattle.ts_law.proofs.Openings.{allowed_drop, allowed_more, allowed_push, new_at_first}
 use Rattle.ts_law.proofs.Lanes.{none_made, no_lanes, one_more_call, one_more_job}
 use Rattle.ts_law.proofs.Spawns.{spawn_kept, starts_kept}
@@ -65,7 +65,7 @@ module _ {P F : Type 0} (codec : Codec F) (spelled : Spelled) (tracks : Tracking
     where
       by_slot : (s : Slot P F) → slice_get slots number ≡ Some s → IsSlot codec job (trace_of number told) s → ⊥
       by_slot (slot.Runs r) at slot_is = none number job holds.is_job (seen_at slots number (slot.Runs r) at) holds.has
-      by_slot (slot.Ended end) at slot_is = ended_unheld codec job lease (trace_of number told) end holds.has slot_is holds.stage
+      by_slot (slot.Ended end) at slot_is = ended_unrelied codec job lease (trace_of number told) end holds.has slot_is holds.stage
       by_slot slot.Dropped at slot_is = holds.alive (dropped_from_seen (standings slots) number (seen_at slots number slot.Dropped at))
 
   -- the actor that runs
@@ -149,6 +149,7 @@ module _ {P F : Type 0} (codec : Codec F) (spelled : Spelled) (tracks : Tracking
       entries = ap (λ es. es ++ entry number e.call e.fate ∷ []) is.entries ∙ sym entered;
       in_lanes = one_more_call codec jobs told e number job is.in_lanes own of asked_now;
       one_each = length-set slots number s ∙ is.one_each;
+      few = is.few;
       actors = λ k j t j_at t_at. elim (cases_eq number k) [
         | inl same ↦
             let same_job : job ≡ j = same_Some job j (sym of ∙ ap (slice_get jobs) same ∙ j_at) in
@@ -174,8 +175,9 @@ module _ {P F : Type 0} (codec : Codec F) (spelled : Spelled) (tracks : Tracking
   gone_more s = dropped_on (standings slots) (standings (slots ++ s ∷ [])) (λ k dropped_k.
       ap (λ l. slice_get l k) (map-append standing_of slots (s ∷ [])) ∙ slice_get_left (standings slots) (standing_of s ∷ []) k Dropped dropped_k)
 
-  pub spawned_kept : (job : Job) (s : Slot P F) → IsNewId opening past held jobs job.id → IsFit job → job.stop ≡ Never → IsSlot codec job [] s → IsKept codec spelled tracks opening past (jobs ++ job ∷ []) told held journal (slots ++ s ∷ [])
-  spawned_kept job s new fit free slot_is = record {
+  pub spawned_kept : (job : Job) (s : Slot P F) → length jobs < nobodys_lane → IsNewId opening past held jobs job.id → IsFit job → job.stop ≡ Never → IsSlot codec job [] s
+      → IsKept codec spelled tracks opening past (jobs ++ job ∷ []) told held journal (slots ++ s ∷ [])
+  spawned_kept job s fewer new fit free slot_is = record {
     begins = spawn_kept codec spelled tracks opening past jobs [] [] opening job is.begins fit (new_at_first opening past held jobs job.id new);
     may = allowed_drop codec (jobs ++ job ∷ []) [] gone (dropped_in (standings (slots ++ s ∷ []))) [] told (gone_more s) (allowed_more codec jobs job [] gone [] told (All-nil (IsWithin jobs)) is.in_lanes.within is.may);
     replied = is.replied;
@@ -183,6 +185,7 @@ module _ {P F : Type 0} (codec : Codec F) (spelled : Spelled) (tracks : Tracking
     entries = is.entries;
     in_lanes = one_more_job codec jobs told job is.in_lanes;
     one_each = let a = length_push slots s in let b = length_push jobs job in omega (arith, a, b, is.one_each);
+    few = let b = length_push jobs job in omega (arith, b, fewer);
     actors = λ k j t j_at t_at. elim (slice_get_push slots s k t t_at) [
       | inl t_before ↦ elim (slice_get_push jobs job k j j_at) [
         | inl j_before ↦ is.actors k j t j_before t_before
@@ -222,6 +225,7 @@ module _ {P F : Type 0} (codec : Codec F) (spelled : Spelled) (tracks : Tracking
     entries = is.entries;
     in_lanes = is.in_lanes;
     one_each = length-map slots dropped_slot ∙ is.one_each;
+    few = is.few;
     actors = λ k j t j_at t_at. after_restart k j t (slice_get slots k) refl j_at (sym (slice_get-map dropped_slot slots k) ∙ t_at);
   }
 
@@ -235,5 +239,6 @@ first_kept codec spelled tracks past m stands = record {
   entries = refl;
   in_lanes = no_lanes codec;
   one_each = refl;
+  few = omega arith;
   actors = λ number job s at there. absurd (none-some job at);
 }

@@ -16,15 +16,21 @@ use Rattle.ts_model.specs.Stops.{Uncut}
 use Rattle.ts_model.specs.Told.{Told, held_told, history_told, trace_of}
 use Rattle.ts_model.specs.declared.answers.Outcome.TheVariants as outcome
 use Rattle.ts_store.specs.Journals.{held_after}
+use Rattle.ts_law.specs.Histories.{history_of}
+use Rattle.ts_law.specs.Shared.{StaysShared}
 use Rattle.ts_law.specs.Stands.{Stands}
 use Rattle.ts_law.specs.Ends.{IsTrueEnd}
 use Rattle.ts_model.specs.Driven.{EndsBy, IsDriven}
 use Rattle.ts_law.proofs.TrueOver.{true_over}
 use Rattle.ts_law.proofs.Journals.{journal_held}
+use Rattle.ts_law.proofs.Idle.{refused_idle}
+use Rattle.ts_law.proofs.OwnFragments.{stays_own}
+use Rattle.ts_law.proofs.OwnLanes.{journal_tells}
 use Rattle.ts_law.proofs.KeptLaws.{end_is_true, every_prefix}
 use Rattle.ts_law.proofs.Refused.{refused_for}
 use Rattle.ts_law.proofs.Short.{short_undone}
 use Rattle.ts_law.proofs.Segments.{segment_of}
+use Rattle.ts_law.proofs.Sharing.{stays_shared}
 use Rattle.ts_world.specs.declared.slots.Slot.{Slot}
 use Rattle.ts_world.specs.declared.slots.Slot.TheVariants as slot
 use Rattle.ts_world.specs.Views.{WorldView, Ended, lane_of}
@@ -75,6 +81,7 @@ module _ {P F : Type 0} (codec : Codec F) (spelled : Spelled) (tracks : Tracking
             (λ short. short_undone codec spelled tracks laws past jobs opening told gone is.begins is.may is.replied number job at (alive number end stands) (subst (EndsBy codec job (trace_of number told)) short actor.slot_is)) tells;
         cause = λ r same. refused_for spelled opening jobs past told is.replied stood number codec job r (subst (IsTrueEnd spelled opening jobs past told number job) same tells)
             (segment_of codec laws.looks job (trace_of number told) (Done (outcome.Refused r)) (subst (λ o. IsDriven codec job (trace_of number told) (Done o)) same driven));
+        idle = λ r same. refused_idle codec spelled tracks laws opening past jobs gone told is.begins is.may is.replied number job r at (subst (EndsBy codec job (trace_of number told)) same actor.slot_is);
       }
 
   pub is_sound : IsSound codec spelled seen
@@ -82,11 +89,14 @@ module _ {P F : Type 0} (codec : Codec F) (spelled : Spelled) (tracks : Tracking
     stood = is.begins.stands;
     began = record { replied = is.replied; held_told_is = is.kept.is_held; held_is = is.kept.is_held ∙ journal_held lane_of opening told ∙ ap (held_after opening) (sym is.entries) };
     stands = is.kept.stands;
+    same_history = ap (history_of past opening jobs) is.entries ∙ sym (journal_tells codec spelled tracks laws opening past jobs told gone is.few is.begins is.may is.replied is.in_lanes.within);
     entries = is.entries;
     apart = is.kept.apart;
     one_each = length-map slots standing_of ∙ is.one_each;
     in_lanes = is.in_lanes;
     leased = is.kept.leased;
+    own = stays_own codec spelled tracks laws opening past jobs gone told is.begins is.may is.replied;
+    shared = subst (StaysShared codec opening jobs gone told) (sym is.kept.is_held) (stays_shared codec spelled tracks laws opening past jobs gone told is.begins is.may is.replied);
     runs = λ number job at stands. let up = up_at slots number stands in (up.0.asked, running_asks codec spelled tracks opening past jobs told held journal slots is number up.0 job up.1 at);
     ends = ends_truly;
   }

@@ -24,11 +24,15 @@ use Rattle.ts_law.specs.Stands.{Stands}
 use Rattle.ts_model.specs.Stages.{stage_of}
 use Rattle.ts_law.specs.Fresh.{id_in, IsCarried}
 use Rattle.ts_law.specs.Lanes.{own_lane, AreInLanes}
+use Rattle.ts_law.specs.Histories.{history_of}
 use Rattle.ts_law.specs.Leases.{AreLeased}
+use Rattle.ts_law.specs.Shared.{StaysShared}
 use Rattle.ts_model.specs.Told.{trace_of, entries_of, IsReplied, Replied, after_told, held_told, history_told}
 use Rattle.ts_law.specs.Ends.{IsTrueOver}
-use Rattle.ts_law.specs.Refusals.{IsRefusedFor}
+use Rattle.ts_law.specs.Changes.{ChangedNothing}
+use Rattle.ts_law.specs.Refusals.{IsNoFault, IsRefusedFor}
 use Rattle.ts_law.specs.Courses.{IsSegment}
+use Rattle.ts_law.specs.Sweeps.{StayInTheirOwn}
 use Rattle.ts_model.specs.Driven.{MayAsk, IsDriven}
 use Rattle.ts_world.specs.declared.events.Event.{Event}
 use Rattle.ts_world.specs.declared.events.Event.TheVariants.{Spawn, Step, Stop, Break, Restart}
@@ -45,12 +49,13 @@ pub record BeganWith (m : Held) (w : WorldView) : Type 0 where
   pub held_told_is : w.held ≡ held_told m w.told
   pub held_is : w.held ≡ held_after m w.journal
 
--- the end of an actor: its job made calls that it may make and ended by them, they go along the job's course, what the end tells of the history and of the objects is true, and a refusal is for its cause
+-- the end of an actor: its job made calls that it may make and ended by them, they go along the job's course, what the end tells of the history and of the objects is true, and a refusal is for its cause. One that is refused for no fault changed nothing
 pub record EndsTruly {F : Type 0} (codec : Codec F) (spelled : Spelled) (w : WorldView) (number : ℕ) (job : Job) (end : Outcome) : Type 0 where
   pub driven : IsDriven codec job (trace_of number w.told) (Done end)
   pub segment : IsSegment codec job (trace_of number w.told) (Done end)
   pub is_true : IsTrueOver spelled w.opening w.jobs w.past w.told number job end
   pub cause : (r : Refusal) → end ≡ outcome.Refused r → IsRefusedFor spelled w.opening w.jobs w.past w.told number job r
+  pub idle : (r : Refusal) → end ≡ outcome.Refused r → IsNoFault r → ChangedNothing w.opening w.told number job
 
 -- what holds of a world at any time
 pub record IsSound {F : Type 0} (codec : Codec F) (spelled : Spelled) (w : WorldView) : Type 0 where
@@ -59,6 +64,8 @@ pub record IsSound {F : Type 0} (codec : Codec F) (spelled : Spelled) (w : World
   pub began : BeganWith w.opening w
   -- the objects that are held stand for the past and the deeds of the calls
   pub stands : Stands spelled w.held (history_told w.jobs w.past w.told)
+  -- the entries of the journal alone tell the same deeds
+  pub same_history : history_of w.past w.opening w.jobs w.journal ≡ history_told w.jobs w.past w.told
   -- the journal has each call that found memory, in the lane of its actor
   pub entries : w.journal ≡ entries_of lane_of w.told
   -- no two jobs have one identifier
@@ -67,8 +74,12 @@ pub record IsSound {F : Type 0} (codec : Codec F) (spelled : Spelled) (w : World
   pub one_each : length w.actors ≡ length w.jobs
   -- each actor makes calls that its job may make, whatever became of it, in a lane of its own
   pub in_lanes : AreInLanes codec own_lane w.jobs w.told
-  -- the lease of an actor that holds one is held, unless the actor was dropped, and no two leases that were granted to such actors oppose one another
+  -- the lease on which an actor relies is held, unless the actor was dropped, and no two leases that were granted to such actors oppose one another
   pub leased : AreLeased codec w.jobs (dropped_in w.actors) w.told w.held
+  -- as long as no vacuum makes a call each write stays in its own fragment, so that no read is clipped
+  pub own : StayInTheirOwn spelled w.jobs w.past w.opening w.told
+  -- while an actor works under a shared lease, all stays held, but for leases, that was held at any time since the grant, and so at its listing of the commits
+  pub shared : StaysShared codec w.opening w.jobs (dropped_in w.actors) w.told w.held
   -- an actor that runs has one more call to make
   pub runs : (number : ℕ) (job : Job) → slice_get w.jobs number ≡ Some job → slice_get w.actors number ≡ Some Runs → (c : Call) × MayAsk codec job (stage_of codec job (trace_of number w.told)) c
   -- an actor that ended did so by its own calls, and told the truth of the beginning and of what came since

@@ -1,5 +1,5 @@
 -- What is kept of the actors of a world, beside what every call keeps.
-use Rattle.std.specs.Prelude.{◌≡◌, ◌≢◌, ◌<◌, ℕ, suc, Bool, true, false, not, ◌&&◌, ◌||◌, nat_eq, List, [], ◌∷◌, ◌++◌, Option, Some, None, Result, Ok, Err, map, length, slice_get, slice_set, ⊤}
+use Rattle.std.specs.Prelude.{◌≡◌, ◌≢◌, ◌<◌, ◌≤◌, ℕ, suc, Bool, true, false, not, ◌&&◌, ◌||◌, nat_eq, List, [], ◌∷◌, ◌++◌, Option, Some, None, Result, Ok, Err, map, length, slice_get, slice_set, ⊤}
 use Rattle.std.specs.List.{list_any}
 use Rattle.std.specs.Option.{option_map_or}
 use Rattle.std.specs.FinMap as finite
@@ -19,7 +19,7 @@ use Rattle.ts_model.specs.States.{Exchange}
 use Rattle.ts_model.specs.Told.{Told, IsShortCall, Replied, trace_of, entries_of, changes}
 use Rattle.ts_model.specs.Codecs.{Codec, Spelled, Tracking}
 use Rattle.ts_law.specs.Fresh.{id_in}
-use Rattle.ts_law.specs.Lanes.{own_lane, AreInLanes}
+use Rattle.ts_law.specs.Lanes.{nobodys_lane, own_lane, AreInLanes}
 use Rattle.ts_model.specs.Driven.{EndsBy}
 use Rattle.ts_law.specs.Kept.{AreAllowed, Kept}
 use Rattle.ts_actor.specs.Traces.{asking}
@@ -71,6 +71,8 @@ pub record IsKept {P F : Type 0} (codec : Codec F) (spelled : Spelled) (tracks :
   pub entries : journal ≡ entries_of lane_of told
   pub in_lanes : AreInLanes codec own_lane jobs told
   pub one_each : length slots ≡ length jobs
+  -- no actor has the lane of nobody's calls
+  pub few : length jobs ≤ nobodys_lane
   pub actors : (number : ℕ) (job : Job) (s : Slot P F) → slice_get jobs number ≡ Some job → slice_get slots number ≡ Some s → IsActor codec told number job s
 
 -- the actor of the slot runs, and this reply can come to its call

@@ -15,6 +15,7 @@ returns-clause-kept g c =
     let free : IsTaken (view_of before) c.args.id → ⊥ = λ taken. true≢false (sym (taken_to (view_of before) c.args.id taken) ∙ (sym c.in_ok-is_taken.ensures ∙ c.if-branch.false)) in
     rw (added.opening, added.past, added.jobs, added.told, added.store, added.journal, added.slots)
     (spawned_kept g.P.Pieces.codec g.P.Spelling.spelled g.P.Pieces.tracks (held_in before.opening.value) before.past before.jobs before.told.items (held_in before.store) before.journal before.slots.items c.requires.kept _ _
+    c.requires.may.fewer
     (new_id (view_of before) c.args.id free (λ carried. free (c.requires.may.new carried))) (record { stamp = c.ranges.at.fits; id = c.ranges.id.fits; command = c.requires.may.value }) refl (subst (λ j. IsSlot g.P.Pieces.codec j [] c.first_slot-slot.result) c.in_ok-twin.ensures c.first_slot-slot.ensures.slot_is))
 
 pub returns-clause-cause : goal.returns-clause-cause
