@@ -16,6 +16,7 @@ use Rattle.ts_model.specs.Selections.{placed}
 use Rattle.ts_schema.specs.Attrs.{shown_row}
 use Rattle.ts_model.specs.Answers.{fills_of}
 use Rattle.ts_model.specs.States.{cell_shown, is_erased_by, known_attrs, row_or_fill}
+use Rattle.ts_model.proofs.KeyLemmas.{key_itself}
 use Rattle.ts_reader.specs.Deletes.{all_shown, erases, one_shown}
 
 -- what one more version shows
@@ -97,3 +98,7 @@ pub known_further : (r : Reading) (schemas : List Schema) (k : Key) (o : Option 
 known_further r schemas k o other found =
     ap (λ b. option_map_or (λ s. s.attrs) (if b then Some r.there else find (λ s. key_eq s.key k) schemas) []) other
     ∙ ap (λ (p : Option Schema). option_map_or (λ s. s.attrs) p []) found
+
+-- the attributes of the schema that holds are known
+pub known_there : (r : Reading) (schemas : List Schema) (k : Key) → k ≡ (r.there).key → known_attrs r schemas k ≡ (r.there).attrs
+known_there r schemas k same = ap (λ b. option_map_or (λ s. s.attrs) (if b then Some r.there else find (λ s. key_eq s.key k) schemas) []) (ap (λ l. key_eq l (r.there).key) same ∙ key_itself (r.there).key)

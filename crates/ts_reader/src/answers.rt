@@ -1,7 +1,10 @@
 //! What a read answers: of each cell of its box the newest version, unless it is erased, as it shows
 //! through the schema that holds; and in a dense array the fill where none is left.
-ghost use Rattle.std.specs.Prelude.{◌≡◌, ◌++◌, true, map, IfOk, OnOk};
+ghost use Rattle.std.specs.Prelude.{◌≡◌, ◌++◌, true, map, IfOk, OnOk, Some};
 ghost use Rattle.ts_actor.specs.PieceLaws.{AreInBox};
+ghost use Rattle.ts_base.specs.declared.heads.Version.{Version as AnyVersion};
+ghost use Rattle.ts_schema.specs.Attrs.{shown_row};
+ghost use Rattle.ts_schema.specs.SchemaTexts.{AreAttrs};
 ghost use Rattle.ts_model.specs.Selections.{placed};
 ghost use Rattle.ts_model.specs.States.{answer_of, cells_filled, cells_left, cells_shown, row_or_fill};
 ghost use Rattle.ts_reader.specs.Deletes.{one_shown, picks_under, bindings_of};
@@ -9,9 +12,9 @@ ghost use Rattle.ts_reader.specs.Reading.{IsReading};
 ghost use Rattle.ts_actor.specs.Known.{AreRising};
 
 use crate::bindings::{Binding, Bindings, binding_at, bindings_of, is_erased};
-use crate::slots::slots_of;
+use crate::newest::newest_in_order;
+use crate::slots::{is_whole, slots_of};
 use std::alloc::Global;
-use ts_actor::newest_of;
 use ts_base::{Duplicate, OutOfMemory, Row, Version, VersionList};
 use ts_domain::Order;
 use ts_model::{Answer, Reading, Shown, ShownList, fills_of, rows_of, types_shown};
@@ -82,6 +85,9 @@ fn cells_filled(
     ensures { IfOk result (λ cells. map placed cells ≡ cells_filled reading.now schemas.now got) }
 {
     let sub = &reading.ready.sub;
+    if is_whole(sub, got.as_slice()) {
+        return cells_whole(alloc, reading, schemas, bindings, got);
+    }
     let slots = slots_of(alloc, sub, got)?;
     let mut cells = ShownList::new(alloc);
     for place in 0..sub.cells() {
@@ -90,6 +96,67 @@ fn cells_filled(
         cells.push(Shown { coords, row })?;
     }
     Ok(cells)
+}
+
+// The cells of a box of a dense array, where these are its cells in row order.
+fn cells_whole(
+    alloc: Global,
+    reading: &Reading,
+    schemas: &SchemaList,
+    bindings: &Bindings,
+    got: VersionList,
+) -> Result<ShownList, OutOfMemory>
+    requires attrs { AreAttrs reading.now.there.attrs }
+    requires rise { AreRising schemas.now }
+    requires are { bindings.now ≡ bindings_of reading.now schemas.now }
+    ensures { IfOk result (λ cells. map placed cells ≡ map (λ (v : AnyVersion). (v.coords, row_or_fill reading.now schemas.now (Some v))) got) }
+{
+    let mut cells = ShownList::from_vec(Vec::with_capacity(alloc, got.len() as usize)?);
+    for version in got.into_vec() {
+        let coords = version.coords;
+        let row = row_left(alloc, reading, schemas, bindings, version)?;
+        cells.push(Shown { coords, row })?;
+    }
+    Ok(cells)
+}
+
+// The row that a dense array shows where this is the newest version.
+fn row_left(
+    alloc: Global,
+    reading: &Reading,
+    schemas: &SchemaList,
+    bindings: &Bindings,
+    version: Version,
+) -> Result<Row, OutOfMemory>
+    requires attrs { AreAttrs reading.now.there.attrs }
+    requires rise { AreRising schemas.now }
+    requires are { bindings.now ≡ bindings_of reading.now schemas.now }
+    ensures { IfOk result (λ row. row ≡ row_or_fill reading.now schemas.now (Some version)) }
+{
+    let binding = binding_at(reading, schemas, bindings, version.schema);
+    if is_erased(&reading.deletions, binding, &version) {
+        fills_of(alloc, &reading.there)
+    } else {
+        row_shown(alloc, reading, binding, version)
+    }
+}
+
+// The row of a version as it shows through the schema that holds. A row of that schema is not
+// copied.
+fn row_shown(
+    alloc: Global,
+    reading: &Reading,
+    binding: &Binding,
+    version: Version,
+) -> Result<Row, OutOfMemory>
+    requires attrs { AreAttrs reading.now.there.attrs }
+    requires own { version.schema ≡ reading.now.there.key → binding.now.attrs ≡ reading.now.there.attrs }
+    ensures { IfOk result (λ shown. shown ≡ shown_row binding.now.attrs version.row reading.now.there.attrs) }
+{
+    if version.schema == reading.there.key && version.row.len() == reading.there.attrs.len() {
+        return Ok(version.row);
+    }
+    show_row(alloc, &binding.attrs, &version.row, &reading.there.attrs)
 }
 
 // The row that a dense array shows where this is the newest version, if there is one.
@@ -125,13 +192,14 @@ fn cells_left(
     bindings: &Bindings,
     got: VersionList,
 ) -> Result<ShownList, OutOfMemory>
+    requires attrs { AreAttrs reading.now.there.attrs }
     requires rise { AreRising schemas.now }
     requires are { bindings.now ≡ bindings_of reading.now schemas.now }
     ensures { IfOk result (λ cells. map placed cells ≡ cells_left reading.now schemas.now got) }
 {
-    let newest = newest_of(alloc, got)?;
+    let newest = newest_in_order(alloc, got)?;
     let mut cells = ShownList::new(alloc);
-    for version in newest.values() {
+    for version in newest.into_vec() {
         let binding = binding_at(reading, schemas, bindings, version.schema);
         add_shown(alloc, &mut cells, reading, binding, version)?;
     }
@@ -144,16 +212,17 @@ fn add_shown(
     cells: &mut ShownList,
     reading: &Reading,
     binding: &Binding,
-    version: &Version,
+    version: Version,
 ) -> Result<(), OutOfMemory>
-    requires { binding.now.picks ≡ picks_under binding.now.attrs reading.now.deletions }
-    ensures { OnOk result (map placed cells.new ≡ map placed cells.old ++ one_shown reading.now binding.now.attrs version.now) }
+    requires attrs { AreAttrs reading.now.there.attrs }
+    requires picks { binding.now.picks ≡ picks_under binding.now.attrs reading.now.deletions }
+    requires own { version.schema ≡ reading.now.there.key → binding.now.attrs ≡ reading.now.there.attrs }
+    ensures { OnOk result (map placed cells.new ≡ map placed cells.old ++ one_shown reading.now binding.now.attrs version) }
 {
-    if is_erased(&reading.deletions, binding, version) {
+    if is_erased(&reading.deletions, binding, &version) {
         return Ok(());
     }
-    cells.push(Shown {
-        coords: version.coords,
-        row: show_row(alloc, &binding.attrs, &version.row, &reading.there.attrs)?,
-    })
+    let coords = version.coords;
+    let row = row_shown(alloc, reading, binding, version)?;
+    cells.push(Shown { coords, row })
 }

@@ -191,6 +191,9 @@ fn go_on<P: Pieces, R: Threads + Sync>(
 fn joined(got: VersionList, more: VersionList) -> Result<VersionList, OutOfMemory>
     ensures { IfOk result (λ all. all ≡ got ++ more) }
 {
+    if got.is_empty() {
+        return Ok(more);
+    }
     let mut all = got.into_vec();
     all.append(&mut more.into_vec())?;
     Ok(VersionList::from_vec(all))

@@ -11,6 +11,7 @@ mod known;
 mod listing;
 mod loading;
 mod named;
+mod newest;
 mod opening;
 mod reader;
 mod slots;

@@ -1,5 +1,6 @@
 //! The newest version of each cell of a box, at the place of the cell.
 ghost use Rattle.std.specs.Prelude.{◌≡◌, ◌≤◌, IfOk, IsTrue, None, length, map};
+ghost use Rattle.ts_base.specs.declared.heads.Version.{Version as AnyVersion};
 ghost use Rattle.ts_actor.specs.PieceLaws.{AreInBox};
 ghost use Rattle.ts_domain.specs.Boxes.{IsBox, cells_of, coords_of_box, is_in_box};
 ghost use Rattle.ts_model.specs.Pieces.{Newest, newest_of, with_version};
@@ -14,6 +15,24 @@ use ts_order::position_of;
 
 /// For each place of a box the newest version there, if there is one.
 pub(crate) type SlotList = Sequence<Option<Version>>;
+
+/// Whether the versions stand in row order, one at each place of a box.
+pub(crate) fn is_whole(sub: &SubBox, versions: &[Version]) -> bool
+    requires valid { IsBox sub.now }
+    requires few_cells { cells_of sub.now ≤ most_cells }
+    requires inside { AreInBox sub.now versions.now }
+    ensures { IsTrue result → map (λ (v : AnyVersion). v.coords) versions.now ≡ coords_of_box sub.now }
+{
+    if versions.len() as u64 != sub.cells() {
+        return false;
+    }
+    for place in 0..versions.len() {
+        if position_of(sub, Order::Row, &versions[place].coords) != place as u64 {
+            return false;
+        }
+    }
+    true
+}
 
 /// The newest of these versions at each place of a box, the places counted from 0 in row order.
 #[tactic(auto, using(crate::proofs::Newer::newest_of_is))]

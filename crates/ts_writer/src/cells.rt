@@ -26,7 +26,7 @@ pub(crate) fn cells_of(
     requires long { All (λ (numbers : List ℤ). length numbers ≡ count) coords.now }
     ensures { IfOk result (λ cells. cells ≡ cells_from coords.now rows.now 0 count) }
 {
-    let mut cells = CellList::new(alloc);
+    let mut cells = CellList::from_vec(Vec::with_capacity(alloc, count as usize)?);
     for place in 0..count {
         let cell = Cell {
             coords: coords_at(coords, place),
@@ -63,7 +63,7 @@ pub(crate) fn cells_over(
 fn row_at(alloc: Global, rows: &[Row], place: u64) -> Result<Row, OutOfMemory>
     ensures { IfOk result (λ row. row ≡ across place rows.now) }
 {
-    let mut row = Row::new(alloc);
+    let mut row = Row::from_vec(Vec::with_capacity(alloc, rows.len())?);
     for column in rows {
         if let Some(val) = val_at(column.as_slice(), place) {
             row.push(val.copy(alloc)?)?;

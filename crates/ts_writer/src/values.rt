@@ -16,7 +16,7 @@ pub(crate) type NumberList = Sequence<i128>;
 pub(crate) fn numbers_of(alloc: Global, vals: &[Val]) -> Result<Option<NumberList>, OutOfMemory>
     ensures { IfOk result (λ numbers. numbers ≡ all_of coordinate vals.now) }
 {
-    let mut numbers = NumberList::new(alloc);
+    let mut numbers = NumberList::from_vec(Vec::with_capacity(alloc, vals.len())?);
     for val in vals {
         match number_of(val) {
             Some(number) => numbers.push(number)?,
@@ -43,7 +43,7 @@ pub(crate) fn values_of(
 ) -> Result<Option<Row>, OutOfMemory>
     ensures { IfOk result (λ found. found ≡ all_of (value_of attr.now) vals.now) }
 {
-    let mut found = Row::new(alloc);
+    let mut found = Row::from_vec(Vec::with_capacity(alloc, vals.len())?);
     for val in vals {
         match value_of(alloc, attr, val)? {
             Some(said) => found.push(said)?,

@@ -4,7 +4,10 @@ use Rattle.std.specs.Prelude.{slice_get}
 use Rattle.std.proofs.lemmas.List.{map-append}
 use Rattle.ts_model.specs.Selections.{placed}
 use Rattle.ts_model.specs.States.{cells_filled}
+use Rattle.std.proofs.lemmas.Result.{IfOk-weaker}
+use Rattle.ts_base.specs.declared.heads.Version.{Version}
 use Rattle.ts_reader.proofs.BoxSlots.{filled_more, in_row_order}
+use Rattle.ts_reader.proofs.Ordered.{whole_filled}
 use Rattle.ts_reader.proofs.answers.cells_filled.Goals as goal
 
 pub loop-place-preserved : goal.loop-place-preserved
@@ -21,3 +24,9 @@ loop-place-preserved c =
     ∙ ap (λ es. es ++ (coords, c.in_ok-row.row) ∷ []) c.loop-place.invariant
     ∙ ap (λ row. take place (cells_filled r schemas got) ++ (coords, row) ∷ []) c.in_ok-row.ensures
     ∙ sym (filled_more r schemas got place coords c.at.result.now at stands)
+
+pub returns-then-is_whole : goal.returns-then-is_whole
+returns-then-is_whole c =
+    let r = c.args.reading.now in
+    let are = ap (map (λ (v : Version). v.coords)) (sym c.as_slice.ensures) ∙ c.is_whole.ensures c.if-is_whole.true in
+    IfOk-weaker c.cells_whole.result _ _ (λ cells is. is ∙ whole_filled r c.args.schemas.now c.args.got c.requires.reading.valid are) c.cells_whole.ensures

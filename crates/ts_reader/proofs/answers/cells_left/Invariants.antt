@@ -5,4 +5,4 @@ use Rattle.ts_reader.proofs.answers.cells_left.Given as goal
 
 -- the cells of the versions so far
 abbrev pub invariant-loop-version : goal.invariant-loop-version
-invariant-loop-version l = map placed l.cells ≡ all_shown l.reading l.schemas (map (λ v. v.now) l.yielded)
+invariant-loop-version l = map placed l.cells ≡ all_shown l.reading l.schemas l.yielded
