@@ -1,0 +1,6 @@
+pub mod Texts
+pub mod Columns
+pub mod Tables
+pub mod Picks
+pub mod Merges
+pub mod BoxTables

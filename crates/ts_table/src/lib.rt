@@ -1,0 +1,24 @@
+//! Cells in typed columns: lists of integers, of byte lists, of values and of versions, which
+//! contracts see as plain lists.
+#![tactic(auto)]
+
+mod box_table;
+mod cell;
+mod column;
+mod merging;
+mod numbers;
+mod order;
+mod origins;
+mod picked;
+mod table;
+mod texts;
+
+pub use box_table::BoxTable;
+pub use cell::Cell;
+pub use column::{Column, Kind, Seen};
+pub use merging::{Pick, PickList, merged_places};
+pub use numbers::Numbers;
+pub use origins::Origin;
+pub use picked::{Picked, stamped};
+pub use table::Table;
+pub use texts::Texts;
