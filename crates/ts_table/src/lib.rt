@@ -10,6 +10,7 @@ mod numbers;
 mod order;
 mod origins;
 mod picked;
+mod rows;
 mod table;
 mod texts;
 

@@ -1,5 +1,5 @@
 //! The order of cells.
-ghost use Rattle.std.specs.Prelude.{◌≡◌, ◌<◌, ℤ, List, length, All};
+ghost use Rattle.std.specs.Prelude.{◌≡◌, ◌<◌, ◌≤◌, ℤ, List, length, All};
 ghost use Rattle.std.specs.Cmp.Lexicographic.{slice_cmp};
 ghost use Rattle.std.specs.Ordering.{int_cmp};
 ghost use Rattle.ts_table.specs.Tables.{across};
@@ -10,6 +10,7 @@ use std::cmp::Ordering;
 // How the cells at two places stand in row order. The calls nest once for each dimension.
 #[tactic(auto, using(crate::proofs::Tables::compares))]
 pub(crate) fn compare_at(dims: &[Numbers], a: u64, b: u64) -> Ordering
+    requires few { length dims.now ≤ 8 }
     requires first { All (λ (column : List ℤ). a < length column) dims.now }
     requires second { All (λ (column : List ℤ). b < length column) dims.now }
     ensures { result ≡ slice_cmp int_cmp (across a dims.now) (across b dims.now) }
@@ -26,6 +27,7 @@ pub(crate) fn compare_at(dims: &[Numbers], a: u64, b: u64) -> Ordering
 // How a cell and one of other columns stand in row order. The calls nest once for each dimension.
 #[tactic(auto, using(crate::proofs::Tables::compares))]
 pub(crate) fn compare_between(dims: &[Numbers], a: u64, others: &[Numbers], b: u64) -> Ordering
+    requires few { length dims.now ≤ 8 }
     requires first { All (λ (column : List ℤ). a < length column) dims.now }
     requires second { All (λ (column : List ℤ). b < length column) others.now }
     ensures { result ≡ slice_cmp int_cmp (across a dims.now) (across b others.now) }

@@ -1,5 +1,5 @@
 //! Tables of versions.
-ghost use Rattle.std.specs.Prelude.{◌≡◌, ◌<◌, ◌↔◌, ℤ, List, length, slice_get, slice_index_or, All, IsTrue, option_map};
+ghost use Rattle.std.specs.Prelude.{◌≡◌, ◌<◌, ◌↔◌, ℤ, List, length, slice_get, slice_index_or, All, IfOk, IsTrue, option_map};
 ghost use Rattle.std.specs.List.{AllAdjacentBelow};
 ghost use Rattle.std.specs.Cmp.Lexicographic.{slice_cmp};
 ghost use Rattle.std.specs.Ordering.{int_cmp};
@@ -13,9 +13,11 @@ use crate::column::{Column, Seen};
 use crate::numbers::Numbers;
 use crate::order::{compare_at, compare_between};
 use crate::origins::Origin;
+use crate::rows::{coords_across, row_across};
+use std::alloc::Global;
 use std::cmp::Ordering;
 use std::marker::Model;
-use ts_base::Key;
+use ts_base::{Coords, Key, OutOfMemory, Row, Version, VersionList};
 
 /// Versions of cells, field by field.
 ///
@@ -86,6 +88,50 @@ impl Table {
         ensures { result ≡ slice_get (version_or self.now place).coords dim }
     {
         coord_of(self.dims.as_slice(), place, dim)
+    }
+
+    /// The coordinates of the version at a place. It takes no memory.
+    #[tactic(auto, using(crate::proofs::Tables::gets))]
+    pub fn coords(&self, place: u64) -> Coords
+        requires { place < length self.now }
+        ensures { result ≡ (version_or self.now place).coords }
+    {
+        coords_across(self.dims.as_slice(), place)
+    }
+
+    /// The version at a place, with a row of its own.
+    pub fn version(&self, alloc: Global, place: u64) -> Result<Version, OutOfMemory>
+        requires { place < length self.now }
+        ensures { IfOk result (λ version. version ≡ version_or self.now place) }
+    {
+        let origin = self.origin(place);
+        Ok(Version {
+            key: origin.key,
+            schema: origin.schema,
+            coords: self.coords(place),
+            row: self.row(alloc, place)?,
+        })
+    }
+
+    /// A copy of the values of the version at a place.
+    #[tactic(auto, using(crate::proofs::Tables::gets))]
+    pub fn row(&self, alloc: Global, place: u64) -> Result<Row, OutOfMemory>
+        requires { place < length self.now }
+        ensures { IfOk result (λ row. row ≡ (version_or self.now place).row) }
+    {
+        row_across(alloc, self.attrs.as_slice(), place)
+    }
+
+    /// All versions, each with a row of its own.
+    #[tactic(auto, using(crate::proofs::Tables::steps))]
+    pub fn to_rows(&self, alloc: Global) -> Result<VersionList, OutOfMemory>
+        ensures { IfOk result (λ list. list ≡ self.now) }
+    {
+        let mut list = VersionList::new(alloc);
+        for place in 0..self.len() {
+            list.push(self.version(alloc, place)?)?;
+        }
+        Ok(list)
     }
 
     /// Whether the versions ascend in row order.
