@@ -3,5 +3,10 @@ pub mod Columns
 pub mod Tables
 pub mod Picks
 pub mod Gathers
+pub mod KeyLemmas
+pub mod CellOrders
 pub mod MergeSteps
+pub mod MergeLaws
+pub mod MergeAllLaws
+pub mod MergeTables
 pub mod BoxTables

@@ -1,4 +1,4 @@
-//! The order of cells.
+//! Orders of cells.
 ghost use Rattle.std.specs.Prelude.{◌≡◌, ◌<◌, ◌≤◌, ℤ, List, length, All};
 ghost use Rattle.std.specs.Cmp.Lexicographic.{slice_cmp};
 ghost use Rattle.std.specs.Ordering.{int_cmp};
@@ -6,6 +6,17 @@ ghost use Rattle.ts_table.specs.Tables.{across};
 
 use crate::numbers::Numbers;
 use std::cmp::Ordering;
+use ts_domain::Order;
+
+/// An order of the cells of a domain.
+#[derive(Clone, Copy, Debug, PartialEq, Eq)]
+pub enum CellOrder {
+    /// Row order or column order.
+    Plain(Order),
+    /// Global order: by the space tiles in the tile order, and within a tile by the cells in the
+    /// cell order.
+    Global { tile: Order, cell: Order },
+}
 
 // How the cells at two places stand in row order. The calls nest once for each dimension.
 #[tactic(auto, using(crate::proofs::Tables::compares))]
