@@ -9,4 +9,6 @@ pub mod MergeSteps
 pub mod MergeLaws
 pub mod MergeAllLaws
 pub mod MergeTables
+pub mod SpotOrders
+pub mod RankOrders
 pub mod BoxTables

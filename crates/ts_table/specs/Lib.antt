@@ -5,3 +5,5 @@ pub mod Picks
 pub mod Orders
 pub mod Merges
 pub mod BoxTables
+pub mod Ordered
+pub mod Spots
