@@ -11,4 +11,5 @@ pub mod MergeAllLaws
 pub mod MergeTables
 pub mod SpotOrders
 pub mod RankOrders
+pub mod Neighbours
 pub mod BoxTables

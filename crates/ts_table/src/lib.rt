@@ -23,7 +23,7 @@ pub use column::{Column, Kind, Seen};
 pub use merging::{CellList, merge_tables, merge_two, newest_alone};
 pub use numbers::Numbers;
 pub use order::CellOrder;
-pub use ordering::ordered_places;
+pub use ordering::{are_versions_in_order, is_in_order, ordered_places};
 pub use origins::Origin;
 pub use picked::{Picked, stamped};
 pub use table::Table;

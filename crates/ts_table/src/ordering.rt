@@ -1,6 +1,10 @@
 //! Tables in an order of their cells.
 ghost use Rattle.std.specs.Prelude.{◌≡◌, ◌<◌, ◌↔◌, length, IsTrue, All, IfOk};
+ghost use Rattle.std.specs.List.{AllAdjacentBelow};
 ghost use Rattle.std.specs.List.Sorted.{IsSorted};
+ghost use Rattle.std.specs.declared.cmp.Ordering.TheVariants.{Less};
+ghost use Rattle.ts_base.specs.declared.heads.Version.{Version as AnyVersion};
+ghost use Rattle.ts_table.specs.Merges.{Climbs, version_cmp, VersionsAscend};
 ghost use Rattle.ts_table.specs.Orders.{cells_cmp, LiesInside};
 ghost use Rattle.ts_table.specs.Ordered.{place_cmp, AreOrdered};
 ghost use Rattle.ts_table.specs.Tables.{version_or};
@@ -14,6 +18,62 @@ use std::alloc::Global;
 use std::cmp::Ordering;
 use ts_base::{IndexList, OutOfMemory};
 use ts_domain::Domain;
+
+/// Whether the versions of a table ascend in an order, each cell once.
+pub fn is_in_order(domain: &Domain, order: CellOrder, table: &Table) -> bool
+    requires { All (LiesInside domain.now) table.now }
+    ensures { IsTrue result ↔ Climbs (cells_cmp domain.now order) table.now }
+{
+    do_cells_ascend(domain, order, table)
+}
+
+// Whether each version comes before the next.
+fn do_cells_ascend(domain: &Domain, order: CellOrder, table: &Table) -> bool
+    requires { All (LiesInside domain.now) table.now }
+    ensures { IsTrue result ↔ AllAdjacentBelow (λ (v w : AnyVersion). cells_cmp domain.now order v.coords w.coords ≡ Less) table.now (length table.now) }
+{
+    for place in 1..table.len() {
+        if compare_at(domain, order, table, place - 1, place) != Ordering::Less {
+            return false;
+        }
+    }
+    true
+}
+
+/// Whether the versions of a table ascend in an order, those of one cell by ascending key.
+pub fn are_versions_in_order(domain: &Domain, order: CellOrder, table: &Table) -> bool
+    requires { All (LiesInside domain.now) table.now }
+    ensures { IsTrue result ↔ VersionsAscend (cells_cmp domain.now order) table.now }
+{
+    do_versions_ascend(domain, order, table)
+}
+
+// Whether each version comes before the next, or stands at one cell with a lesser key.
+fn do_versions_ascend(domain: &Domain, order: CellOrder, table: &Table) -> bool
+    requires { All (LiesInside domain.now) table.now }
+    ensures { IsTrue result ↔ AllAdjacentBelow (λ v w. version_cmp (cells_cmp domain.now order) v w ≡ Less) table.now (length table.now) }
+{
+    for place in 1..table.len() {
+        if compare_versions(domain, order, table, place - 1, place) != Ordering::Less {
+            return false;
+        }
+    }
+    true
+}
+
+// How the versions at two places of a table stand: by their cells, and those of one cell by their
+// keys.
+fn compare_versions(domain: &Domain, order: CellOrder, table: &Table, a: u64, b: u64) -> Ordering
+    requires inside { All (LiesInside domain.now) table.now }
+    requires first { a < length table.now }
+    requires second { b < length table.now }
+    ensures { result ≡ version_cmp (cells_cmp domain.now order) (version_or table.now a) (version_or table.now b) }
+{
+    match compare_at(domain, order, table, a, b) {
+        Ordering::Equal => table.key(a).cmp(&table.key(b)),
+        apart => apart,
+    }
+}
 
 /// The places of the versions of a table in an order, those of one cell as they stand.
 ///
