@@ -4,6 +4,7 @@ ghost use Rattle.std.specs.List.{AllAdjacentBelow};
 ghost use Rattle.std.specs.List.Sorted.{IsSorted};
 ghost use Rattle.std.specs.declared.cmp.Ordering.TheVariants.{Less};
 ghost use Rattle.ts_base.specs.declared.heads.Version.{Version as AnyVersion};
+ghost use Rattle.ts_domain.specs.Domains.{is_in_domain};
 ghost use Rattle.ts_table.specs.Merges.{Climbs, version_cmp, VersionsAscend};
 ghost use Rattle.ts_table.specs.Orders.{cells_cmp, LiesInside};
 ghost use Rattle.ts_table.specs.Ordered.{place_cmp, AreOrdered};
@@ -16,8 +17,27 @@ use crate::spots::places_by_spot;
 use crate::table::Table;
 use std::alloc::Global;
 use std::cmp::Ordering;
-use ts_base::{IndexList, OutOfMemory};
+use ts_base::{Coords, IndexList, OutOfMemory};
 use ts_domain::Domain;
+
+/// Whether all cells of a table lie in a domain.
+pub fn is_inside(domain: &Domain, table: &Table) -> bool
+    ensures { IsTrue result ↔ All (LiesInside domain.now) table.now }
+{
+    for place in 0..table.len() {
+        if !lies_inside(domain, &table.coords(place)) {
+            return false;
+        }
+    }
+    true
+}
+
+// Whether coordinates, of any number, lie in a domain.
+fn lies_inside(domain: &Domain, at: &Coords) -> bool
+    ensures { result ≡ is_in_domain domain.now at.now }
+{
+    at.len() == domain.count() && domain.check(at).is_ok()
+}
 
 /// Whether the versions of a table ascend in an order, each cell once.
 pub fn is_in_order(domain: &Domain, order: CellOrder, table: &Table) -> bool

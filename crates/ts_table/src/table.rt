@@ -211,3 +211,52 @@ pub(crate) fn val_of(attrs: &[Column], place: u64, attr: u64) -> Option<Seen<'_>
         None
     }
 }
+
+/// Whether columns make a table: there are 1 to 8 dimensions, each cell names an origin, and each
+/// column has an item for each cell.
+pub fn is_table(origins: &[Origin], dims: &[Numbers], attrs: &[Column], cells: &[u32]) -> bool
+    ensures { IsTrue result ↔ IsTable origins.now dims.now attrs.now cells.now }
+{
+    let count = cells.len() as u64;
+    1 <= dims.len()
+        && dims.len() <= 8
+        && are_named(origins, cells)
+        && are_dims_long(dims, count)
+        && are_attrs_long(attrs, count)
+}
+
+// Whether each cell names an origin.
+fn are_named(origins: &[Origin], cells: &[u32]) -> bool
+    ensures { IsTrue result ↔ All (λ o. o < length origins.now) cells.now }
+{
+    for cell in cells {
+        if *cell as usize >= origins.len() {
+            return false;
+        }
+    }
+    true
+}
+
+// Whether each column of a dimension has so many items.
+fn are_dims_long(dims: &[Numbers], count: u64) -> bool
+    ensures { IsTrue result ↔ All (λ (column : List ℤ). length column ≡ count) dims.now }
+{
+    for column in dims {
+        if column.len() != count {
+            return false;
+        }
+    }
+    true
+}
+
+// Whether each column of an attribute has so many values.
+fn are_attrs_long(attrs: &[Column], count: u64) -> bool
+    ensures { IsTrue result ↔ All (λ (column : List AnyVal). length column ≡ count) attrs.now }
+{
+    for column in attrs {
+        if column.len() != count {
+            return false;
+        }
+    }
+    true
+}
