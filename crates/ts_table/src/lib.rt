@@ -15,6 +15,8 @@ mod ranks;
 mod rows;
 mod spots;
 mod table;
+#[cfg(test)]
+mod tests;
 mod texts;
 
 pub use box_table::BoxTable;
