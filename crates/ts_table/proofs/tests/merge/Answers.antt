@@ -1,5 +1,5 @@
 -- What holds of both tables holds of each.
-use Rattle.std.proofs.Common.{◌≡◌, ℕ, zero, suc, ◌<◌, List, [], ◌∷◌, length, get_or, rules, arith, sym, subst}
+use Rattle.std.proofs.Common.{◌≡◌, ℕ, zero, suc, ◌<◌, List, [], ◌∷◌, length, get_or, rules, arith, subst}
 use Rattle.std.specs.Prelude.{All}
 use Rattle.ts_table.specs.Orders.{LiesInside}
 use Rattle.ts_table.proofs.tests.merge.Goals as goal
