@@ -1,0 +1,15 @@
+pub mod Spans
+pub mod Columns
+pub mod Tables
+pub mod Picks
+pub mod Gathers
+pub mod KeyLemmas
+pub mod CellOrders
+pub mod MergeSteps
+pub mod MergeLaws
+pub mod MergeAllLaws
+pub mod MergeTables
+pub mod SpotOrders
+pub mod RankOrders
+pub mod Neighbours
+pub mod BoxTables
