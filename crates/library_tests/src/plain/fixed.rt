@@ -4,11 +4,11 @@ ghost use Rattle.std.specs.List.{All};
 ghost use Rattle.ts_plain.specs.Merges.{global_order, LiesInside, VersionsAscend};
 
 use super::{Change, broken_at, read_at};
-use crate::{Want, merge_all, read_head, read_plain, taken, write_plain};
 use std::alloc::Global;
 use std::test::Fail;
 use ts_base::{Coords, FragKey, IndexList, Key, Label, Row, Val, ValType, Version, VersionList};
 use ts_domain::{Dim, Domain, Order, SubBox};
+use ts_plain::{Want, merge_all, read_head, read_plain, taken, write_plain};
 use ts_schema::{Attr, AttrList, Frame, Schema};
 
 // The object of the write of 10 at the coordinate 5, with the timestamp 1 and the identifier 1.

@@ -2,11 +2,15 @@
 ghost use Rattle.std.specs.Prelude.{◌≡◌};
 ghost use Rattle.ts_base.specs.Names.{IsSpelled};
 
-use super::*;
 use std::alloc::Global;
 use std::test::Fail;
 use ts_base::{
     ByteList, CommitKind, Duplicate, FragKey, Key, LeaseMode, Name, OutOfMemory, Part, Prefix,
+};
+use ts_store::{
+    Call, Entry, Failed, Fate, Fault, FaultList, InputFault, Journal, Made, MemSink, MemSource,
+    MemStore, Recorder, Reply, Sink, Source, Store, StoreError, apply, enter_call, read_input,
+    write_all,
 };
 
 // The fragment of one write, with a small number as its identifier.

@@ -1,8 +1,8 @@
 //! Values as the TileDB format describes them.
-use crate::{ValType, compare, default_fill, fits};
 use std::cmp::Ordering;
 use std::test::Fail;
 use ts_base::{ByteList, Val};
+use ts_value::{ValType, compare, default_fill, fits};
 
 #[test]
 fn an_integer_fits_the_range_of_its_type(rt: HostRuntime) {

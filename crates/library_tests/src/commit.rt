@@ -2,14 +2,14 @@
 ghost use Rattle.std.specs.Prelude.{◌≡◌, ◌++◌, ◌∷◌, [], IfOk, OnOk, map as list_map};
 ghost use Rattle.ts_commit.specs.Asked.{AreOfKind};
 
-use crate::{
-    Limits, Planned, Selection, VacList, VacOf, decode_vac, encode_vac, names_merged, plan,
-    removal_set, select,
-};
 use std::alloc::Global;
 use std::test::Fail;
 use ts_base::{
     ByteList, Coords, CountList, FragKey, FragList, Head, HeadList, Key, KeyList, OutOfMemory,
+};
+use ts_commit::{
+    Limits, Planned, Selection, VacList, VacOf, decode_vac, encode_vac, names_merged, plan,
+    removal_set, select,
 };
 use ts_wire::ReadFault;
 
@@ -63,7 +63,7 @@ fn keys_of(alloc: Global, keys: &[Key]) -> Result<KeyList, OutOfMemory> {
 }
 
 // Adds the head of a fragment that these writes went into.
-#[tactic(auto, using(crate::proofs::Sets::heads_more, crate::proofs::Sets::own_kind))]
+#[tactic(auto, using(crate::proofs::WorkedHeads::heads_more, crate::proofs::WorkedHeads::own_kind))]
 fn add_head(
     alloc: Global,
     heads: &mut HeadList,

@@ -2,9 +2,9 @@
 mod fixed;
 mod mixed;
 
-use crate::read_plain;
 use std::alloc::Global;
 use ts_base::{ByteList, FragKey, OutOfMemory};
+use ts_plain::read_plain;
 use ts_schema::{Frame, Schema};
 use ts_wire::ReadFault;
 

@@ -9,7 +9,6 @@ ghost use Rattle.ts_schema.specs.SchemaTexts.{AreAttrs};
 ghost use Rattle.ts_model.specs.declared.deeds.Deed.TheVariants.{Framed, Declared, Wrote};
 ghost use Rattle.ts_model.specs.Deeds.{IsHistory, RowFits};
 
-use crate::{Deed, Deletion, History, Outcome, Written, check_delete, fills_of, reference};
 use std::alloc::Global;
 use std::process::Abort;
 use std::test::Fail;
@@ -18,6 +17,7 @@ use ts_base::{
 };
 use ts_cond::{Cond, NamedBoxList, Query};
 use ts_domain::{Dim, Domain, Layout, Order};
+use ts_model::{Deed, Deletion, History, Outcome, Written, check_delete, fills_of, reference};
 use ts_schema::{Attr, AttrList, Frame, Schema};
 
 fn label(rt: &impl Abort, name: &str) -> Label {

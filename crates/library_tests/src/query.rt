@@ -1,5 +1,4 @@
 //! Ends that no script shows; those that one shows stand in tests/cases.
-use crate::print_outcome;
 use std::alloc::Global;
 use std::test::Fail;
 use ts_base::{CommitKind, FragKey, Key, LabelList, LeaseMode, Name, Place, Prefix};
@@ -7,6 +6,7 @@ use ts_commit::Limits;
 use ts_cond::{CondFault, NamedBoxList, Query};
 use ts_domain::Layout;
 use ts_model::{Command, Outcome, Refusal};
+use ts_query::print_outcome;
 use ts_schema::SchemaFault;
 
 fn read(alloc: Global) -> Command {

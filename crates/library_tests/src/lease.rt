@@ -1,7 +1,7 @@
 //! The first lease of a listing that opposes a holder's own one, over worked listings.
-use crate::{Verdict, decide};
 use std::test::Fail;
 use ts_base::{Key, LeaseMode, Name, NameList};
+use ts_lease::{Verdict, decide};
 
 // The lease of a job stamped at t, whose identifier is t too.
 fn lease(t: u64, mode: LeaseMode) -> Name {

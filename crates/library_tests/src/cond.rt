@@ -1,10 +1,12 @@
 //! What conditions say of cells, and how their texts are read, where no script can show it.
+mod codec;
+
 ghost use Rattle.std.specs.Prelude.{◌≤◌, length, IfOk};
 
-use crate::{Cond, CondFault, CondField, CondFieldList, CondNode, CondOp, NodeList, Pick};
 use std::alloc::Global;
 use std::test::Fail;
 use ts_base::{Boxed, ByteList, Coords, Label, Row, Val, ValType};
+use ts_cond::{Cond, CondFault, CondField, CondFieldList, CondNode, CondOp, NodeList, Pick};
 use ts_value::default_fill;
 
 /// A field: a dimension where it has an index.

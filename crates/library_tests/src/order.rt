@@ -1,12 +1,12 @@
 //! Worked rows of orders, places and tiles.
 ghost use Rattle.ts_domain.specs.Dims.{IsDim};
 
-use crate::{cmp_global, cmp_plain, coords_at, position_of, tiles_of};
 use std::cmp::Ordering;
 use std::process::Abort;
 use std::test::Fail;
 use ts_base::{Coords, Label, ValType};
 use ts_domain::{Dim, Domain, Order, SubBox};
+use ts_order::{cmp_global, cmp_plain, coords_at, position_of, tiles_of};
 
 const LIMIT: i128 = 18_446_744_073_709_551_616;
 

@@ -1,8 +1,8 @@
 //! Fields and objects byte for byte, and where a broken one is damaged.
-use crate::{Cursor, Damaged, Kind, ReadFault, Scribe, unwrap_body, wrap};
 use std::alloc::Global;
 use std::test::Fail;
 use ts_base::{ByteList, Key, Label, OutOfMemory, Val};
+use ts_wire::{Cursor, Damaged, Kind, ReadFault, Scribe, unwrap_body, wrap};
 
 // The frame of a dense array with one dimension x from 0 to 9 in tiles of 10, as an object.
 const FRAME: [u8; 73] = [

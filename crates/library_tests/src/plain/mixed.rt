@@ -1,11 +1,11 @@
 //! An object of an array of two dimensions, with a text and a nullable integer, whose global order is
 //! no row order.
 use super::{Change, broken_at, read_at};
-use crate::{read_plain, write_plain};
 use std::alloc::Global;
 use std::test::Fail;
 use ts_base::{ByteList, Coords, FragKey, Key, Label, Val, ValType};
 use ts_domain::{Dim, Domain, Order};
+use ts_plain::{read_plain, write_plain};
 use ts_schema::{Attr, AttrList, Frame, Schema};
 
 // The object of a write of two cells: the text hi and -5 at (4, -1), and no bytes and null at (0, 0).

@@ -3,10 +3,10 @@ ghost use Rattle.std.specs.Prelude.{◌≡◌, ◌≤ℤ◌, length};
 ghost use Rattle.ts_domain.specs.Boxes.{IsBox};
 ghost use Rattle.ts_domain.specs.Dims.{IsDim};
 
-use crate::{Dim, Domain, DomainFault, Outside, SubBox};
 use std::process::Abort;
 use std::test::Fail;
 use ts_base::{Coords, Label, ValType};
+use ts_domain::{Dim, Domain, DomainFault, Outside, SubBox};
 
 const LIMIT: i128 = 18_446_744_073_709_551_616;
 

@@ -1,8 +1,8 @@
 //! The object of a schema byte for byte, and where a broken one is damaged.
-use crate::{Attr, AttrList, Schema};
 use std::alloc::Global;
 use std::test::Fail;
 use ts_base::{ByteList, Duplicate, Key, Label, Val, ValType};
+use ts_schema::{Attr, AttrList, Schema};
 use ts_wire::{Damaged, Kind, ReadFault, Scribe, wrap};
 
 // The schema of one attribute v of 64 signed bits with its default fill.

@@ -1,9 +1,9 @@
 //! The object of a frame byte for byte, and where a broken one is damaged.
-use crate::{Frame, Order};
 use std::alloc::Global;
 use std::test::Fail;
 use ts_base::{ByteList, Label, ValType};
 use ts_domain::{Dim, Domain};
+use ts_schema::{Frame, Order};
 use ts_wire::{Damaged, Kind, Scribe, wrap};
 
 // The frame of a sparse array with one dimension x from 0 to 9 in tiles of 10.

@@ -1,10 +1,10 @@
 //! New schemas, changes, rows shown through other attributes, and the schema of a timestamp.
 use super::frame_objects::worked_frame;
 use super::schema_objects::{attr, worked_attr};
-use crate::{Attr, AttrList, Evolution, LabelList, Schema, schema_at, show_row};
 use std::alloc::Global;
 use std::test::Fail;
 use ts_base::{Duplicate, Key, KeyList, Label, Row, Val, ValType};
+use ts_schema::{Attr, AttrList, Evolution, LabelList, Schema, schema_at, show_row};
 
 const KEY: Key = Key { t: 5, id: 3 };
 

@@ -1,9 +1,9 @@
 //! The object of a condition byte for byte, and where a broken one is damaged.
-use crate::Cond;
-use crate::tests::fields;
+use super::fields;
 use std::alloc::Global;
 use std::test::Fail;
 use ts_base::ByteList;
+use ts_cond::Cond;
 use ts_wire::{Damaged, Kind, ReadFault, Scribe, wrap};
 
 // The object of `v = 10`, where v is an attribute of 64 signed bits with its default fill.
