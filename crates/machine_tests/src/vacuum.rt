@@ -3,7 +3,6 @@ ghost use Rattle.std.specs.Prelude.{◌≡◌};
 ghost use Rattle.std.specs.Thread.{IsSync};
 ghost use Rattle.ts_base.specs.Names.{IsSpelled};
 
-use crate::{Lister, Unlocker, Vacuum};
 use std::alloc::Global;
 use std::test::Fail;
 use std::thread::Threads;
@@ -15,6 +14,7 @@ use ts_base::{
 use ts_commit::encode_vac;
 use ts_model::{Outcome, Refusal};
 use ts_store::{Fault, FaultList, MemStore, Store};
+use ts_vacuum::{Lister, Unlocker, Vacuum};
 
 // The shared lease of the command with a number, in a lane of a run with a seed.
 fn lease(seed: u64, lane: u32, number: u32) -> Name

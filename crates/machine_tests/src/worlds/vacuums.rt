@@ -4,7 +4,6 @@ ghost use Rattle.ts_world.specs.Breaks.{IsLease};
 
 use super::merging::{consolidate, written_twice};
 use super::{create, finish, first_world, has_read, read, spawn, vacuum};
-use crate::{Event, World, WorldFault};
 use std::alloc::Global;
 use std::test::Fail;
 use std::thread::Threads;
@@ -12,6 +11,7 @@ use ts_actor::PlainPieces;
 use ts_base::{Key, LeaseMode, Name};
 use ts_model::{Command, Outcome, Refusal};
 use ts_store::{Call, Entry, Fate};
+use ts_world::{Event, World, WorldFault};
 
 // The lease of a job of these worlds.
 fn lease(id: u128, mode: LeaseMode) -> Name

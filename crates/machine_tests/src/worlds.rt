@@ -9,7 +9,6 @@ ghost use Rattle.ts_model.specs.declared.commands.Command.TheVariants.{Create, E
 ghost use Rattle.ts_model.specs.Commands.{fits, is_spelled_attr, is_spelled_col, is_spelled_dim, is_spelled_query};
 ghost use Rattle.ts_world.specs.Clauses.{BeganEmpty};
 
-use crate::{Event, World, WorldFault};
 use std::alloc::Global;
 use std::test::Fail;
 use std::thread::Threads;
@@ -20,6 +19,7 @@ use ts_domain::{Dim, DimList, Layout, Order};
 use ts_model::{ColIn, ColInList, Command, FrameIn, History, Outcome, WriteIn};
 use ts_schema::{Attr, AttrList, Evolution};
 use ts_store::{Fate, FaultList, MemStore};
+use ts_world::{Event, World, WorldFault};
 
 // A world without actors and without a past.
 fn first_world(alloc: Global) -> World<PlainPieces>

@@ -4,13 +4,13 @@ ghost use Rattle.ts_domain.specs.Domains.{is_in_domain};
 ghost use Rattle.ts_model.specs.Merging.{HasBox};
 ghost use Rattle.ts_base.specs.declared.heads.Version.{Version as AnyVersion};
 
-use crate::{Unmerged, merge_pieces};
 use std::alloc::Global;
 use std::test::Fail;
 use ts_base::{
     Coords, FragKey, Head, HeadList, Key, KeyList, Label, OutOfMemory, Piece, Row, Val, ValType,
     Version, VersionList, VersionLists,
 };
+use ts_consolidate::{Unmerged, merge_pieces};
 use ts_domain::{Dim, Domain, Order};
 use ts_schema::Frame;
 
@@ -97,7 +97,7 @@ fn head_of(alloc: Global, frame: &Frame, id: u128, fragment: &Fragment<'_>) -> R
 }
 
 // The versions of a fragment.
-#[tactic(auto, using(crate::proofs::Placed::all_pushed))]
+#[tactic(auto, using(crate::proofs::Pushed::all_pushed))]
 fn versions_of(alloc: Global, frame: &Frame, fragment: &Fragment<'_>) -> Result<VersionList, Fail>
     requires { length frame.now.domain ≡ 1 }
     ensures { IfOk result (All (λ (version : AnyVersion). IsTrue (is_in_domain frame.now.domain version.coords))) }
@@ -128,7 +128,7 @@ fn version_of(alloc: Global, laid: &Laid) -> Result<Version, OutOfMemory>
 }
 
 // What the two fragments are merged into, with the identifier 9.
-#[tactic(auto, using(crate::proofs::Placed::all_pushed))]
+#[tactic(auto, using(crate::proofs::Pushed::all_pushed))]
 fn merged(alloc: Global, frame: &Frame, merge: &Merge<'_>) -> Result<Result<Piece, Unmerged>, Fail>
     requires { length frame.now.domain ≡ 1 }
 {

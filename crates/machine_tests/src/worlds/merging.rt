@@ -12,7 +12,6 @@ ghost use Rattle.ts_world.specs.Clauses.{BeganEmpty};
 use super::{
     attr, create, dim, everything, finish, first_world, has_read, label, read, spawn, vacuum, write,
 };
-use crate::{Event, World, WorldFault};
 use std::alloc::Global;
 use std::test::Fail;
 use std::thread::Threads;
@@ -26,6 +25,7 @@ use ts_domain::{Domain, Order};
 use ts_model::{Command, Deed, History, Outcome, Refusal, Written, reference};
 use ts_schema::{Attr, AttrList, Frame, Schema};
 use ts_store::{Call, Entry, Fate};
+use ts_world::{Event, World, WorldFault};
 
 // ---- worlds
 
