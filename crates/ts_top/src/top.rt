@@ -24,9 +24,6 @@ use ts_model::{Driven, Line, LineList, Outcome};
 use ts_script::{FormFault, ScriptFault, read_lines, read_words};
 use ts_store::{Clock, InputFault, Journal, Recorder, Sink, Source, Store, read_input, write_all};
 
-#[cfg(test)]
-mod tests;
-
 /// What a run leaves: its status, the store, and every call that was made of it, in order.
 pub struct Ran<S> {
     /// 0: the commands were done and their ends printed. 2: the words ask for nothing that can be

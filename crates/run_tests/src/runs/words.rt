@@ -1,11 +1,11 @@
 //! Single commands over stores that hold something, or that fail, and lines that take their stamps
 //! from the clock. What an empty store shows stands in tests/cases/words.
 use super::{C1, Shown, fails_at, play_over, play_well, said, with_array};
-use crate::top::{Ran, run};
 use std::test::Fail;
 use std::thread::Threads;
 use ts_base::ByteList;
 use ts_store::{FaultList, FixedClock, MemSink, MemSource, MemStore};
+use ts_top::{Ran, run};
 
 /// What C1 has as the object of a single create.
 const OBJECT: &str = "{'kind':'sparse',\

@@ -8,12 +8,12 @@ mod words;
 ghost use Rattle.std.specs.Prelude.{◌≡◌};
 ghost use Rattle.ts_base.specs.Names.{IsSpelled};
 
-use super::{Ran, run};
 use std::alloc::Global;
 use std::test::Fail;
 use std::thread::Threads;
 use ts_base::{ByteList, CommitKind, FragKey, Key, Name, OutOfMemory, Part};
 use ts_store::{Call, Fault, FaultList, FixedClock, Journal, MemSink, MemSource, MemStore};
+use ts_top::{Ran, run};
 
 /// The create of the array of most scripts.
 const C1: &str = "{'cmd':'create','at':0,'kind':'sparse',\
