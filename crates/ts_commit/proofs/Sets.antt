@@ -1,14 +1,13 @@
 -- Keys that are put into a list in order: which are in it.
-use Rattle.std.proofs.Common.{◌≡◌, ℕ, ◌+◌, ◌<◌, length, take, get_or, Bool, true, false, ◌&&◌, ◌||◌, not, List, [], ◌∷◌, ◌++◌, Result, Ok, Err, IfOk, map, refl, sym, ap, ◌∙◌, zero, suc, arith}
+use Rattle.std.proofs.Common.{◌≡◌, ℕ, ◌+◌, ◌<◌, length, take, get_or, Bool, true, false, ◌&&◌, ◌||◌, List, [], ◌∷◌, ◌++◌, Result, Ok, Err, IfOk, refl, sym, ap, ◌∙◌, zero, suc, arith}
 use Rattle.std.specs.Prelude.{filter, cond}
 use Rattle.std.specs.BTreeSet.{insert_key}
 use Rattle.std.specs.Cmp.{IsTotalOrder}
-use Rattle.std.specs.List.{list_all, list_any, fold, flat_map}
+use Rattle.std.specs.List.{list_any, fold, flat_map}
 use Rattle.std.specs.Ordering.{eq_by_cmp, is_eq, match_ordering, ordering_reverse}
 use Rattle.std.specs.declared.cmp.Ordering.{Ordering}
 use Rattle.std.specs.declared.cmp.Ordering.TheVariants.{Less, Equal, Greater}
-use Rattle.std.proofs.lemmas.List.{map-append}
-use Rattle.std.proofs.lemmas.List.Folds.{list_all-append, list_all-map, list_any-append, list_any_more}
+use Rattle.std.proofs.lemmas.List.Folds.{list_any-append, list_any_more}
 use Rattle.std.proofs.lemmas.List.Sums.{fold-append, fold_more}
 use Rattle.ts_base.specs.Exact.{frag_total, key_total}
 use Rattle.ts_base.specs.Keys.{key_eq, key_cmp, frag_cmp, frag_eq}
@@ -16,7 +15,6 @@ use Rattle.ts_base.specs.declared.keys.FragKey.{FragKey}
 use Rattle.ts_base.specs.declared.keys.Key.{Key}
 use Rattle.ts_base.specs.declared.heads.Head.{Head}
 use Rattle.ts_commit.specs.declared.vacs.VacOf.{VacOf}
-use Rattle.ts_commit.specs.Asked.{DoCount}
 use Rattle.ts_commit.specs.Selections.{is_among, is_merged, with_names, in_order, removal_set, names_merged, is_taken, is_head_of, is_named}
 
 -- ---- tests
@@ -170,19 +168,3 @@ any_at p (x ∷ xs) (suc i) d more is = true_or (p x) ∙ ap (λ b. p x || b) (a
     true_or : (b : Bool) → true ≡ (b || true)
     true_or true = refl
     true_or false = refl
-
--- ---- heads
-
--- a head is of its own kind
-pub own_kind : (dense : Bool) → cond dense dense (not dense) ≡ true
-own_kind true = refl
-own_kind false = refl
-
--- the `.vac` of one committed fragment counts
-pub one_counts : (vacs : List VacOf) (f : FragKey) (committed : List FragKey) → map (λ v. v.frag) vacs ≡ f ∷ [] → is_among f committed ≡ true → DoCount committed vacs
-one_counts vacs f committed are is =
-    let each = λ (g : FragKey). is_among g committed in
-    sym (list_all-map each (λ v. v.frag) vacs) ∙ ap (list_all each) are ∙ ap (λ b. b && true) is
-
--- a head more
-pub ruleset heads_more = (map-append, list_all-append)

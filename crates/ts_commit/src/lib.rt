@@ -8,8 +8,6 @@ mod lines;
 mod named;
 mod plans;
 mod selection;
-#[cfg(test)]
-mod tests;
 mod totals;
 mod vacs;
 

@@ -4,8 +4,6 @@
 mod binding;
 mod bytes;
 mod codec;
-#[cfg(test)]
-mod codec_tests;
 mod cond;
 mod cond_reading;
 mod cond_writing;
@@ -21,8 +19,6 @@ mod nodes;
 mod parse;
 mod query;
 mod tags;
-#[cfg(test)]
-mod tests;
 mod tokens;
 mod tree_reading;
 

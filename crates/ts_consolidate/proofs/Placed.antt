@@ -11,7 +11,7 @@ use Rattle.std.specs.BTreeMap.{insert_entry}
 use Rattle.std.specs.FinMap as map
 use Rattle.std.specs.FinMap.Entries.{by_order}
 use Rattle.std.proofs.lemmas.List.{get_or_append_left, get_or_at, length_push, nil_from_length}
-use Rattle.std.proofs.lemmas.List.Elements.{All-nil, All-cons, All-head, All-tail, All-append, All-push, All-contains}
+use Rattle.std.proofs.lemmas.List.Elements.{All-nil, All-cons, All-head, All-tail, All-append, All-contains}
 use Rattle.ts_base.specs.declared.heads.Version.{Version}
 use Rattle.ts_schema.specs.declared.frames.Frame.{Frame}
 use Rattle.ts_model.specs.declared.merging.VersionPlace.{VersionPlace}
@@ -87,7 +87,3 @@ newest_all P vs all = all_newest P vs all (map.values (newest_of vs)) (are_newes
 pub joined_all : (P : Version → Type 0) (lists : List (List Version)) → All (All P) lists → All P (all_got lists)
 joined_all P [] all = All-nil P
 joined_all P (vs ∷ lists) all = All-append P vs (all_got lists) (All-head (All P) vs lists all) (joined_all P lists (All-tail (All P) vs lists all))
-
--- what holds of each holds of each and of one more
-pub all_pushed : {A : Type 0} (P : A → Type 0) (xs : List A) (x : A) → All P xs → P x → All P (xs ++ x ∷ [])
-all_pushed P xs x all own = All-push P xs x all own

@@ -15,8 +15,6 @@ mod puts;
 mod putting;
 mod steps;
 mod surveying;
-#[cfg(test)]
-mod tests;
 mod versions;
 
 pub use consolidator::Consolidator;

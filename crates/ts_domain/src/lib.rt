@@ -6,8 +6,6 @@ mod dims;
 mod domain;
 mod orders;
 mod outside;
-#[cfg(test)]
-mod tests;
 
 pub use boxes::{BoxList, SubBox};
 pub use dims::{Dim, DimList, DomainFault, has_name};

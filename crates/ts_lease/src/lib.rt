@@ -4,8 +4,6 @@
 //! on only where no other one opposes its own.
 #![tactic(auto)]
 
-#[cfg(test)]
-mod tests;
 mod verdicts;
 
 pub use verdicts::{Verdict, decide};

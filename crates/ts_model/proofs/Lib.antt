@@ -21,7 +21,6 @@ pub mod Ascending
 pub mod Scans
 pub mod Referred
 pub mod Erased
-pub mod WorkedHistories
 pub mod Members
 pub mod UnionLaws
 pub mod MergedPieces

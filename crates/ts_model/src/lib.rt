@@ -18,8 +18,6 @@ mod queries;
 mod scan;
 mod selection;
 mod states;
-#[cfg(test)]
-mod tests;
 
 pub use answers::{Answer, Driven, Outcome, Refusal, TypeList};
 pub use blobs::blob_bytes;

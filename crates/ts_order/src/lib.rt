@@ -3,8 +3,6 @@
 
 mod compare;
 mod places;
-#[cfg(test)]
-mod tests;
 mod tile_order;
 mod tiles;
 

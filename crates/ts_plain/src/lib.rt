@@ -6,8 +6,6 @@ mod pieces;
 mod reading;
 mod rules;
 mod stored;
-#[cfg(test)]
-mod tests;
 mod writing;
 
 pub use merging::{merge_all, merge_two, newest_alone};

@@ -5,8 +5,6 @@
 mod ends;
 mod refusals;
 mod rows;
-#[cfg(test)]
-mod tests;
 
 pub use ends::print_outcome;
 pub use ts_model::{QueryFault, Ready, Shown, ShownList, check_query, rows_of};

@@ -14,8 +14,6 @@ mod schema_writing;
 mod schemas;
 mod showing;
 mod spelling;
-#[cfg(test)]
-mod tests;
 mod there;
 mod types;
 mod wants;

@@ -12,8 +12,6 @@ mod objects;
 mod recorder;
 mod store;
 mod streams;
-#[cfg(test)]
-mod tests;
 
 pub use call::{Call, Made, Reply, StoreError};
 pub use clock::{Clock, FixedClock};

@@ -26,9 +26,6 @@ use ts_model::{Driven, Line, LineList, Outcome};
 use ts_script::{FormFault, Report, ScriptFault, read_lines, read_words};
 use ts_store::{Clock, InputFault, Journal, Recorder, Sink, Source, Store, read_input, write_all};
 
-#[cfg(test)]
-mod tests;
-
 /// What a run leaves: its status, the store, and every call that was made of it, in order.
 pub struct Ran<S> {
     /// 0: the commands were done and what came of them was printed. 2: the words ask for nothing that

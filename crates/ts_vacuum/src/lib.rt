@@ -9,8 +9,6 @@ mod removed;
 mod steps;
 mod sweeping;
 mod sweeps;
-#[cfg(test)]
-mod tests;
 mod unlocker;
 mod vacuum;
 

@@ -4,8 +4,6 @@
 mod fills;
 mod fitting;
 mod order;
-#[cfg(test)]
-mod tests;
 
 pub use fills::default_fill;
 pub use fitting::{fits, fits_are_tested, is_text};

@@ -9,8 +9,6 @@ mod kinds;
 mod rules;
 mod scribe;
 mod spelling;
-#[cfg(test)]
-mod tests;
 
 pub use cursor::Cursor;
 pub use envelopes::{unwrap_body, wrap};

@@ -9,4 +9,3 @@ pub mod Calls
 pub mod Sounds
 pub mod Began
 pub mod Alone
-pub mod WorkedHistories

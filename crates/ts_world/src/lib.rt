@@ -6,8 +6,6 @@ mod events;
 mod leases;
 mod parts;
 mod slots;
-#[cfg(test)]
-mod tests;
 mod told;
 mod world;
 

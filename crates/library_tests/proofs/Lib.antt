@@ -1,0 +1,2 @@
+mod WorkedHeads
+mod WorkedHistories
