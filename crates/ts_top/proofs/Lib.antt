@@ -12,3 +12,4 @@ pub mod StaysTold
 pub mod StopsTold
 pub mod RefusalsTold
 pub mod Promises
+mod Refusing

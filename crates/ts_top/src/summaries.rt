@@ -1,14 +1,34 @@
 //! What is printed of a generated script: what came of it, or the first command that was refused.
-ghost use Rattle.std.specs.Prelude.{◌≡◌, ◌++◌, [], filter, length, IfOk, OnOk, option_map, string_bytes};
+ghost use Rattle.std.specs.Prelude.{◌≡◌, ◌^◌, ◌<◌, ◌≤◌, ◌++◌, [], length, IfOk, OnOk, option_map, slice_get, string_bytes};
 ghost use Rattle.std.specs.List.{list_any};
+ghost use Rattle.std.specs.Option.{option_copied};
 ghost use Rattle.ts_top.specs.Items.{numbered};
-ghost use Rattle.ts_top.specs.Summaries.{first_in, generated_text, lacks_memory, number_in, refusal_text, removed_in, rows_in, sources_in, status_generated, sum_of, sums_text, was_refused, was_written};
+ghost use Rattle.ts_top.specs.Summaries.{first_in, generated_text, lacks_memory, line_text, number_in, refusal_text, removed_in, rows_in, sources_in, status_generated, sum_of, sums_of, sums_text, was_refused, writes_in, written_in};
 
 use crate::ends::print_one;
 use crate::items::Item;
+use itoa::Buffer;
 use std::alloc::Global;
 use ts_base::{ByteList, OutOfMemory, Row, Val};
 use ts_model::{Driven, Outcome, Refusal};
+
+// The least number that is too large to be counted.
+const LIMIT: i128 = 1 << 63;
+
+/// What came of the commands of a generated script.
+#[derive(Drop)]
+struct Sums {
+    /// How many writes were done.
+    writes: u64,
+    /// How many fragments the consolidation merged.
+    consolidated: u32,
+    /// How many fragments the vacuum removed.
+    removed: u64,
+    /// How many rows the read shows.
+    rows: u64,
+    /// The sum of their values.
+    sum: u128,
+}
 
 /// Prints what came of the commands of a generated script. Where a command found no memory nothing is
 /// printed; where one was refused, other than a consolidation that found nothing to merge, the end of
@@ -27,7 +47,7 @@ pub(crate) fn print_summary(
     } else if is_refused(results) {
         print_refusal(alloc, items, results)
     } else {
-        print_sums(alloc, results)
+        print_sums(alloc, &sums_of(results))
     }
 }
 
@@ -78,13 +98,6 @@ fn was_refused(came: &Driven<Outcome>) -> bool
     }
 }
 
-// Whether it is a write that was done.
-fn was_written(came: &Driven<Outcome>) -> bool
-    ensures { result ≡ was_written came.now }
-{
-    matches!(came, Driven::Done(Outcome::Written(_)))
-}
-
 // Prints the end of the first command that was refused.
 fn print_refusal(
     alloc: Global,
@@ -102,21 +115,66 @@ fn print_refusal(
     Ok(ByteList::new(alloc))
 }
 
-// Prints the summary.
+// Prints the summary, a line for each number.
 #[tactic(auto, unfolding(crate::specs::Summaries::sums_text))]
-fn print_sums(alloc: Global, results: &[Driven<Outcome>]) -> Result<ByteList, OutOfMemory>
-    ensures { IfOk result (λ text. text ≡ sums_text results.now) }
+fn print_sums(alloc: Global, sums: &Sums) -> Result<ByteList, OutOfMemory>
+    ensures { IfOk result (λ text. text ≡ sums_text sums.now) }
 {
-    let writes = results.iter().filter(|came| was_written(came)).count();
-    let consolidated = sources_merged(results);
-    let removed = fragments_removed(results);
-    let read = rows_read(results);
-    let rows = read.len();
-    let sum = sum_of(read);
     let mut text = String::new(alloc);
-    write!(text, "writes\t{writes}\nconsolidated\t{consolidated}\n")?;
-    write!(text, "removed\t{removed}\nrows\t{rows}\nsum\t{sum}\n")?;
+    add_line(&mut text, "writes", u128::from(sums.writes))?;
+    add_line(&mut text, "consolidated", u128::from(sums.consolidated))?;
+    add_line(&mut text, "removed", u128::from(sums.removed))?;
+    add_line(&mut text, "rows", u128::from(sums.rows))?;
+    add_line(&mut text, "sum", sums.sum)?;
     Ok(ByteList::from_vec(text.into_bytes()))
+}
+
+// Adds a line of the summary.
+fn add_line(text: &mut String, name: &str, number: u128) -> Result<(), OutOfMemory>
+    ensures { OnOk result (string_bytes text.new ≡ string_bytes text.old ++ line_text name.now number) }
+{
+    let mut digits = Buffer::new();
+    text.push_str(name)?;
+    text.push_str("\t")?;
+    text.push_str(digits.format(number))?;
+    text.push_str("\n")?;
+    Ok(())
+}
+
+// What came of the commands.
+fn sums_of(results: &[Driven<Outcome>]) -> Sums
+    ensures { result ≡ sums_of results.now }
+{
+    let read = rows_read(results);
+    Sums {
+        writes: writes_done(results),
+        consolidated: sources_merged(results),
+        removed: fragments_removed(results),
+        rows: read.len() as u64,
+        sum: sum_of(read),
+    }
+}
+
+// How many writes were done.
+fn writes_done(results: &[Driven<Outcome>]) -> u64
+    ensures { result ≡ writes_in results.now }
+{
+    let mut writes = 0;
+    for came in results {
+        writes += written_in(came);
+    }
+    writes
+}
+
+// 1 for a write that was done, else 0.
+fn written_in(came: &Driven<Outcome>) -> u64
+    ensures is { result ≡ written_in came.now }
+    ensures few { result ≤ 1 }
+{
+    match came {
+        Driven::Done(Outcome::Written(_)) => 1,
+        _ => 0,
+    }
 }
 
 // How many fragments the consolidation merged.
@@ -186,22 +244,31 @@ fn rows_in(came: &Driven<Outcome>) -> Option<&[Row]>
 }
 
 // The values of rows, behind their one coordinate, added up.
-fn sum_of(rows: &[Row]) -> i128
+fn sum_of(rows: &[Row]) -> u128
     ensures { result ≡ sum_of rows.now }
 {
     let mut sum = 0;
     for row in rows {
-        sum += number_in(row.as_slice().get(1));
+        sum += u128::from(value_of(row.as_slice()));
     }
     sum
 }
 
-// A whole number of 64 bits, and 0 for any other value.
-fn number_in(value: Option<&Val>) -> i128
-    ensures is { result ≡ number_in (option_map (λ value. value.now) value.entry) }
+// The value of a row, behind its one coordinate.
+fn value_of(row: &[Val]) -> u64
+    ensures is { result ≡ number_in (slice_get row.now 1) }
+    ensures few { result < 2 ^ 63 }
+{
+    number_in(row.get(1))
+}
+
+// A whole number from 0 to 2^63 - 1, and 0 for any other value.
+fn number_in(value: Option<&Val>) -> u64
+    ensures is { result ≡ number_in (option_copied value.entry) }
+    ensures few { result < 2 ^ 63 }
 {
     match value {
-        Some(Val::Int(number)) if -(1 << 63) <= *number && *number < (1 << 63) => *number,
+        Some(Val::Int(number)) if 0 <= *number && *number < LIMIT => *number as u64,
         _ => 0,
     }
 }

@@ -65,7 +65,7 @@ returns-in-Ok-read_lines-clause-read g c =
         means = means job c.has_input.result input bytes (Ok c.in-Ok-read_lines.lines) c.has_input.ensures c.in-Ok-take_input.ensures.taken is;
         read = input_read job c.has_input.result input bytes c.in-Ok-read_lines.lines c.has_input.ensures c.in-Ok-take_input.ensures.taken is;
       },
-      c.report.ensures,
+      c.report-report.ensures,
     )
 
 pub returns-in-Err-Bad-clause-reason : goal.returns-in-Err-Bad-clause-reason
@@ -81,7 +81,7 @@ returns-in-Err-Bad-clause-reason g c =
       job = job;
       asks = c.in-Ok.ensures.asked;
       has = faulty_has job bytes f is;
-      means = means job c.has_input.result input bytes (Err f) c.has_input.ensures c.in-Ok-take_input.ensures.taken is;
+      means = rw c.in-Err-Bad.field-0-is (means job c.has_input.result input bytes (Err f) c.has_input.ensures c.in-Ok-take_input.ensures.taken is);
       front = front_read;
       unhurt = unhurt;
     }
