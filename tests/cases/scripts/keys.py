@@ -19,10 +19,10 @@ OTHERS = {
 
 
 class Key:
-    """A key of a form: values that may stand under it, values that may not, and whether it has to be there."""
+    """A key of a form: values that may stand under it, and values that may not."""
 
-    def __init__(self, name, good, bad, needed=False):
-        self.name, self.good, self.bad, self.needed = name, good, bad, needed
+    def __init__(self, name, good, bad):
+        self.name, self.good, self.bad = name, good, bad
 
 
 def stamps(name):
@@ -62,8 +62,8 @@ COMMON = [
 FORMS = {
     "create": [
         words("kind", "sparse", "dense"),
-        Key("dims", [f"[{X}]"], [*OTHERS["list"], "[]", *(f"[{other}]" for other in NO_DIMS)], needed=True),
-        Key("attrs", [*(f"[{attr}]" for attr in ATTRS)], [*OTHERS["list"], *(f"[{other}]" for other in NO_ATTRS)], needed=True),
+        Key("dims", [f"[{X}]"], [*OTHERS["list"], "[]", *(f"[{other}]" for other in NO_DIMS)]),
+        Key("attrs", [*(f"[{attr}]" for attr in ATTRS)], [*OTHERS["list"], *(f"[{other}]" for other in NO_ATTRS)]),
         words("cell_order", "row", "col"),
         words("tile_order", "row", "col"),
         Key("capacity", ["1", "1000000"], [*OTHERS["number"], "0", "-1", "1000001", str(2**32)]),
@@ -77,7 +77,6 @@ FORMS = {
             "cols",
             ["{}", '{"x":[1],"v":[null]}', f'{{"x":[{LEAST},{MOST}],"v":["","a"]}}'],
             [*OTHERS["object"], '{"x":[]}', '{"x":1}', '{"x":[true]}', '{"x":[[1]]}', '{"x":[{}]}', '{"x":[1.5]}', f'{{"x":[{MOST + 1}]}}', '{"is":[1]}'],
-            needed=True,
         ),
         BOX,
         words("layout", "row", "col"),
@@ -90,7 +89,7 @@ FORMS = {
         Key("fields", ['["x"]', '["v","v"]'], [*OTHERS["list"], "[]", "[1]", '["null"]', '[""]']),
         words("layout", "row", "col", "global"),
     ],
-    "delete": [Key("where", ['""', '"v = 1"'], OTHERS["text"], needed=True)],
+    "delete": [Key("where", ['""', '"v = 1"'], OTHERS["text"])],
     "consolidate": [
         stamps("from"),
         stamps("to"),
@@ -140,8 +139,10 @@ def bad(command, keys, behind=()):
 def of_key(command, key, base):
     """The lines in which one key is left out, comes twice, or has each of its values."""
     rest = {name: value for name, value in base.items() if name != key.name}
-    needed = key.name in LEAST_KEYS[command]
-    yield f"no {key.name}", bad(command, rest) if needed else good(command, rest)
+    if key.name in LEAST_KEYS[command]:
+        yield f"no {key.name}", bad(command, rest)
+    elif key.name != "at":  # (without it the stamp is the clock's, and told by most ends)
+        yield f"no {key.name}", good(command, rest)
     for value in key.good:
         yield f"{key.name} {value}", good(command, {**rest, key.name: value})
     for value in key.bad:
