@@ -1,2 +1,3 @@
+mod LikeLemmas
 mod WorkedHeads
 mod WorkedHistories

@@ -5,6 +5,8 @@
 #![tactic(auto)]
 
 #[cfg(test)]
+mod column;
+#[cfg(test)]
 mod commit;
 #[cfg(test)]
 mod cond;
@@ -20,6 +22,8 @@ mod order;
 mod plain;
 #[cfg(test)]
 mod query;
+#[cfg(test)]
+mod rtree;
 #[cfg(test)]
 mod schema;
 #[cfg(test)]

@@ -1,4 +1,5 @@
-//! Times the fields of objects and the orders of cells: `speed fields` or `speed orders`.
+//! Times the fields of objects, the orders of cells and the work of tables: `speed fields`,
+//! `speed orders` or `speed table`.
 //!
 //! It prints picoseconds for each call, and a number that depends on all results, so that no call is
 //! left out. Without a word it does nothing.
@@ -7,6 +8,9 @@
 ghost use Rattle.std.specs.Prelude.{◌≡◌, ◌<◌, length};
 ghost use Rattle.ts_domain.specs.Dims.{IsDim};
 
+mod table;
+
+use crate::table::time_table;
 use std::alloc::Global;
 use std::cmp::Ordering;
 use std::rt::{Clock, Env};
@@ -31,6 +35,7 @@ fn main(rt: HostRuntime) -> io::Result<()> {
     match word {
         Some(word) if word.as_str() == "fields" => time_fields(&rt),
         Some(word) if word.as_str() == "orders" => time_orders(&rt),
+        Some(word) if word.as_str() == "table" => time_table(&rt),
         _ => Ok(()),
     }
 }

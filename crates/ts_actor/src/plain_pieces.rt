@@ -112,7 +112,7 @@ impl Pieces for PlainPieces {
         want: &Want,
     ) -> Result<VersionList, ReadFault> {
         let piece = read_plain(alloc, frame, schema, frag, object.as_slice())?;
-        Ok(taken(alloc, want, piece.versions.as_slice())?)
+        Ok(taken(alloc, want, piece.versions)?)
     }
 
     fn next<R: Threads + Sync>(

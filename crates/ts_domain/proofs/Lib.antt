@@ -4,3 +4,4 @@ pub mod Steps
 pub mod BoxLemmas
 pub mod TileLemmas
 pub mod DomainLemmas
+pub mod RectLemmas

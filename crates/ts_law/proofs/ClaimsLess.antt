@@ -49,7 +49,7 @@ use Rattle.ts_law.proofs.LeaseSteps.{before_clean, begun_on}
 use Rattle.ts_law.proofs.Leasing.{alone}
 use Rattle.ts_law.proofs.Removals.{remains_told}
 use Rattle.ts_law.proofs.Spent.{unspent_on}
-use Rattle.ts_law.proofs.Stays.{end_stays, works_stays}
+use Rattle.ts_law.proofs.Stays.{end_stays, no_array_stays, works_stays}
 use Rattle.ts_law.proofs.UnlockSteps.{unlocking_stays}
 use Rattle.std.specs.FinMap as map
 use Rattle.ts_base.specs.declared.names.Name.TheVariants as name
@@ -159,7 +159,7 @@ module _ {F : Type 0} (codec : Codec F) (spelled : Spelled) (tracks : Tracking F
 
     -- what its last put makes of it stays
     aims_on : (objects : List NewObject) (end : Outcome) → Aims codec spelled opening past jobs seen m number job objects end → Aims codec spelled opening past jobs (seen ++ e ∷ []) m' number job objects end
-    aims_on objects outcome.Created (f, creates, is, none, framed) = (f, creates, is, none, framed_stays _ framed)
+    aims_on objects outcome.Created (f, creates, is, none, framed, new) = (f, creates, is, none, framed_stays _ framed, no_array_stays past jobs seen e number f new)
     aims_on objects (outcome.Evolved k) (change, frame, there, evolves, same, is, framed, sound, works) = (change, frame, there, evolves, same, is, framed_stays frame framed, sound, works_on there works)
     aims_on objects (outcome.Written f) (w, frame, there, cells, writes_them, same, is, no_vac, framed, lays, works) =
         (w, frame, there, cells, writes_them, same, is, none_comes _ no_vac, framed_stays frame framed, lays, works_on there works)

@@ -1,5 +1,5 @@
 -- The calls of a create before it puts its schema.
-use Rattle.std.proofs.Common.{Bool, List, None, Option, Some, [], ap, arith, cond, false, inl, inr, length, nat_eq, not, refl, subst, sym, true, ℕ, ◌++◌, ◌-◌, ◌^◌, ◌∙◌, ◌∷◌, ◌≡◌}
+use Rattle.std.proofs.Common.{Bool, List, None, Option, Some, [], ap, arith, cond, false, inl, inr, length, nat_eq, not, refl, subst, suc, sym, true, ℕ, ◌++◌, ◌-◌, ◌^◌, ◌∙◌, ◌∷◌, ◌≡◌}
 use Rattle.std.proofs.lemmas.List.{append-nil, take_all}
 use Rattle.std.proofs.lemmas.Option.{none-some, same_Some}
 use Rattle.std.proofs.lemmas.Slice.Eq.{bytes_eq-Decides}
@@ -13,8 +13,11 @@ use Rattle.ts_schema.specs.declared.frames.Frame.{Frame}
 use Rattle.ts_store.specs.Calls.{part_of}
 use Rattle.ts_store.specs.declared.call.Reply.{Reply}
 use Rattle.ts_model.specs.Commands.{create_refusal, fits, frame_made}
-use Rattle.ts_model.specs.Deeds.{History, frame_in, keys}
-use Rattle.ts_law.specs.Ends.{IsUndone}
+use Rattle.ts_model.specs.Deeds.{History, frame_in, keys, schemas}
+use Rattle.ts_law.specs.Ends.{FindsNoArray, IsUndone}
+use Rattle.ts_base.specs.declared.names.Name.{Name}
+use Rattle.ts_base.specs.declared.names.Prefix.TheVariants.{Schemas}
+use Rattle.std.proofs.lemmas.Bool.{ne_eqb}
 use Rattle.ts_model.specs.Codecs.{Codec, CodecLaws, Spelled, Tracking}
 use Rattle.ts_law.specs.Fresh.{id_in}
 use Rattle.ts_model.specs.Jobs.{key_of}
@@ -30,7 +33,7 @@ use Rattle.ts_model.specs.declared.states.State.{State}
 use Rattle.ts_model.specs.declared.states.State.TheVariants.{Creates, Puts, Over}
 use Rattle.ts_model.specs.declared.states.Creating.TheVariants.{PutsFrame, ComparesFrame, ListsDeclared}
 use Rattle.ts_law.proofs.Declaring.{created_frame, frame_one}
-use Rattle.ts_law.proofs.Effects.{Added, IsLook, Still, got, look_stays, put_went, still_leads}
+use Rattle.ts_law.proofs.Effects.{Added, IsLook, Still, got, listed, look_stays, put_went, still_leads}
 use Rattle.ts_law.proofs.HeldLemmas.{Holds, get_apart}
 use Rattle.ts_model.proofs.HistoryLaws.{frame_facts, keys-append}
 use Rattle.ts_model.proofs.ListLemmas.{Contains-nil}
@@ -39,7 +42,8 @@ use Rattle.ts_law.proofs.StandsLaws.{first_deed, frame_held, keeps_put, leads_at
 use Rattle.ts_law.proofs.Spent.{put_commits, unspent_on}
 use Rattle.ts_base.specs.declared.keys.FragKey.{FragKey}
 use Rattle.ts_base.specs.Names.{wrt_of}
-use Rattle.ts_law.proofs.Stays.{clean_look}
+use Rattle.ts_law.proofs.ListSteps.{none_from_listed}
+use Rattle.ts_law.proofs.Stays.{clean_look, listed_now, made_now}
 use Rattle.ts_model.proofs.Traces.{deed_told_own, later_deed, later_unchanged}
 use Rattle.std.specs.FinMap as map
 use Rattle.ts_base.specs.declared.names.Name.TheVariants as name
@@ -125,10 +129,11 @@ module _ {F : Type 0} (codec : Codec F) (spelled : Spelled) (tracks : Tracking F
 
   -- a create that is to put its first schema, once its frame is there
   puts_first_claims : (f : FrameIn) → job.command ≡ Create f → create_refusal f ≡ None → Clean opening past jobs (seen ++ e ∷ []) m' job → frame_in h' ≡ Some (frame_made f)
+      → FindsNoArray jobs past (seen ++ e ∷ []) number f
       → ClaimsLater (Puts (schema_object_of job f.attrs ∷ []) 0 outcome.Created)
-  puts_first_claims f creates sound clean framed =
+  puts_first_claims f creates sound clean framed new =
       begins_putting codec spelled opening past jobs (seen ++ e ∷ []) m' number job (schema_object_of job f.attrs ∷ []) outcome.Created clean
-      (schema_carries job f.attrs) (omega arith) (f, creates, refl, sound, framed)
+      (schema_carries job f.attrs) (omega arith) (f, creates, refl, sound, framed, new)
 
   -- the put of the frame advances a create
   frame_step : (f : FrameIn) → job.command ≡ Create f → create_refusal f ≡ None → Clean opening past jobs seen m job → ComesHere (Creates PutsFrame) → AdvancesHere (Creates PutsFrame)
@@ -141,7 +146,8 @@ module _ {F : Type 0} (codec : Codec F) (spelled : Spelled) (tracks : Tracking F
               (stands_frame spelled m h (frame_made f) free (created_frame f fit sound) (subst IsShortCall is c.short) c.stands)
               (keeps_put m h name.Domain (frame_object (frame_made f)) job.id (Framed (frame_made f) ∷ []) free (marks_domain m) (inr refl) (λ k none. absurd (Contains-nil k none)));
           own = frame_leads f creates e.reply
-              (λ _. puts_first_claims f creates sound clean_later (ap frame_in (same_history ∙ ap (λ g. g ++ Framed (frame_made f) ∷ []) (first_deed spelled m h free c.stands))))
+              (λ is_made. puts_first_claims f creates sound clean_later (ap frame_in (same_history ∙ ap (λ g. g ++ Framed (frame_made f) ∷ []) (first_deed spelled m h free c.stands)))
+              (inl (made_now seen e number (frame_put f) c.own is, is_made, first_deed spelled m h free c.stands)))
               (λ taken. absurd (elim said [ inl made ↦ cc | inr failed ↦ cc ]))
               clean_later.undone;
         }
@@ -230,14 +236,15 @@ module _ {F : Type 0} (codec : Codec F) (spelled : Spelled) (tracks : Tracking F
   -- ---- a create: the schemas that are there
 
   -- where the listing of the schemas leads a create
-  declared_leads : (f : FrameIn) → job.command ≡ Create f → (r : Reply) → ClaimsLater (Puts (schema_object_of job f.attrs ∷ []) 0 outcome.Created) → IsUndone h' job
+  declared_leads : (f : FrameIn) → job.command ≡ Create f → (r : Reply) → (r ≡ reply.Names [] → ClaimsLater (Puts (schema_object_of job f.attrs ∷ []) 0 outcome.Created)) → IsUndone h' job
       → ClaimsLater (goes codec job (Creates ListsDeclared) r)
   declared_leads f creates (reply.Names names) puts undone =
-      at_made f creates (λ o. ClaimsLater (cond (nat_eq (length names) 0) (puts_first job o) (refuse refusal.ArrayExists))) (from (nat_eq (length names) 0))
+      at_made f creates (λ o. ClaimsLater (cond (nat_eq (length names) 0) (puts_first job o) (refuse refusal.ArrayExists))) (from names refl)
     where
-      from : (b : Bool) → ClaimsLater (cond b (Puts (schema_object_of job f.attrs ∷ []) 0 outcome.Created) (refuse refusal.ArrayExists))
-      from true = puts
-      from false = undone
+      from : (ns : List Name) → names ≡ ns → ClaimsLater (cond (nat_eq (length ns) 0) (Puts (schema_object_of job f.attrs ∷ []) 0 outcome.Created) (refuse refusal.ArrayExists))
+      from [] none = puts (ap reply.Names none)
+      from (n ∷ ns) some =
+          subst (λ b. ClaimsLater (cond b (Puts (schema_object_of job f.attrs ∷ []) 0 outcome.Created) (refuse refusal.ArrayExists))) (sym (ne_eqb (suc (length ns)) 0 (λ same. absurd (omega arith)))) undone
   declared_leads f creates reply.Failed puts undone = undone
   declared_leads f creates _ puts undone = tt
 
@@ -245,9 +252,16 @@ module _ {F : Type 0} (codec : Codec F) (spelled : Spelled) (tracks : Tracking F
   declared_step : (f : FrameIn) → job.command ≡ Create f → create_refusal f ≡ None → frame_in h ≡ Some (frame_made f) → Clean opening past jobs seen m job → ComesHere (Creates ListsDeclared) → AdvancesHere (Creates ListsDeclared)
   declared_step f creates sound framed clean c = record {
     leads = still_leads spelled past jobs seen e m job.id c.stands looked.0 same_history;
-    own = declared_leads f creates e.reply (puts_first_claims f creates sound clean_later (ap frame_in same_history ∙ framed)) clean_later.undone;
+    own = declared_leads f creates e.reply (λ none. puts_first_claims f creates sound clean_later (ap frame_in same_history ∙ framed) (inr (listed_now seen e number Schemas c.own is, no_schema none))) clean_later.undone;
   }
     where
+      is : e.call ≡ list_schemas
+      is = sym (same_Some list_schemas e.call c.asked)
+
+      -- nothing was listed, so there is no schema
+      no_schema : e.reply ≡ reply.Names [] → schemas h ≡ []
+      no_schema none = none_from_listed spelled m h c.stands (sym (listed m e Schemas [] is c.replied none))
+
       looked : (m' ≡ m) × (e.changed ≡ false)
       looked = look_stays m e (subst IsLook (same_Some list_schemas e.call c.asked) tt) c.replied
 

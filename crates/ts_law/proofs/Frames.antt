@@ -2,7 +2,7 @@
 use Rattle.std.proofs.Common.{List, Some, ap, [], inl, inr, subst, sym, ℕ, ◌++◌, ◌∷◌, ◌≡◌}
 use Rattle.ts_base.specs.Held.{Held}
 use Rattle.ts_law.proofs.Objects.{CarryAll, delete_carries, schema_carries, write_carries}
-use Rattle.ts_law.proofs.Stays.{absent_stays, clean_stays, end_stays, getting_deletes_stays, fetching_stays, frame_stays, getting_vacs_stays, gathering_stays, has_listed_stays, has_near_stays, new_stays, opening_stays, works_stays}
+use Rattle.ts_law.proofs.Stays.{absent_stays, clean_stays, end_stays, getting_deletes_stays, fetching_stays, frame_stays, getting_vacs_stays, gathering_stays, has_listed_stays, has_near_stays, new_stays, no_array_stays, opening_stays, works_stays}
 use Rattle.ts_model.specs.Commands.{frame_made, piece_of}
 use Rattle.ts_model.specs.Deeds.{History, IsHistory, frame_in}
 use Rattle.ts_model.specs.Codecs.{Codec, Spelled, Tracking}
@@ -40,7 +40,7 @@ use Rattle.ts_model.specs.declared.answers.Outcome.TheVariants as outcome
 -- what a job puts carries its identifier
 pub aims-carry : {F : Type 0} (codec : Codec F) (spelled : Spelled) (opening : Held) (past : History) (jobs : List Job) (seen : List Told) (m : Held) (number : ℕ) (job : Job) (objects : List NewObject) (end : Outcome)
     → Aims codec spelled opening past jobs seen m number job objects end → CarryAll job.id objects
-aims-carry codec spelled opening past jobs seen m number job objects outcome.Created (f, creates, is, none, framed) =
+aims-carry codec spelled opening past jobs seen m number job objects outcome.Created (f, creates, is, none, framed, new) =
     subst (CarryAll job.id) (sym is) (schema_carries job f.attrs)
 aims-carry codec spelled opening past jobs seen m number job objects (outcome.Evolved k) (change, frame, there, evolves, same, is, framed, sound, works) =
     subst (CarryAll job.id) (sym is) (schema_carries job (evolved_attrs there.attrs change))
@@ -79,7 +79,7 @@ module _ {F : Type 0} (codec : Codec F) (spelled : Spelled) (tracks : Tracking F
 
     -- what the last put of a job makes of it stays
     aims_stays : (objects : List NewObject) (end : Outcome) → Aims codec spelled opening past jobs seen m number job objects end → Aims codec spelled opening past jobs (seen ++ e ∷ []) (after_told m e) number job objects end
-    aims_stays objects outcome.Created (f, creates, is, none, framed) = (f, creates, is, none, framed_stays (frame_made f) framed)
+    aims_stays objects outcome.Created (f, creates, is, none, framed, new) = (f, creates, is, none, framed_stays (frame_made f) framed, no_array_stays past jobs seen e number f new)
     aims_stays objects (outcome.Evolved k) (change, frame, there, evolves, same, is, framed, sound, works) =
         (change, frame, there, evolves, same, is, framed_stays frame framed, sound, works_stays spelled opening past jobs seen e m (after_told m e) id keeps number job there unlisted works)
     aims_stays objects (outcome.Written f) (w, frame, there, cells, writes_them, same, is, no_vac, framed, lays, works) = (

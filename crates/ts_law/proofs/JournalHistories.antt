@@ -1,7 +1,7 @@
 -- The history of told calls is that of their journal.
 use Rattle.std.proofs.Common.{◌≡◌, ℕ, Bool, true, false, cond, ◌⊎◌, inl, inr, List, [], ◌∷◌, ◌++◌, Option, Some, None, refl, sym, ◌∙◌, ap, subst, append_assoc, slice_get, arith, ◌≤◌}
 use Rattle.std.specs.Prelude.{IsTrue, All, ⊤, option_map, option_and_then, option_to_list, nat_eq}
-use Rattle.std.specs.Result.{result_ok}
+use Rattle.std.specs.Result.{result_err, result_ok}
 use Rattle.std.specs.List.{cons_option}
 use Rattle.std.proofs.lemmas.Bool.{eq-eqb, ne_eqb, true≢false}
 use Rattle.std.proofs.lemmas.Option.{same_Some, none-some}
@@ -42,7 +42,7 @@ use Rattle.ts_model.specs.declared.states.Merging.TheVariants as merging
 use Rattle.ts_model.specs.declared.states.Sweeping.TheVariants as sweeping
 use Rattle.ts_commit.specs.declared.vacs.Limits.{Limits}
 use Rattle.ts_model.specs.Commands.{frame_made, create_refusal, fits, piece_of}
-use Rattle.ts_model.specs.Deeds.{History}
+use Rattle.ts_model.specs.Deeds.{History, frame_in}
 use Rattle.ts_model.specs.Codecs.{Codec, CodecLaws, Spelled, Tracking}
 use Rattle.ts_model.specs.Jobs.{IsFit, AreApart, frag_of_job, job_with, key_of, written_as}
 use Rattle.ts_model.specs.States.{all_of, get_vac, list_parts, vac_of, asks, frame_put, get_delete, get_head, get_head_in, get_schema, made_by, put_of, want_of}
@@ -72,6 +72,11 @@ use Rattle.ts_store.specs.declared.call.Call.TheVariants as call
 use Rattle.ts_store.specs.declared.call.Reply.TheVariants as reply
 use Rattle.ts_store.specs.declared.fate.Fate.TheVariants as fate
 use Rattle.ts_model.specs.declared.answers.Outcome.TheVariants as outcome
+use Rattle.ts_model.specs.declared.answers.Refusal.TheVariants as refusal
+use Rattle.ts_law.specs.Ends.{FindsNoArray}
+use Rattle.ts_law.specs.Refusals.{WorksInSchema, refusal_in}
+use Rattle.ts_model.specs.declared.commands.Command.{Command}
+use Rattle.ts_schema.specs.declared.frames.Frame.{Frame}
 
 -- ---- replies
 
@@ -253,15 +258,19 @@ carried_is jobs h found n number job apart at carries =
 pub record PutsAFrame (job : Job) (n : Name) (bytes : List ℕ) : Type 0 where
   pub made : FrameIn
   pub creates : job.command ≡ Create made
-  sound : create_refusal made ≡ None
+  pub sound : create_refusal made ≡ None
   pub named : n ≡ name.Domain
   spelled : bytes ≡ frame_object (frame_made made)
 
--- a job that puts is a create, it is a consolidation, or it works in a schema
+-- a command works in a schema, in the array with the frame, and is not refused there
+abbrev pub FitsIn : History → Command → Schema → Type 0
+FitsIn h command there = WorksInSchema command × (frame : Frame) × (frame_in h ≡ Some frame) × (refusal_in frame there.attrs command ≡ None)
+
+-- a job that puts is a right create that found no array, it is a consolidation, or it works in a schema, in which it is not refused
 pub data Finds (past : History) (jobs : List Job) (seen : List Told) (number : ℕ) (job : Job) : Type 0 where
-  Made : (f : FrameIn) → job.command ≡ Create f → Finds past jobs seen number job
+  Made : (f : FrameIn) → job.command ≡ Create f → create_refusal f ≡ None → FindsNoArray jobs past seen number f → Finds past jobs seen number job
   Merged : (from to : ℕ) (limits : Limits) → job.command ≡ Consolidate from to limits → Finds past jobs seen number job
-  Worked : (there : Schema) → Works past jobs seen number job there → Finds past jobs seen number job
+  Worked : (there : Schema) → Works past jobs seen number job there → FitsIn (history_told jobs past seen) job.command there → Finds past jobs seen number job
 
 -- another put: its name carries the job's identifier, and the `.wrt` of a write is that of its own fragment
 pub record PutsItsOwn (past : History) (jobs : List Job) (seen : List Told) (number : ℕ) (job : Job) (n : Name) : Type 0 where
@@ -281,10 +290,13 @@ IsALease n = (k : Key) × (mode : LeaseMode) × (n ≡ name.Lease k mode)
 module _ {F : Type 0} (codec : Codec F) (spelled : Spelled) (tracks : Tracking F) (laws : CodecLaws codec spelled tracks) (opening : Held) (past : History) (jobs : List Job) (seen : List Told) (m : Held) where
   -- what stands behind a put by its end
   aims_find : (number : ℕ) (job : Job) (objects : List NewObject) (end : Outcome) → Aims codec spelled opening past jobs seen m number job objects end → Finds past jobs seen number job
-  aims_find number job objects outcome.Created (f, creates, is, none, framed) = Made f creates
-  aims_find number job objects (outcome.Evolved k) (change, frame, there, evolves, same, is, framed, sound, works) = Worked there works
-  aims_find number job objects (outcome.Written f) (w, frame, there, cells, writes_them, same, is, no_vac, framed, lays, works) = Worked there works
-  aims_find number job objects (outcome.Deleted f) (text, frame, there, condition, deletes, same, is, framed, says, works) = Worked there works
+  aims_find number job objects outcome.Created (f, creates, is, none, framed, new) = Made f creates none new
+  aims_find number job objects (outcome.Evolved k) (change, frame, there, evolves, same, is, framed, sound, works) =
+      Worked there works (subst WorksInSchema (sym evolves) tt, frame, framed, ap (refusal_in frame there.attrs) evolves ∙ ap (option_map refusal.SchemaBad) sound)
+  aims_find number job objects (outcome.Written f) (w, frame, there, cells, writes_them, same, is, no_vac, framed, lays, works) =
+      Worked there works (subst WorksInSchema (sym writes_them) tt, frame, framed, ap (refusal_in frame there.attrs) writes_them ∙ ap result_err lays)
+  aims_find number job objects (outcome.Deleted f) (text, frame, there, condition, deletes, same, is, framed, says, works) =
+      Worked there works (subst WorksInSchema (sym deletes) tt, frame, framed, ap (refusal_in frame there.attrs) deletes ∙ ap result_err says)
   aims_find number job objects (outcome.Consolidated f count) aims = let survey = aims.survey in Merged survey.from survey.to survey.limits (((aims.merges).has).surveys).merges
   aims_find number job objects (outcome.Read answer) none = absurd none
   aims_find number job objects (outcome.Vacuumed count) none = absurd none
@@ -296,7 +308,7 @@ module _ {F : Type 0} (codec : Codec F) (spelled : Spelled) (tracks : Tracking F
   -- the `.wrt` of a write is that of its own fragment
   aims_commit : (number : ℕ) (job : Job) (objects : List NewObject) (end : Outcome) → Aims codec spelled opening past jobs seen m number job objects end → (next : ℕ) (o : NewObject) → slice_get objects next ≡ Some o
       → (f : FragKey) (w : WriteIn) → o.name ≡ wrt_of f → job.command ≡ Write w → f ≡ frag_of_job job
-  aims_commit number job objects outcome.Created (made, creates, is, none, framed) next o at f w named writes_them = absurd (no_create made w (sym creates ∙ writes_them))
+  aims_commit number job objects outcome.Created (made, creates, is, none, framed, new) next o at f w named writes_them = absurd (no_create made w (sym creates ∙ writes_them))
     where
       no_create : (x : FrameIn) (y : WriteIn) → Create x ≡ Write y → ⊥
       no_create x y same = cc
@@ -427,9 +439,9 @@ put_deed past jobs seen g found number job n bytes apart at fit short same (inr 
     by_found puts.finds ∙ sym (put_carried jobs g found n bytes job.id puts.carries ∙ carried_is jobs g found n number job apart at puts.carries)
   where
     by_found : Finds past jobs seen number job → deed_of g job (schemas_found (trace_of number seen)) n ≡ deed_of g job found n
-    by_found (Made f creates) = create_deed g job f (schemas_found (trace_of number seen)) found n creates
+    by_found (Made f creates sound new) = create_deed g job f (schemas_found (trace_of number seen)) found n creates
     by_found (Merged from to limits merges) = merge_deed g job from to limits (schemas_found (trace_of number seen)) found n merges
-    by_found (Worked there works) = elim same [
+    by_found (Worked there works unrefused) = elim same [
       | inl none ↦ absurd (none-some works.found (sym none ∙ works.is_found))
       | inr is ↦ ap (λ k. deed_of g job k n) is
     ]

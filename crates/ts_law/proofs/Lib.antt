@@ -60,6 +60,7 @@ pub mod OwnFragments
 pub mod CallsLeave
 pub mod Idle
 pub mod SweepsAlone
+pub mod LeftAlone
 pub mod CourseGrows
 pub mod CourseBacked
 pub mod CourseCalls

@@ -45,7 +45,7 @@ use Rattle.ts_model.specs.Told.{Told, trace_of, after_told, IsReplied, schemas_f
 use Rattle.ts_law.specs.Ends.{IsUndone}
 use Rattle.ts_law.specs.Kept.{Clean, Works, HasLooked, HasListed, Claims}
 use Rattle.ts_law.specs.Steps.{Keeps, Leads, Advances, Comes}
-use Rattle.ts_model.proofs.ListLemmas.{Contains-filter, filter-Contains, Contains-filter_map, filter_map-Contains}
+use Rattle.ts_model.proofs.ListLemmas.{Contains-here, Contains-nil, Contains-filter, filter-Contains, Contains-filter_map, filter_map-Contains}
 use Rattle.ts_law.proofs.HeldLemmas.{Holds, Holds-from_get, listed_from_Holds, Holds-from_listed}
 use Rattle.ts_model.proofs.HistoryLaws.{deletion_of-is, deletion_of_name, schema_with-is, schema_of_key, there_is_with, there_by_keys}
 use Rattle.ts_model.proofs.Traces.{schemas_found-own}
@@ -206,6 +206,15 @@ module _ (spelled : Spelled) (m : Held) (h : History) (stands : Stands spelled m
       Contains-filter_map schema_key_in (names_under Schemas m) (name.Schema s.key) s.key
       (listed_from_Holds Schemas m (name.Schema s.key)
       (Holds-from_get m (name.Schema s.key) (schema_object s.attrs) (stands.schemas s.key ∙ ap (option_map (λ x. schema_object x.attrs)) (schema_of_key h s stands.history at))) refl) refl
+
+  -- where the listing has nothing there is no schema
+  pub none_from_listed : names_under Schemas m ≡ [] → schemas h ≡ []
+  none_from_listed none = by_schemas (schemas h) refl
+    where
+      by_schemas : (all : List Schema) → schemas h ≡ all → schemas h ≡ []
+      by_schemas [] is = is
+      by_schemas (s ∷ others) is =
+          absurd (Contains-nil s.key (subst (λ ns. Contains (schemas_in ns) s.key) none (listed_from_key s (subst (λ l. Contains l s) (sym is) (Contains-here s others)))))
 
   -- the listing tells the key of the schema there
   pub there_from_listed : (b : ℕ) → schema_at (schemas_in (names_under Schemas m)) b ≡ option_map (λ s. s.key) (schema_there h b)

@@ -28,7 +28,7 @@ use Rattle.ts_schema.specs.declared.schemas.Schema.{Schema}
 use Rattle.ts_store.specs.declared.call.Reply.{Reply}
 use Rattle.ts_model.specs.Commands.{create_refusal, fits, frame_made, laid, piece_of}
 use Rattle.ts_model.specs.Deeds.{DeletionFollows, History, IsHistory, IsKey, SchemaFollows, WriteFollows, deletions, frame_in, has_cell, schema_there, schema_with, writes}
-use Rattle.ts_law.specs.Ends.{HasDeclared, IsDeleted, IsTrueEnd, IsTrueRefusal, IsUndone, IsWritten, kind_of}
+use Rattle.ts_law.specs.Ends.{FindsNoArray, HasDeclared, IsDeleted, IsTrueEnd, IsTrueRefusal, IsUndone, IsWritten, kind_of}
 use Rattle.ts_model.specs.Codecs.{Codec, CodecLaws, Spelled, Tracking}
 use Rattle.ts_model.specs.Jobs.{AreApart, IsFit, deletion_as, frag_of_job, key_of, looked_at, looks_at, schema_of_job, written_as}
 use Rattle.ts_law.specs.Kept.{Claims, Clean, Putting, Works}
@@ -69,7 +69,7 @@ use Rattle.ts_law.proofs.QueryRefusals.{FailsByQuery, delete_condition_fails, qu
 use Rattle.ts_law.proofs.StandsLaws.{declared_last, free_from_get, keeps_put, leads_at, marks_delete, marks_part, marks_schema, marks_wrt, stands_commit, stands_delete, stands_put, stands_schema}
 use Rattle.ts_law.proofs.Spent.{put_commits, unspent_on}
 use Rattle.ts_law.proofs.VacLaws.{IsBare, MarksNone}
-use Rattle.ts_law.proofs.Stays.{frame_stays, listed_stays, works_stays}
+use Rattle.ts_law.proofs.Stays.{frame_stays, listed_stays, no_array_stays, works_stays}
 use Rattle.ts_model.proofs.Traces.{deed_told_own, later_deed, later_no_deed, later_unchanged}
 use Rattle.ts_store.specs.declared.call.Call.TheVariants as call
 use Rattle.std.specs.FinMap as map
@@ -183,14 +183,21 @@ module _ {F : Type 0} (codec : Codec F) (spelled : Spelled) (tracks : Tracking F
   first_only o end first (suc next) c = let past_end = (c.claims).some in absurd (omega arith)
 
   -- a create advances by the put of its schema
-  create_puts : (f : FrameIn) → job.command ≡ Create f → create_refusal f ≡ None → frame_in h ≡ Some (frame_made f)
+  create_puts : (f : FrameIn) → job.command ≡ Create f → create_refusal f ≡ None → frame_in h ≡ Some (frame_made f) → FindsNoArray jobs past seen number f
       → ComesHere (Puts (schema_object_of job f.attrs ∷ []) 0 outcome.Created) → AdvancesHere (Puts (schema_object_of job f.attrs ∷ []) 0 outcome.Created)
-  create_puts f creates sound framed c = schema_came f.attrs outcome.Created c
+  create_puts f creates sound framed new c = schema_came f.attrs outcome.Created c
       (record { frame = frame_made f; framed = framed; new = (c.claims).undone; key = key_fits c.fit; attrs = created_attrs f fit sound; sound = created_sound f fit sound })
       (deed_told_own jobs h seen e number job (put_of (schema_object_of job f.attrs)) c.own c.is_job
       (put_asked (schema_object_of job f.attrs ∷ []) 0 outcome.Created (schema_object_of job f.attrs) refl c)
       ∙ ap (λ x. option_map Declared (declared_by h job (schemas_found (trace_of number seen)) x)) creates)
-      (λ keeps declared. record { made = f; creates = creates; framed = frame_stays m m' h h' job.id keeps (frame_made f) framed; declared = declared })
+      (λ keeps declared. record {
+        made = f;
+        creates = creates;
+        sound = sound;
+        found_none = no_array_stays past jobs seen e number f new;
+        framed = frame_stays m m' h h' job.id keeps (frame_made f) framed;
+        declared = declared;
+      })
     where
       fit : IsTrue (fits (Create f))
       fit = subst (λ x. IsTrue (fits x)) creates (c.fit).command
@@ -232,6 +239,9 @@ module _ {F : Type 0} (codec : Codec F) (spelled : Spelled) (tracks : Tracking F
           there = there;
           undone = works.undone;
           holds = ap (schema_there (history_told jobs past (works.schemas).before)) (sym looks) ∙ works.holds;
+          frame = frame;
+          framed = frame_stays m m' h h' job.id keeps frame framed;
+          sound = sound;
           declared = declared;
         },
       ))
@@ -562,7 +572,7 @@ module _ {F : Type 0} (codec : Codec F) (spelled : Spelled) (tracks : Tracking F
   deed_steps merges objects next outcome.Created laws c =
       let aims = (c.claims).aims in
       subst (λ os. ComesHere (Puts os next outcome.Created) → AdvancesHere (Puts os next outcome.Created)) (sym aims.2)
-      (first_only (schema_object_of job (aims.0).attrs) outcome.Created (create_puts aims.0 aims.1 aims.3 aims.4) next) c
+      (first_only (schema_object_of job (aims.0).attrs) outcome.Created (create_puts aims.0 aims.1 aims.3 aims.4 aims.5) next) c
   deed_steps merges objects next (outcome.Evolved k) laws c =
       let aims = (c.claims).aims in
       subst (λ l. ComesHere (Puts objects next (outcome.Evolved l)) → AdvancesHere (Puts objects next (outcome.Evolved l))) (sym aims.4)

@@ -20,8 +20,8 @@ use Rattle.ts_law.proofs.HeldLemmas.{Holds-from_get}
 use Rattle.ts_model.proofs.HistoryLaws.{new_from_absent}
 use Rattle.ts_model.proofs.ListLemmas.{find-Some, find-append, or_else, slice_get-Contains, slice_get_push}
 use Rattle.ts_model.specs.Commands.{create_refusal, frame_made}
-use Rattle.ts_model.specs.Deeds.{History, IsNewKey, deletions, frame_in, schema_there, schema_with, writes}
-use Rattle.ts_law.specs.Ends.{AreInside, FindsNothing, HasDeclared, IsAnswerOver, IsCreated, IsMerged, IsPlanned, IsTrueEnd, IsTrueRefusal, IsUndone, IsVacuumed, ListedAt, attributes_with, up_to, FindsSchema}
+use Rattle.ts_model.specs.Deeds.{History, IsNewKey, deletions, frame_in, schemas, schema_there, schema_with, writes}
+use Rattle.ts_law.specs.Ends.{AreInside, FindsNoArray, FindsNothing, HasDeclared, IsAnswerOver, IsMerged, IsPlanned, IsTrueEnd, IsTrueRefusal, IsUndone, IsVacuumed, ListedAt, attributes_with, up_to, FindsSchema}
 use Rattle.ts_model.specs.Codecs.{Codec, Spelled, Tracking}
 use Rattle.ts_law.specs.Fresh.{IsHeldId, IsNewId, IsSpent, id_in}
 use Rattle.ts_model.specs.Jobs.{AreApart, IsFit, deletion_as, job_with, key_of, looked_at, written_as}
@@ -224,6 +224,11 @@ module _ (jobs : List Job) (job : Job) where
     -- and that at a listing
     listed_more : (prefix : Prefix) (at : ListedAt seen number prefix) → history_told jobs past at.before ≡ history_told all past at.before
     listed_more prefix at = front_more at.before (at.listing ∷ at.later) at.place
+
+    -- a create that found no array found none among all
+    no_array_more : (made : FrameIn) → FindsNoArray jobs past seen number made → FindsNoArray all past seen number made
+    no_array_more made (inl (at, is_made, nothing)) = inl (at, is_made, subst (λ g. g ≡ []) (front_more at.before (at.made ∷ at.later) at.place) nothing)
+    no_array_more made (inr (at, none)) = inr (at, subst (λ g. schemas g ≡ []) (listed_more Schemas at) none)
 
     -- a clean job is clean among all
     clean_more : Clean opening past jobs seen m j → Clean opening past all seen m j
@@ -567,7 +572,7 @@ module _ (jobs : List Job) (job : Job) where
 
     -- what the last put of a job makes of it is the same among all
     aims_more : (objects : List NewObject) (end : Outcome) → Aims codec spelled opening past jobs seen m number j objects end → Aims codec spelled opening past all seen m number j objects end
-    aims_more objects outcome.Created (f, creates, is, none, framed) = (f, creates, is, none, framed_more (frame_made f) framed)
+    aims_more objects outcome.Created (f, creates, is, none, framed, new) = (f, creates, is, none, framed_more (frame_made f) framed, no_array_more f new)
     aims_more objects (outcome.Evolved k) (change, frame, there, evolves, same, is, framed, sound, works) =
         (change, frame, there, evolves, same, is, framed_more frame framed, sound, works_more there works)
     aims_more objects (outcome.Written f) (w, frame, there, cells, writes_them, same, is, no_vac, framed, lays, works) =
@@ -606,7 +611,14 @@ module _ (jobs : List Job) (job : Job) where
 
     -- what the end of a job tells is true among all
     end_more : (end : Outcome) → IsTrueEnd spelled opening jobs past seen number j end → IsTrueEnd spelled opening all past seen number j end
-    end_more outcome.Created is = subst (λ g. IsCreated g j) now is
+    end_more outcome.Created is = record {
+      made = is.made;
+      creates = is.creates;
+      sound = is.sound;
+      found_none = no_array_more is.made is.found_none;
+      framed = framed_more (frame_made is.made) is.framed;
+      declared = subst (λ g. HasDeclared g j (is.made).attrs) now is.declared;
+    }
     end_more (outcome.Evolved k) (same, is) = (
       same,
       record {
@@ -616,6 +628,9 @@ module _ (jobs : List Job) (job : Job) where
         there = is.there;
         undone = subst (λ g. IsUndone g j) (listed_more Schemas is.schemas) is.undone;
         holds = subst (λ g. schema_there g j.at ≡ Some is.there) (listed_more Schemas is.schemas) is.holds;
+        frame = is.frame;
+        framed = framed_more is.frame is.framed;
+        sound = is.sound;
         declared = subst (λ g. HasDeclared g j (evolved_attrs (is.there).attrs is.change)) now is.declared;
       },
     )

@@ -15,12 +15,13 @@ use Rattle.ts_model.proofs.HistoryLaws.{absent_from_new, deletions-append, frame
 use Rattle.ts_model.proofs.Traces.{later_unchanged, schemas_found-stays}
 use Rattle.ts_model.specs.Commands.{frame_made}
 use Rattle.ts_model.specs.Deeds.{History, IsNewKey, deletions, frame_in, keys, schema_with, writes}
-use Rattle.ts_law.specs.Ends.{FindsNothing, HasDeclared, IsGone, IsListed, IsMerged, IsSweptAway, IsTrueEnd, IsTrueRefusal, IsUndone, IsUnlocked, IsVacuumed, ListedAt, MadeAt, FindsSchema}
+use Rattle.ts_model.specs.declared.commands.FrameIn.{FrameIn}
+use Rattle.ts_law.specs.Ends.{FindsNoArray, FindsNothing, HasDeclared, IsGone, IsListed, IsMerged, IsSweptAway, IsTrueEnd, IsTrueRefusal, IsUndone, IsUnlocked, IsVacuumed, ListedAt, MadeAt, FindsSchema}
 use Rattle.ts_model.specs.Codecs.{Codec, Spelled}
 use Rattle.ts_law.specs.Fresh.{id_in, DoesCommit}
 use Rattle.ts_model.specs.Jobs.{deletion_as, key_of, schema_of_job, written_as}
 use Rattle.ts_law.specs.Kept.{AreDeletions, AreSchemas, Clean, GettingDeletes, GettingVacs, Fetching, Gathering, HasListed, HasLooked, LooksInto, Opening, ReadsAt, ReadsIn, Since, Works}
-use Rattle.ts_model.specs.States.{keys_named, list_schemas, vac_of}
+use Rattle.ts_model.specs.States.{frame_put, keys_named, list_schemas, vac_of}
 use Rattle.ts_law.specs.Steps.{Keeps}
 use Rattle.ts_law.proofs.Spent.{still_commits, unspent_on}
 use Rattle.ts_model.specs.Told.{Told, history_told}
@@ -129,6 +130,10 @@ made_stays seen e number c at = record {
   own = at.own;
   makes = at.makes;
 }
+
+-- a call that comes now is made
+abbrev pub made_now : (seen : List Told) (e : Told) (number : ℕ) (c : Call) → e.job ≡ Some number → e.call ≡ c → MadeAt (seen ++ e ∷ []) number c
+made_now seen e number c own makes = record { before = seen; made = e; later = []; place = refl; own = own; makes = makes }
 
 -- ---- what a job found so far
 
@@ -269,6 +274,11 @@ module _ (spelled : Spelled) (opening : Held) (past : History) (jobs : List Job)
 
 -- ---- ends
 
+-- that a create found no array stays true
+pub no_array_stays : (past : History) (jobs : List Job) (seen : List Told) (e : Told) (number : ℕ) (made : FrameIn) → FindsNoArray jobs past seen number made → FindsNoArray jobs past (seen ++ e ∷ []) number made
+no_array_stays past jobs seen e number made (inl (at, is_made, nothing)) = inl (made_stays seen e number (frame_put made) at, is_made, nothing)
+no_array_stays past jobs seen e number made (inr (at, none)) = inr (listed_stays seen e number Schemas at, none)
+
 -- that a job found a schema stays true
 abbrev pub finds_schema_stays : (past : History) (jobs : List Job) (seen : List Told) (e : Told) (number : ℕ) (job : Job) → FindsSchema jobs past seen number job → FindsSchema jobs past (seen ++ e ∷ []) number job
 finds_schema_stays past jobs seen e number job is = record { schemas = listed_stays seen e number Schemas is.schemas; there = is.there; holds = is.holds }
@@ -377,6 +387,8 @@ module _ (spelled : Spelled) (opening : Held) (past : History) (jobs : List Job)
   end_stays outcome.Created other is = record {
     made = is.made;
     creates = is.creates;
+    sound = is.sound;
+    found_none = no_array_stays past jobs seen e number is.made is.found_none;
     framed = frame_stays m m' (history_told jobs past seen) (history_told jobs past (seen ++ e ∷ [])) id keeps (frame_made is.made) is.framed;
     declared = declared_stays (is.made).attrs is.declared;
   }
@@ -389,6 +401,9 @@ module _ (spelled : Spelled) (opening : Held) (past : History) (jobs : List Job)
       there = is.there;
       undone = is.undone;
       holds = is.holds;
+      frame = is.frame;
+      framed = frame_stays m m' (history_told jobs past seen) (history_told jobs past (seen ++ e ∷ [])) id keeps is.frame is.framed;
+      sound = is.sound;
       declared = declared_stays (evolved_attrs (is.there).attrs is.change) is.declared;
     },
   )

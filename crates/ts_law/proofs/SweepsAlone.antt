@@ -1,24 +1,23 @@
 -- A vacuum, however it comes out, changes no object but its lease and those that it is to remove.
 use Rattle.std.proofs.Common.{◌≡◌, ℕ, Bool, true, false, ◌⊎◌, inl, inr, List, [], ◌∷◌, ◌++◌, Some, refl, sym, ◌∙◌, ap, subst, append_assoc}
-use Rattle.std.specs.Prelude.{slice_get}
+use Rattle.std.specs.Prelude.{slice_get, ⊤}
 use Rattle.std.specs.FinMap as map
 use Rattle.std.proofs.lemmas.Bool.{true≢false}
 use Rattle.std.proofs.lemmas.Option.{none-some, same_Some}
 use Rattle.ts_base.specs.declared.names.Name.{Name}
+use Rattle.ts_base.specs.declared.names.Prefix.{Prefix}
 use Rattle.ts_base.specs.declared.names.Prefix.TheVariants.{Commits}
 use Rattle.ts_base.specs.Exact.{name_decides}
 use Rattle.ts_base.specs.Names.{name_eq}
 use Rattle.ts_base.specs.Held.{Held}
-use Rattle.ts_commit.specs.declared.vacs.Limits.{Limits}
 use Rattle.ts_commit.specs.Selections.{removal_set}
-use Rattle.ts_schema.specs.declared.evolution.Evolution.{Evolution}
 use Rattle.ts_store.specs.declared.call.Call.TheVariants as call
 use Rattle.ts_model.specs.declared.answers.Outcome.{Outcome}
 use Rattle.ts_model.specs.declared.answers.Outcome.TheVariants as outcome
 use Rattle.ts_model.specs.declared.commands.Command.TheVariants.{Create, Evolve, Write, Delete, Consolidate, Vacuum, Unlock}
+use Rattle.ts_model.specs.declared.commands.Command.{Command}
 use Rattle.ts_model.specs.declared.commands.FrameIn.{FrameIn}
 use Rattle.ts_model.specs.declared.commands.Job.{Job}
-use Rattle.ts_model.specs.declared.commands.WriteIn.{WriteIn}
 use Rattle.ts_model.specs.declared.states.Creating.TheVariants.{PutsFrame}
 use Rattle.ts_model.specs.declared.states.NewObject.{NewObject}
 use Rattle.ts_model.specs.declared.states.Stage.{Stage}
@@ -47,57 +46,52 @@ use Rattle.ts_law.proofs.VacuumOver.{all_vacs_of}
 
 -- ---- commands
 
+-- the command puts no object but perhaps its lease
+abbrev pub PutsNone : Command → Type 0
+PutsNone (Create made) = ⊥
+PutsNone (Evolve change) = ⊥
+PutsNone (Write w) = ⊥
+PutsNone (Delete text) = ⊥
+PutsNone (Consolidate from to limits) = ⊥
+PutsNone _ = ⊤
+
 no_create : (f : FrameIn) → Create f ≡ Vacuum → ⊥
 no_create f same = cc
-
-no_evolve : (change : Evolution) → Evolve change ≡ Vacuum → ⊥
-no_evolve change same = cc
-
-no_write : (w : WriteIn) → Write w ≡ Vacuum → ⊥
-no_write w same = cc
-
-no_delete : (text : List ℕ) → Delete text ≡ Vacuum → ⊥
-no_delete text same = cc
-
-no_merge : (from to : ℕ) (limits : Limits) → Consolidate from to limits ≡ Vacuum → ⊥
-no_merge from to limits same = cc
 
 no_unlock : (seed lane : ℕ) → Unlock seed lane ≡ Vacuum → ⊥
 no_unlock seed lane same = cc
 
 -- ---- calls
 
-no_put : (n : Name) (bytes : List ℕ) → call.Put n bytes ≡ call.List Commits → ⊥
-no_put n bytes same = cc
+no_put : (p : Prefix) (n : Name) (bytes : List ℕ) → call.Put n bytes ≡ call.List p → ⊥
+no_put p n bytes same = cc
 
-no_removal : (n : Name) → call.Remove n ≡ call.List Commits → ⊥
-no_removal n same = cc
+no_removal : (p : Prefix) (n : Name) → call.Remove n ≡ call.List p → ⊥
+no_removal p n same = cc
 
 one_removed : (n q : Name) → call.Remove n ≡ call.Remove q → n ≡ q
 one_removed n q same = cc
 
--- a job that lists the commits put and removed nothing yet
-lists_unacted : {F : Type 0} (codec : Codec F) (job : Job) (stage : Stage F) → MayAsk codec job stage (call.List Commits) → acted_stage stage ≡ true → ⊥
-lists_unacted codec job stage (inr gives_up) acted = let (lease, some, removes) = release_is job (call.List Commits) gives_up.0 in no_removal lease (sym removes)
-lists_unacted codec job (stages.Works (Puts objects next end)) (inl asked) acted = let (o, at, is) = asked_by put_of (slice_get objects next) (call.List Commits) asked in no_put o.name o.bytes is
-lists_unacted codec job (stages.Works (Removes names next end)) (inl asked) acted = let (q, at, is) = asked_by call.Remove (slice_get names next) (call.List Commits) asked in no_removal q is
-lists_unacted codec job (stages.Works (Over end)) (inl asked) acted = none-some (call.List Commits) asked
-lists_unacted codec job (stages.Works _) (inl asked) acted = true≢false (sym acted)
-lists_unacted codec job (PutsLease lease) (inl asked) acted = true≢false (sym acted)
-lists_unacted codec job (ListsLeases lease) (inl asked) acted = true≢false (sym acted)
-lists_unacted codec job (Releases lease end) (inl asked) acted = no_removal lease (same_Some (call.Remove lease) (call.List Commits) asked)
+-- a job that lists names put and removed nothing yet
+lists_unacted : {F : Type 0} (codec : Codec F) (job : Job) (stage : Stage F) (p : Prefix) → MayAsk codec job stage (call.List p) → acted_stage stage ≡ true → ⊥
+lists_unacted codec job stage p (inr gives_up) acted = let (lease, some, removes) = release_is job (call.List p) gives_up.0 in no_removal p lease (sym removes)
+lists_unacted codec job (stages.Works (Puts objects next end)) p (inl asked) acted = let (o, at, is) = asked_by put_of (slice_get objects next) (call.List p) asked in no_put p o.name o.bytes is
+lists_unacted codec job (stages.Works (Removes names next end)) p (inl asked) acted = let (q, at, is) = asked_by call.Remove (slice_get names next) (call.List p) asked in no_removal p q is
+lists_unacted codec job (stages.Works (Over end)) p (inl asked) acted = none-some (call.List p) asked
+lists_unacted codec job (stages.Works _) p (inl asked) acted = true≢false (sym acted)
+lists_unacted codec job (PutsLease lease) p (inl asked) acted = true≢false (sym acted)
+lists_unacted codec job (ListsLeases lease) p (inl asked) acted = true≢false (sym acted)
+lists_unacted codec job (Releases lease end) p (inl asked) acted = no_removal p lease (same_Some (call.Remove lease) (call.List p) asked)
 
 module _ {F : Type 0} (codec : Codec F) (spelled : Spelled) (tracks : Tracking F) (laws : CodecLaws codec spelled tracks) (opening : Held) (past : History) (jobs : List Job) where
-  module _ (seen : List Told) (m : Held) (number : ℕ) (job : Job) (vacuums : job.command ≡ Vacuum) where
-    -- a vacuum puts no object
-    puts_none : (objects : List NewObject) (end : Outcome) → Aims codec spelled opening past jobs seen m number job objects end → ⊥
-    puts_none objects outcome.Created aims = no_create aims.0 (sym aims.1 ∙ vacuums)
-    puts_none objects (outcome.Evolved k) aims = no_evolve aims.0 (sym aims.3 ∙ vacuums)
-    puts_none objects (outcome.Written f) aims = no_write aims.0 (sym aims.4 ∙ vacuums)
-    puts_none objects (outcome.Deleted f) aims = no_delete aims.0 (sym aims.4 ∙ vacuums)
-    puts_none objects (outcome.Consolidated f count) aims =
-        let survey = aims.survey in
-        no_merge survey.from survey.to survey.limits (sym (((aims.merges).has).surveys).merges ∙ vacuums)
+  module _ (seen : List Told) (m : Held) (number : ℕ) (job : Job) (silent : PutsNone job.command) where
+    -- such a command aims at no put
+    pub puts_none : (objects : List NewObject) (end : Outcome) → Aims codec spelled opening past jobs seen m number job objects end → ⊥
+    puts_none objects outcome.Created aims = subst PutsNone aims.1 silent
+    puts_none objects (outcome.Evolved k) aims = subst PutsNone aims.3 silent
+    puts_none objects (outcome.Written f) aims = subst PutsNone aims.4 silent
+    puts_none objects (outcome.Deleted f) aims = subst PutsNone aims.4 silent
+    puts_none objects (outcome.Consolidated f count) aims = subst PutsNone (((aims.merges).has).surveys).merges silent
     puts_none objects (outcome.Read answer) none = none
     puts_none objects (outcome.Vacuumed count) none = none
     puts_none objects (outcome.Unlocked count) none = none
@@ -105,6 +99,7 @@ module _ {F : Type 0} (codec : Codec F) (spelled : Spelled) (tracks : Tracking F
     puts_none objects (outcome.Refused r) none = none
     puts_none objects outcome.OutOfMemory none = none
 
+  module _ (seen : List Told) (m : Held) (number : ℕ) (job : Job) (vacuums : job.command ≡ Vacuum) where
     module _ (e : Told) (replied : IsReplied m e) (n : Name) (other : lease_of job ≡ Some n → ⊥) (idle : (commits : ListedAt seen number Commits) → ChangedNothing opening commits.before number job) where
       -- the object is as it was, or it is one to remove
       abbrev IsLeft : Type 0
@@ -128,7 +123,7 @@ module _ {F : Type 0} (codec : Codec F) (spelled : Spelled) (tracks : Tracking F
 
       work_sweeps : (s : State F) → Claims codec spelled tracks opening past jobs seen m number job s → asks codec job s ≡ Some e.call → IsLeft
       work_sweeps (Creates PutsFrame) claims asked = let (f, creates, sound) = claims.1 in absurd (no_create f (sym creates ∙ vacuums))
-      work_sweeps (Puts objects next end) claims asked = absurd (puts_none objects end claims.aims)
+      work_sweeps (Puts objects next end) claims asked = absurd (puts_none seen m number job (subst PutsNone (sym vacuums) tt) objects end claims.aims)
       work_sweeps (Removes names next end) (inl unlocking) asked = absurd (no_unlock unlocking.seed unlocking.lane (sym unlocking.unlocks ∙ vacuums))
       work_sweeps (Removes names next end) (inr vacuuming) asked = let (q, at, is) = asked_by call.Remove (slice_get names next) e.call asked in removal_leaves names next end vacuuming q at is
       work_sweeps s claims asked =
@@ -149,9 +144,9 @@ module _ {F : Type 0} (codec : Codec F) (spelled : Spelled) (tracks : Tracking F
 
   module _ (last : List ℕ) (told : List Told) (begins : Kept codec spelled tracks opening past jobs [] [] opening) (may : AreAllowed codec jobs [] last [] told) (replied : Replied opening told)
       (number : ℕ) (job : Job) (is_job : slice_get jobs number ≡ Some job) where
-    -- before it lists the commits a job changes nothing
-    listing_idle : (before later : List Told) (listing : Told) → told ≡ before ++ listing ∷ later → listing.job ≡ Some number → listing.call ≡ call.List Commits → ChangedNothing opening before number job
-    listing_idle before later listing place own lists front back e parts mine n other =
+    -- before it lists names a job changes nothing
+    pub listing_idle : (p : Prefix) (before later : List Told) (listing : Told) → told ≡ before ++ listing ∷ later → listing.job ≡ Some number → listing.call ≡ call.List p → ChangedNothing opening before number job
+    listing_idle p before later listing place own lists front back e parts mine n other =
         let whole : told ≡ front ++ e ∷ (back ++ listing ∷ later) = place ∙ ap (λ l. l ++ listing ∷ later) parts ∙ append_assoc front (e ∷ back) (listing ∷ later) in
         let comes = coming codec spelled tracks laws opening past jobs [] last [] opening told front (back ++ listing ∷ later) e begins may replied whole in
         let calls = calling codec spelled tracks laws opening past jobs front (held_told opening front) e number job comes mine is_job in
@@ -161,7 +156,7 @@ module _ {F : Type 0} (codec : Codec F) (spelled : Spelled) (tracks : Tracking F
         elim (call_leaves codec spelled tracks laws opening past jobs front (held_told opening front) number job e here n other (stage_of codec job (trace_of number front)) calls.claims calls.asked) [
           | inl same ↦ ap (λ x. map.get x n) (held_told-append opening front (e ∷ [])) ∙ same
           | inr acts ↦
-              absurd (lists_unacted codec job (stage_of codec job (trace_of number before)) (subst (MayAsk codec job (stage_of codec job (trace_of number before))) lists later_calls.asked)
+              absurd (lists_unacted codec job (stage_of codec job (trace_of number before)) p (subst (MayAsk codec job (stage_of codec job (trace_of number before))) lists later_calls.asked)
               (ap acted_stage reached ∙ acted_from codec job (stage_of codec job (trace_of number (front ++ e ∷ []))) (trace_of number back) (ap acted_stage (stage_of-own codec job number front e mine) ∙ acts)))
         ]
       where
@@ -177,7 +172,7 @@ module _ {F : Type 0} (codec : Codec F) (spelled : Spelled) (tracks : Tracking F
         let calls = calling codec spelled tracks laws opening past jobs front (held_told opening front) e number job comes own is_job in
         let here = replied_at opening front back e (subst (Replied opening) parts replied) in
         let idle : (commits : ListedAt front number Commits) → ChangedNothing opening commits.before number job = λ commits.
-        listing_idle commits.before (commits.later ++ e ∷ back) commits.listing (parts ∙ ap (λ l. l ++ e ∷ back) commits.place ∙ append_assoc commits.before (commits.listing ∷ commits.later) (e ∷ back)) commits.own commits.lists in
+        listing_idle Commits commits.before (commits.later ++ e ∷ back) commits.listing (parts ∙ ap (λ l. l ++ e ∷ back) commits.place ∙ append_assoc commits.before (commits.listing ∷ commits.later) (e ∷ back)) commits.own commits.lists in
         elim (call_sweeps front (held_told opening front) number job vacuums e here n other idle (stage_of codec job (trace_of number front)) calls.claims calls.asked) [
           | inl same ↦ inl (ap (λ x. map.get x n) (held_told-append opening front (e ∷ [])) ∙ same)
           | inr swept ↦ inr swept

@@ -1,5 +1,5 @@
 -- Jobs that are driven by their automata over a store which stands for a history make a true run.
-use Rattle.std.proofs.Common.{◌≡◌, ℕ, ◌^◌, ◌<◌, Bool, ◌⊎◌, inl, inr, List, [], ◌∷◌, ◌++◌, Some, length, refl, sym, ◌∙◌, ap, subst, append_assoc, arith}
+use Rattle.std.proofs.Common.{◌≡◌, ℕ, ◌^◌, ◌<◌, Bool, ◌⊎◌, inl, inr, List, [], ◌∷◌, ◌++◌, None, Some, length, refl, sym, ◌∙◌, ap, subst, append_assoc, arith}
 use Rattle.std.specs.Prelude.{All, Contains, option_and_then, slice_get}
 use Rattle.std.proofs.lemmas.Option.{same_Some, slice_get_within}
 use Rattle.std.proofs.lemmas.List.{append-nil}
@@ -19,7 +19,10 @@ use Rattle.ts_model.specs.Stages.{stage_of}
 use Rattle.ts_law.specs.Fresh.{IsCarried, IsNewId, IsFreshSeed, Numbered, AreJobsOf}
 use Rattle.ts_law.specs.Lanes.{lane_by, one_lane, IsOwned, IsWithin, InTurn}
 use Rattle.ts_model.specs.Told.{Told, Suits, trace_of, held_told, history_told, Replied, entries_of, schema_used, schemas_found}
-use Rattle.ts_law.specs.Ends.{IsTrueEnd}
+use Rattle.ts_law.specs.Ends.{FindsNoArray, IsTrueEnd}
+use Rattle.ts_law.specs.Refusals.{WorksInSchema}
+use Rattle.ts_model.specs.Commands.{create_refusal}
+use Rattle.ts_base.specs.declared.names.Name.TheVariants as name
 use Rattle.ts_model.specs.Driven.{EndsBy, MayAsk}
 use Rattle.ts_model.specs.declared.commands.Command.TheVariants.{Create, Consolidate}
 use Rattle.ts_commit.specs.declared.vacs.Limits.{Limits}
@@ -39,6 +42,7 @@ use Rattle.ts_law.proofs.Lanes.{in_turn_lanes}
 use Rattle.ts_law.proofs.LineJobs.{AreInOrder, ids_apart, id_has_seed, jobs_fit}
 use Rattle.ts_law.proofs.Idle.{refused_idle}
 use Rattle.ts_law.proofs.SweepsAlone.{sweeps_alone}
+use Rattle.ts_law.proofs.LeftAlone.{looks_alone, puts_alone, unlocks_alone}
 use Rattle.ts_law.proofs.OwnFragments.{stays_own}
 use Rattle.ts_law.proofs.OneLane.{done_apart, one_lane_allowed, stopped_before}
 use Rattle.ts_law.proofs.Segments.{segment_of}
@@ -47,7 +51,7 @@ use Rattle.ts_law.proofs.Refused.{refused_for}
 use Rattle.ts_model.specs.declared.answers.Outcome.TheVariants as outcome
 use Rattle.ts_law.proofs.Spawns.{starts_kept, spawn_kept}
 use Rattle.ts_law.proofs.Journals.{journal_held}
-use Rattle.ts_law.proofs.JournalHistories.{IsALease, Made, Merged, Worked, front_history, front_told, lanes_turn, put_staged}
+use Rattle.ts_law.proofs.JournalHistories.{FitsIn, IsALease, Made, Merged, PutsAFrame, PutsItsOwn, Worked, front_history, front_told, lanes_turn, put_staged}
 
 -- a put of no lease is one of a frame or of an own object
 not_leased : {A : Type 0} (n : Name) → IsNoLease n → A ⊎ IsALease n → A
@@ -89,25 +93,53 @@ module _ {F : Type 0} (codec : Codec F) (spelled : Spelled) (tracks : Tracking F
         | inr none ↦ subst (IsTrueEnd spelled m jobs h told number job) (sym none.0) tt
       ]
 
-  -- a job that puts an object and is no create and no consolidation works in the schema that it uses
-  pub works_where_used : (seen back : List Told) (e : Told) → told ≡ seen ++ e ∷ back → (number : ℕ) (job : Job) → e.job ≡ Some number → slice_get jobs number ≡ Some job
-      → ((f : FrameIn) → job.command ≡ Create f → ⊥) → ((from to : ℕ) (limits : Limits) → job.command ≡ Consolidate from to limits → ⊥) → looked_at job ≡ job.at → (n : Name) (bytes : List ℕ) → e.call ≡ call.Put n bytes → IsNoLease n
-      → (there : Schema) → schema_used (history_told jobs h seen) job (schemas_found (trace_of number seen)) ≡ Some there → Works h jobs seen number job there
-  works_where_used seen back e parts number job mine is_job no_create no_merge looks n bytes puts no_lease there uses =
+  -- a put of no lease is one of a frame or of an own object
+  put_behind : (seen back : List Told) (e : Told) → told ≡ seen ++ e ∷ back → (number : ℕ) (job : Job) → e.job ≡ Some number → slice_get jobs number ≡ Some job
+      → (n : Name) (bytes : List ℕ) → e.call ≡ call.Put n bytes → IsNoLease n → PutsAFrame job n bytes ⊎ PutsItsOwn h jobs seen number job n
+  put_behind seen back e parts number job mine is_job n bytes puts no_lease =
       let comes = coming codec spelled tracks laws m h jobs [] last [] m told seen back e begins may replied parts in
       let calls = calling codec spelled tracks laws m h jobs seen (held_told m seen) e number job comes mine is_job in
       let state : Stage F = stage_of codec job (trace_of number seen) in
-      elim (not_leased n no_lease (put_staged codec spelled tracks laws m h jobs seen (held_told m seen) number job state n bytes calls.claims (subst (MayAsk codec job state) puts calls.asked))) [
+      not_leased n no_lease (put_staged codec spelled tracks laws m h jobs seen (held_told m seen) number job state n bytes calls.claims (subst (MayAsk codec job state) puts calls.asked))
+
+  -- a create that puts an object is a right one, and found no array once it puts its schema
+  pub right_where_put : (seen back : List Told) (e : Told) → told ≡ seen ++ e ∷ back → (number : ℕ) (job : Job) → e.job ≡ Some number → slice_get jobs number ≡ Some job
+      → (f : FrameIn) → job.command ≡ Create f → (n : Name) (bytes : List ℕ) → e.call ≡ call.Put n bytes → IsNoLease n
+      → (create_refusal f ≡ None) × ((n ≡ name.Domain → ⊥) → FindsNoArray jobs h seen number f)
+  right_where_put seen back e parts number job mine is_job f creates n bytes puts no_lease = elim (put_behind seen back e parts number job mine is_job n bytes puts no_lease) [
+    | inl frame ↦ (subst (λ g. create_refusal g ≡ None) (one_create frame.made f (sym frame.creates ∙ creates)) frame.sound, λ other. absurd (other frame.named))
+    | inr own ↦ elim own.finds [
+      | Made made also sound new ↦
+          let same = one_create made f (sym also ∙ creates) in
+          (subst (λ g. create_refusal g ≡ None) same sound, λ _. subst (FindsNoArray jobs h seen number) same new)
+      | Merged from to limits merges ↦ absurd (no_merge from to limits (sym merges ∙ creates))
+      | Worked there works unrefused ↦ absurd (subst WorksInSchema creates unrefused.0)
+    ]
+  ]
+    where
+      one_create : (a b : FrameIn) → Create a ≡ Create b → a ≡ b
+      one_create a b same = cc
+
+      no_merge : (from to : ℕ) (limits : Limits) → Consolidate from to limits ≡ Create f → ⊥
+      no_merge from to limits same = cc
+
+  -- a job that puts an object and is no create and no consolidation works in the schema that it uses, and is not refused there
+  pub works_where_used : (seen back : List Told) (e : Told) → told ≡ seen ++ e ∷ back → (number : ℕ) (job : Job) → e.job ≡ Some number → slice_get jobs number ≡ Some job
+      → ((f : FrameIn) → job.command ≡ Create f → ⊥) → ((from to : ℕ) (limits : Limits) → job.command ≡ Consolidate from to limits → ⊥) → looked_at job ≡ job.at → (n : Name) (bytes : List ℕ) → e.call ≡ call.Put n bytes → IsNoLease n
+      → (there : Schema) → schema_used (history_told jobs h seen) job (schemas_found (trace_of number seen)) ≡ Some there
+      → Works h jobs seen number job there × FitsIn (history_told jobs h seen) job.command there
+  works_where_used seen back e parts number job mine is_job no_create no_merge looks n bytes puts no_lease there uses =
+      elim (put_behind seen back e parts number job mine is_job n bytes puts no_lease) [
         | inl frame ↦ absurd (no_create frame.made frame.creates)
         | inr own ↦ elim own.finds [
-          | Made f creates ↦ absurd (no_create f creates)
+          | Made f creates sound new ↦ absurd (no_create f creates)
           | Merged from to limits merges ↦ absurd (no_merge from to limits merges)
-          | Worked found works ↦
+          | Worked found works unrefused ↦
               let used : schema_used (history_told jobs h seen) job (schemas_found (trace_of number seen)) ≡ Some found =
               ap (schema_used (history_told jobs h seen) job) works.is_found
               ∙ ap (option_and_then (schema_with (history_told jobs h seen))) (ap (schema_at works.found) (sym looks) ∙ works.at)
               ∙ works.declared in
-              subst (Works h jobs seen number job) (same_Some found there (sym used ∙ uses)) works
+              subst (λ s. Works h jobs seen number job s × FitsIn (history_told jobs h seen) job.command s) (same_Some found there (sym used ∙ uses)) (works, unrefused)
         ]
       ]
 
@@ -127,6 +159,9 @@ module _ {F : Type 0} (codec : Codec F) (spelled : Spelled) (tracks : Tracking F
         (true_end number job (outcome.Refused r) at end_at)
         (segment_of codec laws.looks job (trace_of number told) (Done (outcome.Refused r)) (driven.driven number job (Done (outcome.Refused r)) at end_at));
     sweeps = λ number job at vacuums. sweeps_alone codec spelled tracks laws m h jobs last told begins may replied number job at vacuums;
+    unlocks = λ number job seed lane at unlocks. unlocks_alone codec spelled tracks laws m h jobs last told begins may replied number job at seed lane unlocks;
+    looks = λ number job at looks. looks_alone codec spelled tracks laws m h jobs last told begins may replied number job at looks;
+    puts = λ number job at none. puts_alone codec spelled tracks laws m h jobs last told begins may replied number job at none;
     idle = λ number job r at end_at. refused_idle codec spelled tracks laws m h jobs last told begins may replied number job r at (driven.driven number job (Done (outcome.Refused r)) at end_at).ends;
   }
 

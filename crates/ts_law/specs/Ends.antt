@@ -30,7 +30,7 @@ use Rattle.ts_schema.specs.declared.frames.Frame.{Frame}
 use Rattle.ts_schema.specs.declared.schemas.Schema.{Schema}
 use Rattle.ts_schema.specs.declared.attrs.Attr.{Attr}
 use Rattle.ts_schema.specs.declared.evolution.Evolution.{Evolution}
-use Rattle.ts_schema.specs.Evolutions.{evolved_attrs}
+use Rattle.ts_schema.specs.Evolutions.{evolved_attrs, evolution_fault}
 use Rattle.ts_model.specs.declared.commands.Command.TheVariants.{Create, Evolve, Write, Read, Delete, Consolidate, Vacuum, Unlock, Fragments}
 use Rattle.ts_base.specs.declared.names.CommitKind.{CommitKind}
 use Rattle.ts_base.specs.declared.names.CommitKind.TheVariants.{Wrt, Del}
@@ -38,19 +38,20 @@ use Rattle.ts_base.specs.declared.names.Prefix.TheVariants.{Commits, Fragment, L
 use Rattle.ts_store.specs.Calls.{names_under}
 use Rattle.ts_commit.specs.Selections.{clipped_names, has_origin, is_among, is_clipped, names_merged, removal_set}
 use Rattle.ts_model.specs.Told.{Told, held_told, history_told}
-use Rattle.ts_model.specs.States.{committed_in, counting_in, leases_unlocked, meets, vac_of}
+use Rattle.ts_model.specs.States.{committed_in, counting_in, frame_put, leases_unlocked, meets, vac_of}
 use Rattle.ts_model.specs.Codecs.{Spelled}
 use Rattle.ts_law.specs.Stands.{EachInItsOwn, HoldsIn, IsCommitted, Names}
 use Rattle.ts_cond.specs.declared.query.Query.{Query}
 use Rattle.ts_cond.specs.Tests.{Condition}
 use Rattle.ts_model.specs.Queries.{delete_condition}
 use Rattle.ts_model.specs.Jobs.{key_of, frag_of_job, looked_at, schema_of_job, written_as, deletion_as}
-use Rattle.ts_model.specs.Deeds.{History, frame_in, writes, deletions, schema_with, schema_there, IsNewKey}
-use Rattle.ts_model.specs.Commands.{frame_made, laid}
+use Rattle.ts_model.specs.Deeds.{History, frame_in, schemas, writes, deletions, schema_with, schema_there, IsNewKey}
+use Rattle.ts_model.specs.Commands.{create_refusal, frame_made, laid}
 use Rattle.ts_model.specs.Answers.{IsWhole, IsAnswer}
 use Rattle.ts_base.specs.declared.names.Name.TheVariants as name
 use Rattle.ts_base.specs.declared.names.Place.TheVariants as place
 use Rattle.ts_store.specs.declared.call.Call.TheVariants as call
+use Rattle.ts_store.specs.declared.call.Reply.TheVariants as reply
 use Rattle.ts_model.specs.declared.answers.Outcome.TheVariants as outcome
 use Rattle.ts_model.specs.declared.answers.Refusal.TheVariants as refusal
 use Rattle.std.specs.FinMap as map
@@ -63,6 +64,15 @@ pub record ListedAt (told : List Told) (number : ℕ) (prefix : Prefix) : Type 0
   pub place : told ≡ before ++ listing ∷ later
   pub own : listing.job ≡ Some number
   pub lists : listing.call ≡ call.List prefix
+
+-- a job made a call at a place of what was told
+pub record MadeAt (told : List Told) (number : ℕ) (c : Call) : Type 0 where
+  pub before : List Told
+  pub made : Told
+  pub later : List Told
+  pub place : told ≡ before ++ made ∷ later
+  pub own : made.job ≡ Some number
+  pub makes : made.call ≡ c
 
 -- ---- reads
 
@@ -113,14 +123,22 @@ IsUndone h job = IsNewKey h (key_of job)
 abbrev pub HasDeclared : History → Job → List Attr → Type 0
 HasDeclared h job attrs = schema_with h (key_of job) ≡ Some (schema_of_job job attrs)
 
--- the array has the frame of a create, and a schema of it
-pub record IsCreated (h : History) (job : Job) : Type 0 where
+-- a create found no array: its put of the frame was Made, before which nothing had been done; or as it listed the schemas, there was none
+abbrev pub FindsNoArray : List Job → History → List Told → ℕ → FrameIn → Type 0
+FindsNoArray jobs past told number made =
+    ((at : MadeAt told number (frame_put made)) × ((at.made).reply ≡ reply.Made) × (history_told jobs past at.before ≡ []))
+    ⊎ ((at : ListedAt told number Schemas) × (schemas (history_told jobs past at.before) ≡ []))
+
+-- the array has the frame of a create, and a schema of it. The create is a right one, and it found no array
+pub record IsCreated (jobs : List Job) (past : History) (told : List Told) (number : ℕ) (job : Job) : Type 0 where
   pub made : FrameIn
   pub creates : job.command ≡ Create made
-  pub framed : frame_in h ≡ Some (frame_made made)
-  pub declared : HasDeclared h job made.attrs
+  pub sound : create_refusal made ≡ None
+  pub found_none : FindsNoArray jobs past told number made
+  pub framed : frame_in (history_told jobs past told) ≡ Some (frame_made made)
+  pub declared : HasDeclared (history_told jobs past told) job made.attrs
 
--- the schema of an evolve is one that the change makes of another, which holds at its stamp of those that it listed before it declared its own
+-- the schema of an evolve is one that the change makes of another, which holds at its stamp of those that it listed before it declared its own. The change fits that one, in the array with the frame
 pub record IsEvolved (jobs : List Job) (past : History) (told : List Told) (number : ℕ) (job : Job) : Type 0 where
   pub change : Evolution
   pub evolves : job.command ≡ Evolve change
@@ -128,6 +146,9 @@ pub record IsEvolved (jobs : List Job) (past : History) (told : List Told) (numb
   pub there : Schema
   pub undone : IsUndone (history_told jobs past schemas.before) job
   pub holds : schema_there (history_told jobs past schemas.before) job.at ≡ Some there
+  pub frame : Frame
+  pub framed : frame_in (history_told jobs past told) ≡ Some frame
+  pub sound : evolution_fault frame.domain there.attrs change ≡ None
   pub declared : HasDeclared (history_told jobs past told) job (evolved_attrs there.attrs change)
 
 -- the write of a job is a deed: its cells are those of its columns, in the schema that holds at its stamp of those that it listed
@@ -187,15 +208,6 @@ pub record FindsSchema (jobs : List Job) (past : History) (told : List Told) (nu
   pub schemas : ListedAt told number Schemas
   pub there : Schema
   pub holds : schema_there (history_told jobs past schemas.before) (looked_at job) ≡ Some there
-
--- a job made a call at a place of what was told
-pub record MadeAt (told : List Told) (number : ℕ) (c : Call) : Type 0 where
-  pub before : List Told
-  pub made : Told
-  pub later : List Told
-  pub place : told ≡ before ++ made ∷ later
-  pub own : made.job ≡ Some number
-  pub makes : made.call ≡ c
 
 -- what was told up to a call, the call included
 abbrev pub up_to : List Told → Told → List Told
@@ -303,7 +315,7 @@ IsTrueRefusal spelled opening jobs past told number job r = IsUndone (history_to
 
 -- what an end tells of the history, and that of a read, of a consolidation, of a vacuum, of an unlock and of a list of the commits of the objects too
 abbrev pub IsTrueEnd : Spelled → Held → List Job → History → List Told → ℕ → Job → Outcome → Type 0
-IsTrueEnd spelled opening jobs past told number job outcome.Created = IsCreated (history_told jobs past told) job
+IsTrueEnd spelled opening jobs past told number job outcome.Created = IsCreated jobs past told number job
 IsTrueEnd spelled opening jobs past told number job (outcome.Evolved k) = (k ≡ key_of job) × IsEvolved jobs past told number job
 IsTrueEnd spelled opening jobs past told number job (outcome.Written f) = (f ≡ frag_of_job job) × IsWritten jobs past told number job
 IsTrueEnd spelled opening jobs past told number job (outcome.Deleted f) = (f ≡ frag_of_job job) × IsDeleted jobs past told number job

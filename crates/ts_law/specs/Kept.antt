@@ -69,7 +69,7 @@ use Rattle.ts_model.specs.Jobs.{key_of, frag_of_job, AreFit, AreApart, looked_at
 use Rattle.ts_law.specs.Stands.{HoldsIn, IsCommitted, Stands}
 use Rattle.ts_law.specs.Origins.{last_version, newest_at, wrote_in}
 use Rattle.ts_commit.specs.Selections.{clipped_names, has_origin, is_among, is_clipped, is_usable, names_merged, usable}
-use Rattle.ts_law.specs.Ends.{AreHeads, FindsSchema, ListedAt, IsGone, IsPlanned, IsUndone, IsTrueEnd, dead_leases}
+use Rattle.ts_law.specs.Ends.{AreHeads, FindsNoArray, FindsSchema, ListedAt, IsGone, IsPlanned, IsUndone, IsTrueEnd, dead_leases}
 use Rattle.ts_model.specs.Deeds.{History, frame_in, deletions, schema_with, schema_there}
 use Rattle.ts_model.specs.Commands.{frame_made, create_refusal, laid}
 use Rattle.ts_store.specs.declared.call.Call.TheVariants as call
@@ -326,6 +326,7 @@ pub record Unlocking (opening : Held) (past : History) (jobs : List Job) (seen :
 abbrev pub Aims : {F : Type 0} → Codec F → Spelled → Held → History → List Job → List Told → Held → ℕ → Job → List NewObject → Outcome → Type 0
 Aims codec spelled opening past jobs seen m number job objects outcome.Created =
     (f : FrameIn) × (job.command ≡ Create f) × (objects ≡ schema_object_of job f.attrs ∷ []) × (create_refusal f ≡ None) × (frame_in (history_told jobs past seen) ≡ Some (frame_made f))
+    × FindsNoArray jobs past seen number f
 Aims codec spelled opening past jobs seen m number job objects (outcome.Evolved k) =
     (change : Evolution) × (frame : Frame) × (there : Schema) × (job.command ≡ Evolve change) × (k ≡ key_of job) × (objects ≡ schema_object_of job (evolved_attrs there.attrs change) ∷ [])
     × (frame_in (history_told jobs past seen) ≡ Some frame) × (evolution_fault frame.domain there.attrs change ≡ None) × Works past jobs seen number job there

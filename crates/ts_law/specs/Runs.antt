@@ -18,9 +18,9 @@ use Rattle.ts_law.specs.Stands.{Stands}
 use Rattle.ts_law.specs.Kept.{HeldSince}
 use Rattle.ts_law.specs.Sweeps.{IsNoSweep, StayInTheirOwn}
 use Rattle.ts_law.specs.Ends.{IsTrueOver}
-use Rattle.ts_law.specs.Changes.{ChangedNothing, SweepsAlone}
+use Rattle.ts_law.specs.Changes.{ChangedNothing, OnlyLooks, PutsAlone, RemovesNone, SweepsAlone, UnlocksAlone}
 use Rattle.ts_law.specs.Refusals.{IsNoFault, IsRefusedFor}
-use Rattle.ts_model.specs.declared.commands.Command.TheVariants.{Vacuum}
+use Rattle.ts_model.specs.declared.commands.Command.TheVariants.{Vacuum, Unlock}
 use Rattle.ts_model.specs.declared.answers.Refusal.{Refusal}
 use Rattle.ts_model.specs.Deeds.{History}
 use Rattle.ts_law.specs.Courses.{IsSegment}
@@ -40,7 +40,7 @@ abbrev pub AreSegments : {F : Type 0} → Codec F → List Job → List (Driven 
 AreSegments codec jobs results told =
     (number : ℕ) (job : Job) (result : Driven Outcome) → slice_get jobs number ≡ Some job → slice_get results number ≡ Some result → IsSegment codec job (trace_of number told) result
 
--- each first part of what was told leaves objects that stand for its history, and so does each first part of the journal. By calls of which none is of a vacuum, what is held stays held, but for leases, and each write stays in its own fragment. What each end tells of the history is true, and each job that ended refused is so for its cause, and but for a fault changed nothing. A vacuum, however it came out, changed no other objects than it is to remove; a job that was stopped has no end
+-- each first part of what was told leaves objects that stand for its history, and so does each first part of the journal. By calls of which none is of a vacuum, what is held stays held, but for leases, and each write stays in its own fragment. What each end tells of the history is true, and each job that ended refused is so for its cause, and but for a fault changed nothing. A vacuum and an unlock, however they came out, changed no other objects than they are to remove, and a read and a list of the commits none but a lease. Any other command changed its own objects alone, and a create the frame; a job that was stopped has no end
 pub record IsTrueRun (spelled : Spelled) (lanes : ℕ → ℕ) (jobs : List Job) (h : History) (m : Held) (told : List Told) (results : List (Driven Outcome)) : Type 0 where
   pub stands : (front back : List Told) → told ≡ front ++ back → Stands spelled (held_after m (entries_of (lane_by lanes) front)) (history_told jobs h front)
   pub journal : (front back : List Entry) → entries_of (lane_by lanes) told ≡ front ++ back → Stands spelled (held_after m front) (history_of h m jobs front)
@@ -50,6 +50,9 @@ pub record IsTrueRun (spelled : Spelled) (lanes : ℕ → ℕ) (jobs : List Job)
   pub causes : (number : ℕ) (job : Job) (r : Refusal) → slice_get jobs number ≡ Some job → slice_get results number ≡ Some (Done (outcome.Refused r)) → IsRefusedFor spelled m jobs h told number job r
   pub idle : (number : ℕ) (job : Job) (r : Refusal) → slice_get jobs number ≡ Some job → slice_get results number ≡ Some (Done (outcome.Refused r)) → IsNoFault r → ChangedNothing m told number job
   pub sweeps : (number : ℕ) (job : Job) → slice_get jobs number ≡ Some job → job.command ≡ Vacuum → SweepsAlone m told number job
+  pub unlocks : (number : ℕ) (job : Job) (seed lane : ℕ) → slice_get jobs number ≡ Some job → job.command ≡ Unlock seed lane → UnlocksAlone m told number job
+  pub looks : (number : ℕ) (job : Job) → slice_get jobs number ≡ Some job → OnlyLooks job.command → ChangedNothing m told number job
+  pub puts : (number : ℕ) (job : Job) → slice_get jobs number ≡ Some job → RemovesNone job.command → PutsAlone m told number job
 
 -- what a run is over a store that held m
 pub record IsRunOver (spelled : Spelled) (seed : ℕ) (lanes : ℕ → ℕ) (jobs : List Job) (m : Held) (later : Option Held) (journal : List Entry) (told : List Told) (results : List (Driven Outcome)) : Type 0 where

@@ -26,3 +26,4 @@ pub mod UnionLaws
 pub mod MergedPieces
 pub mod MergedFits
 pub mod Alike
+pub mod WholeRows

@@ -1,12 +1,12 @@
 //! The rows that a query selects.
-ghost use Rattle.std.specs.Prelude.{◌≡◌, ◌↔◌, [], ◌∷◌, filter, map, slice_get, IfOk, OnOk, IsTrue, All};
+ghost use Rattle.std.specs.Prelude.{◌≡◌, ◌↔◌, [], ◌∷◌, filter, length, map, slice_get, IfOk, OnOk, IsTrue, All};
 ghost use Rattle.std.specs.List.Sorted.{IsStrictlySortedBy};
 ghost use Rattle.ts_domain.specs.Domains.{is_in_domain};
 ghost use Rattle.ts_schema.specs.FrameTexts.{IsFrame};
 ghost use Rattle.ts_schema.specs.SchemaTexts.{AreAttrs};
 ghost use Rattle.ts_model.specs.declared.queries.Shown.{Shown as AnyShown};
 ghost use Rattle.ts_model.specs.Answers.{fills_of};
-ghost use Rattle.ts_model.specs.Queries.{fields_of, items_at, layout_cmp, selected, types_of, types_shown};
+ghost use Rattle.ts_model.specs.Queries.{fields_of, items_at, layout_cmp, places_from, selected, types_of, types_shown};
 ghost use Rattle.ts_model.specs.Selections.{placed, picks_in, passes_by, placed_behind};
 
 use crate::answers::TypeList;
@@ -92,13 +92,52 @@ fn cut_passing(
 ) -> Result<RowList, OutOfMemory>
     ensures { IfOk result (λ rows. rows ≡ map (λ e. items_at ready.now.fields (fields_of e)) (filter (λ e. passes_by picks.now ready.now.filter e.0 e.1) (map placed cells))) }
 {
-    let mut rows = RowList::new(alloc);
+    let fields = ready.fields.as_slice();
+    let in_turn = are_in_turn(fields);
+    let mut rows = RowList::from_vec(Vec::with_capacity(alloc, cells.len() as usize)?);
     for cell in cells.into_vec() {
         if passes_by(picks, &ready.filter, &cell) {
-            rows.push(cut(alloc, &cell, ready.fields.as_slice())?)?;
+            rows.push(row_of(alloc, cell, fields, in_turn)?)?;
         }
     }
     Ok(rows)
+}
+
+// Whether the places of fields are 0, 1, 2 and so on.
+fn are_in_turn(fields: &[u32]) -> bool
+    ensures { IsTrue result → fields.now ≡ places_from 0 (length fields.now) }
+{
+    for place in 0..fields.len() {
+        if fields[place] as usize != place {
+            return false;
+        }
+    }
+    true
+}
+
+// The fields of a cell that are shown. Where these are all fields in turn its values are moved.
+fn row_of(alloc: Global, cell: Shown, fields: &[u32], in_turn: bool) -> Result<Row, OutOfMemory>
+    requires turn { IsTrue in_turn → fields.now ≡ places_from 0 (length fields.now) }
+    ensures { IfOk result (λ row. row ≡ items_at fields.now (fields_of (placed cell))) }
+{
+    if in_turn && cell.coords.as_slice().len() + cell.row.as_slice().len() == fields.len() {
+        return whole_row(alloc, cell);
+    }
+    cut(alloc, &cell, fields)
+}
+
+// All fields of a cell: its coordinates, and behind them its values, which are moved.
+fn whole_row(alloc: Global, cell: Shown) -> Result<Row, OutOfMemory>
+    ensures { IfOk result (λ row. row ≡ fields_of (placed cell)) }
+{
+    let Shown { coords, row } = cell;
+    let (coords, mut values) = (coords.as_slice(), row.into_vec());
+    let mut fields = Vec::with_capacity(alloc, coords.len() + values.len())?;
+    for number in coords {
+        fields.push(Val::Int(*number))?;
+    }
+    fields.append(&mut values)?;
+    Ok(Row::from_vec(fields))
 }
 
 // The cells that pass the filter, by their places in the layout. Where two have one place the first

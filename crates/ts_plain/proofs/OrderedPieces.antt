@@ -96,13 +96,13 @@ module _ (frame : Frame) where
         (here, below_all u b (front ++ b ∷ []) cells (last_pushed front b) (λ w next. version_total.trans u (version_in head b) w here next) fits.1)
 
     -- the versions of cells ascend
-    cells_ascend : (front cells : List StoredCell) → InTurn (FitsCell frame attrs head) front cells → VersionsAscend (global_order frame) (map (version_in head) cells)
+    pub cells_ascend : (front cells : List StoredCell) → InTurn (FitsCell frame attrs head) front cells → VersionsAscend (global_order frame) (map (version_in head) cells)
     cells_ascend front [] fits = tt
     cells_ascend front (a ∷ cells) fits =
         (below_all (version_in head a) a (front ++ a ∷ []) cells (last_pushed front a) (λ w less. less) fits.1, cells_ascend (front ++ a ∷ []) cells fits.1)
 
     -- they lie in the domain
-    cells_inside : (front cells : List StoredCell) → EachFits FitsSide frame.domain head.hull → InTurn (FitsCell frame attrs head) front cells → All (LiesInside frame) (map (version_in head) cells)
+    pub cells_inside : (front cells : List StoredCell) → EachFits FitsSide frame.domain head.hull → InTurn (FitsCell frame attrs head) front cells → All (LiesInside frame) (map (version_in head) cells)
     cells_inside front [] hull fits = All-nil (LiesInside frame)
     cells_inside front (a ∷ cells) hull fits =
         All-cons (LiesInside frame) (version_in head a) (map (version_in head) cells) (on_sides frame.domain head.hull a.coords hull (fits.0).coords) (cells_inside (front ++ a ∷ []) cells hull fits.1)

@@ -9,7 +9,8 @@ mod stored;
 mod writing;
 
 pub use merging::{merge_all, merge_two, newest_alone};
-pub use reading::{read_head, read_plain};
+pub use pieces::{head_of, highs, lows};
+pub use reading::{read_fields, read_head, read_plain};
 pub use stored::{Side, SideList, StoredCell, StoredCellList, StoredHead, StoredPiece};
 pub use ts_schema::{Want, taken};
-pub use writing::write_plain;
+pub use writing::{write_head, write_plain};

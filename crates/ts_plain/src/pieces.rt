@@ -52,8 +52,8 @@ fn versions_in(
     Ok(VersionList::from_vec(versions))
 }
 
-// The least coordinate of a hull along each dimension.
-fn lows(hull: &[Side]) -> Coords
+/// The least coordinate of a hull along each dimension.
+pub fn lows(hull: &[Side]) -> Coords
     requires some { 1 ≤ length hull.now }
     requires few { length hull.now ≤ 8 }
     ensures { result ≡ map (λ side. side.low) hull.now }
@@ -65,8 +65,8 @@ fn lows(hull: &[Side]) -> Coords
     Coords::new(numbers.as_slice())
 }
 
-// The greatest coordinate of a hull along each dimension.
-fn highs(hull: &[Side]) -> Coords
+/// The greatest coordinate of a hull along each dimension.
+pub fn highs(hull: &[Side]) -> Coords
     requires some { 1 ≤ length hull.now }
     requires few { length hull.now ≤ 8 }
     ensures { result ≡ map (λ side. side.high) hull.now }

@@ -21,10 +21,13 @@ use crate::rules::{
 use crate::stored::{Side, SideList, StoredCell, StoredCellList, StoredHead, StoredPiece};
 use arrayvec::ArrayVec;
 use std::alloc::Global;
-use ts_base::{Coords, FragKey, Head, Key, KeyList, Piece, Row};
+use ts_base::{Coords, FragKey, Head, Key, KeyList, OutOfMemory, Piece, Row};
 use ts_domain::Dim;
 use ts_schema::{Attr, Frame, Schema, read_value};
 use ts_wire::{Cursor, Damaged, Kind, ReadFault, kept, unwrap_body};
+
+// The fewest bytes that a cell takes: those of a coordinate and of the place of its origin.
+const LEAST_CELL: u64 = 20;
 
 #[tactic(auto, unfolding(crate::specs::Plain::dense_at))]
 fn read_dense(dense: bool, cursor: &mut Cursor) -> Result<bool, Damaged>
@@ -162,9 +165,10 @@ fn read_origins(
     read_counted_origins(alloc, frag, consolidated, count, cursor)
 }
 
-// What stands before the cells.
+/// What stands before the cells, at a place in the object of this fragment: the fields that all objects
+/// of fragments begin with. The hull lies in the domain.
 #[tactic(auto, using(crate::proofs::Insides::hull_sides), unfolding(crate::specs::Plain::head_at))]
-fn read_fields(
+pub fn read_fields(
     alloc: Global,
     frame: &Frame,
     frag: FragKey,
@@ -242,7 +246,7 @@ fn read_origin_index(
 fn read_row(alloc: Global, attrs: &[Attr], cursor: &mut Cursor) -> Result<Row, ReadFault>
     ensures { ReadsOr (λ row. row) (row_at attrs.now) cursor.old cursor.new result }
 {
-    let mut row = Row::new(alloc);
+    let mut row = Row::from_vec(Vec::with_capacity(alloc, attrs.len())?);
     for attr in attrs {
         let val = read_value(alloc, attr.ty, attr.nullable, cursor)?;
         row.push(val)?;
@@ -274,6 +278,15 @@ fn read_cell(
     })
 }
 
+// A list of no cells, with room for so many, or for as many as the bytes that are left can hold.
+fn room_for(alloc: Global, count: u64, cursor: &Cursor) -> Result<StoredCellList, OutOfMemory>
+    ensures { IfOk result (λ cells. cells ≡ []) }
+{
+    let most = cursor.rest().len() as u64 / LEAST_CELL;
+    let cells = Vec::with_capacity(alloc, count.min(most) as usize)?;
+    Ok(StoredCellList::from_vec(cells))
+}
+
 #[tactic(auto, using(ts_wire::proofs::Loop::items_loop))]
 fn read_cells(
     alloc: Global,
@@ -285,8 +298,8 @@ fn read_cells(
     requires hull { IsHull frame.now.domain head.now.hull }
     ensures { ReadsOr (λ cells. cells) (items_at (cell_at frame.now attrs.now head.now) head.now.cells []) cursor.old cursor.new result }
 {
-    let mut cells = StoredCellList::new(alloc);
     let count = head.cells;
+    let mut cells = room_for(alloc, count, cursor)?;
     for place in 0..count {
         let cell = read_cell(alloc, frame, attrs, head, &cells, cursor)?;
         cells.push(cell)?;

@@ -20,6 +20,13 @@ use ts_base::{
 };
 use ts_wire::{Kind, Scribe};
 
+// How many bytes a coordinate takes, the place of an origin, and a value that is an integer.
+const INT_BYTES: u64 = 16;
+
+const PLACE_BYTES: u64 = 4;
+
+const VAL_BYTES: u64 = 17;
+
 fn place_of(origins: &KeyList, key: Key) -> u32
     requires few { length origins.now < 2 ^ 32 }
     requires ascend { IsStrictlySortedBy key_cmp origins.now }
@@ -62,8 +69,9 @@ fn write_origins(scribe: &mut Scribe, origins: &KeyList) -> Result<(), OutOfMemo
     Ok(())
 }
 
+/// Writes what stands before the cells: the fields that all objects of fragments begin with.
 #[tactic(auto, unfolding(crate::specs::Plain::head_bytes))]
-fn write_head(scribe: &mut Scribe, head: &Head) -> Result<(), OutOfMemory>
+pub fn write_head(scribe: &mut Scribe, head: &Head) -> Result<(), OutOfMemory>
     requires corners { length head.now.high ≡ length head.now.low }
     requires few { length head.now.origins < 2 ^ 32 }
     ensures { OnOk result (scribe.new ≡ scribe.old ++ head_bytes (stored_head head.now)) }
@@ -110,6 +118,20 @@ fn write_version(
     write_row(scribe, &version.row)
 }
 
+// Makes room for so many cells, as if each value were an integer. Where texts take more, it grows.
+fn make_room(scribe: &mut Scribe, versions: &[Version]) -> Result<(), OutOfMemory>
+    ensures { scribe.new ≡ scribe.old }
+{
+    let Some(first) = versions.first() else {
+        return Ok(());
+    };
+    let coords = INT_BYTES * first.coords.len() as u64;
+    let vals = first.row.len().saturating_mul(VAL_BYTES);
+    let cell = vals.saturating_add(coords + PLACE_BYTES);
+    let count = versions.len() as u64;
+    scribe.reserve(count.saturating_mul(cell))
+}
+
 fn write_versions(
     scribe: &mut Scribe,
     origins: &KeyList,
@@ -120,6 +142,7 @@ fn write_versions(
     requires known { All (λ (version : AnyVersion). HasPlace origins.now version.key) versions.now }
     ensures { OnOk result (scribe.new ≡ scribe.old ++ flat_map cell_bytes (map (stored_cell origins.now) versions.now)) }
 {
+    make_room(scribe, versions.as_slice())?;
     for version in versions.as_slice() {
         write_version(scribe, origins, version)?;
     }

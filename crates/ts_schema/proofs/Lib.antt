@@ -7,4 +7,5 @@ pub mod NameSets
 pub mod NoneYet
 pub mod SchemaLaws
 pub mod Shown
+pub mod WholeRows
 mod WorkedRows

@@ -13,3 +13,4 @@ pub mod SpotOrders
 pub mod RankOrders
 pub mod Neighbours
 pub mod BoxTables
+pub mod Narrow

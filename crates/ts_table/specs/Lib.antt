@@ -7,3 +7,4 @@ pub mod Merges
 pub mod BoxTables
 pub mod Ordered
 pub mod Spots
+pub mod Narrows

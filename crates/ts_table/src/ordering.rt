@@ -97,7 +97,7 @@ fn compare_versions(domain: &Domain, order: CellOrder, table: &Table, a: u64, b:
 
 /// The places of the versions of a table in an order, those of one cell as they stand.
 ///
-/// It sorts numbers, where the cells of the domain can be counted in 128 bits. Else it sorts the
+/// It sorts numbers, where the cells of the domain can be counted in 64 bits. Else it sorts the
 /// cells themselves. No row is moved.
 pub fn ordered_places(
     alloc: Global,

@@ -4,31 +4,28 @@ ghost use Rattle.std.specs.List.{range_with_len};
 ghost use Rattle.std.specs.List.Sorted.{IsPermutation};
 
 use crate::order::CellOrder;
-use crate::spots::turned;
 use crate::table::Table;
 use std::alloc::Global;
-use ts_base::{Coords, IndexList, OutOfMemory, Sequence};
+use ts_base::{IndexList, OutOfMemory, Sequence};
 use ts_domain::{Dim, Domain, Order};
 
 // What a dimension adds to a rank.
 #[derive(Clone, Copy, Debug)]
 struct Scale {
+    // The place of the dimension.
+    dim: u8,
     // The least coordinate.
     low: i128,
     // The number of coordinates in a space tile.
-    extent: u128,
+    extent: u64,
     // The number of space tiles.
-    tiles: u128,
+    tiles: u64,
 }
 
 // How the rank of a cell is counted: by the space tiles first, then by the cells of one tile. In
 // row order and in column order all cells count as cells of one tile.
 #[derive(Debug, Drop)]
 pub(crate) struct Ranks {
-    // The order of the space tiles.
-    tile: Order,
-    // The order of the cells.
-    cell: Order,
     // The dimensions, the one in front by which tiles are compared first.
     tiles: Sequence<Scale>,
     // The dimensions, the one in front by which cells are compared first.
@@ -38,7 +35,7 @@ pub(crate) struct Ranks {
 // A rank, and the place of the version that has it.
 #[derive(Clone, Copy, Debug, PartialEq, Eq, PartialOrd, Ord)]
 struct Ranked {
-    rank: u128,
+    rank: u64,
     place: u32,
 }
 
@@ -57,16 +54,14 @@ impl Ranks {
             CellOrder::Global { tile, cell } => (tile, cell),
         };
         Ok(Ranks {
-            tile,
-            cell,
             tiles: scales_of(alloc, domain, order, tile)?,
             cells: scales_of(alloc, domain, order, cell)?,
         })
     }
 
-    // Whether all ranks fit 128 bits.
+    // Whether all ranks fit 64 bits.
     pub(crate) fn fit(&self) -> bool {
-        let mut cells: u128 = 1;
+        let mut cells: u64 = 1;
         for scale in self.tiles.as_slice() {
             let in_tiles = cells.checked_mul(scale.extent);
             cells = match in_tiles.and_then(|cells| cells.checked_mul(scale.tiles)) {
@@ -77,14 +72,24 @@ impl Ranks {
         true
     }
 
-    // The rank of a cell.
-    fn rank(&self, at: &Coords) -> u128 {
-        let tile = tile_rank(self.tiles.as_slice(), turned(self.tile, at).as_slice());
-        cell_rank(
-            tile,
-            self.cells.as_slice(),
-            turned(self.cell, at).as_slice(),
-        )
+    // The rank of the cell at a place of a table.
+    fn rank(&self, table: &Table, place: u64) -> u64
+        requires { place < length table.now }
+    {
+        let mut rank: u64 = 0;
+        for scale in self.tiles.as_slice() {
+            let tile = steps(scale, table, place).checked_div(scale.extent);
+            rank = rank
+                .wrapping_mul(scale.tiles)
+                .wrapping_add(tile.unwrap_or(0));
+        }
+        for scale in self.cells.as_slice() {
+            let cell = steps(scale, table, place).checked_rem(scale.extent);
+            rank = rank
+                .wrapping_mul(scale.extent)
+                .wrapping_add(cell.unwrap_or(0));
+        }
+        rank
     }
 
     // The places of the versions of a table by their ranks, those of one rank as they stand.
@@ -102,9 +107,9 @@ impl Ranks {
         requires { length table.now < 4294967296 }
         ensures { IfOk result (λ list. map (λ ranked. ranked.place) list ≡ range_with_len 0 (length table.now)) }
     {
-        let mut list = RankedList::new(alloc);
+        let mut list = RankedList::from_vec(Vec::with_capacity(alloc, table.len() as usize)?);
         for place in 0..table.len() {
-            let rank = self.rank(&table.coords(place));
+            let rank = self.rank(table, place);
             list.push(Ranked {
                 rank,
                 place: place as u32,
@@ -122,8 +127,8 @@ fn scales_of(
     by: Order,
 ) -> Result<Sequence<Scale>, OutOfMemory> {
     let mut scales = Vec::new(alloc);
-    for dim in domain.as_slice() {
-        scales.push(scale_of(dim, order))?;
+    for dim in 0..domain.count() {
+        scales.push(scale_of(dim, domain.dim(dim), order))?;
     }
     if by == Order::Col {
         scales.reverse();
@@ -132,7 +137,7 @@ fn scales_of(
 }
 
 // What a dimension adds to a rank.
-fn scale_of(dim: &Dim, order: CellOrder) -> Scale {
+fn scale_of(place: u8, dim: &Dim, order: CellOrder) -> Scale {
     let last = dim.high.abs_diff(dim.low);
     let extent = match order {
         CellOrder::Plain(_) => last.saturating_add(1),
@@ -140,34 +145,26 @@ fn scale_of(dim: &Dim, order: CellOrder) -> Scale {
     };
     let tiles = last.checked_div(extent).unwrap_or(0).saturating_add(1);
     Scale {
+        dim: place,
         low: dim.low,
-        extent,
-        tiles,
+        extent: capped(extent),
+        tiles: capped(tiles),
     }
 }
 
-// The rank of the space tile that has these coordinates.
-fn tile_rank(scales: &[Scale], at: &[i128]) -> u128 {
-    let mut rank: u128 = 0;
-    for (scale, number) in scales.iter().zip(at) {
-        let tile = number.abs_diff(scale.low).checked_div(scale.extent);
-        rank = rank
-            .wrapping_mul(scale.tiles)
-            .wrapping_add(tile.unwrap_or(0));
-    }
-    rank
+// A number, or 2^64 - 1 in the place of a greater one.
+fn capped(number: u128) -> u64 {
+    u64::try_from(number).unwrap_or(u64::MAX)
 }
 
-// The rank of a cell among those of its space tile, behind the cells of the tiles before it.
-fn cell_rank(tile: u128, scales: &[Scale], at: &[i128]) -> u128 {
-    let mut rank = tile;
-    for (scale, number) in scales.iter().zip(at) {
-        let cell = number.abs_diff(scale.low).checked_rem(scale.extent);
-        rank = rank
-            .wrapping_mul(scale.extent)
-            .wrapping_add(cell.unwrap_or(0));
+// How far a coordinate of the cell at a place lies from the least, or 2^64 - 1 where that is more.
+fn steps(scale: &Scale, table: &Table, place: u64) -> u64
+    requires { place < length table.now }
+{
+    match table.coord(place, scale.dim) {
+        Some(number) => capped(number.abs_diff(scale.low)),
+        None => 0,
     }
-    rank
 }
 
 // The ranks in their order.
@@ -183,7 +180,7 @@ fn sorted(list: RankedList) -> Result<RankedList, OutOfMemory>
 fn places_of(alloc: Global, list: &[Ranked]) -> Result<IndexList, OutOfMemory>
     ensures { IfOk result (λ places. places ≡ map (λ ranked. ranked.place) list.now) }
 {
-    let mut places = IndexList::new(alloc);
+    let mut places = IndexList::from_vec(Vec::with_capacity(alloc, list.len())?);
     for ranked in list {
         places.push(ranked.place)?;
     }

@@ -245,7 +245,7 @@ fn tables_are_merged_to_the_newest_of_each_cell(rt: HostRuntime) -> Result<(), F
     Ok(())
 }
 
-// The places by ranks, and those that are checked, are these.
+// The places by ranks, where these fit, and those that are checked, are these.
 fn order_places(
     rt: &impl Abort,
     alloc: Global,
@@ -257,8 +257,10 @@ fn order_places(
     assert!(rt; table.len() < 4294967296);
     assert!(rt; is_inside(domain, table));
     let ranks = Ranks::of(alloc, domain, order)?;
-    let by_ranks = ranks.places(alloc, table)?;
-    assert!(rt; by_ranks.as_slice() == places);
+    if ranks.fit() {
+        let by_ranks = ranks.places(alloc, table)?;
+        assert!(rt; by_ranks.as_slice() == places);
+    }
     let ordered = ordered_places(alloc, domain, order, table)?;
     assert!(rt; ordered.as_slice() == places);
     Ok(())

@@ -17,7 +17,8 @@ use Rattle.std.specs.Io.KnownBytes.{Appends}
 use Rattle.ts_commit.specs.declared.vacs.Limits.{Limits}
 use Rattle.ts_schema.specs.declared.frames.Frame.{Frame}
 use Rattle.ts_schema.specs.declared.schemas.Schema.{Schema}
-use Rattle.ts_schema.specs.Evolutions.{evolved_attrs}
+use Rattle.ts_schema.specs.Evolutions.{evolved_attrs, evolution_fault}
+use Rattle.ts_schema.specs.declared.faults.SchemaFault.{SchemaFault}
 use Rattle.ts_cond.specs.Tests.{Condition}
 use Rattle.ts_store.specs.declared.call.Call.{Call}
 use Rattle.ts_store.specs.declared.call.Call.TheVariants as call
@@ -34,24 +35,27 @@ use Rattle.ts_model.specs.declared.answers.Driven.TheVariants.{Done, Stopped}
 use Rattle.ts_model.specs.declared.answers.Outcome.{Outcome}
 use Rattle.ts_model.specs.declared.answers.Outcome.TheVariants as outcome
 use Rattle.ts_model.specs.declared.answers.Refusal.{Refusal}
+use Rattle.ts_model.specs.declared.answers.Refusal.TheVariants as refusal
 use Rattle.ts_model.specs.declared.commands.FrameIn.{FrameIn}
 use Rattle.ts_model.specs.declared.commands.WriteIn.{WriteIn}
 use Rattle.ts_model.specs.declared.deeds.Deed.{Deed}
 use Rattle.ts_model.specs.declared.deeds.Deed.TheVariants.{Framed, Declared, Wrote, Erased}
 use Rattle.ts_model.specs.declared.deeds.Written.{Written}
 use Rattle.ts_model.specs.declared.deeds.Deletion.{Deletion}
-use Rattle.ts_model.specs.Commands.{frame_made, laid}
+use Rattle.ts_model.specs.Commands.{create_refusal, frame_made, laid}
 use Rattle.ts_model.specs.Queries.{delete_condition}
-use Rattle.ts_model.specs.Deeds.{History, IsHistory, IsNewKey, frame_in, schema_there}
+use Rattle.ts_model.specs.Deeds.{History, IsHistory, IsNewKey, frame_in, schemas, schema_there}
 use Rattle.ts_model.specs.Driven.{IsDriven}
 use Rattle.ts_base.specs.declared.names.Prefix.TheVariants.{Schemas}
 use Rattle.ts_model.specs.Jobs.{key_of, looked_at, looks_at, schema_of_job, written_as, deletion_as}
 use Rattle.ts_model.specs.Stops.{Uncut, cuts}
-use Rattle.ts_model.specs.States.{Exchange, made_by}
+use Rattle.ts_model.specs.States.{Exchange, frame_put, made_by}
 use Rattle.ts_model.specs.Told.{Told, entries_of, entry_of, exchange_of, held_told, trace_of, grown, deed_told, deed_in, deed_of, declared_by, written_by, written_in, deleted_by, deleted_in, schema_used, schemas_found, cells_of, condition_of, history_from, history_told, Replied, Suits}
+use Rattle.ts_model.proofs.HistoryLaws.{schemas-append}
 use Rattle.ts_model.proofs.ListLemmas.{Contains-cons, Contains-slice_get, Contains-filter_map, Contains-here, Contains-nil, Contains-there, filter_map-Contains}
 use Rattle.ts_model.proofs.Traces.{exchange_of_other, exchange_of_own, history_told-append, trace_of-append}
-use Rattle.ts_law.specs.Ends.{IsTrueEnd, IsTrueOver, IsUndone, ListedAt}
+use Rattle.ts_law.specs.Ends.{FindsNoArray, IsTrueEnd, IsTrueOver, IsUndone, ListedAt}
+use Rattle.ts_law.specs.Changes.{IsOwn, OnlyLooks, RemovesNone}
 use Rattle.ts_law.specs.Refusals.{IsNoFault, IsRefusedFor}
 use Rattle.ts_law.specs.Fresh.{IsFreshSeed, IsJobOf, AreJobsOf, Numbered, command_at, id_of, in_lane_order, job_from, lanes_of, seed_in, lane_of as line_lane}
 use Rattle.ts_law.specs.Lanes.{lane_by, one_lane, IsOwned, IsWithin, IsBefore, InTurn}
@@ -67,25 +71,26 @@ use Rattle.ts_law.proofs.Journals.{journal_held}
 use Rattle.ts_law.proofs.KeptLaws.{Replied-front}
 use Rattle.ts_law.proofs.Lists.{item_at}
 use Rattle.ts_law.proofs.NoSweeps.{no_sweeps, unclipped_run}
+use Rattle.ts_law.proofs.JournalHistories.{FitsIn}
 use Rattle.ts_law.proofs.LineJobs.{AreInOrder, IsFitItem, each_line, in_order, seed_of_id}
-use Rattle.ts_law.proofs.TrueRuns.{kept_first, true_run, works_where_used}
+use Rattle.ts_law.proofs.TrueRuns.{kept_first, right_where_put, true_run, works_where_used}
 use Rattle.ts_actor.specs.PlainCodec.{NeverWaits}
 use Rattle.ts_actor.specs.PlainLaws.{plain_laws}
 use Rattle.ts_top.specs.Ends.{ends_text}
 use Rattle.ts_top.specs.Promise.{CameOut, HasNoLease, HeldOnce, IsDone, IsDeedOf, IsLineDone, LeavesAll, LeavesOthers, Tells, IsStored, Promise, Began, Promised}
 use Rattle.ts_top.specs.Runners.{run_codec, run_spelled}
-use Rattle.ts_top.specs.Sweeps.{MaySweep}
+use Rattle.ts_top.specs.Sweeps.{MaySweep, dead_leases}
 use Rattle.ts_script.specs.Script.{AreLimited}
 use Rattle.ts_script.specs.declared.words.Asked.{Asked}
 use Rattle.ts_script.specs.Words.{asked}
 use Rattle.ts_script.specs.Meanings.{report_of}
 use Rattle.ts_top.specs.Reports.{report_text, status_printed}
 use Rattle.ts_top.specs.Seen.{Seen, Means, Stopped as HasStopped, Performed, PrintsEnds, whole, sink_failed, no_text, Plays, ended, ran_short}
-use Rattle.ts_top.proofs.Places.{Early, Late, cancelled, fronts, goes_on, listed_after}
+use Rattle.ts_top.proofs.Places.{Early, Late, cancelled, fronts, goes_on, listed_after, made_after}
 use Rattle.ts_top.proofs.LeasesTold.{EndsWell, no_lease}
 use Rattle.ts_top.proofs.MergesTold.{calls_in, merged_tells, schema_found}
 use Rattle.ts_top.proofs.Removed.{Replied-back}
-use Rattle.ts_top.proofs.StaysTold.{keeps_held, leaves_all, leaves_others}
+use Rattle.ts_top.proofs.StaysTold.{keeps_held, leaves_all, leaves_but_own, leaves_living, leaves_others}
 use Rattle.ts_top.proofs.StopsTold.{keeps_stop}
 use Rattle.ts_top.proofs.SweepsTold.{vacuumed_tells}
 use Rattle.ts_top.proofs.UnlocksTold.{listed_tells, unlocked_tells}
@@ -99,6 +104,11 @@ use Rattle.ts_top.specs.declared.top.Stop.TheVariants.{Usage, BadScript, ReadFau
 none_in : {X : Type 0} (xs : List X) → ((x : X) → Contains xs x → ⊥) → xs ≡ []
 none_in [] none = refl
 none_in (x ∷ xs) none = absurd (none x (Contains-here x xs))
+
+-- of a list without items the first part has none
+no_front : {X : Type 0} (front back : List X) → front ++ back ≡ [] → front ≡ []
+no_front [] back is = refl
+no_front (x ∷ front) back is = cc
 
 -- an item behind a list, and then more
 one_more : {A : Type 0} (h : List A) (x : A) (front : List A) → (h ++ x ∷ []) ++ front ≡ h ++ x ∷ front
@@ -125,6 +135,15 @@ module _ (jobs : List Job) (past : History) (a c told : List Told) (parts : told
       → HeldOnce (history_told jobs past a) (history_told jobs past told) k there
   held_once at k there new holds = (history_told jobs past at.before, listed_after jobs past a c told parts number early Schemas at, goes_on jobs past at.before (at.listing ∷ at.later) told at.place, new, holds)
 
+  -- where a create found no array there was no schema before it
+  none_before : (made : FrameIn) → FindsNoArray jobs past told number made → schemas (history_told jobs past a) ≡ []
+  none_before made (inl (at, is_made, nothing)) =
+      let (deeds, on) = made_after jobs past a c told parts number early (frame_put made) at in
+      ap schemas (no_front (history_told jobs past a) deeds (sym on ∙ nothing))
+  none_before made (inr (at, none)) =
+      let (deeds, on) = listed_after jobs past a c told parts number early Schemas at in
+      no_front (schemas (history_told jobs past a)) (schemas deeds) (sym (schemas-append (history_told jobs past a) deeds) ∙ sym (ap schemas on) ∙ none)
+
   module _ (m : Held) (lane : Option ℕ → ℕ) (job : Job) (is_job : slice_get jobs number ≡ Some job) (mine : (e : Told) → Contains c e → e.job ≡ Some number) (suits : All Suits c) (replied : Replied (held_told m a) c)
       (stood : (front back : List Told) → told ≡ front ++ back → Stands run_spelled (held_told m front) (history_told jobs past front)) where
     -- what an end tells of the command
@@ -137,9 +156,9 @@ module _ (jobs : List Job) (past : History) (a c told : List Told) (parts : told
         → (end ≡ outcome.OutOfMemory → IsUndone (history_told jobs past told) job)
         → ((r : Refusal) → end ≡ outcome.Refused r → IsRefusedFor run_spelled m jobs past told number job r × (IsQuiet r → history_told jobs past told ≡ history_told jobs past a))
         → IsSegment run_codec job (trace_of number c) (Done end) → IsTrueEnd run_spelled m jobs past told number job end → TellsOf end job.command
-    end_tells outcome.Created still stays left short cause segment is = subst (TellsOf outcome.Created) (sym is.creates) (is.framed, is.declared)
+    end_tells outcome.Created still stays left short cause segment is = subst (TellsOf outcome.Created) (sym is.creates) (none_before is.made is.found_none, is.sound, is.framed, is.declared)
     end_tells (outcome.Evolved k) still stays left short cause segment (same, is) =
-        subst (TellsOf (outcome.Evolved k)) (sym is.evolves) (same, is.there, held_once is.schemas (key_of job) is.there is.undone is.holds, is.declared)
+        subst (TellsOf (outcome.Evolved k)) (sym is.evolves) (same, is.there, held_once is.schemas (key_of job) is.there is.undone is.holds, is.frame, is.framed, is.sound, is.declared)
     end_tells (outcome.Written f) still stays left short cause segment (same, is) =
         subst (TellsOf (outcome.Written f)) (sym is.writes_them)
         (same, is.there, held_once is.schemas (key_of job) is.there is.undone is.holds, is.frame, is.framed, is.cells, is.lays, is.written)
@@ -213,6 +232,11 @@ condition_ok : (r : Result Condition Refusal) (condition : Condition) → condit
 condition_ok (Ok x) condition is = ap Ok (same_Some x condition is)
 condition_ok (Err r) condition is = absurd (none-some condition is)
 
+-- a change that is not refused has no fault
+no_fault : (o : Option SchemaFault) → option_map refusal.SchemaBad o ≡ None → o ≡ None
+no_fault None is = refl
+no_fault (Some fault) is = absurd (none-some (refusal.SchemaBad fault) (sym is))
+
 -- the commands that work in a schema there, which they look for at their stamp
 abbrev WorksIn : Command → Type 0
 WorksIn (Evolve change) = ⊤
@@ -239,21 +263,31 @@ looks_here job (Delete text) works = refl
 looks_here job _ works = absurd works
 
 module _ (before h : History) (job : Job) (found : Option (List Key)) where
-  -- the schema that the job uses held at its stamp
+  -- the schema that the job uses held at its stamp, and the job is not refused there
   abbrev Held_there : Command → Type 0
-  Held_there c = WorksIn c → (there : Schema) → schema_used h job found ≡ Some there → HeldOnce before h (key_of job) there
+  Held_there c = WorksIn c → (there : Schema) → schema_used h job found ≡ Some there → HeldOnce before h (key_of job) there × FitsIn h c there
 
-  framed_own : (c : Command) (d : Deed) → option_map (λ f. Framed (frame_made f)) (made_by c) ≡ Some d → IsDeedOf before h (key_of job) c d
-  framed_own (Create made) d is = subst (IsDeedOf before h (key_of job) (Create made)) (same_Some (Framed (frame_made made)) d is) refl
-  framed_own _ d is = absurd (none-some d is)
+  -- a create that puts an object is a right one, and but for the frame there was no schema before it
+  abbrev Right_where : Name → Command → Type 0
+  Right_where n c = (made : FrameIn) → c ≡ Create made → (create_refusal made ≡ None) × ((n ≡ name.Domain → ⊥) → schemas before ≡ [])
 
-  declared_own : (c : Command) (d : Deed) → Held_there c → option_map Declared (declared_by h job found c) ≡ Some d → IsDeedOf before h (key_of job) c d
-  declared_own (Create made) d held is = subst (IsDeedOf before h (key_of job) (Create made)) (same_Some (Declared (schema_of_job job made.attrs)) d is) refl
-  declared_own (Evolve change) d held is =
+  framed_own : (c : Command) (d : Deed) → Right_where name.Domain c → option_map (λ f. Framed (frame_made f)) (made_by c) ≡ Some d → IsDeedOf before h (key_of job) c d
+  framed_own (Create made) d right is = subst (IsDeedOf before h (key_of job) (Create made)) (same_Some (Framed (frame_made made)) d is) ((right made refl).0, refl)
+  framed_own _ d right is = absurd (none-some d is)
+
+  no_domain : (k : Key) → name.Schema k ≡ name.Domain → ⊥
+  no_domain k is = cc
+
+  declared_own : (k : Key) (c : Command) (d : Deed) → Right_where (name.Schema k) c → Held_there c → option_map Declared (declared_by h job found c) ≡ Some d → IsDeedOf before h (key_of job) c d
+  declared_own k (Create made) d right held is =
+      let (sound, none) = right made refl in
+      subst (IsDeedOf before h (key_of job) (Create made)) (same_Some (Declared (schema_of_job job made.attrs)) d is) (none (no_domain k), sound, refl)
+  declared_own k (Evolve change) d right held is =
       let (s, at, same) = map_some Declared (declared_by h job found (Evolve change)) d is in
       let (there, used, made) = map_some (λ (t : Schema). schema_of_job job (evolved_attrs t.attrs change)) (schema_used h job found) s at in
-      subst (IsDeedOf before h (key_of job) (Evolve change)) same (there, held tt there used, sym made)
-  declared_own _ d held is = absurd (none-some d is)
+      let (once, (works, frame, framed, unrefused)) = held tt there used in
+      subst (IsDeedOf before h (key_of job) (Evolve change)) same (there, once, frame, framed, no_fault (evolution_fault frame.domain there.attrs change) unrefused, sym made)
+  declared_own k _ d right held is = absurd (none-some d is)
 
   written_from : (columns : WriteIn) (s : Option Schema) (frame : Option Frame) (w : Written) → written_in job columns s frame ≡ Some w
       → (f : Frame) × (frame ≡ Some f) × (there : Schema) × (s ≡ Some there) × (cells : List Cell) × (laid f there.attrs columns ≡ Ok cells) × (w ≡ written_as job there.key cells)
@@ -267,7 +301,7 @@ module _ (before h : History) (job : Job) (found : Option (List Key)) where
   written_own (Write columns) d held is =
       let (w, at, same) = map_some Wrote (written_by h job found (Write columns)) d is in
       let (f, framed, there, used, cells, lays, made) = written_from columns (schema_used h job found) (frame_in h) w at in
-      subst (IsDeedOf before h (key_of job) (Write columns)) same (there, held tt there used, f, framed, cells, lays, made)
+      subst (IsDeedOf before h (key_of job) (Write columns)) same (there, (held tt there used).0, f, framed, cells, lays, made)
   written_own _ d held is = absurd (none-some d is)
 
   erased_from : (text : List ℕ) (s : Option Schema) (frame : Option Frame) (e : Deletion) → deleted_in job text s frame ≡ Some e
@@ -282,19 +316,19 @@ module _ (before h : History) (job : Job) (found : Option (List Key)) where
   erased_own (Delete text) d held is =
       let (e, at, same) = map_some Erased (deleted_by h job found (Delete text)) d is in
       let (f, framed, there, used, condition, says, made) = erased_from text (schema_used h job found) (frame_in h) e at in
-      subst (IsDeedOf before h (key_of job) (Delete text)) same (there, held tt there used, f, framed, condition, says, made)
+      subst (IsDeedOf before h (key_of job) (Delete text)) same (there, (held tt there used).0, f, framed, condition, says, made)
   erased_own _ d held is = absurd (none-some d is)
 
   -- the deed of an object that a job puts is one of its command
-  put_own : (n : Name) (d : Deed) → Held_there job.command → deed_of h job found n ≡ Some d → IsDeedOf before h (key_of job) job.command d
-  put_own name.Domain d held is = framed_own job.command d is
-  put_own (name.Schema k) d held is = declared_own job.command d held is
-  put_own (name.Commit f Wrt) d held is = written_own job.command d held is
-  put_own (name.Commit f Del) d held is = erased_own job.command d held is
-  put_own _ d held is = absurd (none-some d is)
+  put_own : (n : Name) (d : Deed) → Right_where n job.command → Held_there job.command → deed_of h job found n ≡ Some d → IsDeedOf before h (key_of job) job.command d
+  put_own name.Domain d right held is = framed_own job.command d right is
+  put_own (name.Schema k) d right held is = declared_own k job.command d right held is
+  put_own (name.Commit f Wrt) d right held is = written_own job.command d held is
+  put_own (name.Commit f Del) d right held is = erased_own job.command d held is
+  put_own _ d right held is = absurd (none-some d is)
 
-  call_own : (c : Call) (d : Deed) → ((n : Name) (bytes : List ℕ) → c ≡ call.Put n bytes → Held_there job.command) → deed_in h job found c ≡ Some d → IsDeedOf before h (key_of job) job.command d
-  call_own (call.Put n bytes) d held is = put_own n d (held n bytes refl) is
+  call_own : (c : Call) (d : Deed) → ((n : Name) (bytes : List ℕ) → c ≡ call.Put n bytes → Right_where n job.command × Held_there job.command) → deed_in h job found c ≡ Some d → IsDeedOf before h (key_of job) job.command d
+  call_own (call.Put n bytes) d held is = let (right, there) = held n bytes refl in put_own n d right there is
   call_own _ d held is = absurd (none-some d is)
 
 -- a call appends no deed, or the one that is told of it
@@ -604,17 +638,24 @@ module _ (gives : ℕ → Bool) (seed : ℕ) (items : List Numbered) (jobs : Lis
       let deed : deed_in (history_told jobs past a ++ front) job (schemas_found (trace_of i seen)) e.call ≡ Some d =
       subst (λ k. deed_in (history_told jobs past a ++ front) job (schemas_found (trace_of k seen)) e.call ≡ Some d) at_i
       (subst (λ j. deed_in (history_told jobs past a ++ front) j (schemas_found (trace_of is.number seen)) e.call ≡ Some d) it is.deed) in
-      call_own (history_told jobs past a) (history_told jobs past a ++ front) job (schemas_found (trace_of i seen)) e.call d
-      (λ n bytes puts works there used.
+      let begins = kept_first run_codec run_spelled NeverWaits gives seed items jobs past m are order stands fresh seed_fits in
+      let no_lease : (n : Name) (bytes : List ℕ) → e.call ≡ call.Put n bytes → IsNoLease n = λ n bytes puts.
+      deed_no_lease (history_told jobs past a ++ front) job (schemas_found (trace_of i seen)) n d (subst (λ x. deed_in (history_told jobs past a ++ front) job (schemas_found (trace_of i seen)) x ≡ Some d) puts deed) in
+      let right : (n : Name) (bytes : List ℕ) → e.call ≡ call.Put n bytes → (made : FrameIn) → job.command ≡ Create made → (create_refusal made ≡ None) × ((n ≡ name.Domain → ⊥) → schemas (history_told jobs past a) ≡ []) = λ n bytes puts made creates.
+      let (sound, found) = right_where_put run_codec run_spelled NeverWaits plain_laws one_lane jobs past m told results begins replied suit owned within in_turn driven
+      seen (is.late ++ b) e place i job mine is_job made creates n bytes puts (no_lease n bytes puts) in
+      (sound, λ other. none_before jobs past a is.early seen refl i early made (found other)) in
+      let held : (n : Name) (bytes : List ℕ) → e.call ≡ call.Put n bytes → WorksIn job.command → (there : Schema) → schema_used (history_told jobs past a ++ front) job (schemas_found (trace_of i seen)) ≡ Some there
+      → HeldOnce (history_told jobs past a) (history_told jobs past a ++ front) (key_of job) there × FitsIn (history_told jobs past a ++ front) job.command there = λ n bytes puts works there used.
       let looks : looked_at job ≡ job.at = looks_here job job.command works in
       let uses : schema_used (history_told jobs past seen) job (schemas_found (trace_of i seen)) ≡ Some there = ap (λ h. schema_used h job (schemas_found (trace_of i seen))) now ∙ used in
-      let begins = kept_first run_codec run_spelled NeverWaits gives seed items jobs past m are order stands fresh seed_fits in
-      let found = works_where_used run_codec run_spelled NeverWaits plain_laws one_lane jobs past m told results begins replied suit owned within in_turn driven
-      seen (is.late ++ b) e place i job mine is_job (no_create job.command works) (no_merge job.command works) looks n bytes puts
-      (deed_no_lease (history_told jobs past a ++ front) job (schemas_found (trace_of i seen)) n d (subst (λ x. deed_in (history_told jobs past a ++ front) job (schemas_found (trace_of i seen)) x ≡ Some d) puts deed)) there uses in
-      subst (λ h. HeldOnce (history_told jobs past a) h (key_of job) there) now
-      (held_once jobs past a is.early seen refl i early found.schemas (key_of job) there found.undone (ap (schema_there (history_told jobs past (found.schemas).before)) (sym looks) ∙ found.holds)))
-      deed
+      let (found, fits) = works_where_used run_codec run_spelled NeverWaits plain_laws one_lane jobs past m told results begins replied suit owned within in_turn driven
+      seen (is.late ++ b) e place i job mine is_job (no_create job.command works) (no_merge job.command works) looks n bytes puts (no_lease n bytes puts) there uses in
+      subst (λ h. HeldOnce (history_told jobs past a) h (key_of job) there × FitsIn h job.command there) now (
+        held_once jobs past a is.early seen refl i early found.schemas (key_of job) there found.undone (ap (schema_there (history_told jobs past (found.schemas).before)) (sym looks) ∙ found.holds),
+        fits,
+      ) in
+      call_own (history_told jobs past a) (history_told jobs past a ++ front) job (schemas_found (trace_of i seen)) e.call d (λ n bytes puts. (right n bytes puts, held n bytes puts)) deed
 
   -- a command was done between the commands before it and those after it
   is_done : AreSegments run_codec jobs results told → (i : ℕ) (item : Numbered) (result : Driven Outcome) → slice_get items i ≡ Some item → slice_get results i ≡ Some result
@@ -689,8 +730,14 @@ module _ (gives : ℕ → Bool) (seed : ℕ) (items : List Numbered) (jobs : Lis
       leaves_all m jobs lane a c a' grows i job is_job mine ((front_run (i + 1)).idle i job r is_job (short_at results (i + 1) i (Done (outcome.Refused r)) (omega arith) (result_at ∙ ap Some is)) none) in
       let sweeps : job.command ≡ Vacuum → LeavesOthers (calls_in m lane a c) (key_of job) job.command (MaySweep (calls_in m lane a c)) = λ vacuums.
       leaves_others m jobs lane a c a' grows i job is_job mine past early ((front_run (i + 1)).sweeps i job is_job vacuums) in
+      let unlocks : (by under : ℕ) → job.command ≡ Unlock by under → LeavesOthers (calls_in m lane a c) (key_of job) job.command (Contains (dead_leases (calls_in m lane a c) by under)) = λ by under is.
+      leaves_living m jobs lane a c a' grows i job is_job mine past early by under is ((front_run (i + 1)).unlocks i job by under is_job is) in
+      let puts : RemovesNone job.command → LeavesOthers (calls_in m lane a c) (key_of job) job.command (IsOwn (key_of job) job.command) = λ none.
+      leaves_but_own m jobs lane a c a' grows i job is_job mine ((front_run (i + 1)).puts i job is_job none) in
+      let looks : OnlyLooks job.command → LeavesAll (calls_in m lane a c) (key_of job) job.command = λ only.
+      leaves_all m jobs lane a c a' grows i job is_job mine ((front_run (i + 1)).looks i job is_job only) in
       let done : IsDone (calls_in m lane a c) (history_told jobs past a) (history_told jobs past a') (key_of job) (item.line).stop result job.command =
-      record { deeds = deeds; goes_on = grows_by; own = of_job; tells = came; stays = keeps_held m jobs lane a c a' grows i job is_job mine stays; sweeps = sweeps; idle = idle } in
+      record { deeds = deeds; goes_on = grows_by; own = of_job; tells = came; stays = keeps_held m jobs lane a c a' grows i job is_job mine stays; sweeps = sweeps; unlocks = unlocks; puts = puts; looks = looks; idle = idle } in
       let small = All-contains IsFitItem items item order.fit (Contains-slice_get items i item is_item) in
       let seed_is : seed_in id ≡ seed = seed_of_id seed (item.line).lane item.number (omega (arith, (small.fit).lane)) small.few in
       let as_line : IsDone (calls_in m lane a c) (history_told jobs past a) (history_told jobs past a') (record { t = job.at; id = id }) (item.line).stop result (command_at (seed_in id) item.line job.at) =

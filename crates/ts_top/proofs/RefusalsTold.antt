@@ -66,15 +66,15 @@ no_new now front back d k parts keyed new =
 -- a deed of a command that is no create has the command's key
 keyed : (before h : History) (k : Key) (c : Command) (d : Deed) → made_by c ≡ None → IsDeedOf before h k c d → key_in d ≡ Some k
 keyed before h k (Create made) d none is = absurd (none-some made (sym none))
-keyed before h k (Evolve change) (Declared s) none (there, held, same) = ap (λ (t : Schema). Some t.key) same
+keyed before h k (Evolve change) (Declared s) none (there, held, frame, framed, sound, same) = ap (λ (t : Schema). Some t.key) same
 keyed before h k (Write columns) (Wrote w) none (there, held, frame, framed, cells, lays, same) = rw same refl
 keyed before h k (Delete text) (Erased e) none (there, held, frame, framed, condition, says, same) = rw same refl
 keyed before h k _ _ none is = absurd is
 
 -- a deed of a create is its frame, or has the create's key
 of_create : (before h : History) (k : Key) (made : FrameIn) (d : Deed) → IsDeedOf before h k (Create made) d → (d ≡ Framed (frame_made made)) ⊎ (key_in d ≡ Some k)
-of_create before h k made (Framed frame) is = inl (ap Framed is)
-of_create before h k made (Declared s) is = inr (ap (λ (t : Schema). Some t.key) is)
+of_create before h k made (Framed frame) (sound, is) = inl (ap Framed is)
+of_create before h k made (Declared s) (none, sound, is) = inr (ap (λ (t : Schema). Some t.key) is)
 of_create before h k made (Wrote w) is = absurd is
 of_create before h k made (Erased e) is = absurd is
 

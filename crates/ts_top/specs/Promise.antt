@@ -17,7 +17,7 @@ use Rattle.ts_store.specs.Journals.{held_after}
 use Rattle.ts_store.specs.Streams.{AppendsFront}
 use Rattle.ts_schema.specs.declared.frames.Frame.{Frame}
 use Rattle.ts_schema.specs.declared.schemas.Schema.{Schema}
-use Rattle.ts_schema.specs.Evolutions.{evolved_attrs}
+use Rattle.ts_schema.specs.Evolutions.{evolved_attrs, evolution_fault}
 use Rattle.ts_cond.specs.Tests.{Condition}
 use Rattle.ts_cond.specs.declared.query.Query.{Query}
 use Rattle.ts_model.specs.declared.commands.Line.{Line}
@@ -32,11 +32,12 @@ use Rattle.ts_model.specs.declared.answers.Driven.TheVariants.{Done, Stopped}
 use Rattle.ts_model.specs.declared.deeds.Deed.{Deed}
 use Rattle.ts_model.specs.declared.deeds.Deed.TheVariants.{Framed, Declared, Wrote, Erased}
 use Rattle.ts_model.specs.Answers.{IsWhole}
-use Rattle.ts_model.specs.Deeds.{History, frame_in, schema_with, schema_there, writes, deletions, IsNewKey}
-use Rattle.ts_model.specs.Commands.{frame_made, laid}
+use Rattle.ts_model.specs.Deeds.{History, frame_in, schemas, schema_with, schema_there, writes, deletions, IsNewKey}
+use Rattle.ts_model.specs.Commands.{create_refusal, frame_made, laid}
 use Rattle.ts_model.specs.Queries.{delete_condition}
 use Rattle.ts_model.specs.Stages.{mode_of}
 use Rattle.ts_model.specs.Stops.{is_point}
+use Rattle.ts_law.specs.Changes.{IsOwn, OnlyLooks, RemovesNone}
 use Rattle.ts_law.specs.Ends.{IsAnswerOver}
 use Rattle.ts_law.specs.Fresh.{IsFreshSeed, IsStampOf, Numbered, command_at, id_of, in_lane_order}
 use Rattle.ts_law.specs.Refusals.{IsNoFault}
@@ -51,7 +52,7 @@ use Rattle.ts_top.specs.Reports.{report_text}
 use Rattle.ts_top.specs.Merges.{Calls, Merged, held_by}
 use Rattle.ts_top.specs.Runners.{run_spelled}
 use Rattle.ts_top.specs.Seen.{Seen, Means}
-use Rattle.ts_top.specs.Sweeps.{MaySweep, Unlocked, Vacuumed}
+use Rattle.ts_top.specs.Sweeps.{MaySweep, Unlocked, Vacuumed, dead_leases}
 
 -- a history goes on from another: deeds came after it
 abbrev pub Extends : History → History → Type 0
@@ -90,8 +91,11 @@ pub record Answers (calls : Calls) (h : History) (from to : ℕ) (query : Query)
 -- A command that ran short of memory has no deed of its key.
 abbrev pub Tells : Calls → History → History → Key → Outcome → Command → Type 0
 Tells calls before now k (outcome.Read answer) (Read from to query) = Answers calls now from to query answer × HasNoLease calls k (Read from to query)
-Tells calls before now k outcome.Created (Create made) = (frame_in now ≡ Some (frame_made made)) × (schema_with now k ≡ Some (record { key = k; attrs = made.attrs }))
-Tells calls before now k (outcome.Evolved n) (Evolve change) = (n ≡ k) × (there : Schema) × HeldOnce before now k there × (schema_with now k ≡ Some (record { key = k; attrs = evolved_attrs there.attrs change }))
+Tells calls before now k outcome.Created (Create made) =
+    (schemas before ≡ []) × (create_refusal made ≡ None) × (frame_in now ≡ Some (frame_made made)) × (schema_with now k ≡ Some (record { key = k; attrs = made.attrs }))
+Tells calls before now k (outcome.Evolved n) (Evolve change) =
+    (n ≡ k) × (there : Schema) × HeldOnce before now k there × (frame : Frame) × (frame_in now ≡ Some frame)
+    × (evolution_fault frame.domain there.attrs change ≡ None) × (schema_with now k ≡ Some (record { key = k; attrs = evolved_attrs there.attrs change }))
 Tells calls before now k (outcome.Written f) (Write columns) =
     (f ≡ frag_of k) × (there : Schema) × HeldOnce before now k there × (frame : Frame) × (frame_in now ≡ Some frame)
     × (cells : List Cell) × (laid frame there.attrs columns ≡ Ok cells) × Contains (writes now) (record { key = k; schema = there.key; cells = cells })
@@ -109,9 +113,11 @@ Tells calls before now k _ _ = ⊥
 
 -- a deed that a command with the key may do, where the history was `before` as the command began and is `h` as it does the deed
 abbrev pub IsDeedOf : History → History → Key → Command → Deed → Type 0
-IsDeedOf before h k (Create made) (Framed frame) = frame ≡ frame_made made
-IsDeedOf before h k (Create made) (Declared s) = s ≡ record { key = k; attrs = made.attrs }
-IsDeedOf before h k (Evolve change) (Declared s) = (there : Schema) × HeldOnce before h k there × (s ≡ record { key = k; attrs = evolved_attrs there.attrs change })
+IsDeedOf before h k (Create made) (Framed frame) = (create_refusal made ≡ None) × (frame ≡ frame_made made)
+IsDeedOf before h k (Create made) (Declared s) = (schemas before ≡ []) × (create_refusal made ≡ None) × (s ≡ record { key = k; attrs = made.attrs })
+IsDeedOf before h k (Evolve change) (Declared s) =
+    (there : Schema) × HeldOnce before h k there × (frame : Frame) × (frame_in h ≡ Some frame)
+    × (evolution_fault frame.domain there.attrs change ≡ None) × (s ≡ record { key = k; attrs = evolved_attrs there.attrs change })
 IsDeedOf before h k (Write columns) (Wrote w) =
     (there : Schema) × HeldOnce before h k there × (frame : Frame) × (frame_in h ≡ Some frame)
     × (cells : List Cell) × (laid frame there.attrs columns ≡ Ok cells) × (w ≡ record { key = k; schema = there.key; cells = cells })
@@ -135,6 +141,12 @@ pub record IsDone (calls : Calls) (before now : History) (k : Key) (stops : Stop
   pub stays : (command ≡ Vacuum → ⊥) → HeldSince calls.opening (held_by calls calls.entries)
   -- a vacuum, to its end or not, leaves each object as it was, but its lease and those that it may remove
   pub sweeps : command ≡ Vacuum → LeavesOthers calls k command (MaySweep calls)
+  -- an unlock, to its end or not, leaves each object as it was, but the leases that it takes for dead
+  pub unlocks : (seed lane : ℕ) → command ≡ Unlock seed lane → LeavesOthers calls k command (Contains (dead_leases calls seed lane))
+  -- any other command, to its end or not, leaves each object as it was, but those that carry its identifier, and the frame that a create puts
+  pub puts : RemovesNone command → LeavesOthers calls k command (IsOwn k command)
+  -- a read and a list of the commits, to their end or not, leave each object as it was, but a lease of their own
+  pub looks : OnlyLooks command → LeavesAll calls k command
   -- one that is refused for no fault leaves each object as it was, but its lease
   pub idle : (r : Refusal) → result ≡ Done (outcome.Refused r) → IsNoFault r → LeavesAll calls k command
 

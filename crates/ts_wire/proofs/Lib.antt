@@ -5,3 +5,4 @@ pub mod Laws
 pub mod Loop
 pub mod Numbers
 pub mod Objects
+pub mod Widths

@@ -7,6 +7,7 @@ ghost use Rattle.ts_wire.specs.Fields.{bool_at, label_at, key_at, val_at, untagg
 ghost use Rattle.ts_wire.specs.Reading.{Gives, GivesOr, GivesSome, ReadsSome, IsEnd};
 
 use crate::faults::{Damaged, ReadFault};
+use crate::spelling::{signed_of, unsigned_of};
 use byteorder::{ByteOrder, LittleEndian};
 use std::alloc::Global;
 use std::marker::Model;
@@ -160,9 +161,9 @@ impl<'a> Cursor<'a> {
     {
         let bytes = self.bytes(width as u64)?;
         if signed {
-            Ok(LittleEndian::read_int128(bytes, width as usize))
+            Ok(signed_of(bytes, width))
         } else {
-            Ok(LittleEndian::read_uint(bytes, width as usize) as i128)
+            Ok(unsigned_of(bytes, width) as i128)
         }
     }
 

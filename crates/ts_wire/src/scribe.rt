@@ -6,7 +6,7 @@ ghost use Rattle.ts_wire.specs.Envelope.{wrapped};
 
 use crate::envelopes::envelope_of;
 use crate::kinds::Kind;
-use crate::spelling::{u8_bytes, u16_bytes, u32_bytes, u64_bytes, u128_bytes, write_int};
+use crate::spelling::{i128_bytes, u8_bytes, u16_bytes, u32_bytes, u64_bytes, u128_bytes};
 use std::alloc::Global;
 use std::marker::Model;
 use ts_base::{ByteList, Key, Label, OutOfMemory, Val};
@@ -41,6 +41,16 @@ impl Scribe {
         Scribe {
             bytes: Vec::new(alloc),
         }
+    }
+
+    /// Makes room for so many bytes more, so that these are written without a move of those before
+    /// them.
+    pub fn reserve(&mut self, count: u64) -> Result<(), OutOfMemory>
+        ensures { self.new ≡ self.old }
+    {
+        make_front(&mut self.bytes)?;
+        self.bytes.reserve(count as usize)?;
+        Ok(())
     }
 
     /// What was written. It takes no memory.
@@ -138,16 +148,21 @@ impl Scribe {
     ///
     /// The width is 1, 2, 4, 8 or 16 bytes, and has room for the number: only a signed number has
     /// 16 bytes.
-    #[tactic(auto, using(crate::proofs::Numbers::width_bounds))]
+    #[tactic(auto, using(crate::proofs::Widths::widths), unfolding(crate::specs::Numbers::int_bytes))]
     pub fn int(&mut self, width: u8, signed: bool, n: i128) -> Result<(), OutOfMemory>
         requires width { IsTrue (is_width width signed) }
         requires fits { FitsInt width signed n }
         ensures ok { OnOk result (self.new ≡ self.old ++ int_bytes width n) }
         ensures err { OnErr result (self.new ≡ self.old) }
     {
-        let mut field = [0; 16];
-        write_int(&mut field, width, n);
-        self.bytes(&field[..width as usize])
+        let bits = n.cast_unsigned();
+        match width {
+            1 => self.u8((bits % (1 << 8)) as u8),
+            2 => self.u16((bits % (1 << 16)) as u16),
+            4 => self.u32((bits % (1 << 32)) as u32),
+            8 => self.u64((bits % (1 << 64)) as u64),
+            _ => self.bytes(&i128_bytes(n)),
+        }
     }
 
     /// Appends a label: one byte of length, and then its bytes.
@@ -179,11 +194,7 @@ impl Scribe {
     {
         match val {
             Val::Null => self.u8(0),
-            Val::Int(number) => {
-                let mut field = [0; 16];
-                write_int(&mut field, 16, *number);
-                self.texts(&[], &u8_bytes(1), &field)
-            }
+            Val::Int(number) => { self.texts(&[], &u8_bytes(1), &i128_bytes(*number)) }
             Val::Bytes(list) => {
                 let bytes = list.as_slice();
                 self.texts(&u8_bytes(2), &u64_bytes(bytes.len() as u64), bytes)

@@ -1,6 +1,6 @@
 //! Numbers as bytes, the lowest first.
-ghost use Rattle.std.specs.Prelude.{◌≡◌, ◌≤◌, ◌++◌, length, drop};
-ghost use Rattle.ts_wire.specs.Numbers.{number_bytes, int_bytes};
+ghost use Rattle.std.specs.Prelude.{◌≡◌, pos, true, false, length, IsTrue};
+ghost use Rattle.ts_wire.specs.Numbers.{number_bytes, int_bytes, int_of, is_width};
 
 use byteorder::{ByteOrder, LittleEndian};
 
@@ -52,13 +52,41 @@ pub fn u128_bytes(n: u128) -> [u8; 16]
     bytes
 }
 
-/// Writes a number into the first so many bytes of a buffer, a negative one by two's complement.
-#[tactic(auto, unfolding(crate::specs::Numbers::number_bytes, crate::specs::Numbers::int_bytes))]
-pub fn write_int(buffer: &mut [u8], width: u8, n: i128)
-    requires some { 1 ≤ width }
-    requires most { width ≤ 16 }
-    requires room { width ≤ length buffer.old }
-    ensures { buffer.new ≡ int_bytes width n ++ drop width buffer.old }
+/// The bytes of a signed number of sixteen bytes, a negative one by two's complement.
+#[tactic(auto, using(crate::proofs::Widths::whole_low), unfolding(crate::specs::Numbers::int_bytes))]
+pub fn i128_bytes(n: i128) -> [u8; 16]
+    ensures { result ≡ int_bytes 16 n }
 {
-    LittleEndian::write_int128(buffer, n, width as usize);
+    u128_bytes(n.cast_unsigned())
+}
+
+/// The number that 1, 2, 4 or 8 bytes stand for.
+#[tactic(auto, using(crate::proofs::Widths::widths))]
+pub fn unsigned_of(bytes: &[u8], width: u8) -> u64
+    requires width { IsTrue (is_width width false) }
+    requires count { length bytes.now ≡ width }
+    ensures { pos result ≡ int_of width false bytes.now }
+{
+    match width {
+        1 => u64::from(bytes[0]),
+        2 => u64::from(LittleEndian::read_u16(bytes)),
+        4 => u64::from(LittleEndian::read_u32(bytes)),
+        _ => LittleEndian::read_u64(bytes),
+    }
+}
+
+/// The number that 1, 2, 4, 8 or 16 bytes stand for by two's complement.
+#[tactic(auto, using(crate::proofs::Widths::signs, crate::proofs::Widths::widths))]
+pub fn signed_of(bytes: &[u8], width: u8) -> i128
+    requires width { IsTrue (is_width width true) }
+    requires count { length bytes.now ≡ width }
+    ensures { result ≡ int_of width true bytes.now }
+{
+    match width {
+        1 => i128::from(bytes[0].cast_signed()),
+        2 => i128::from(LittleEndian::read_i16(bytes)),
+        4 => i128::from(LittleEndian::read_i32(bytes)),
+        8 => i128::from(LittleEndian::read_i64(bytes)),
+        _ => LittleEndian::read_i128(bytes),
+    }
 }

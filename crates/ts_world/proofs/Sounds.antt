@@ -30,6 +30,8 @@ use Rattle.ts_law.proofs.KeptLaws.{end_is_true, every_prefix}
 use Rattle.ts_law.proofs.Refused.{refused_for}
 use Rattle.ts_law.proofs.Short.{short_undone}
 use Rattle.ts_law.proofs.Segments.{segment_of}
+use Rattle.ts_law.proofs.SweepsAlone.{sweeps_alone}
+use Rattle.ts_law.proofs.LeftAlone.{looks_alone, puts_alone, unlocks_alone}
 use Rattle.ts_law.proofs.Sharing.{stays_shared}
 use Rattle.ts_world.specs.declared.slots.Slot.{Slot}
 use Rattle.ts_world.specs.declared.slots.Slot.TheVariants as slot
@@ -97,6 +99,10 @@ module _ {P F : Type 0} (codec : Codec F) (spelled : Spelled) (tracks : Tracking
     leased = is.kept.leased;
     own = stays_own codec spelled tracks laws opening past jobs gone told is.begins is.may is.replied;
     shared = subst (StaysShared codec opening jobs gone told) (sym is.kept.is_held) (stays_shared codec spelled tracks laws opening past jobs gone told is.begins is.may is.replied);
+    sweeps = λ number job at vacuums. sweeps_alone codec spelled tracks laws opening past jobs gone told is.begins is.may is.replied number job at vacuums;
+    unlocks = λ number job seed lane at unlocks. unlocks_alone codec spelled tracks laws opening past jobs gone told is.begins is.may is.replied number job at seed lane unlocks;
+    looks = λ number job at looks. looks_alone codec spelled tracks laws opening past jobs gone told is.begins is.may is.replied number job at looks;
+    puts = λ number job at none. puts_alone codec spelled tracks laws opening past jobs gone told is.begins is.may is.replied number job at none;
     runs = λ number job at stands. let up = up_at slots number stands in (up.0.asked, running_asks codec spelled tracks opening past jobs told held journal slots is number up.0 job up.1 at);
     ends = ends_truly;
   }

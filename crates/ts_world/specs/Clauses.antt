@@ -11,6 +11,7 @@ use Rattle.ts_store.specs.declared.fate.Fate.TheVariants.{Unknown}
 use Rattle.ts_store.specs.Calls.{is_no_memory}
 use Rattle.ts_store.specs.Journals.{entry, held_after}
 use Rattle.ts_model.specs.declared.commands.Command.{Command}
+use Rattle.ts_model.specs.declared.commands.Command.TheVariants.{Vacuum, Unlock}
 use Rattle.ts_model.specs.declared.commands.Job.{Job}
 use Rattle.ts_model.specs.declared.answers.Outcome.{Outcome}
 use Rattle.ts_model.specs.declared.answers.Outcome.TheVariants as outcome
@@ -29,7 +30,7 @@ use Rattle.ts_law.specs.Leases.{AreLeased}
 use Rattle.ts_law.specs.Shared.{StaysShared}
 use Rattle.ts_model.specs.Told.{trace_of, entries_of, IsReplied, Replied, after_told, held_told, history_told}
 use Rattle.ts_law.specs.Ends.{IsTrueOver}
-use Rattle.ts_law.specs.Changes.{ChangedNothing}
+use Rattle.ts_law.specs.Changes.{ChangedNothing, OnlyLooks, PutsAlone, RemovesNone, SweepsAlone, UnlocksAlone}
 use Rattle.ts_law.specs.Refusals.{IsNoFault, IsRefusedFor}
 use Rattle.ts_law.specs.Courses.{IsSegment}
 use Rattle.ts_law.specs.Sweeps.{StayInTheirOwn}
@@ -80,6 +81,14 @@ pub record IsSound {F : Type 0} (codec : Codec F) (spelled : Spelled) (w : World
   pub own : StayInTheirOwn spelled w.jobs w.past w.opening w.told
   -- while an actor works under a shared lease, all stays held, but for leases, that was held at any time since the grant, and so at its listing of the commits
   pub shared : StaysShared codec w.opening w.jobs (dropped_in w.actors) w.told w.held
+  -- each call of a vacuum, whatever became of its actor, leaves an object as it was, but for its lease and those that it is to remove
+  pub sweeps : (number : ℕ) (job : Job) → slice_get w.jobs number ≡ Some job → job.command ≡ Vacuum → SweepsAlone w.opening w.told number job
+  -- each call of an unlock leaves an object as it was, but for the leases that it is to remove
+  pub unlocks : (number : ℕ) (job : Job) (seed lane : ℕ) → slice_get w.jobs number ≡ Some job → job.command ≡ Unlock seed lane → UnlocksAlone w.opening w.told number job
+  -- no call of a read or of a list of the commits changes an object, but for a lease of its own
+  pub looks : (number : ℕ) (job : Job) → slice_get w.jobs number ≡ Some job → OnlyLooks job.command → ChangedNothing w.opening w.told number job
+  -- each call of a job that is no vacuum and no unlock leaves an object as it was, but for its own, and for the frame that a create puts
+  pub puts : (number : ℕ) (job : Job) → slice_get w.jobs number ≡ Some job → RemovesNone job.command → PutsAlone w.opening w.told number job
   -- an actor that runs has one more call to make
   pub runs : (number : ℕ) (job : Job) → slice_get w.jobs number ≡ Some job → slice_get w.actors number ≡ Some Runs → (c : Call) × MayAsk codec job (stage_of codec job (trace_of number w.told)) c
   -- an actor that ended did so by its own calls, and told the truth of the beginning and of what came since

@@ -6,3 +6,4 @@ pub mod Lengths
 pub mod Placed
 pub mod Steps
 pub mod Written
+pub mod Ranked

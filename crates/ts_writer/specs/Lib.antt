@@ -5,3 +5,4 @@ pub mod Evolvers
 pub mod Laying
 pub mod Places
 pub mod Writers
+pub mod Ranks

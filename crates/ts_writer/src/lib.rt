@@ -14,6 +14,7 @@ mod laying;
 mod making;
 mod pieces;
 mod puts;
+mod ranks;
 mod values;
 mod writer;
 mod writing;

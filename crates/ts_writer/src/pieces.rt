@@ -8,6 +8,7 @@ ghost use Rattle.ts_domain.specs.Domains.{is_in_domain};
 ghost use Rattle.ts_model.specs.Commands.{low_of_cells, high_of_cells, version_in, global_order, in_global_order, piece_of};
 ghost use Rattle.ts_writer.specs.Places.{placed_behind, head_in};
 
+use crate::ranks::by_rank;
 use std::alloc::{AllocError, Global};
 use std::cmp::Ordering;
 use std::collections::BTreeMap;
@@ -77,6 +78,9 @@ fn hull_of(domain: &Domain, cells: &[Cell]) -> SubBox
 {
     let mut hull = box_of(&cells[0].coords);
     for cell in cells {
+        if hull.contains(&cell.coords) {
+            continue;
+        }
         hull = hull.hull(&box_of(&cell.coords));
     }
     hull
@@ -93,7 +97,8 @@ fn box_of(at: &Coords) -> SubBox
     }
 }
 
-// The versions of the cells, in global order.
+// The versions of the cells, in global order. They are put by their places only where the order of
+// their ranks is another one.
 fn versions_of(
     alloc: Global,
     frame: &Frame,
@@ -107,8 +112,11 @@ fn versions_of(
     if is_in_global_order(frame, cells.as_slice()) {
         return versions_along(alloc, key, schema, cells);
     }
-    let placed = placed(alloc, frame, key, schema, cells)?;
-    Ok(VersionList::from_vec(versions_in(alloc, placed)?))
+    let cells = by_rank(frame, cells)?;
+    if is_in_global_order(frame, cells.as_slice()) {
+        return versions_along(alloc, key, schema, cells);
+    }
+    versions_by_place(alloc, frame, key, schema, cells)
 }
 
 // Whether the cells ascend in global order as they stand.
@@ -162,6 +170,21 @@ fn version_in(key: Key, schema: Key, cell: Cell) -> Version
         coords,
         row,
     }
+}
+
+// The versions of the cells, in the order of their places.
+fn versions_by_place(
+    alloc: Global,
+    frame: &Frame,
+    key: Key,
+    schema: Key,
+    cells: CellList,
+) -> Result<VersionList, OutOfMemory>
+    requires { All (λ (cell : AnyCell). IsTrue (is_in_domain frame.now.domain cell.coords)) cells }
+    ensures { IfOk result (λ versions. versions ≡ map (version_in key schema) (in_global_order frame.now cells)) }
+{
+    let placed = placed(alloc, frame, key, schema, cells)?;
+    Ok(VersionList::from_vec(versions_in(alloc, placed)?))
 }
 
 // The versions of the cells, by their places. Where two cells have one place the first is kept.

@@ -251,7 +251,7 @@ fn a_piece_is_read_and_written_back_and_taken_from(rt: HostRuntime) -> Result<()
         a: 2,
         b: 9,
     };
-    let found = taken(alloc, &want, piece.versions.as_slice())?;
+    let found = taken(alloc, &want, piece.versions)?;
     assert_eq!(rt; found.len(), 1);
     assert_eq!(rt; found.at(0).row.as_slice(), [Val::Int(20)].as_slice());
     Ok(())

@@ -6,7 +6,7 @@ use Rattle.ts_domain.specs.Domains.{is_in_domain}
 use Rattle.ts_domain.specs.declared.boxes.SubBox.{SubBox}
 use Rattle.ts_order.proofs.OrderLemmas.{length-is_in_domain}
 use Rattle.ts_model.specs.Commands.{least_of_cells, greatest_of_cells}
-use Rattle.ts_writer.proofs.Hulls.{low_first, high_first, low_more, high_more, length-least_corner}
+use Rattle.ts_writer.proofs.Hulls.{low_first, high_first, low_more, high_more, low_stays, high_stays, least_inside, greatest_inside, length-least_corner}
 use Rattle.ts_writer.proofs.pieces.hull_of.Goals as goal
 
 pub loop-cell-init : goal.loop-cell-init
@@ -29,6 +29,20 @@ hull-hull-requires-clause-dims c =
     let cell = c.cell-item.result in
     let inside = subst (λ (x : Cell). IsTrue (is_in_domain domain x.coords)) (sym c.cell-item.is) (c.requires.inside c.loop-cell.cell-index cell c.loop-cell-test.true) in
     ap (λ (b : SubBox). length b.low) c.box_of.ensures.value ∙ length-is_in_domain domain cell.coords inside ∙ sym c.loop-cell.invariant.1
+
+-- a cell that lies in the hull so far leaves it as it is
+pub loop-cell-preserved-then-contains : goal.loop-cell-preserved-then-contains
+loop-cell-preserved-then-contains c =
+    let cells = c.args.cells.now in
+    let cell = c.cell-item.result in
+    let i = c.loop-cell.cell-index in
+    let hull = c.loop-cell.hull in
+    let inside = sym c.contains.ensures ∙ c.if-contains.true in (
+      c.loop-cell.invariant.0,
+      c.loop-cell.invariant.1,
+      low_stays cells i cell hull.low _ c.loop-cell-test.true c.cell-item.is (least_inside hull.low hull.high cell.coords inside) c.loop-cell.invariant.2,
+      high_stays cells i cell hull.high _ c.loop-cell-test.true c.cell-item.is (greatest_inside hull.low hull.high cell.coords inside) c.loop-cell.invariant.3,
+    )
 
 pub loop-cell-preserved : goal.loop-cell-preserved
 loop-cell-preserved c =

@@ -1,0 +1,42 @@
+#!/usr/bin/env python3
+"""Times the work of tables of a million cells beside the same work in plain Rust.
+
+    bench/columns.py
+
+It builds `crates/speed`, which it has to prove first, and `bench/columns.rs` by rustc. It prints nanoseconds for each
+cell, the least of five runs of each, and how many times plain Rust's the first is.
+"""
+import os
+import subprocess
+import tempfile
+
+TOP = os.path.dirname(os.path.dirname(os.path.abspath(__file__)))
+SPEED = os.path.join(TOP, "crates", "speed")
+RUNS = 5
+
+
+def least(words):
+    """The least time of each work over some runs, in nanoseconds for each cell."""
+    took = {}
+    for _ in range(RUNS):
+        for line in subprocess.run(words, capture_output=True, check=True, text=True).stdout.splitlines():
+            name, time, _ = line.split("\t")
+            now = int(time.removesuffix(" ps")) / 1000
+            took[name] = min(now, took.get(name, now))
+    return took
+
+
+def main():
+    subprocess.run(["rt", "run"], cwd=SPEED, stdin=subprocess.DEVNULL, stdout=subprocess.DEVNULL, check=True)
+    program = os.path.join(SPEED, "out", "speed")
+    with tempfile.TemporaryDirectory() as folder:
+        plain = os.path.join(folder, "columns")
+        subprocess.run(["rustc", "--edition", "2021", "-O", "-o", plain, os.path.join(TOP, "bench", "columns.rs")], check=True)
+        own, others = least([program, "table"]), least([plain])
+    print("work\town\tplain Rust\ttimes")
+    for name, took in own.items():
+        print("%s\t%.1f\t%.1f\t%.1f" % (name, took, others[name], took / others[name]))
+
+
+if __name__ == "__main__":
+    main()

@@ -1,0 +1,13 @@
+pub mod BulkLaws
+pub mod CellLaws
+pub mod IntLaws
+pub mod TextLaws
+pub mod TileLaws
+pub mod StoredLaws
+pub mod Starts
+pub mod TextFaults
+pub mod Written
+pub mod Gathering
+pub mod OriginLaws
+pub mod Ranges
+pub mod CoordLaws

@@ -1,0 +1,10 @@
+-- The integers so far.
+use Rattle.std.proofs.Common.{◌≡◌, take, map}
+use Rattle.std.specs.List.{flat_map}
+use Rattle.ts_base.specs.Values.{width_of}
+use Rattle.ts_wire.specs.Numbers.{int_bytes}
+use Rattle.ts_column.specs.Spelled.{number_of}
+use Rattle.ts_column.proofs.encoding.write_numbers.Given as goal
+
+abbrev pub invariant-loop-place : goal.invariant-loop-place
+invariant-loop-place l = l.scribe ≡ flat_map (int_bytes (width_of l.ty)) (map number_of (take l.place l.column))

@@ -1,0 +1,7 @@
+pub mod Tiles
+pub mod Spelled
+pub mod Stored
+pub mod Faults
+pub mod Starts
+pub mod Origins
+pub mod Coords

@@ -1,0 +1,142 @@
+//! The texts and blobs of a tile.
+ghost use Rattle.std.specs.Prelude.{◌≡◌, ◌≤◌, ◌-◌, ◌&&◌, nat_le, true, [], map, length, take, drop, slice_index_or, false, ◌<◌, IsTrue, IfOk};
+ghost use Rattle.ts_base.specs.Values.{is_integer};
+ghost use Rattle.ts_base.specs.declared.values.Val.TheVariants as val;
+ghost use Rattle.ts_value.specs.Fits.{fits_of};
+ghost use Rattle.ts_wire.specs.Place.{items_at};
+ghost use Rattle.ts_wire.specs.Reading.{Reads, ReadsOr, Decodes, DecodesOr};
+ghost use Rattle.ts_table.specs.Texts.{end_at, first_or, texts_in, RisesTo, IsTexts};
+ghost use Rattle.ts_column.specs.Faults.{text_fault};
+ghost use Rattle.ts_column.specs.Tiles.{last_of, may_follow, start_at, starts_in, texts_of};
+ghost use Rattle.ts_column.specs.Starts.{AreStarts};
+
+use std::alloc::Global;
+use ts_base::{CountList, ValType};
+use ts_value::is_text;
+use ts_wire::{Cursor, Damaged, ReadFault};
+
+/// Where each of so many byte lists starts, of those that end here.
+#[tactic(auto, unfolding(crate::specs::Tiles::starts_in))]
+pub(crate) fn read_starts(
+    alloc: Global,
+    end: u64,
+    count: u64,
+    bytes: &[u8],
+) -> Result<CountList, ReadFault>
+    ensures reads { DecodesOr (λ starts. starts) (starts_in end count bytes.now) result }
+    ensures rise { IfOk result (λ starts. AreStarts starts end count) }
+{
+    let mut cursor = Cursor::new(bytes, 0);
+    let starts = read_all_starts(alloc, end, count, &mut cursor)?;
+    cursor.end()?;
+    Ok(starts)
+}
+
+#[tactic(auto, using(ts_wire::proofs::Loop::items_loop))]
+fn read_all_starts(
+    alloc: Global,
+    end: u64,
+    count: u64,
+    cursor: &mut Cursor,
+) -> Result<CountList, ReadFault>
+    ensures reads { ReadsOr (λ starts. starts) (items_at (start_at end) count []) cursor.old cursor.new result }
+    ensures rise { IfOk result (λ starts. AreStarts starts end count) }
+{
+    let mut starts = CountList::new(alloc);
+    for place in 0..count {
+        let start = read_start(end, starts.as_slice(), cursor)?;
+        starts.push(start)?;
+    }
+    Ok(starts)
+}
+
+#[tactic(auto, unfolding(ts_wire::specs::Numbers::number_at))]
+fn read_start(end: u64, front: &[u64], cursor: &mut Cursor) -> Result<u64, Damaged>
+    ensures reads { Reads (λ start. start) (start_at end front.now) cursor.old cursor.new result }
+    ensures follows { IfOk result (λ start. IsTrue (may_follow (last_of front.now) start && nat_le start end)) }
+{
+    let at = cursor.at();
+    let start = cursor.u64()?;
+    if may_follow(front, start) && start <= end {
+        Ok(start)
+    } else {
+        Err(Damaged { at })
+    }
+}
+
+#[tactic(auto, using(crate::proofs::Starts::lasts))]
+fn may_follow(front: &[u64], start: u64) -> bool
+    ensures { result ≡ may_follow (last_of front.now) start }
+{
+    let count = front.len();
+    if count == 0 {
+        start == 0
+    } else {
+        front[count - 1] <= start
+    }
+}
+
+/// Whether the bytes hold the texts or blobs with these starts, and nothing else.
+#[tactic(auto, using(crate::proofs::TextFaults::checks))]
+pub(crate) fn check_texts(ty: ValType, starts: &[u64], bytes: &[u8]) -> Result<(), Damaged>
+    requires kind { is_integer ty ≡ false }
+    requires first { first_or starts.now 0 ≡ 0 }
+    requires rise { RisesTo starts.now (length bytes.now) }
+    ensures checks { Decodes (λ _. map val.Bytes (texts_in starts.now bytes.now)) (texts_of ty starts.now bytes.now) result }
+    ensures whole { IfOk result (λ _. IsTexts starts.now bytes.now) }
+{
+    if starts.is_empty() && !bytes.is_empty() {
+        return Err(Damaged { at: 0 });
+    }
+    match first_fault(ty, starts, bytes) {
+        Some(at) => Err(Damaged { at }),
+        None => Ok(()),
+    }
+}
+
+// Where the first byte list begins that the type does not allow.
+#[tactic(auto, using(crate::proofs::TextFaults::faults))]
+fn first_fault(ty: ValType, starts: &[u64], bytes: &[u8]) -> Option<u64>
+    requires kind { is_integer ty ≡ false }
+    requires rise { RisesTo starts.now (length bytes.now) }
+    ensures { result ≡ text_fault ty starts.now bytes.now }
+{
+    for place in 0..starts.len() {
+        if !is_allowed(ty, starts, bytes, place) {
+            return Some(starts[place]);
+        }
+    }
+    None
+}
+
+// Whether the byte list at a place may stand under the type.
+#[tactic(auto, using(crate::proofs::TextFaults::spans))]
+fn is_allowed(ty: ValType, starts: &[u64], bytes: &[u8], place: usize) -> bool
+    requires kind { is_integer ty ≡ false }
+    requires rise { RisesTo starts.now (length bytes.now) }
+    requires within { place < length starts.now }
+    ensures { result ≡ fits_of ty false (val.Bytes (take (end_at starts.now place (length bytes.now) - slice_index_or starts.now place 0) (drop (slice_index_or starts.now place 0) bytes.now))) }
+{
+    let start = starts[place];
+    let end = end_of(starts, place, bytes.len() as u64);
+    let text = &bytes[start as usize..end as usize];
+    match ty {
+        ValType::Text => is_text(text),
+        ValType::Blob => true,
+        _ => unreachable!(),
+    }
+}
+
+// Where the byte list at a place ends.
+#[tactic(auto, using(ts_table::proofs::Spans::ends))]
+fn end_of(starts: &[u64], place: usize, end: u64) -> u64
+    requires { place < length starts.now }
+    ensures { result ≡ end_at starts.now place end }
+{
+    let next = place + 1;
+    if next < starts.len() {
+        starts[next]
+    } else {
+        end
+    }
+}

@@ -1,0 +1,4 @@
+pub mod Sames
+pub mod LeafReads
+pub mod TreeReads
+pub mod TreeSpells
