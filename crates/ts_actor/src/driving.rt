@@ -79,6 +79,3 @@ fn is_at(point: Point, call: &Call) -> bool
         _ => false,
     }
 }
-
-#[cfg(test)]
-mod tests;

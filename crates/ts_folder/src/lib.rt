@@ -8,8 +8,6 @@ mod files;
 mod folder;
 mod listing;
 mod paths;
-#[cfg(test)]
-mod tests;
 mod trouble;
 
 pub use folder::FolderStore;

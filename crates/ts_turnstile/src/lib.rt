@@ -10,8 +10,6 @@ mod lanes;
 mod pass;
 mod plays;
 mod rule;
-#[cfg(test)]
-mod tests;
 mod turnstile;
 mod view;
 

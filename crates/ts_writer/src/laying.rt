@@ -17,9 +17,6 @@ use ts_domain::{Domain, SubBox};
 use ts_model::{ColIn, Refusal, WriteIn, bound_outside, box_of, over_most, unknown_dim};
 use ts_schema::{Attr, AttrList, Frame};
 
-#[cfg(test)]
-mod tests;
-
 /// Why a write lays no cells.
 #[derive(Debug, Drop, PartialEq, Eq)]
 pub(crate) enum LayFault {

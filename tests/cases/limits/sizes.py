@@ -117,6 +117,21 @@ def fields():
     ), 0
 
 
+def cells():
+    """A write has 2^20 cells. A box that leaves the domain, and a cell twice, come first."""
+    count = 2**20 + 1
+    wide = {**X, "domain": [0, count - 1]}
+    dense = {**create((wide,)), "kind": "dense"}
+    for name, make, rest, cols, end in (
+        ("dense cells too many", dense, {}, {"v": [1] * count}, ("TooMany", count)),
+        ("dense cells too many and outside", dense, {"box": {"x": [-1, count - 1]}}, {"v": [1] * (count + 1)}, ("Domain", 0, -1)),
+        ("sparse cells too many", create((wide,)), {}, {"x": list(range(count)), "v": [1] * count}, ("TooMany", count)),
+        ("sparse cells too many and one twice", create((wide,)), {}, {"x": [*range(count), 5], "v": [1] * (count + 1)}, ("DuplicateCell", count)),
+    ):
+        write = {"cmd": "write", "at": 1, **rest, "cols": cols}
+        yield name, script(make, write), text(("0.1", "create", "ok"), ("0.2", "write", "refused", *end)), 0
+
+
 def cases():
-    for several in (attributes, dimensions, conditions, labels, nesting, commands, sizes, fields):
+    for several in (attributes, dimensions, conditions, labels, nesting, commands, sizes, fields, cells):
         yield from several()

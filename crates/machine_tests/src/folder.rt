@@ -1,8 +1,8 @@
 //! What no clause says: which files a store makes, and what it reads of them.
-use crate::{FolderStore, PathText};
 use std::fs;
 use std::test::Fail;
 use ts_base::{CommitKind, FragKey, Name, Part, Prefix};
+use ts_folder::{FolderStore, PathText};
 use ts_store::{Fate, Made, Store};
 
 /// The folder that the test works in. It is made anew, and taken away at the end.

@@ -2,10 +2,12 @@
 ghost use Rattle.std.specs.Prelude.{◌≡◌, ◌-◌};
 ghost use Rattle.ts_base.specs.Names.{IsSpelled};
 
-use super::*;
+use std::alloc::Global;
 use std::test::Fail;
-use ts_base::{ByteList, FragKey, Part, Prefix};
-use ts_store::{Fault, FaultList, MemStore};
+use std::thread::Threads;
+use ts_actor::{Actor, Driven, Step, drive};
+use ts_base::{ByteList, CommitKind, FragKey, Name, Part, Point, Stop};
+use ts_store::{Call, Fault, FaultList, MemStore, Reply, Store};
 
 // Puts a part, puts the `.wrt` of its fragment, removes the part, and ends with the number of calls
 // that did so.

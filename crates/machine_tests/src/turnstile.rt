@@ -6,13 +6,13 @@ ghost use Rattle.ts_turnstile.specs.Belonging.{Belongs};
 ghost use Rattle.ts_turnstile.specs.Passes.{pass_view};
 ghost use Rattle.ts_turnstile.specs.Rule.{claim_of};
 
-use crate::{Closed, Pass, Turnstile};
 use std::alloc::Global;
 use std::sync::Wait;
 use std::test::Fail;
 use std::thread::{Threads, join};
 use ts_base::{ByteList, Key, Name};
 use ts_store::{Call, FaultList, Journal, MemStore, Reply, enter_call};
+use ts_turnstile::{Closed, Pass, Turnstile};
 
 // The lane that is split off.
 const OTHER: u32 = 7;

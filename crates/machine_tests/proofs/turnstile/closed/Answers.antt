@@ -5,7 +5,7 @@ use Rattle.ts_turnstile.specs.Lanes.{has}
 use Rattle.ts_turnstile.specs.Passes.{pass_view}
 use Rattle.ts_turnstile.specs.Rule.{Claim, claim_of}
 use Rattle.ts_turnstile.specs.Views.{lanes_of, lanes_if, joined_view}
-use Rattle.ts_turnstile.proofs.tests.closed.Goals as goal
+use Rattle.machine_tests.proofs.turnstile.closed.Goals as goal
 
 more_lanes : (spent : Bool) (lane : ℕ) (joined more : List ℕ) → lanes_if spent lane joined ≡ 0 ∷ [] → lanes_if spent lane (joined ++ more) ≡ 0 ∷ more
 more_lanes true lane joined more is = let never : ⊥ = cc in absurd never
