@@ -26,8 +26,7 @@ use Rattle.ts_model.specs.Codecs.{Codec, Spelled, Stepped, Asks, Takes, Breaks, 
 use Rattle.ts_base.specs.Names.{IsSpelledFrag}
 use Rattle.ts_schema.specs.FrameTexts.{IsFrame}
 use Rattle.ts_schema.specs.SchemaTexts.{AreAttrs}
-use Rattle.ts_model.specs.Pieces.{IsOrdinary}
-use Rattle.ts_model.specs.Consolidated.{IsConsolidated, IsStorable}
+use Rattle.ts_model.specs.Consolidated.{IsStorable}
 use Rattle.ts_model.specs.States.{all_of}
 
 -- what was got of the parts, and the sizes that were told, break the grammar first in a part at an offset
@@ -116,11 +115,12 @@ abbrev pub TakesOrdered : {F : Type 0} → Codec F → Type 0
 TakesOrdered {F} codec = (frame : Frame) (s : Schema) (frag : FragKey) (object : List ℕ) (want : Want) (gots : List Got) (sizes : List Sized) (versions : List Version)
     → IsBytes object → IsShort object → EndsWith codec frame s frag object want (Takes versions) gots sizes → IsOrdered frame versions
 
--- whatever replies come, the head of a fragment with all versions that a fetch of all of it takes is a piece that can be written
+-- whatever replies come, the head of a fragment with all versions that a fetch of all of it takes is a piece that can be written once more
 abbrev pub TakesStorable : {F : Type 0} → Codec F → Type 0
 TakesStorable {F} codec = (frame : Frame) (s : Schema) (frag : FragKey) (object : List ℕ) (head : Head) (gots : List Got) (sizes : List Sized) (versions : List Version)
     → IsFrame frame → AreAttrs s.attrs → IsSpelledFrag frag → IsBytes object → IsShort object → codec.head frame frag object ≡ Ok head → head.schema ≡ s.key
-    → EndsWith codec frame s frag object (all_of frame s.attrs) (Takes versions) gots sizes → IsStorable frame s.attrs (record { head = head; versions = versions })
+    → EndsWith codec frame s frag object (all_of frame s.attrs) (Takes versions) gots sizes
+    → IsStorable frame s.attrs (record { head = head; versions = versions }) × codec.writable frame s.attrs (record { head = head; versions = versions })
 
 -- where a fetch takes versions at once, the object of the head's part spells a piece of the fragment by itself, and what it takes is what is wanted of that piece; where it takes none at once, it need not have looked at the other parts
 abbrev pub TakesSpelled : {F : Type 0} → Codec F → Spelled → Type 0
@@ -143,28 +143,6 @@ pub record IsSettled {F : Type 0} (codec : Codec F) (off : Off) (frame : Frame) 
 -- a head that is read is settled, so none is read of an object that is broken within it
 abbrev pub SettlesHeads : {F : Type 0} → Codec F → Off → Type 0
 SettlesHeads {F} codec off = (frame : Frame) (frag : FragKey) (object : List ℕ) (head : Head) → IsBytes object → codec.head frame frag object ≡ Ok head → IsSettled codec off frame frag object head
-
--- ---- writing
-
--- which pieces can be written in an array of a frame, in a schema with these attributes
-abbrev pub Writable : Type 1
-Writable = Frame → List Attr → Piece → Type 0
-
--- a piece that one write makes can be written
-abbrev pub WritesOrdinary : Writable → Type 0
-WritesOrdinary writable = (frame : Frame) (attrs : List Attr) (p : Piece) → IsOrdinary frame attrs p → writable frame attrs p
-
--- a piece that a consolidation makes can be written
-abbrev pub WritesConsolidated : Writable → Type 0
-WritesConsolidated writable = (frame : Frame) (attrs : List Attr) (p : Piece) → IsConsolidated frame attrs p → writable frame attrs p
-
--- of a piece that can be written
-pub record WritesWell {F : Type 0} (codec : Codec F) (spelled : Spelled) (writable : Writable) : Type 0 where
-  -- the parts spell it, where each is short enough to be got at once
-  pub parts : (frame : Frame) (s : Schema) (p : Piece) → writable frame s.attrs p → All (λ x. IsShort x.bytes) (codec.parts frame s p) → spelled frame s p (look_in (codec.parts frame s p))
-  -- the part that has the head is the last
-  pub last : (frame : Frame) (s : Schema) (p : Piece) → writable frame s.attrs p
-      → (front : List PartBytes) × (bytes : List ℕ) × (codec.parts frame s p ≡ front ++ record { part = codec.head_part frame; bytes = bytes } ∷ [])
 
 -- ---- how many gets a fetch makes
 

@@ -15,8 +15,9 @@ use Rattle.ts_schema.specs.declared.schemas.Schema.{Schema}
 use Rattle.ts_schema.specs.declared.wants.Want.{Want}
 use Rattle.ts_schema.specs.Parts.{Look, Got, Sized}
 use Rattle.ts_schema.specs.Wants.{taken}
-use Rattle.ts_plain.specs.Plain.{plain_bytes}
-use Rattle.ts_plain.specs.Pieces.{plain_piece, plain_head}
+use Rattle.ts_schema.specs.declared.attrs.Attr.{Attr}
+use Rattle.ts_plain.specs.Plain.{plain_bytes, FitsPlain}
+use Rattle.ts_plain.specs.Pieces.{plain_piece, plain_head, piece_of}
 use Rattle.ts_plain.specs.Writes.{stored_for}
 use Rattle.ts_model.specs.Codecs.{Codec, Takes}
 
@@ -32,9 +33,14 @@ plain_parts frame s p = record { part = part.Plain; bytes = plain_object p } ∷
 abbrev pub plain_fetch : Frame → Schema → FragKey → List ℕ → Want → Result (List Version) ℕ
 plain_fetch frame s frag object want = plain_piece frame s.attrs frag object >>= λ p. Ok (taken want p.versions)
 
+-- what is stored of the piece keeps all rules, and holds the piece
+pub record IsPlainStorable (frame : Frame) (attrs : List Attr) (p : Piece) : Type 0 where
+  pub fits : FitsPlain frame attrs p.head.frag (stored_for p)
+  pub same : p ≡ piece_of p.head.frag (stored_for p)
+
 -- plain fragments: what is wanted is found in the object that has the head, and no further call is asked for
 abbrev pub plain_codec : Codec (List Version)
-plain_codec = record { parts = plain_parts; head_part = λ _. part.Plain; head = plain_head; opens = plain_fetch; steps = λ versions _. Takes versions }
+plain_codec = record { writable = IsPlainStorable; parts = plain_parts; head_part = λ _. part.Plain; head = plain_head; opens = plain_fetch; steps = λ versions _. Takes versions }
 
 -- a fetch never waits for a reply
 abbrev pub NeverWaits : Frame → Schema → Piece → Look → Want → List Version → Call → Type 0

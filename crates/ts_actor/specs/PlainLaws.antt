@@ -1,5 +1,5 @@
 -- Plain fragments are read as they were written.
-use Rattle.std.proofs.Common.{◌≡◌, ℕ, zero, suc, Bool, true, false, cond, map, List, [], ◌∷◌, slice_get, Some, Result, Ok, Err, refl, sym, ap, ◌∙◌, subst, arith, inr}
+use Rattle.std.proofs.Common.{◌≡◌, ℕ, zero, suc, Bool, true, false, cond, map, List, [], ◌∷◌, slice_get, Some, Result, Ok, Err, refl, sym, ap, ◌∙◌, subst, arith, inl, inr}
 use Rattle.std.specs.List.{All, AllByRecursion}
 use Rattle.std.specs.declared.cmp.Ordering.TheVariants.{Less}
 use Rattle.std.proofs.lemmas.Option.{same_Some}
@@ -32,6 +32,7 @@ use Rattle.ts_plain.specs.Writes.{stored_for}
 use Rattle.ts_plain.specs.Merges.{Order, global_order, version_cmp, VersionsAscend, LiesInside, IsOrdered}
 use Rattle.ts_plain.proofs.PlainPieces.{piece_again, piece_found, head_again, one_plain, broken_head}
 use Rattle.ts_plain.proofs.OrderedPieces as ordered
+use Rattle.ts_model.specs.Merging.{merged_piece}
 use Rattle.ts_model.specs.Codecs.{CodecLaws, OpensWell, Stepped, Asks, Takes, Breaks}
 use Rattle.ts_actor.specs.PlainCodec.{plain_object, plain_parts, plain_codec, NeverWaits, IsPlainBroken}
 use Rattle.ts_actor.specs.PieceLaws.{whole_got, SpellsOne, RefusesBroken, OpensUnbroken, Begun, Went, AreInBox, TakesInside, IsFetchOf, First, Then, EndsWith, AtOnce, AfterReply, JudgesRight, AsksBounded, AsksOwn, TakesOrdered, TakesSpelled, WritesWell}
@@ -76,22 +77,17 @@ takes_all f g c e = cc
 -- the laws of plain fragments
 pub plain_laws : CodecLaws plain_codec IsPlain NeverWaits
 plain_laws = record {
-  parts = λ frame s p is short. parts_spell frame s p (storable_plain frame s.attrs p is) short;
+  ordinary = λ frame attrs p is close. storable_plain frame attrs p (inl is);
+  merged = λ frame attrs id p ps are each is few. storable_plain frame attrs (merged_piece frame id p ps) (inr is);
+  parts = parts_spell;
   last = λ frame s p is. ([], plain_object p, refl);
-  storable = λ frame s p look is_frame are_attrs own is. plain_source frame s.attrs p is.0 is_frame are_attrs own is.2;
+  storable = λ frame s p look is_frame are_attrs own is. let storable = plain_source frame s.attrs p is.0 is_frame are_attrs own is.2 in (storable, storable_plain frame s.attrs p storable);
   once = λ frame s p i k x y at_i at_k _. only_place _ x i at_i ∙ sym (only_place _ y k at_k);
   head = λ frame s p look is. (is.0, is.1, head_again frame s.attrs p is.0 is.2);
   looks = λ f r g c asked. absurd (takes_all f g c asked);
   opens = opens_well;
   asks = λ frame s p look want f c never. absurd never;
   goes = λ frame s p look want f c part bytes r never _ _ _. absurd never;
-}
-
--- the laws of what can be stored
-pub plain_writes : WritesWell plain_codec IsPlain IsPlainStorable
-plain_writes = record {
-  parts = parts_spell;
-  last = λ frame s p is. ([], plain_object p, refl);
 }
 
 -- ---- one piece, and what is refused

@@ -38,8 +38,8 @@ use Rattle.ts_model.specs.Deeds.{IsKey}
 use Rattle.ts_model.specs.Consolidated.{IsMergedVersion, ComesBefore, Rise, IsConsolidated, IsStorable}
 use Rattle.ts_model.proofs.ListLemmas.{Contains-only, Contains-there, Contains-cons}
 use Rattle.ts_model.proofs.Members.{key_there}
-use Rattle.ts_actor.specs.PieceLaws.{WritesConsolidated}
-use Rattle.ts_actor.specs.PlainWrites.{IsPlainStorable, ordinary_storable, hull_fits, coords_fit, lows_back, highs_back, row_fits, not_same}
+use Rattle.ts_actor.specs.PlainCodec.{IsPlainStorable}
+use Rattle.ts_actor.specs.PlainWrites.{ordinary_fits, ordinary_back, hull_fits, coords_fit, lows_back, highs_back, row_fits, not_same}
 
 -- ---- places
 
@@ -264,11 +264,7 @@ consolidated_fits frame attrs p is =
 
 -- ---- what can be stored
 
--- a piece that a consolidation makes can be stored
-pub consolidated_storable : WritesConsolidated IsPlainStorable
-consolidated_storable frame attrs p is = record { fits = consolidated_fits frame attrs p is; same = merged_back frame attrs p is }
-
--- so can each piece that can be written at all
+-- each piece that a command makes can be stored
 pub storable_plain : (frame : Frame) (attrs : List Attr) (p : Piece) → IsStorable frame attrs p → IsPlainStorable frame attrs p
-storable_plain frame attrs p (inl is) = ordinary_storable frame attrs p is
-storable_plain frame attrs p (inr is) = consolidated_storable frame attrs p is
+storable_plain frame attrs p (inl is) = record { fits = ordinary_fits frame attrs p is; same = ordinary_back frame attrs p is }
+storable_plain frame attrs p (inr is) = record { fits = consolidated_fits frame attrs p is; same = merged_back frame attrs p is }

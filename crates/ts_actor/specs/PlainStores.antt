@@ -35,6 +35,7 @@ use Rattle.ts_model.specs.States.{all_of}
 use Rattle.ts_model.proofs.KeyLemmas.{key_same}
 use Rattle.ts_model.proofs.Members.{key_there}
 use Rattle.ts_actor.specs.PieceLaws.{AtOnce, AfterReply, TakesStorable}
+use Rattle.ts_actor.specs.PlainMerges.{storable_plain}
 use Rattle.ts_actor.specs.PlainCodec.{plain_codec}
 use Rattle.ts_actor.specs.PlainLaws.{waits_never}
 use Rattle.ts_actor.specs.PlainSources.{plain_source}
@@ -153,5 +154,6 @@ plain_stores frame s frag object head gots sizes versions is_frame are_attrs kno
     let found = piece_found frame s.attrs frag object b.first all short b.was in
     let same : taken (all_of frame s.attrs) b.first.versions ≡ f = cc (b.next) in
     let took : f ≡ versions = cc in
-    held_again frame s frag object head b.first versions is_frame are_attrs known read found.0 found.1 (same ∙ took)
+    let storable = held_again frame s frag object head b.first versions is_frame are_attrs known read found.0 found.1 (same ∙ took) in
+    (storable, storable_plain frame s.attrs (record { head = head; versions = versions }) storable)
 plain_stores frame s frag object head gots sizes versions is_frame are_attrs known all short read named (AfterReply gs ss f c r waits may e) = absurd (waits_never frame s frag object (all_of frame s.attrs) gs ss f c waits)

@@ -40,7 +40,7 @@ use Rattle.ts_model.specs.Commands.{global_order}
 use Rattle.ts_model.specs.Deeds.{RowFits}
 use Rattle.ts_model.specs.Pieces.{Climb, IsVersion, IsOrdinary}
 use Rattle.ts_base.proofs.Equal.{coords_decide}
-use Rattle.ts_actor.specs.PieceLaws.{WritesOrdinary}
+use Rattle.ts_actor.specs.PlainCodec.{IsPlainStorable}
 
 -- ---- the hull
 
@@ -253,16 +253,7 @@ ordinary_back frame attrs p is =
 
 -- ---- which pieces can be stored
 
--- what is stored of the piece keeps all rules, and holds the piece
-pub record IsPlainStorable (frame : Frame) (attrs : List Attr) (p : Piece) : Type 0 where
-  pub fits : FitsPlain frame attrs p.head.frag (stored_for p)
-  pub same : p ≡ piece_of p.head.frag (stored_for p)
-
--- a piece that one write makes can be stored
-pub ordinary_storable : WritesOrdinary IsPlainStorable
-ordinary_storable frame attrs p is = record { fits = ordinary_fits frame attrs p is; same = ordinary_back frame attrs p is }
-
--- so can each piece that some plain object holds, one of many writes too
+-- a piece that some plain object holds can be stored, one of many writes too
 pub plain_storable : (frame : Frame) (attrs : List Attr) (p : Piece) → HasPlain frame attrs p → IsPlainStorable frame attrs p
 plain_storable frame attrs p has =
     let is = has.spelled in

@@ -1,10 +1,9 @@
 //! How the pieces of an array are written in parts and read from them, whichever way that is.
-ghost use Rattle.std.specs.Prelude.{◌≡◌, ◌<◌, ◌^◌, ℕ, List, All, IfOk};
+ghost use Rattle.std.specs.Prelude.{◌≡◌, ◌<◌, ◌^◌, ℕ, All, IfOk};
 ghost use Rattle.std.specs.Thread.{IsSync};
 ghost use Rattle.ts_base.specs.declared.heads.Piece.{Piece as AnyPiece};
 ghost use Rattle.ts_base.specs.Names.{IsSpelledPart, IsSpelledFrag};
 ghost use Rattle.ts_wire.specs.Reading.{DecodesOr};
-ghost use Rattle.ts_schema.specs.declared.attrs.Attr.{Attr as AnyAttr};
 ghost use Rattle.ts_schema.specs.declared.frames.Frame.{Frame as AnyFrame};
 ghost use Rattle.ts_schema.specs.declared.schemas.Schema.{Schema as AnySchema};
 ghost use Rattle.ts_schema.specs.declared.wants.Want.{Want as AnyWant};
@@ -13,7 +12,7 @@ ghost use Rattle.ts_plain.specs.Merges.{global_order, LiesInside, VersionsAscend
 ghost use Rattle.ts_store.specs.declared.call.Call.{Call as AnyCall};
 ghost use Rattle.ts_model.specs.Codecs.{Codec, CodecLaws};
 ghost use Rattle.ts_actor.specs.Fetches.{IsStep, FallsAtAsk, AsksSpelled};
-ghost use Rattle.ts_actor.specs.PieceLaws.{SpellsOne, RefusesBroken, OpensUnbroken, TakesInside, TakesOrdered, TakesSpelled, TakesStorable, JudgesRight, AsksBounded, AsksOwn, NamesHead, SettlesHeads, WritesOrdinary, WritesConsolidated, WritesWell};
+ghost use Rattle.ts_actor.specs.PieceLaws.{SpellsOne, RefusesBroken, OpensUnbroken, TakesInside, TakesOrdered, TakesSpelled, TakesStorable, JudgesRight, AsksBounded, AsksOwn, NamesHead, SettlesHeads};
 
 use std::alloc::Global;
 use std::thread::Threads;
@@ -55,9 +54,6 @@ pub trait Pieces: Spelling {
     /// More than the calls that a fetch still asks for.
     ghost left: { Self.Fetch → ℕ };
 
-    /// The pieces that can be written so, whose cells are in a schema with these attributes.
-    ghost writable: { AnyFrame → List AnyAttr → AnyPiece → Type 0 };
-
     /// How many gets a fetch may still make.
     ghost gets: { Self.Fetch → ℕ };
 
@@ -72,7 +68,7 @@ pub trait Pieces: Spelling {
         schema: &Schema,
         piece: &Piece,
     ) -> Result<PartList, OutOfMemory>
-        requires { writable frame.now schema.now.attrs piece.now }
+        requires { codec.writable frame.now schema.now.attrs piece.now }
         ensures is { IfOk result (λ parts. parts ≡ codec.parts frame.now schema.now piece.now) }
         ensures spelled { IfOk result (All (λ x. IsSpelledPart x.part)) };
 
@@ -122,17 +118,9 @@ pub trait Pieces: Spelling {
         requires ascend { All (VersionsAscend (global_order frame.now)) lists }
         ensures { IfOk result (IsMergedAll (global_order frame.now) lists) };
 
-    /// What is written is read again, and fetches find what was written.
+    /// What commands make can be written, what is written is read again, and fetches find what was
+    /// written.
     ghost laws: { CodecLaws codec Self.spelled tracks };
-
-    /// A piece that one write makes can be written.
-    ghost ordinary: { WritesOrdinary writable };
-
-    /// A piece that a consolidation makes can be written.
-    ghost consolidated: { WritesConsolidated writable };
-
-    /// The parts of a piece that can be written spell it.
-    ghost writes: { WritesWell codec Self.spelled writable };
 
     /// The parts of a fragment hold one piece.
     ghost one_piece: { SpellsOne Self.spelled };

@@ -1,9 +1,7 @@
 //! Pieces that are written whole, in one object.
 ghost use Rattle.ts_plain.specs.Pieces.{IsPlain};
 ghost use Rattle.ts_actor.specs.PlainCodec.{plain_codec, IsPlainBroken, NeverWaits};
-ghost use Rattle.ts_actor.specs.PlainWrites.{IsPlainStorable, ordinary_storable};
-ghost use Rattle.ts_actor.specs.PlainMerges.{consolidated_storable};
-ghost use Rattle.ts_actor.specs.PlainLaws.{plain_laws, plain_writes, plain_one, plain_broken, plain_whole, plain_judges, plain_own, plain_bounded, plain_inside, plain_ordered, plain_found};
+ghost use Rattle.ts_actor.specs.PlainLaws.{plain_laws, plain_one, plain_broken, plain_whole, plain_judges, plain_own, plain_bounded, plain_inside, plain_ordered, plain_found};
 ghost use Rattle.ts_actor.specs.PlainHeads.{plain_names, plain_settles};
 ghost use Rattle.ts_actor.specs.PlainStores.{plain_stores};
 
@@ -41,19 +39,11 @@ impl Pieces for PlainPieces {
 
     ghost left = { λ _. 0 };
 
-    ghost writable = { IsPlainStorable };
-
     ghost gets = { λ _. 0 };
 
     ghost most_gets = { λ _ _ _ _. 0 };
 
     ghost laws = { plain_laws };
-
-    ghost ordinary = { ordinary_storable };
-
-    ghost consolidated = { consolidated_storable };
-
-    ghost writes = { plain_writes };
 
     ghost one_piece = { plain_one };
 

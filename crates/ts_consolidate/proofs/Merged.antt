@@ -22,5 +22,5 @@ merged_sources frame attrs id first others got p ps piece made few few_origins a
     record {
       is = same;
       merges = subst (MergesTo (p ∷ ps)) (sym same) (sources_merge frame attrs id p ps are (omega (arith, few, versions)) (omega (arith, few_origins, origins)));
-      writable = subst (IsConsolidated frame attrs) (sym same) (sources_fit frame attrs id p ps are (omega (arith, few, versions)) (omega (arith, few_origins, origins)));
+      fits = subst (IsConsolidated frame attrs) (sym same) (sources_fit frame attrs id p ps are (omega (arith, few, versions)) (omega (arith, few_origins, origins)));
     }

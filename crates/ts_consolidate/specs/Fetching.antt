@@ -54,5 +54,5 @@ HasFewer left most _ = ⊤
 -- a fetch that asks for a call is one of all of the source, and what one takes of it can be written
 abbrev pub LeadsOn : {F : Type 0} → Codec F → Frame → Schema → Opened → SourceStep F → Type 0
 LeadsOn codec frame schema o (source_step.Asks f c) = IsGoing codec frame schema o f c
-LeadsOn codec frame schema o (source_step.Takes vs) = IsGot frame schema.attrs o vs
+LeadsOn codec frame schema o (source_step.Takes vs) = IsGot codec frame schema.attrs o vs
 LeadsOn codec frame schema o (source_step.Ends end) = ⊤

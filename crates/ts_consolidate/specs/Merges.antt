@@ -81,15 +81,15 @@ pub record HasSources {F : Type 0} (codec : Codec F) (s : Survey) (schema : Sche
   pub attrs : AreAttrs schema.attrs
   pub each : All (IsSource codec s.frame schema) sources
 
--- the versions that were got of a fragment are, with its head, a piece that can be written
-abbrev pub IsGot : Frame → List Attr → Opened → List Version → Type 0
-IsGot frame attrs o versions = IsStorable frame attrs (record { head = o.head; versions = versions })
+-- the versions that were got of a fragment are, with its head, a piece that can be written once more
+abbrev pub IsGot : {F : Type 0} → Codec F → Frame → List Attr → Opened → List Version → Type 0
+IsGot codec frame attrs o versions = IsStorable frame attrs (record { head = o.head; versions = versions }) × codec.writable frame attrs (record { head = o.head; versions = versions })
 
 -- so are those of each fragment
-abbrev pub AreGot : Frame → List Attr → List Opened → List (List Version) → Type 0
-AreGot frame attrs [] [] = ⊤
-AreGot frame attrs (o ∷ opened) (versions ∷ got) = IsGot frame attrs o versions × AreGot frame attrs opened got
-AreGot frame attrs _ _ = ⊥
+abbrev pub AreGot : {F : Type 0} → Codec F → Frame → List Attr → List Opened → List (List Version) → Type 0
+AreGot codec frame attrs [] [] = ⊤
+AreGot codec frame attrs (o ∷ opened) (versions ∷ got) = IsGot codec frame attrs o versions × AreGot codec frame attrs opened got
+AreGot codec frame attrs _ _ = ⊥
 
 -- a fetch of all of a fragment waits for the reply to a call
 pub record IsGoing {F : Type 0} (codec : Codec F) (frame : Frame) (schema : Schema) (o : Opened) (f : F) (c : Call) : Type 0 where
@@ -100,7 +100,7 @@ pub record IsGoing {F : Type 0} (codec : Codec F) (frame : Frame) (schema : Sche
 -- a consolidation fetches the source at a place, and has got those before
 pub record IsFetching {F : Type 0} (codec : Codec F) (s : Survey) (sources : List Opened) (schema : Schema) (next : ℕ) (frag : FragKey) (got : List (List Version)) (f : F) (c : Call) : Type 0 where
   pub has : HasSources codec s schema sources
-  pub taken : AreGot s.frame schema.attrs (take next sources) got
+  pub taken : AreGot codec s.frame schema.attrs (take next sources) got
   pub within : next < length sources
   pub source : Opened
   pub at : slice_get sources next ≡ Some source

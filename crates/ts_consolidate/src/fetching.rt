@@ -65,7 +65,7 @@ pub(crate) fn merge_from<P: Pieces, R: Threads + Sync>(
 ) -> Result<State<P::Fetch>, OutOfMemory>
     requires has { HasSources P.codec merged.survey merged.schema merged.opened }
     requires within { next ≤ length merged.opened }
-    requires got { AreGot merged.survey.frame merged.schema.attrs (take next merged.opened) got }
+    requires got { AreGot P.codec merged.survey.frame merged.schema.attrs (take next merged.opened) got }
     ensures is { IfOk result (λ state. state ≡ merging_from P.codec job.now merged.survey merged.opened merged.schema next (drop next merged.opened) got) }
     ensures may { IfOk result (IsMergeState P.codec) }
     ensures bound { length merged.opened < 2 ^ 64 }

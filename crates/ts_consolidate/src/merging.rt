@@ -1,10 +1,11 @@
 //! Merging the pieces of several fragments into one.
-ghost use Rattle.std.specs.Prelude.{◌≡◌, ◌≤◌, ◌<◌, ◌^◌, List, ◌∷◌, length, All, IfOk, IsTrue, MatchResult};
+ghost use Rattle.std.specs.Prelude.{◌≡◌, true, false, List, ◌∷◌, All, IfOk, IsTrue, MatchResult};
 ghost use Rattle.ts_base.specs.declared.heads.Piece.{Piece as AnyPiece};
 ghost use Rattle.ts_base.specs.declared.heads.Version.{Version as AnyVersion};
 ghost use Rattle.ts_domain.specs.Domains.{is_in_domain};
 ghost use Rattle.ts_schema.specs.declared.attrs.Attr.{Attr as AnyAttr};
-ghost use Rattle.ts_model.specs.Merging.{AreSources, EachAlike, HasBox, all_got, heads_of, merged_with, origins_of_all};
+ghost use Rattle.ts_model.specs.Merging.{AreSources, EachAlike, HasBox, all_got, heads_of, merged_with};
+ghost use Rattle.ts_model.specs.States.{can_be_named};
 ghost use Rattle.ts_consolidate.specs.Consolidations.{IsConsolidationOf};
 ghost use Rattle.ts_consolidate.specs.declared.merging.Unmerged.TheVariants as fault;
 
@@ -17,8 +18,9 @@ use ts_schema::Frame;
 /// Why pieces were not merged into one.
 #[derive(Clone, Copy, Debug, PartialEq, Eq)]
 pub enum Unmerged {
-    /// Together they have 2^32 origins or more, and a fragment can name fewer.
-    TooManyOrigins,
+    /// Together they have 2^32 origins or more, or 2^32 versions that are kept. A fragment can name
+    /// and count fewer.
+    TooMany,
     /// There was no memory for the piece.
     OutOfMemory,
 }
@@ -35,8 +37,7 @@ impl From<OutOfMemory> for Unmerged {
 /// identifier.
 ///
 /// `got` has the versions of each source, in the order of the heads, as a fetch that wants all of
-/// them finds them. A piece in memory has fewer than 2^64 cells, so the number of its origins alone
-/// can be too great. It takes time in proportion to the number of versions and origins, times the
+/// them finds them. It takes time in proportion to the number of versions and origins, times the
 /// number of binary digits of that.
 pub fn merge_pieces(
     alloc: Global,
@@ -51,14 +52,17 @@ pub fn merge_pieces(
     requires inside { All (All (λ (version : AnyVersion). IsTrue (is_in_domain frame.now.domain version.coords))) got }
     ensures merged { IfOk result (λ piece. piece ≡ merged_with frame.now id first.now others.now (all_got got)) }
     ensures sources { IfOk result (λ piece. (attrs : List AnyAttr) (p : AnyPiece) (ps : List AnyPiece) → AreSources frame.now attrs (p ∷ ps) → p.head ≡ first.now → heads_of ps ≡ others.now → EachAlike (p ∷ ps) got → IsConsolidationOf frame.now attrs id p ps piece) }
-    ensures counts { MatchResult result (λ piece. length piece.head.origins < 2 ^ 32) (λ cause. cause ≡ Unmerged.TooManyOrigins → 2 ^ 32 ≤ length (origins_of_all (first.now ∷ others.now))) }
+    ensures counts { MatchResult result (λ piece. can_be_named piece ≡ true) (λ cause. cause ≡ Unmerged.TooMany → can_be_named (merged_with frame.now id first.now others.now (all_got got)) ≡ false) }
 {
     let origins = origins_of_all(alloc, first, others)?;
     if origins.len() > u64::from(u32::MAX) {
-        return Err(Unmerged::TooManyOrigins);
+        return Err(Unmerged::TooMany);
     }
     let all = joined(alloc, got)?;
     let versions = merged_versions(alloc, frame, first.dense, all)?;
+    if versions.len() > u64::from(u32::MAX) {
+        return Err(Unmerged::TooMany);
+    }
     let head = merged_head(frame, id, first, others, origins, versions.len());
     Ok(Piece { head, versions })
 }

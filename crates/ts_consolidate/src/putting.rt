@@ -3,7 +3,6 @@
 ghost use Rattle.std.specs.Prelude.{◌≡◌, ◌<◌, ◌^◌, ◌++◌, ◌∷◌, [], true, false, None, All, IfOk, IfSome, MatchResult};
 ghost use Rattle.ts_base.specs.Names.{IsSpelledFrag, IsSpelledPart, wrt_of};
 ghost use Rattle.ts_model.specs.declared.answers.Outcome.TheVariants as outcome;
-ghost use Rattle.ts_model.specs.Consolidated.{IsConsolidated};
 ghost use Rattle.ts_model.specs.States.{can_be_named, frags_of, merge_objects, part_objects, piece_merged, puts_merged, putting, vac_of};
 ghost use Rattle.ts_consolidate.specs.Merges.{AreGot, HasSources, HaveNames, IsMergeState, merges_left};
 
@@ -21,7 +20,7 @@ use ts_model::{Job, NewObject, NewObjectList, Opened, Outcome, State, Survey};
 use ts_schema::{Frame, Schema};
 
 /// A consolidation puts what its sources are merged into, of which it has got all versions. Sources
-/// that have too many origins together are not merged.
+/// that have too many origins or versions together are not merged.
 pub(crate) fn put_merged<P: Pieces>(
     alloc: Global,
     job: &Job,
@@ -29,7 +28,7 @@ pub(crate) fn put_merged<P: Pieces>(
     got: VersionLists,
 ) -> Result<State<P::Fetch>, OutOfMemory>
     requires has { HasSources P.codec merged.survey merged.schema merged.opened }
-    requires got { AreGot merged.survey.frame merged.schema.attrs merged.opened got }
+    requires got { AreGot P.codec merged.survey.frame merged.schema.attrs merged.opened got }
     ensures is { IfOk result (λ state. state ≡ puts_merged P.codec job.now merged.survey merged.schema got merged.opened) }
     ensures may { IfOk result (IsMergeState P.codec) }
     ensures few_calls { IfOk result (λ state. merges_left P.left state < 2 ^ 64) }
@@ -72,7 +71,7 @@ fn put_sources<P: Pieces>(
     got: VersionLists,
 ) -> Result<State<P::Fetch>, OutOfMemory>
     requires has { HasSources P.codec survey.now schema.now (first.now ∷ others.now) }
-    requires got { AreGot survey.now.frame schema.now.attrs (first.now ∷ others.now) got }
+    requires got { AreGot P.codec survey.now.frame schema.now.attrs (first.now ∷ others.now) got }
     ensures is { IfOk result (λ state. state ≡ puts_merged P.codec job.now survey.now schema.now got (first.now ∷ others.now)) }
     ensures may { IfOk result (IsMergeState P.codec) }
     ensures few_calls { IfOk result (λ state. merges_left P.left state < 2 ^ 64) }
@@ -87,7 +86,7 @@ fn put_sources<P: Pieces>(
     let names = names_merged(alloc, &survey.vacs, &frags)?;
     match merge_sources::<P>(alloc, job, survey, schema, first, others, got) {
         Ok(piece) => { put_piece::<P>(alloc, survey.frame.get(), schema, &names, more + 1, &piece) }
-        Err(Unmerged::TooManyOrigins) => Ok(State::Over(Outcome::OutOfMemory)),
+        Err(Unmerged::TooMany) => Ok(State::Over(Outcome::OutOfMemory)),
         Err(Unmerged::OutOfMemory) => Err(OutOfMemory),
     }
 }
@@ -103,11 +102,11 @@ fn merge_sources<P: Pieces>(
     got: VersionLists,
 ) -> Result<Piece, Unmerged>
     requires has { HasSources P.codec survey.now _schema.now (first.now ∷ others.now) }
-    requires got { AreGot survey.now.frame _schema.now.attrs (first.now ∷ others.now) got }
+    requires got { AreGot P.codec survey.now.frame _schema.now.attrs (first.now ∷ others.now) got }
     ensures is { IfOk result (λ piece. piece ≡ piece_merged job.now survey.now.frame first.now others.now got) }
-    ensures fits { IfOk result (IsConsolidated survey.now.frame _schema.now.attrs) }
+    ensures fits { IfOk result (P.codec.writable survey.now.frame _schema.now.attrs) }
     ensures spelled { IfOk result (λ piece. IsSpelledFrag piece.head.frag) }
-    ensures named { MatchResult result (λ piece. can_be_named piece ≡ true) (λ cause. cause ≡ Unmerged.TooManyOrigins → can_be_named (piece_merged job.now survey.now.frame first.now others.now got) ≡ false) }
+    ensures named { MatchResult result (λ piece. can_be_named piece ≡ true) (λ cause. cause ≡ Unmerged.TooMany → can_be_named (piece_merged job.now survey.now.frame first.now others.now got) ≡ false) }
 {
     let frame = survey.frame.get();
     let heads = heads_of(alloc, others)?;
@@ -123,7 +122,7 @@ fn put_piece<P: Pieces>(
     count: u32,
     piece: &Piece,
 ) -> Result<State<P::Fetch>, OutOfMemory>
-    requires writable { IsConsolidated frame.now schema.now.attrs piece.now }
+    requires writable { P.codec.writable frame.now schema.now.attrs piece.now }
     requires spelled { IsSpelledFrag piece.now.head.frag }
     ensures is { IfOk result (λ state. state ≡ putting (merge_objects P.codec frame.now schema.now piece.now names.now) 0 (outcome.Consolidated piece.now.head.frag count)) }
     ensures may { IfOk result (IsMergeState P.codec) }

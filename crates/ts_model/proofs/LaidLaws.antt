@@ -1,10 +1,10 @@
 -- The piece of a write: it holds what was written, and it is one that a write makes.
-use Rattle.std.proofs.Common.{◌≡◌, ℤ, Bool, true, false, ◌&&◌, cond, List, [], ◌∷◌, length, map as list_map, Some, None, Ok, refl, sym, ap, ◌∙◌, subst, arith}
-use Rattle.std.specs.Prelude.{IsTrue, option_map}
+use Rattle.std.proofs.Common.{◌≡◌, ℤ, Bool, true, false, ◌&&◌, cond, inl, inr, List, [], ◌∷◌, length, map as list_map, Some, None, Ok, refl, sym, ap, ◌∙◌, subst, arith}
+use Rattle.std.specs.Prelude.{IsTrue, Contains, option_map, is_some}
 use Rattle.std.specs.List.{All}
 use Rattle.std.proofs.lemmas.Bool.{true≢false}
 use Rattle.std.proofs.lemmas.List.{length-map}
-use Rattle.std.proofs.lemmas.List.Elements.{All-map}
+use Rattle.std.proofs.lemmas.List.Elements.{All-map, All-head, All-tail}
 use Rattle.ts_base.specs.declared.heads.Cell.{Cell}
 use Rattle.ts_base.specs.declared.heads.Version.{Version}
 use Rattle.ts_base.specs.declared.keys.Key.{Key}
@@ -13,6 +13,8 @@ use Rattle.ts_base.specs.Keys.{key_eq}
 use Rattle.ts_base.specs.Coords.{coords_eq}
 use Rattle.ts_domain.specs.Bounds.{cells_between, is_between}
 use Rattle.ts_domain.specs.Domains.{is_in_domain}
+use Rattle.ts_domain.specs.declared.boxes.SubBox.{SubBox}
+use Rattle.ts_domain.specs.Boxes.{is_in_box}
 use Rattle.ts_schema.specs.declared.attrs.Attr.{Attr}
 use Rattle.ts_schema.specs.declared.frames.Frame.{Frame}
 use Rattle.ts_schema.specs.FrameTexts.{IsFrame}
@@ -21,11 +23,12 @@ use Rattle.ts_model.specs.declared.commands.WriteIn.{WriteIn}
 use Rattle.ts_model.specs.declared.deeds.Written.{Written}
 use Rattle.ts_model.specs.Deeds.{row_at, IsKey, RowFits}
 use Rattle.ts_model.specs.Commands.{is_spelled_write, laid, LaidFollows, in_global_order, low_of_cells, high_of_cells, version_in, piece_of}
-use Rattle.ts_model.specs.Pieces.{version_at, HoldsWrite, IsVersion, IsOrdinary}
+use Rattle.ts_model.specs.Pieces.{version_at, HoldsWrite, IsVersion, IsOrdinary, IsClose}
 use Rattle.ts_model.proofs.KeyLemmas.{key_same, key_itself, key_other}
 use Rattle.ts_model.proofs.Laying.{coords_decide, laid_follows}
 use Rattle.ts_model.proofs.GlobalOrder.{row_at-in_global_order, All-in_global_order, length-in_global_order, Climb-in_global_order}
-use Rattle.ts_model.proofs.Corners.{corners_of}
+use Rattle.ts_model.proofs.Corners.{corners_of, corners_in}
+use Rattle.ts_model.proofs.ListLemmas.{Contains-nil, Contains-cons, each_holds}
 
 -- ---- what the piece holds
 
@@ -79,6 +82,48 @@ pub written_held : (frame : Frame) (attrs : List Attr) (key schema : Key) (w : W
     → HoldsWrite (record { key = key; schema = schema; cells = cells }) (piece_of frame (record { key = key; schema = schema; cells = cells }))
 written_held frame attrs key schema w cells is are is_key is_schema spelled e = held_in_piece frame (record { key = key; schema = schema; cells = cells })
 
+-- ---- its box is close
+
+-- what holds of the coordinates of a write's versions holds of coordinates that a cell has
+at_row : (P : List ℤ → Type 0) (key schema : Key) (c : List ℤ) (cells : List Cell) → is_some (row_at c cells) ≡ true → All (λ (v : Version). P v.coords) (list_map (version_in key schema) cells) → P c
+at_row P key schema c [] some all = absurd (true≢false (sym some))
+at_row P key schema c (cell ∷ cells) some all = by (coords_eq cell.coords c) refl some (at_row P key schema c cells)
+  where
+    by : (b : Bool) → coords_eq cell.coords c ≡ b → is_some (cond b (Some cell.row) (row_at c cells)) ≡ true
+        → (is_some (row_at c cells) ≡ true → All (λ (v : Version). P v.coords) (list_map (version_in key schema) cells) → P c) → P c
+    by true same e rest = subst P ((coords_decide cell.coords c).0 same) (All-head (λ (v : Version). P v.coords) (version_in key schema cell) (list_map (version_in key schema) cells) all)
+    by false other e rest = rest e (All-tail (λ (v : Version). P v.coords) (version_in key schema cell) (list_map (version_in key schema) cells) all)
+
+-- a cell has a row at its coordinates
+has_row : (cells : List Cell) (cell : Cell) → Contains cells cell → is_some (row_at cell.coords cells) ≡ true
+has_row [] cell at = absurd (Contains-nil cell at)
+has_row (x ∷ cells) cell at = by (coords_eq x.coords cell.coords) refl (has_row cells cell)
+  where
+    by : (b : Bool) → coords_eq x.coords cell.coords ≡ b → (Contains cells cell → is_some (row_at cell.coords cells) ≡ true) → is_some (cond b (Some x.row) (row_at cell.coords cells)) ≡ true
+    by true same rest = refl
+    by false other rest = elim (Contains-cons x cells cell at) [
+      | inl one ↦ absurd (true≢false (sym ((coords_decide x.coords cell.coords).1 (ap (λ (y : Cell). y.coords) one)) ∙ other))
+      | inr behind ↦ rest behind
+    ]
+
+-- a box that has all versions of a write's piece has all of its cells
+cells_in : (frame : Frame) (key schema : Key) (sub : SubBox) (cells : List Cell)
+    → All (λ (v : Version). IsTrue (is_in_box sub v.coords)) (list_map (version_in key schema) (in_global_order frame cells)) → All (λ (cell : Cell). IsTrue (is_in_box sub cell.coords)) cells
+cells_in frame key schema sub cells all = each_holds (λ (cell : Cell). IsTrue (is_in_box sub cell.coords)) cells (λ cell at.
+    at_row (λ c. IsTrue (is_in_box sub c)) key schema cell.coords (in_global_order frame cells) (ap is_some (row_at-in_global_order frame cell.coords cells) ∙ has_row cells cell at) all)
+
+-- no smaller box has the cells of the piece of a write
+pub close_piece : (frame : Frame) (attrs : List Attr) (key schema : Key) (cells : List Cell) → LaidFollows frame attrs cells → IsClose (piece_of frame (record { key = key; schema = schema; cells = cells }))
+unfolding piece_of
+close_piece frame attrs key schema cells follows =
+    let long : length (list_map (version_in key schema) (in_global_order frame cells)) ≡ length cells =
+    length-map (in_global_order frame cells) (version_in key schema) ∙ length-in_global_order frame cells follows.apart in
+    let few = follows.few in
+    record {
+      tight = λ sub all. let found = (corners_in sub cells follows.some_cell (cells_in frame key schema sub cells all)).corners in (found.low_in, found.high_in);
+      few = omega (arith, few, long);
+    }
+
 -- ---- the piece is one that a write makes
 
 -- a cell that lies in the domain, and between the corners, and fits
@@ -122,6 +167,11 @@ ordinary_piece frame attrs key schema cells is are is_key is_schema follows =
           (λ k d lt. record { by_own = refl; in_schema = refl; inside = (ordered k d lt).inside; hull = (ordered k d lt).hull; row = (ordered k d lt).row });
       climb = Climb-in_global_order frame key schema cells;
     }
+
+-- no smaller box has the cells of a write that is laid
+pub written_close : (frame : Frame) (attrs : List Attr) (key schema : Key) (w : WriteIn) (cells : List Cell) → IsFrame frame → IsTrue (is_spelled_write w) → laid frame attrs w ≡ Ok cells
+    → IsClose (piece_of frame (record { key = key; schema = schema; cells = cells }))
+written_close frame attrs key schema w cells is spelled e = close_piece frame attrs key schema cells (laid_follows frame attrs w cells spelled is e)
 
 -- the piece of a write that is laid is one that a write makes
 pub written_ordinary : (frame : Frame) (attrs : List Attr) (key schema : Key) (w : WriteIn) (cells : List Cell) → IsFrame frame → AreAttrs attrs → IsKey key → IsKey schema

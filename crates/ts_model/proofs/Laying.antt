@@ -335,6 +335,10 @@ count_is [] count coords some each = absurd (omega arith)
 count_is (d ∷ dims) count [] some each = absurd each
 count_is (d ∷ dims) count (c ∷ coords) some each = (each.0.some, each.0.few)
 
+-- a number of cells that is not too many is at most 2^20
+most_of : (count : ℕ) → over_most count ≡ None → count ≤ 2 ^ 20
+most_of count none = ltb-false most_cells count (no_fault (nat_lt most_cells count) (refusal.TooMany count) None none).0
+
 -- the cells that a write to a sparse array lays may be those of a write
 apart_follows : (frame : Frame) (attrs : List Attr) (cols : List ColIn) (cells : List Cell) → IsTrue (list_all is_spelled_col cols) → 1 ≤ length frame.domain → frame.dense ≡ false
     → laid_apart frame.domain attrs cols ≡ Ok cells → LaidFollows frame attrs cells
@@ -352,10 +356,11 @@ apart_follows frame attrs cols cells spelled some sparse e =
     let two = neither (outside_in dims (cells_from coords rows 0 count)) _ one.1 in
     let three = neither (again_in [] 0 (cells_from coords rows 0 count)) (over_most count) two.1 in
     let size = count_is dims count coords some left in
+    let most = most_of count three.1 in
     let long = length-cells_from coords rows 0 count in
     subst (LaidFollows frame attrs) kept.0 (record {
       some_cell = omega (arith, size.0, long);
-      few = omega (arith, size.1, long);
+      few = omega (arith, most, long);
       apart = (cells_new [] 0 (cells_from coords rows 0 count) three.0).apart;
       fit = cells_fit dims attrs count 0 count coords rows (omega arith) left right two.0;
       boxed = λ dense. absurd (true≢false (sym dense ∙ sparse));
@@ -380,8 +385,7 @@ named_spelled b spelled =
 -- a box whose cells are not too many has at most 2^20, so that their number is the one that is counted
 few_cells : (sub : SubBox) → over_most (counted_cells sub) ≡ None → (cells_of sub ≤ 2 ^ 20) × (counted_cells sub ≡ cells_of sub)
 few_cells sub none =
-    let passed = (no_fault (nat_lt most_cells (counted_cells sub)) (refusal.TooMany (counted_cells sub)) None none).0 in
-    let most : counted_cells sub ≤ 2 ^ 20 = ltb-false most_cells (counted_cells sub) passed in
+    let most = most_of (counted_cells sub) none in
     (omega (arith, most), omega (arith, most))
 
 -- cells of a box: there is one

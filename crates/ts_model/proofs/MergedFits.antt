@@ -1,5 +1,5 @@
 -- What pieces that can be written are merged into can be written.
-use Rattle.std.proofs.Common.{◌≡◌, ℕ, ℤ, ◌≤◌, ◌<◌, ◌^◌, ◌⊎◌, Bool, true, false, cond, inl, inr, List, [], ◌∷◌, ◌++◌, length, Option, Some, None, int_cmp, refl, sym, ◌∙◌, ap, subst, arith}
+use Rattle.std.proofs.Common.{◌≡◌, ℕ, ℤ, ◌≤◌, ◌<◌, ◌^◌, ◌⊎◌, Bool, true, false, ◌&&◌, cond, inl, inr, List, [], ◌∷◌, ◌++◌, length, Option, Some, None, int_cmp, refl, sym, ◌∙◌, ap, subst, arith}
 use Rattle.std.specs.Prelude.{Contains, IsTrue, T, All, ⊤, map as list_map}
 use Rattle.std.specs.Cmp.Lexicographic.{slice_cmp}
 use Rattle.std.specs.Ordering.{ordering_then, eq_by_cmp, is_lt, is_eq}
@@ -8,10 +8,10 @@ use Rattle.std.specs.declared.cmp.Ordering.TheVariants.{Less, Equal, Greater}
 use Rattle.std.specs.List.{AllByRecursion}
 use Rattle.std.specs.FinMap as map
 use Rattle.std.specs.FinMap.Entries.{below_all}
-use Rattle.std.proofs.lemmas.Bool.{true≢false, and_from}
+use Rattle.std.proofs.lemmas.Bool.{true≢false, and_from, and_parts}
 use Rattle.std.proofs.lemmas.Option.{same_Some, none-some}
 use Rattle.std.proofs.lemmas.List.{length-map}
-use Rattle.std.proofs.lemmas.List.Elements.{All-nil, All-cons, All-contains, Contains-append_cases}
+use Rattle.std.proofs.lemmas.List.Elements.{All-nil, All-cons, All-contains, Contains-append_cases, Contains-append_left, Contains-append_right}
 use Rattle.ts_base.specs.declared.keys.Key.{Key}
 use Rattle.ts_base.specs.declared.heads.Piece.{Piece}
 use Rattle.ts_base.specs.declared.heads.Version.{Version}
@@ -30,10 +30,10 @@ use Rattle.ts_schema.specs.SchemaTexts.{AreAttrs}
 use Rattle.ts_commit.specs.Selections.{has_origin, keeps_last}
 use Rattle.ts_model.specs.Commands.{global_order}
 use Rattle.ts_model.specs.Deeds.{IsKey}
-use Rattle.ts_model.specs.Pieces.{version_at, newest_of, IsVersion}
+use Rattle.ts_model.specs.Pieces.{version_at, newest_of, IsVersion, IsTight}
 use Rattle.ts_model.specs.Places.{place_of, place_cmp}
 use Rattle.ts_model.proofs.KeyLemmas.{tie_itself, key_itself, greatest-None, greatest-Some}
-use Rattle.ts_model.proofs.ListLemmas.{Contains-nil, Contains-here, Contains-only, Contains-there, Contains-cons, Contains-filter, filter-Contains}
+use Rattle.ts_model.proofs.ListLemmas.{Contains-nil, Contains-here, Contains-only, Contains-there, Contains-cons, Contains-filter, filter-Contains, find-Some, find_member, each_holds}
 use Rattle.ts_model.proofs.Newest.{coords_same, coords_itself, coords_tie, OwnCoords, own_newest, get_newest_of}
 use Rattle.ts_model.specs.Merging.{MergesTo, newest_at, all_versions, version_place_cmp, version_place, placed_of, in_version_order, merged_versions, origins_of_all, hull_from, heads_of, merged_piece, HasBox, AreSources}
 use Rattle.ts_model.specs.Consolidated.{box_in, IsSpan, IsMergedVersion, ComesBefore, Rise, IsConsolidated, IsStorable}
@@ -163,6 +163,35 @@ by_each : {X : Type 0} (P : X → Type 0) (xs : List X) → ((x : X) → Contain
 by_each P [] each = tt
 by_each P (x ∷ xs) each = (each x (Contains-here x xs), by_each P xs (λ y at. each y (Contains-there x xs y at)))
 
+-- a version that is found has the coordinates
+found_at : (vs : List Version) (k : Key) (c : List ℤ) (v : Version) → version_at vs k c ≡ Some v → Contains vs v × (v.coords ≡ c)
+found_at vs k c v is =
+    let found = find-Some (λ u. key_eq u.key k && coords_eq u.coords c) vs v is in
+    (found.0, coords_same v.coords c (and_parts (key_eq v.key k) (coords_eq v.coords c) found.1).1)
+
+-- at the coordinates of each version one is kept
+kept_there : (frame : Frame) (last : Bool) (vs : List Version) (v : Version) → Contains vs v → (u : Version) × Contains (merged_versions frame last vs) u × (u.coords ≡ v.coords)
+kept_there frame false vs v at =
+    let found = find_member (λ u. key_eq u.key v.key && coords_eq u.coords v.coords) vs v at (and_from (key_eq v.key v.key) (coords_eq v.coords v.coords) (key_itself v.key) (coords_itself v.coords)) in
+    let there = found_at (merged_versions frame false vs) v.key v.coords found.0 (merged_at frame false vs v.key v.coords ∙ found.1) in
+    (found.0, there.0, there.1)
+kept_there frame true vs v at = by (newest_at vs v.coords) refl
+  where
+    by : (o : Option Version) → newest_at vs v.coords ≡ o → (u : Version) × Contains (merged_versions frame true vs) u × (u.coords ≡ v.coords)
+    by (Some u) found =
+        let there = found_at (merged_versions frame true vs) u.key v.coords u (merged_at frame true vs u.key v.coords ∙ with_own_key (newest_at vs v.coords) u found) in
+        (u, there.0, there.1)
+    by None found =
+        absurd (Contains-nil v (subst (λ l. Contains l v) (greatest-None (λ (u : Version). u.key) _ found) (Contains-filter (λ u. coords_eq u.coords v.coords) vs v at (coords_itself v.coords))))
+
+-- a version of a piece is one of all
+of_all : (qs : List Piece) (q : Piece) (v : Version) → Contains qs q → Contains q.versions v → Contains (all_versions qs) v
+of_all [] q v at own = absurd (Contains-nil q at)
+of_all (p ∷ qs) q v at own = elim (Contains-cons p qs q at) [
+  | inl same ↦ Contains-append_left p.versions (all_versions qs) v (subst (λ (x : Piece). Contains x.versions v) (sym same) own)
+  | inr behind ↦ Contains-append_right p.versions (all_versions qs) v (of_all qs q v behind own)
+]
+
 -- what holds of each version holds of each that is kept
 pub merged_all : (frame : Frame) (last : Bool) (P : Version → Type 0) (vs : List Version) → ((v : Version) → Contains vs v → P v) → All P (merged_versions frame last vs)
 merged_all frame true P vs each =
@@ -197,10 +226,6 @@ merged_some frame true v vs = by (newest_at (v ∷ vs) v.coords) refl
         (Contains-filter (λ u. coords_eq u.coords v.coords) (v ∷ vs) v (Contains-here v vs) (coords_itself v.coords))))
 
 -- ---- the sources
-
-all_each : {X : Type 0} (P : X → Type 0) (xs : List X) → ((x : X) → Contains xs x → P x) → All P xs
-all_each P [] each = All-nil P
-all_each P (x ∷ xs) each = All-cons P x xs (each x (Contains-here x xs)) (all_each P xs (λ y at. each y (Contains-there x xs y at)))
 
 -- what a merge asks of a piece
 record IsSource (frame : Frame) (attrs : List Attr) (q : Piece) : Type 0 where
@@ -318,6 +343,21 @@ module _ (frame : Frame) (attrs : List Attr) (is_frame : IsFrame frame) (are_att
       let one = member_any (λ q. has_origin k q.head) (p ∷ ps) (sym (origins_are k (p ∷ ps)) ∙ key_found k (origins_of_all (heads_of (p ∷ ps))) at) in
       All-contains IsKey (one.0).head.origins k (source one.0 one.1).keys (key_there k (one.0).head.origins one.2)
 
+  -- a box that has the cells of all that is kept has those of each source
+  sources_in : (sub : SubBox) → All (λ (v : Version). IsTrue (is_in_box sub v.coords)) (merged_versions frame (keeps_last p.head) (all_versions (p ∷ ps)))
+      → (q : Piece) → Contains (p ∷ ps) q → All (λ (v : Version). IsTrue (is_in_box sub v.coords)) q.versions
+  sources_in sub all q at = each_holds (λ (v : Version). IsTrue (is_in_box sub v.coords)) q.versions (λ v own.
+      let kept = kept_there frame (keeps_last p.head) (all_versions (p ∷ ps)) v (of_all (p ∷ ps) q v at own) in
+      subst (λ c. IsTrue (is_in_box sub c)) kept.2 (All-contains (λ (v : Version). IsTrue (is_in_box sub v.coords)) (merged_versions frame (keeps_last p.head) (all_versions (p ∷ ps))) kept.0 all kept.1))
+
+  -- no smaller box has its cells, where that is so of each source
+  pub merged_tight : ((q : Piece) → Contains (p ∷ ps) q → IsTight q.head.low q.head.high q.versions) → IsTight (merged_piece frame id p ps).head.low (merged_piece frame id p ps).head.high (merged_piece frame id p ps).versions
+  merged_tight tight sub all =
+      let within : (q : Piece) → Contains (p ∷ ps) q → Covers sub (box_in q.head) = λ q at. let found = tight q at sub (sources_in sub all q at) in covers_corners sub (box_in q.head) found.0 found.1 in
+      let covered = hull.least sub (within p (Contains-here p ps)) (λ q at. within q (Contains-there p ps q at)) in
+      let box = hull_from (box_in p.head) (heads_of ps) in
+      (covered box.low (is_between-low box.low box.high hull.is_box.0), covered box.high (is_between-high box.low box.high hull.is_box.0))
+
   some_kept : (vs : List Version) → 1 ≤ length vs → (us : List Version) → 1 ≤ length (merged_versions frame (keeps_last p.head) (vs ++ us))
   some_kept [] some us = absurd (omega (arith, some))
   some_kept (v ∷ vs) some us = merged_some frame (keeps_last p.head) v (vs ++ us)
@@ -336,7 +376,7 @@ module _ (frame : Frame) (attrs : List Attr) (is_frame : IsFrame frame) (are_att
     low = in_domain (hull_from (box_in p.head) (heads_of ps)).low (is_between-low (hull_from (box_in p.head) (heads_of ps)).low (hull_from (box_in p.head) (heads_of ps)).high hull.is_box.0);
     high = in_domain (hull_from (box_in p.head) (heads_of ps)).high (is_between-high (hull_from (box_in p.head) (heads_of ps)).low (hull_from (box_in p.head) (heads_of ps)).high hull.is_box.0);
     corners = hull.is_box.0;
-    are_keys = all_each IsKey (origins_of_all (heads_of (p ∷ ps))) origin_is;
+    are_keys = each_holds IsKey (origins_of_all (heads_of (p ∷ ps))) origin_is;
     few_origins = few_origins;
     ascend = origins_ascend (p ∷ ps);
     span = merged_span (p ∷ ps) (merged_piece frame id p ps) merges (λ q at. (source q at).span);
@@ -358,6 +398,10 @@ module _ (frame : Frame) (attrs : List Attr) (id : ℕ) (p : Piece) (ps : List P
   -- the sources are merged into it
   pub sources_merge : MergesTo (p ∷ ps) (merged_piece frame id p ps)
   sources_merge = merges frame attrs are.is_frame are.are_attrs id p ps (λ q at. are.one_schema q p at (Contains-here p ps)) are.storable few few_origins
+
+  -- no smaller box has its cells, where that is so of each source
+  pub sources_tight : ((q : Piece) → Contains (p ∷ ps) q → IsTight q.head.low q.head.high q.versions) → IsTight (merged_piece frame id p ps).head.low (merged_piece frame id p ps).head.high (merged_piece frame id p ps).versions
+  sources_tight = merged_tight frame attrs are.is_frame are.are_attrs id p ps (λ q at. are.one_schema q p at (Contains-here p ps)) are.storable few few_origins
 
   -- and it can be written
   pub sources_fit : IsConsolidated frame attrs (merged_piece frame id p ps)

@@ -1,5 +1,5 @@
 -- How fragments are written and read, as plain functions: what a machine that writes and reads them computes.
-use Rattle.std.specs.Prelude.{◌≡◌, ℕ, Bool, true, false, List, [], ◌∷◌, ◌++◌, Some, length, slice_get, Result, Ok, IsTrue, All}
+use Rattle.std.specs.Prelude.{◌≡◌, ◌<◌, ◌^◌, Contains, ℕ, Bool, true, false, List, [], ◌∷◌, ◌++◌, Some, length, slice_get, Result, Ok, IsTrue, All}
 use Rattle.ts_base.specs.declared.keys.FragKey.{FragKey}
 use Rattle.ts_base.specs.declared.names.Name.{Name}
 use Rattle.ts_base.specs.declared.names.Part.{Part}
@@ -9,6 +9,7 @@ use Rattle.ts_base.specs.declared.heads.Piece.{Piece}
 use Rattle.ts_base.specs.declared.heads.Head.{Head}
 use Rattle.ts_store.specs.declared.call.Call.{Call}
 use Rattle.ts_store.specs.declared.call.Reply.{Reply}
+use Rattle.ts_schema.specs.declared.attrs.Attr.{Attr}
 use Rattle.ts_schema.specs.declared.frames.Frame.{Frame}
 use Rattle.ts_schema.specs.declared.schemas.Schema.{Schema}
 use Rattle.ts_schema.specs.declared.wants.Want.{Want}
@@ -17,7 +18,9 @@ use Rattle.ts_schema.specs.SchemaTexts.{AreAttrs}
 use Rattle.ts_schema.specs.Wants.{taken}
 use Rattle.ts_schema.specs.Parts.{Look, look_in, IsShort}
 use Rattle.ts_store.specs.Calls.{part_of}
-use Rattle.ts_model.specs.Consolidated.{NamesOwn, IsStorable}
+use Rattle.ts_model.specs.Pieces.{IsOrdinary, IsClose}
+use Rattle.ts_model.specs.Consolidated.{NamesOwn, IsConsolidated, IsStorable}
+use Rattle.ts_model.specs.Merging.{AreSources, merged_piece}
 use Rattle.ts_base.specs.declared.names.Name.TheVariants as name
 use Rattle.ts_store.specs.declared.call.Call.TheVariants as call
 use Rattle.ts_store.specs.declared.call.Reply.TheVariants as reply
@@ -29,7 +32,9 @@ pub data Stepped (F : Type 0) : Type 0 where
   Breaks : Part → ℕ → Stepped F
 
 -- one way to write fragments and to read them; F is how far a fetch has come
-pub record Codec (F : Type 0) : Type 0 where
+pub record Codec (F : Type 0) : Type 1 where
+  -- the pieces that can be written so in an array of a frame, in a schema with these attributes
+  pub writable : Frame → List Attr → Piece → Type 0
   -- the parts of a piece in the order of their puts, that of the head last
   pub parts : Frame → Schema → Piece → List PartBytes
   -- the part that has the head
@@ -94,13 +99,18 @@ pub record OpensWell {F : Type 0} (codec : Codec F) (tracks : F → Call → Typ
 
 -- the laws of one way to write fragments and to read them
 pub record CodecLaws {F : Type 0} (codec : Codec F) (spelled : Spelled) (tracks : Tracking F) : Type 0 where
+  -- a piece that one write makes can be written
+  pub ordinary : (frame : Frame) (attrs : List Attr) (p : Piece) → IsOrdinary frame attrs p → IsClose p → codec.writable frame attrs p
+  -- what pieces are merged into that can be written can be written too, where its versions can be counted in 32 bits
+  pub merged : (frame : Frame) (attrs : List Attr) (id : ℕ) (p : Piece) (ps : List Piece) → AreSources frame attrs (p ∷ ps) → ((q : Piece) → Contains (p ∷ ps) q → codec.writable frame attrs q)
+      → IsConsolidated frame attrs (merged_piece frame id p ps) → length (merged_piece frame id p ps).versions < 2 ^ 32 → codec.writable frame attrs (merged_piece frame id p ps)
   -- the parts of a piece that can be written spell it, where each is short enough to be got at once
-  pub parts : (frame : Frame) (s : Schema) (p : Piece) → IsStorable frame s.attrs p → All (λ x. IsShort x.bytes) (codec.parts frame s p) → spelled frame s p (look_in (codec.parts frame s p))
+  pub parts : (frame : Frame) (s : Schema) (p : Piece) → codec.writable frame s.attrs p → All (λ x. IsShort x.bytes) (codec.parts frame s p) → spelled frame s p (look_in (codec.parts frame s p))
   -- the part that has the head is the last
-  pub last : (frame : Frame) (s : Schema) (p : Piece) → IsStorable frame s.attrs p
+  pub last : (frame : Frame) (s : Schema) (p : Piece) → codec.writable frame s.attrs p
       → (front : List PartBytes) × (bytes : List ℕ) × (codec.parts frame s p ≡ front ++ record { part = codec.head_part frame; bytes = bytes } ∷ [])
   -- a piece that is spelled can be written once more, so that it can be a source of a consolidation; one of a single write has to be named by it
-  pub storable : (frame : Frame) (s : Schema) (p : Piece) (look : Look) → IsFrame frame → AreAttrs s.attrs → NamesOwn p.head → spelled frame s p look → IsStorable frame s.attrs p
+  pub storable : (frame : Frame) (s : Schema) (p : Piece) (look : Look) → IsFrame frame → AreAttrs s.attrs → NamesOwn p.head → spelled frame s p look → IsStorable frame s.attrs p × codec.writable frame s.attrs p
   -- no part comes twice
   pub once : (frame : Frame) (s : Schema) (p : Piece) (i k : ℕ) (x y : PartBytes) → slice_get (codec.parts frame s p) i ≡ Some x → slice_get (codec.parts frame s p) k ≡ Some y → x.part ≡ y.part → i ≡ k
   -- the part with the head is there, and its object is read as the piece's head

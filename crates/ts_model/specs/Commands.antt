@@ -240,7 +240,7 @@ pub record FillBox (cells : List Cell) : Type 0 where
 -- the cells may be those of a write: there are some, not too many, no two at one place, each fits, and in a dense array they are those of a box
 pub record LaidFollows (frame : Frame) (attrs : List Attr) (cells : List Cell) : Type 0 where
   pub some_cell : 1 ≤ length cells
-  pub few : length cells < 2 ^ 64
+  pub few : length cells < 2 ^ 32
   pub apart : IsTrue (are_apart cells)
   pub fit : All (CellFits frame.domain attrs) cells
   pub boxed : frame.dense ≡ true → FillBox cells

@@ -14,6 +14,8 @@ use Rattle.ts_base.specs.Keys.{key_eq, key_lt, frag_of}
 use Rattle.ts_base.specs.Coords.{coords_eq}
 use Rattle.ts_domain.specs.Domains.{is_in_domain}
 use Rattle.ts_domain.specs.Bounds.{is_between, are_bounds, cells_between}
+use Rattle.ts_domain.specs.declared.boxes.SubBox.{SubBox}
+use Rattle.ts_domain.specs.Boxes.{is_in_box}
 use Rattle.ts_schema.specs.FrameTexts.{IsFrame}
 use Rattle.ts_schema.specs.SchemaTexts.{AreAttrs}
 use Rattle.std.specs.declared.cmp.Ordering.TheVariants.{Less}
@@ -65,6 +67,15 @@ pub record IsVersion (frame : Frame) (attrs : List Attr) (head : Head) (own : Ke
   pub inside : IsTrue (is_in_domain frame.domain v.coords)
   pub hull : IsTrue (is_between head.low head.high v.coords)
   pub row : RowFits attrs v.row
+
+-- no smaller box has the cells of these versions: each box that has them all has both corners too
+abbrev pub IsTight : List ℤ → List ℤ → List Version → Type 0
+IsTight low high vs = (sub : SubBox) → All (λ (v : Version). IsTrue (is_in_box sub v.coords)) vs → IsTrue (is_in_box sub low) × IsTrue (is_in_box sub high)
+
+-- the box of the piece is the least one that has its cells, and its versions can be counted in 32 bits
+pub record IsClose (p : Piece) : Type 0 where
+  pub tight : IsTight p.head.low p.head.high p.versions
+  pub few : length p.versions < 2 ^ 32
 
 -- each version comes before all behind it in global order
 abbrev pub Climb : Frame → List Version → Type 0

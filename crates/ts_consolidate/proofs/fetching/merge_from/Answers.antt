@@ -50,7 +50,7 @@ loop-place-preserved g c =
           ∙ ap (λ got. merging_from codec c.args.job.now m.survey m.opened m.schema (suc place) (drop (suc place) m.opened) got) (sym c.in_ok-push-in-Takes.ensures.ok)
           ∙ ap (λ n. merging_from codec c.args.job.now m.survey m.opened m.schema n (drop n m.opened) c.push.new.self) next;
       got =
-          subst (AreGot m.survey.frame m.schema.attrs (take (place + 1) m.opened)) (sym c.in_ok-push-in-Takes.ensures.ok)
-          (subst (λ n. AreGot m.survey.frame m.schema.attrs (take n m.opened) (c.loop-place.got ++ c.in-Takes.versions ∷ [])) next
-          (got_more m.survey.frame m.schema.attrs m.opened c.loop-place.got place c.at-source.result.now c.in-Takes.versions c.at-source.ensures c.loop-place.invariant.got took));
+          subst (AreGot codec m.survey.frame m.schema.attrs (take (place + 1) m.opened)) (sym c.in_ok-push-in-Takes.ensures.ok)
+          (subst (λ n. AreGot codec m.survey.frame m.schema.attrs (take n m.opened) (c.loop-place.got ++ c.in-Takes.versions ∷ [])) next
+          (got_more codec m.survey.frame m.schema.attrs m.opened c.loop-place.got place c.at-source.result.now c.in-Takes.versions c.at-source.ensures c.loop-place.invariant.got took));
     }

@@ -9,5 +9,5 @@ invariant-loop-place g l = record {
   within : l.initial.place ≤ l.place;
   goes_on : merging_from g.P.Pieces.codec l.job l.merged.survey l.merged.opened l.merged.schema l.initial.place (drop l.initial.place l.merged.opened) l.initial.got
       ≡ merging_from g.P.Pieces.codec l.job l.merged.survey l.merged.opened l.merged.schema l.place (drop l.place l.merged.opened) l.got;
-  got : AreGot l.merged.survey.frame l.merged.schema.attrs (take l.place l.merged.opened) l.got;
+  got : AreGot g.P.Pieces.codec l.merged.survey.frame l.merged.schema.attrs (take l.place l.merged.opened) l.got;
 }
