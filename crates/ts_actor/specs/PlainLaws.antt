@@ -34,9 +34,8 @@ use Rattle.ts_plain.proofs.PlainPieces.{piece_again, piece_found, head_again, on
 use Rattle.ts_plain.proofs.OrderedPieces as ordered
 use Rattle.ts_model.specs.Merging.{merged_piece}
 use Rattle.ts_model.specs.Codecs.{CodecLaws, OpensWell, Stepped, Asks, Takes, Breaks}
-use Rattle.ts_actor.specs.PlainCodec.{plain_object, plain_parts, plain_codec, NeverWaits, IsPlainBroken}
-use Rattle.ts_actor.specs.PieceLaws.{whole_got, SpellsOne, RefusesBroken, OpensUnbroken, Begun, Went, AreInBox, TakesInside, IsFetchOf, First, Then, EndsWith, AtOnce, AfterReply, JudgesRight, AsksBounded, AsksOwn, TakesOrdered, TakesSpelled, WritesWell}
-use Rattle.ts_actor.specs.PlainWrites.{IsPlainStorable}
+use Rattle.ts_actor.specs.PlainCodec.{plain_object, plain_parts, plain_codec, NeverWaits, IsPlainBroken, IsPlainStorable}
+use Rattle.ts_actor.specs.PieceLaws.{whole_got, SpellsOne, RefusesBroken, OpensUnbroken, Begun, Went, AreInBox, TakesInside, IsFetchOf, First, Then, EndsWith, AtOnce, AfterReply, JudgesRight, AsksBounded, AsksOwn, TakesOrdered, TakesSpelled}
 use Rattle.ts_actor.specs.PlainMerges.{storable_plain}
 use Rattle.ts_actor.specs.PlainSources.{plain_source}
 

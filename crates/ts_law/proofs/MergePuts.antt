@@ -42,7 +42,7 @@ use Rattle.ts_law.specs.Stands.{HoldsIn, IsCommitted, IsNamed, Names, Spells, St
 use Rattle.ts_law.specs.Steps.{Advances, Comes, Keeps, Leads}
 use Rattle.ts_law.proofs.HeldLemmas.{Holds, Holds-from_get, get_apart, get_put}
 use Rattle.ts_law.proofs.LeaseSteps.{leased_history}
-use Rattle.ts_law.proofs.MergeSources.{fits, names_are, names_within, old_names, own_in, own_origins}
+use Rattle.ts_law.proofs.MergeSources.{names_are, names_within, old_names, own_in, own_origins, writable}
 use Rattle.ts_law.proofs.MergeStays.{aims_to_merge_stays, merge_carries}
 use Rattle.ts_law.proofs.Objects.{IsOnce, look_finds, part_object}
 use Rattle.ts_law.proofs.PutSteps.{Came, fault_is_true, put_asked, puts_on}
@@ -282,7 +282,7 @@ module _ {F : Type 0} (codec : Codec F) (spelled : Spelled) (tracks : Tracking F
     own_spells : Spells spelled m s.frame schema own piece
     own_spells = record {
       look = look_in own_parts;
-      spells = laws.parts s.frame schema piece (inr (fits codec spelled tracks laws opening past jobs seen m number job s o others schema merges.has c.stands got merges.got_are can))
+      spells = laws.parts s.frame schema piece (writable codec spelled tracks laws opening past jobs seen m number job s o others schema merges.has c.stands got merges.got_are can)
           (λ k d within. short_at k (slice_index_or own_parts k d) (slice_get-get_or own_parts k d within));
       held = λ p bytes found.
           let at = look_finds own_parts p bytes found in

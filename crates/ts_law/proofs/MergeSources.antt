@@ -184,7 +184,7 @@ module _ {F : Type 0} (codec : Codec F) (spelled : Spelled) (tracks : Tracking F
   keyed x q is = sym (schema_with-is g q.head.schema (is.holds).schema (is.holds).declared).1 ∙ ap (λ (t : Schema). t.key) is.same_schema
 
   -- and can be written once more
-  storable_one : (x : Opened) (q : Piece) → IsSource codec spelled g then s.frame schema x q → IsStorable s.frame schema.attrs q
+  storable_one : (x : Opened) (q : Piece) → IsSource codec spelled g then s.frame schema x q → IsStorable s.frame schema.attrs q × codec.writable s.frame schema.attrs q
   storable_one x q is =
       laws.storable s.frame schema q ((is.holds).spells).look is_frame are_attrs ((is.holds).holds).ordinary
       (subst (λ f. spelled f schema q ((is.holds).spells).look) is.same_frame (subst (λ t. spelled (is.holds).frame t q ((is.holds).spells).look) is.same_schema ((is.holds).spells).spells))
@@ -197,8 +197,11 @@ module _ {F : Type 0} (codec : Codec F) (spelled : Spelled) (tracks : Tracking F
     is_frame = is_frame;
     are_attrs = are_attrs;
     one_schema = λ p q at too. let a = piece_source p at in let b = piece_source q too in keyed a.0 p a.2 ∙ sym (keyed b.0 q b.2);
-    storable = λ q at. let x = piece_source q at in storable_one x.0 q x.2;
+    storable = λ q at. let x = piece_source q at in (storable_one x.0 q x.2).0;
   }
+
+  each_writable : (q : Piece) → Contains ps q → codec.writable s.frame schema.attrs q
+  each_writable q at = let x = piece_source q at in (storable_one x.0 q x.2).1
 
   -- each holds writes of the history now
   hold : (q : Piece) → Contains ps q → HoldsWrites h q
@@ -273,11 +276,11 @@ module _ {F : Type 0} (codec : Codec F) (spelled : Spelled) (tracks : Tracking F
         ∙ merged_taken s.frame schema.attrs job.id first rest are
 
     -- it has few origins and versions
-    counts : (nat_lt (length (merged_piece s.frame job.id first rest).head.origins) (2 ^ 32) ≡ true) × (nat_lt (length (merged_piece s.frame job.id first rest).versions) (2 ^ 64) ≡ true)
+    counts : (nat_lt (length (merged_piece s.frame job.id first rest).head.origins) (2 ^ 32) ≡ true) × (nat_lt (length (merged_piece s.frame job.id first rest).versions) (2 ^ 32) ≡ true)
     counts = and_parts _ _ (ap can_be_named (sym piece_is) ∙ can)
 
     few : length (merged_piece s.frame job.id first rest).versions < 2 ^ 64
-    few = ltb-true _ _ counts.1
+    few = let counted = ltb-true _ _ counts.1 in omega (arith, counted)
 
     few_origins : length (merged_piece s.frame job.id first rest).head.origins < 2 ^ 32
     few_origins = ltb-true _ _ counts.0
@@ -287,6 +290,10 @@ module _ {F : Type 0} (codec : Codec F) (spelled : Spelled) (tracks : Tracking F
 
     pub fits : IsConsolidated s.frame schema.attrs own_piece
     fits = subst (IsConsolidated s.frame schema.attrs) (sym piece_is) (sources_fit s.frame schema.attrs job.id first rest are few few_origins)
+
+    -- and can be written
+    pub writable : codec.writable s.frame schema.attrs own_piece
+    writable = subst (codec.writable s.frame schema.attrs) (sym piece_is) (laws.merged s.frame schema.attrs job.id first rest are each_writable (sources_fit s.frame schema.attrs job.id first rest are few few_origins) (ltb-true _ _ counts.1))
 
     -- it holds what its origins wrote
     own_holds : HoldsWrites h own_piece

@@ -32,7 +32,7 @@ use Rattle.ts_law.specs.Ends.{FindsNoArray, HasDeclared, IsDeleted, IsTrueEnd, I
 use Rattle.ts_model.specs.Codecs.{Codec, CodecLaws, Spelled, Tracking}
 use Rattle.ts_model.specs.Jobs.{AreApart, IsFit, deletion_as, frag_of_job, key_of, looked_at, looks_at, schema_of_job, written_as}
 use Rattle.ts_law.specs.Kept.{Claims, Clean, Putting, Works}
-use Rattle.ts_model.specs.Pieces.{HoldsWrite, IsOrdinary}
+use Rattle.ts_model.specs.Pieces.{HoldsWrite, IsOrdinary, IsClose}
 use Rattle.ts_model.specs.Queries.{delete_condition}
 use Rattle.ts_law.specs.Stands.{Spells, Stands}
 use Rattle.ts_model.specs.States.{vac_of}
@@ -60,7 +60,7 @@ use Rattle.ts_law.proofs.Deletes.{delete_condition_sparse, delete_condition_spel
 use Rattle.ts_law.proofs.Effects.{Added, Still, put_went, still_leads}
 use Rattle.ts_law.proofs.HeldLemmas.{Holds, get_apart, get_put}
 use Rattle.ts_model.proofs.HistoryLaws.{deletions-append, frame_facts, schema_facts, schema_there-is, writes-append}
-use Rattle.ts_model.proofs.LaidLaws.{written_held, written_ordinary}
+use Rattle.ts_model.proofs.LaidLaws.{written_held, written_ordinary, written_close}
 use Rattle.ts_law.proofs.LaidRefusals.{FailsByColumns, columns_true, laid_fails}
 use Rattle.ts_model.proofs.Laying.{laid_follows}
 use Rattle.ts_model.proofs.ListLemmas.{Contains-here, Contains-nil, Contains-only}
@@ -447,6 +447,10 @@ module _ {F : Type 0} (codec : Codec F) (spelled : Spelled) (tracks : Tracking F
     own_ordinary fit is = written_ordinary frame there.attrs (key_of job) there.key w cells (own_frame_is is) (own_schema_is is).0 (key_fits fit) (own_schema_is is).1
         (subst (λ x. IsTrue (fits x)) writes_them fit.command) lays
 
+    -- and no smaller box has its cells
+    own_close : IsFit job → IsHistory h → IsClose own_piece
+    own_close fit is = written_close frame there.attrs (key_of job) there.key w cells (own_frame_is is) (subst (λ x. IsTrue (fits x)) writes_them fit.command) lays
+
     -- the piece holds what the job writes
     own_holds : IsFit job → IsHistory h → HoldsWrite own_write own_piece
     own_holds fit is = written_held frame there.attrs (key_of job) there.key w cells (own_frame_is is) (own_schema_is is).0 (key_fits fit) (own_schema_is is).1
@@ -473,7 +477,7 @@ module _ {F : Type 0} (codec : Codec F) (spelled : Spelled) (tracks : Tracking F
           declared = works.declared;
           in_time = ap (nat_le (there.key).t) (sym looks) ∙ (schema_there-is (history_told jobs past (works.schemas).before) (looked_at job) there works.holds).1;
           some_cell = follows.some_cell;
-          few = follows.few;
+          few = let few = follows.few in omega (arith, few);
           apart = follows.apart;
           fit = follows.fit;
           boxed = λ dense. let box = follows.boxed dense in (box.sub, box.each);
@@ -483,7 +487,7 @@ module _ {F : Type 0} (codec : Codec F) (spelled : Spelled) (tracks : Tracking F
     own_spells : (c : ComesHere (Puts own_objects (length own_parts) own_end)) → Spells spelled m frame there frag own_piece
     own_spells c = record {
       look = look_in own_parts;
-      spells = laws.parts frame there own_piece (inl (own_ordinary c.fit (c.stands).history)) (λ k d within. short_at k (slice_index_or own_parts k d) (slice_get-get_or own_parts k d within));
+      spells = laws.parts frame there own_piece (laws.ordinary frame there.attrs own_piece (own_ordinary c.fit (c.stands).history) (own_close c.fit (c.stands).history)) (λ k d within. short_at k (slice_index_or own_parts k d) (slice_get-get_or own_parts k d within));
       held = λ p bytes found.
           let at = look_finds own_parts p bytes found in
           (c.claims).held at.0 (part_object frag (record { part = p; bytes = bytes }))
