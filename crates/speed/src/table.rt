@@ -110,10 +110,14 @@ fn made(alloc: Global) -> Result<Columns, OutOfMemory> {
 
 // The text of a cell.
 fn text_of(cell: u64) -> &'static [u8] {
-    let count = 5 + (cell % 10) as usize;
-    match NAME.get(..count) {
-        Some(text) => text,
-        None => NAME,
+    front(NAME, 5 + (cell % 10) as usize)
+}
+
+// The front of bytes, or all where they are fewer.
+fn front(bytes: &[u8], count: usize) -> &[u8] {
+    match bytes.get(..count) {
+        Some(front) => front,
+        None => bytes,
     }
 }
 

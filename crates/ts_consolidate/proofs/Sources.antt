@@ -1,8 +1,7 @@
 -- What the fetches of sources take: pieces that can be written, and that can be merged.
-use Rattle.std.proofs.Common.{◌≡◌, ℕ, suc, zero, true, false, List, [], ◌∷◌, ◌++◌, length, take, Bool, not, Some, Result, Ok, Err, IfOk, inl, inr, refl, sym, ap, subst, ◌∙◌, arith}
+use Rattle.std.proofs.Common.{◌≡◌, ℕ, suc, zero, true, false, List, [], ◌∷◌, ◌++◌, length, take, Bool, not, cond, Some, Result, Ok, Err, IfOk, inl, inr, refl, sym, ap, subst, ◌∙◌, arith}
 use Rattle.std.specs.Prelude.{◌<◌, ◌^◌, slice_get, nat_lt, Contains, All, IsTrue, MatchResult}
-use Rattle.std.proofs.lemmas.Bool.{true≢false, and_parts}
-use Rattle.std.proofs.lemmas.Nat.{ltb-true}
+use Rattle.std.proofs.lemmas.Bool.{true≢false, and_parts, ltb-true}
 use Rattle.std.proofs.lemmas.Option.{same_Some, none-some}
 use Rattle.std.proofs.lemmas.List.Elements.{All-nil, All-cons, All-head, All-tail, All-weaker}
 use Rattle.ts_base.specs.declared.keys.Key.{Key}
@@ -26,7 +25,10 @@ use Rattle.ts_model.specs.Consolidated.{IsConsolidated, IsMergedVersion, IsStora
 use Rattle.ts_model.specs.Pieces.{IsVersion}
 use Rattle.ts_model.specs.Merging.{AreSources, EachAlike, HasBox, merged_piece, merged_with}
 use Rattle.ts_model.specs.Merging as merges
-use Rattle.ts_model.specs.States.{all_of, can_be_named, heads_of}
+use Rattle.ts_model.specs.States.{all_of, can_be_named, heads_of, merge_objects, putting, puts_piece}
+use Rattle.ts_model.specs.declared.states.State.TheVariants.{Over}
+use Rattle.ts_model.specs.declared.answers.Outcome.TheVariants as outcome
+use Rattle.ts_base.specs.declared.keys.FragKey.{FragKey}
 use Rattle.ts_model.proofs.ListLemmas.{Contains-nil, Contains-cons}
 use Rattle.ts_model.proofs.MergedFits.{source_box}
 use Rattle.ts_actor.specs.PieceLaws.{AfterReply, AtOnce, First, MayReply, TakesStorable, Then, got_with, sized_with, whole_got}
@@ -154,7 +156,6 @@ abbrev pub Merges : {F : Type 0} → Codec F → Type 0
 Merges codec = (frame : Frame) (attrs : List Attr) (id : ℕ) (p : Piece) (ps : List Piece) → AreSources frame attrs (p ∷ ps) → ((q : Piece) → Contains (p ∷ ps) q → codec.writable frame attrs q)
     → IsConsolidated frame attrs (merged_piece frame id p ps) → length (merged_piece frame id p ps).versions < 2 ^ 32 → codec.writable frame attrs (merged_piece frame id p ps)
 
-
 -- the number of versions of a piece that can be named
 few_versions : (p : Piece) → can_be_named p ≡ true → length p.versions < 2 ^ 32
 few_versions p named = ltb-true (length p.versions) (2 ^ 32) (and_parts (nat_lt (length p.head.origins) (2 ^ 32)) (nat_lt (length p.versions) (2 ^ 32)) named).1
@@ -187,7 +188,7 @@ module _ {F : Type 0} (codec : Codec F) (s : Survey) (schema : Schema) (o : Open
           let ps = pieces_of codec s.frame schema.attrs others got in
           let sources = are_sources codec s.frame schema.attrs schema.key (o ∷ others) (vs ∷ got) (has.survey).is_frame has.attrs in_schema are in
           let made : IsConsolidationOf s.frame schema.attrs id p ps piece = subst (λ (f : Frame). IsConsolidationOf f schema.attrs id p ps piece) frames
-              (of schema.attrs p ps (subst (λ (f : Frame). AreSources f schema.attrs (p ∷ ps)) (sym frames) sources) refl (heads_same codec s.frame schema.attrs others got are.1 ∙ sym same) (each_alike codec s.frame schema.attrs (o ∷ others) (vs ∷ got) are)) in (
+          (of schema.attrs p ps (subst (λ (f : Frame). AreSources f schema.attrs (p ∷ ps)) (sym frames) sources) refl (heads_same codec s.frame schema.attrs others got are.1 ∙ sym same) (each_alike codec s.frame schema.attrs (o ∷ others) (vs ∷ got) are)) in (
             made.fits,
             λ named. subst (codec.writable s.frame schema.attrs) (sym made.is) (merged s.frame schema.attrs id p ps sources (each_writable codec s.frame schema.attrs (o ∷ others) (vs ∷ got) are)
                 (subst (IsConsolidated s.frame schema.attrs) made.is made.fits) (few_versions (merged_piece s.frame id p ps) (ap can_be_named (sym made.is) ∙ named))),
@@ -210,3 +211,14 @@ each_spelled frame attrs f id first hs vs (Err e) is made = tt
 pub true_of : (b : Bool) → not b ≡ false → b ≡ true
 true_of true e = refl
 true_of false e = absurd (true≢false e)
+
+-- what is put of a piece that can be named
+pub puts_named : {F : Type 0} (codec : Codec F) (f frame : Frame) (schema : Schema) (p piece : Piece) (ns names : List FragKey) (n count : ℕ)
+    → f ≡ frame → p ≡ piece → ns ≡ names → n ≡ count → can_be_named p ≡ true
+    → putting (merge_objects codec f schema p ns) 0 (outcome.Consolidated p.head.frag n) ≡ puts_piece codec frame schema names count piece
+puts_named codec f frame schema p piece ns names n count frames same all counted named =
+    ap (λ g. putting (merge_objects codec g schema p ns) 0 (outcome.Consolidated p.head.frag n)) frames
+    ∙ ap (λ l. putting (merge_objects codec frame schema p l) 0 (outcome.Consolidated p.head.frag n)) all
+    ∙ ap (λ k. putting (merge_objects codec frame schema p names) 0 (outcome.Consolidated p.head.frag k)) counted
+    ∙ ap (λ b. cond b (putting (merge_objects codec frame schema p names) 0 (outcome.Consolidated p.head.frag count)) (Over outcome.OutOfMemory)) (sym named)
+    ∙ ap (puts_piece codec frame schema names count) same

@@ -24,11 +24,11 @@ returns-clause-sources c =
     let head = c.merged_head-head.result in
     let kept = c.in_ok-versions.versions in
     let versions : kept ≡ merged_versions frame first.dense (all_got c.args.got) = c.in_ok-versions.ensures ∙ ap (merged_versions frame first.dense) c.in_ok-all.ensures in
-    let of : head ≡ merged_head c.args.id first others (length kept) = c.merged_head-head.ensures ∙ ap (merged_head c.args.id first others) c.len-2.ensures in
+    let of : head ≡ merged_head c.args.id first others (length kept) = c.merged_head-head.ensures ∙ ap (merged_head c.args.id first others) c.len-3.ensures in
     let heads = of ∙ ap (λ (vs : List Version). merged_head c.args.id first others (length vs)) versions in
     let piece : Piece = record { head = head; versions = kept } in
     let made : piece ≡ merged_with frame c.args.id first others (all_got c.args.got) = λ i. record { head = heads i; versions = versions i } in
-    let few : length kept < 2 ^ 64 = omega (arith, c.len-2.type_inv, c.len-2.ensures) in
+    let few : length kept < 2 ^ 64 = omega (arith, c.len-3.type_inv, c.len-3.ensures) in
     let origins : length head.origins ≡ length c.in_ok-origins.origins = ap (λ (h : Head). length h.origins) of ∙ ap (λ (ks : List Key). length ks) (sym c.in_ok-origins.ensures) in
     let few_origins : length head.origins < 2 ^ 32 = omega (arith, origins, c.len.ensures, c.from.ensures, c.if-len-from.false) in
     λ attrs p ps are same rest alike. merged_sources frame attrs c.args.id first others c.args.got p ps piece made few few_origins are same rest alike
