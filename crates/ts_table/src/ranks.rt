@@ -91,7 +91,7 @@ pub(crate) fn places_by_rank(
     ensures { IfOk result (AreOrdered (cells_cmp domain.now order) table.now) }
 {
     let ranks = ranks_of(alloc, domain, order, table)?;
-    let ranks = sorted(ranks)?;
+    let ranks = sorted(ranks);
     places_of(alloc, ranks.as_slice())
 }
 
@@ -254,14 +254,14 @@ fn steps_on(line: &Line, number: i128) -> u64
     }
 }
 
-// The ranks in their order.
-fn sorted(ranks: RankedList) -> Result<RankedList, OutOfMemory>
-    ensures each { IfOk result (IsPermutation ranks) }
-    ensures sorted { IfOk result (IsSorted rank_cmp) }
+// The ranks in their order. No two are the same, since each has a place of its own.
+fn sorted(ranks: RankedList) -> RankedList
+    ensures each { IsPermutation ranks result }
+    ensures sorted { IsSorted rank_cmp result }
 {
     let mut ranks = ranks.into_vec();
-    ranks.sort()?;
-    Ok(RankedList::from_vec(ranks))
+    ranks.sort_unstable();
+    RankedList::from_vec(ranks)
 }
 
 // The places of ranks.

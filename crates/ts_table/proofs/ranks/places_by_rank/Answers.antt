@@ -7,5 +7,5 @@ use Rattle.ts_table.proofs.ranks.places_by_rank.Goals as goal
 
 pub returns : goal.returns
 returns c =
-    let law = ordered_from c.args.domain.now c.args.table.now c.requires.sound c.requires.inside c.args.order c.in_ok-ranks-2.ranks (rw c.in_ok-ranks.ensures at c.in_ok-ranks-2.ensures.each) c.in_ok-ranks-2.ensures.sorted in
-    answered (cells_cmp c.args.domain.now c.args.order) c.args.table.now (map place_of c.in_ok-ranks-2.ranks) c.places_of.result law (rw c.as_slice.ensures at c.places_of.ensures)
+    let law = ordered_from c.args.domain.now c.args.table.now c.requires.sound c.requires.inside c.args.order c.sorted-ranks.result (rw c.in_ok-ranks.ensures at c.sorted-ranks.ensures.each) c.sorted-ranks.ensures.sorted in
+    answered (cells_cmp c.args.domain.now c.args.order) c.args.table.now (map place_of c.sorted-ranks.result) c.places_of.result law (rw c.as_slice.ensures at c.places_of.ensures)
