@@ -1,7 +1,7 @@
 -- Counting the places of cells and of space tiles, dimension by dimension.
-use Rattle.std.proofs.Common.{◌≡◌, ℕ, ◌+◌, ◌*◌, ◌/◌, ◌^◌, ◌<◌, ◌≤◌, true, List, [], ◌∷◌, length, get_or, set, Some, refl, ◌⊎◌, inl, inr, get_or-set_same, get_or-set_other, sym, ap, ◌∙◌, arith, pos, negsuc, ◌-ℤ◌, ◌≤ℤ◌}
+use Rattle.std.proofs.Common.{◌≡◌, ℕ, zero, suc, ◌+◌, ◌*◌, ◌/◌, ◌^◌, ◌<◌, ◌≤◌, true, List, [], ◌∷◌, length, get_or, set, Some, refl, ◌⊎◌, inl, inr, get_or-set_same, get_or-set_other, sym, ap, ◌∙◌, arith, pos, negsuc, ◌-ℤ◌, ◌≤ℤ◌}
 use Rattle.std.specs.Prelude.{ℤ, slice_get, ◌+ℤ◌, IsTrue, All, unsigned_abs, int_le}
-use Rattle.std.proofs.lemmas.List.{get_or-map, length-map}
+use Rattle.std.proofs.lemmas.List.{get_or-map, length-map, get_or_default, same_lists}
 use Rattle.std.proofs.lemmas.Int.{ints}
 use Rattle.std.proofs.lemmas.Nat.{div-mul-add}
 use Rattle.std.proofs.lemmas.Bool.{and_from, cases_eq}
@@ -26,8 +26,8 @@ use Rattle.ts_table.specs.declared.ranks.Counted.{Counted}
 use Rattle.ts_table.specs.declared.ranks.Counted.TheVariants.{Cells, Tiles}
 use Rattle.ts_table.specs.declared.ranks.Line.{Line}
 use Rattle.ts_table.specs.Orders.{LiesInside}
-use Rattle.ts_table.specs.Tables.{no_version, version_or}
-use Rattle.ts_table.specs.Ranks.{IsCountable, number_of, numbers_of, numbers_box, place_in, front_place, IsLine}
+use Rattle.ts_table.specs.Tables.{column_of, no_version, version_or}
+use Rattle.ts_table.specs.Ranks.{IsCountable, number_of, numbers_of, numbers_box, place_in, front_place, IsLine, steps_on, counted_on, CanCount, ArePlaces}
 use Rattle.ts_table.proofs.RankOrders.{numbers_inside}
 
 -- there is a number for each dimension
@@ -65,8 +65,8 @@ module _ (counted : Counted) (dims : List Dim) (order : Order) (at : List ℤ) (
   -- one dimension more
   pub count_more : (rank place : ℕ) (d : Dim) (line : Line) → rank < length dims → d ≡ get_or dims (dim_at order (length dims) rank) d → IsLine counted d line
       → d.low ≤ℤ get_or at (dim_at order (length dims) rank) (pos 0) → place ≡ front_place counted dims order rank at
-      → (place * line.count + natural_of (get_or at (dim_at order (length dims) rank) (pos 0) -ℤ line.low) / line.extent ≡ front_place counted dims order (rank + 1) at)
-      × (place * line.count + natural_of (get_or at (dim_at order (length dims) rank) (pos 0) -ℤ line.low) / line.extent < 2 ^ 64)
+      → (place * line.count + steps_on line (get_or at (dim_at order (length dims) rank) (pos 0)) ≡ front_place counted dims order (rank + 1) at)
+      × (place * line.count + steps_on line (get_or at (dim_at order (length dims) rank) (pos 0)) < 2 ^ 64)
   count_more rank place d line within here is above before =
       let dim = dim_at order (length dims) rank in
       let below : dim < length dims = dim_at-below order (length dims) rank within in
@@ -78,9 +78,9 @@ module _ (counted : Counted) (dims : List Dim) (order : Order) (at : List ℤ) (
       let at_at : get_or (numbers_of counted dims at) dim (pos 0) ≡ number_of counted d (get_or at dim (pos 0)) =
       get_or-numbers_of counted dims at dim d (length-is_in_domain dims at inside) below here in
       let step = place_step order box.low box.high (numbers_of counted dims at) (numbers_inside counted dims at sound inside) (few counted) rank place line.count
-      (natural_of (get_or at dim (pos 0) -ℤ line.low) / line.extent) (rw long within) before
+      (steps_on line (get_or at dim (pos 0))) (rw long within) before
       (rw (long, at_low, at_high) is.count)
-      (rw (long, at_low, at_at, is.low) (sym (is.steps (get_or at dim (pos 0)) above))) in
+      (rw (long, at_low, at_at) (sym (is.steps (get_or at dim (pos 0)) above))) in
       step
 
   -- all dimensions
@@ -158,28 +158,30 @@ module _ (dims : List Dim) (i : ℕ) (d : Dim) (sound : All IsSoundDim dims) (co
       let steps = (steps_between d.low d.high (get_or at i (pos 0)) (and_from (int_le d.low (get_or at i (pos 0))) (int_le (get_or at i (pos 0)) d.high) le_low le_high)).0 in
       (between.0, omega (arith, steps, side_few))
 
--- ---- the places of all versions, counted on by one dimension
+-- ---- places counted on along a line, one by one
 
-module _ (counted : Counted) (dims : List Dim) (order : Order) (vs : List Version) (sound : All IsSoundDim dims) (countable : IsCountable dims) (inside : All (LiesInside dims) vs)
-    (rank dim : ℕ) (d : Dim) (line : Line) (within : rank < length dims) (is_dim : dim ≡ dim_at order (length dims) rank) (there : slice_get dims dim ≡ Some d) (is : IsLine counted d line)
-  where
-    here : d ≡ get_or dims dim d
-    here = sym (get_or_from_slice_get dims dim d d there)
+length-counted_on : (line : Line) (xs : List ℤ) (places : List ℕ) → length xs ≡ length places → length (counted_on line xs places) ≡ length places
+length-counted_on line [] [] same = refl
+length-counted_on line [] (p ∷ places) same = cc
+length-counted_on line (x ∷ xs) [] same = refl
+length-counted_on line (x ∷ xs) (p ∷ places) same = ap suc (length-counted_on line xs places (cc))
 
-    below : dim < length dims
-    below = slice_get_within dims dim d there
+get_or-counted_on : (line : Line) (xs : List ℤ) (places : List ℕ) (k : ℕ) → length xs ≡ length places → k < length places
+    → get_or (counted_on line xs places) k 0 ≡ get_or places k 0 * line.count + steps_on line (get_or xs k (pos 0))
+get_or-counted_on line xs [] k same below = absurd (omega (arith, below))
+get_or-counted_on line [] (p ∷ places) k same below = cc
+get_or-counted_on line (x ∷ xs) (p ∷ places) zero same below = refl
+get_or-counted_on line (x ∷ xs) (p ∷ places) (suc k) same below = get_or-counted_on line xs places k (cc) (omega (arith, below))
 
-    pub steps_fit : (k : ℕ) → k < length vs → (line.low ≤ℤ get_or (version_or vs k).coords dim (pos 0)) × (natural_of (get_or (version_or vs k).coords dim (pos 0) -ℤ line.low) < 2 ^ 64)
-    steps_fit k k_below = rw is.low (coord_few dims dim d sound countable below here (version_or vs k).coords (inside k no_version k_below))
-
-    pub counted_on : (k place steps : ℕ) → k < length vs → place ≡ front_place counted dims order rank (version_or vs k).coords
-        → steps ≡ natural_of (get_or (version_or vs k).coords dim (pos 0) -ℤ line.low) / line.extent
-        → (place * line.count + steps ≡ front_place counted dims order (rank + 1) (version_or vs k).coords) × (place * line.count + steps < 2 ^ 64)
-    counted_on k place steps k_below before are =
-        let at = (version_or vs k).coords in
-        let at_dim : d ≡ get_or dims (dim_at order (length dims) rank) d = here ∙ ap (λ i. get_or dims i d) is_dim in
-        let above : d.low ≤ℤ get_or at dim (pos 0) = (coord_few dims dim d sound countable below here at (inside k no_version k_below)).0 in
-        rw (are, is_dim) (count_more counted dims order at sound (inside k no_version k_below) countable rank place d line within at_dim is (rw is_dim at above) before)
+-- when all are done
+pub all_counted : (line : Line) (xs : List ℤ) (old new : List ℕ) → length xs ≡ length old → length new ≡ length old
+    → ((k : ℕ) → k < length old → get_or new k 0 ≡ get_or old k 0 * line.count + steps_on line (get_or xs k (pos 0))) → new ≡ counted_on line xs old
+all_counted line xs old new same long each =
+    let whole = length-counted_on line xs old same in
+    same_lists new (counted_on line xs old) (long ∙ sym whole) (λ k d below.
+    let within : k < length old = omega (arith, below, long) in
+    let other : k < length (counted_on line xs old) = omega (arith, within, whole) in
+    get_or_default new k d 0 below ∙ each k within ∙ sym (get_or-counted_on line xs old k same within) ∙ get_or_default (counted_on line xs old) k 0 d other)
 
 -- one place more is counted on
 pub done_more : (places : List ℕ) (i v : ℕ) (new : ℕ → ℕ) → i < length places → v ≡ new i → ((k : ℕ) → k < i → get_or places k 0 ≡ new k) → (k : ℕ) → k < i + 1 → get_or (set places i v) k 0 ≡ new k
@@ -193,3 +195,58 @@ pub left_less : (places : List ℕ) (i v n : ℕ) (old : ℕ → ℕ) → ((k : 
 left_less places i v n old left k after below =
     let apart : k ≡ i → ⊥ = λ same. omega (arith, same, after) in
     get_or-set_other places i k v 0 apart ∙ left k (omega (arith, after)) below
+
+-- ---- the places of all versions, counted on by one dimension
+
+module _ (counted : Counted) (dims : List Dim) (order : Order) (vs : List Version) (sound : All IsSoundDim dims) (countable : IsCountable dims) (inside : All (LiesInside dims) vs)
+    (rank dim : ℕ) (d : Dim) (line : Line) (within : rank < length dims) (is_dim : dim ≡ dim_at order (length dims) rank) (there : slice_get dims dim ≡ Some d) (is : IsLine counted d line)
+  where
+    here : d ≡ get_or dims dim d
+    here = sym (get_or_from_slice_get dims dim d d there)
+
+    below : dim < length dims
+    below = slice_get_within dims dim d there
+
+    fit_at : (k : ℕ) → k < length vs → (line.low ≤ℤ get_or (version_or vs k).coords dim (pos 0)) × (natural_of (get_or (version_or vs k).coords dim (pos 0) -ℤ line.low) < 2 ^ 64)
+    fit_at k k_below = rw is.low (coord_few dims dim d sound countable below here (version_or vs k).coords (inside k no_version k_below))
+
+    count_at : (k place : ℕ) → k < length vs → place ≡ front_place counted dims order rank (version_or vs k).coords
+        → (place * line.count + steps_on line (get_or (version_or vs k).coords dim (pos 0)) ≡ front_place counted dims order (rank + 1) (version_or vs k).coords)
+        × (place * line.count + steps_on line (get_or (version_or vs k).coords dim (pos 0)) < 2 ^ 64)
+    count_at k place k_below before =
+        let at = (version_or vs k).coords in
+        let at_dim : d ≡ get_or dims (dim_at order (length dims) rank) d = here ∙ ap (λ i. get_or dims i d) is_dim in
+        let above : d.low ≤ℤ get_or at dim (pos 0) = (coord_few dims dim d sound countable below here at (inside k no_version k_below)).0 in
+        rw is_dim (count_more counted dims order at sound (inside k no_version k_below) countable rank place d line within at_dim is (rw is_dim at above) before)
+
+    at_column : (k : ℕ) → k < length vs → get_or (column_of vs dim) k (pos 0) ≡ get_or (version_or vs k).coords dim (pos 0)
+    at_column k k_below = get_or-map (λ (v : Version). get_or v.coords dim (pos 0)) vs k no_version (pos 0) k_below
+
+    long_column : length (column_of vs dim) ≡ length vs
+    long_column = length-map vs (λ (v : Version). get_or v.coords dim (pos 0))
+
+    module _ (places : List ℕ) (so_far : ArePlaces (front_place counted dims order rank) vs places) where
+      -- the column of the dimension counts the places on
+      pub can_count : CanCount line (column_of vs dim) places
+      can_count = record {
+        some = is.some;
+        long = long_column ∙ sym so_far.long;
+        above = λ k k_below. let there : k < length vs = omega (arith, k_below, so_far.long) in rw (at_column k there) (fit_at k there).0;
+        few = λ k k_below. let there : k < length vs = omega (arith, k_below, so_far.long) in rw (at_column k there) (fit_at k there).1;
+        fits = λ k k_below. let there : k < length vs = omega (arith, k_below, so_far.long) in rw (at_column k there) (count_at k (get_or places k 0) there (so_far.each k there)).1;
+      }
+
+      pub placed_on : (new : List ℕ) → new ≡ counted_on line (column_of vs dim) places → ArePlaces (front_place counted dims order (rank + 1)) vs new
+      placed_on new are =
+          let long : length (column_of vs dim) ≡ length places = long_column ∙ sym so_far.long in
+          rw are (record {
+            long = length-counted_on line (column_of vs dim) places long ∙ so_far.long;
+            each = λ k k_below. get_or-counted_on line (column_of vs dim) places k long (omega (arith, k_below, so_far.long)) ∙ ap (λ x. get_or places k 0 * line.count + steps_on line x) (at_column k k_below) ∙ (count_at k (get_or places k 0) k_below (so_far.each k k_below)).0;
+          })
+
+      -- where no version has the dimension there is none
+      pub none_placed : All (λ (v : Version). length v.coords ≤ dim) vs → ArePlaces (front_place counted dims order (rank + 1)) vs places
+      none_placed none = record {
+        long = so_far.long;
+        each = λ k k_below. absurd (omega (arith, below, none k no_version k_below, length-is_in_domain dims (version_or vs k).coords (inside k no_version k_below)));
+      }

@@ -1,5 +1,5 @@
 -- Cells as they are ranked: by the place of their space tile, then by their own place in the domain, then by their place in a list.
-use Rattle.std.specs.Prelude.{◌≡◌, ℕ, ◌≤◌, ◌<◌, ◌-◌, ◌/◌, ◌^◌, ℤ, ◌-ℤ◌, ◌≤ℤ◌, List, map, length, take, slice_index_or}
+use Rattle.std.specs.Prelude.{◌≡◌, ℕ, ◌≤◌, ◌<◌, ◌+◌, ◌-◌, ◌*◌, ◌/◌, ◌^◌, ℤ, pos, ◌-ℤ◌, ◌≤ℤ◌, List, [], ◌∷◌, map, length, take, slice_index_or}
 use Rattle.std.specs.List.{range_with_len}
 use Rattle.std.specs.declared.cmp.Ordering.{Ordering}
 use Rattle.ts_base.specs.declared.heads.Version.{Version}
@@ -48,12 +48,29 @@ abbrev pub front_place : Counted → List Dim → Order → ℕ → List ℤ →
 front_place counted dims order count at =
     place_of (take count (turned order (numbers_box counted dims).low)) (take count (turned order (numbers_box counted dims).high)) (take count (turned order (numbers_of counted dims at)))
 
+-- how many cells or space tiles lie before that of a coordinate
+abbrev pub steps_on : Line → ℤ → ℕ
+steps_on line x = natural_of (x -ℤ line.low) / line.extent
+
 -- so are the cells or the space tiles along a dimension counted
 pub record IsLine (counted : Counted) (d : Dim) (line : Line) : Type 0 where
   pub low : line.low ≡ d.low
   pub some : 1 ≤ line.extent
   pub count : line.count ≡ count_between (number_of counted d d.low) (number_of counted d d.high)
-  pub steps : (x : ℤ) → d.low ≤ℤ x → natural_of (number_of counted d x -ℤ number_of counted d d.low) ≡ natural_of (x -ℤ d.low) / line.extent
+  pub steps : (x : ℤ) → d.low ≤ℤ x → natural_of (number_of counted d x -ℤ number_of counted d d.low) ≡ steps_on line x
+
+-- places, counted on along a line by as many coordinates
+abbrev pub counted_on : Line → List ℤ → List ℕ → List ℕ
+counted_on line (x ∷ xs) (place ∷ places) = (place * line.count + steps_on line x) ∷ counted_on line xs places
+counted_on line _ _ = []
+
+-- the numbers of this fit 64 bits
+pub record CanCount (line : Line) (column : List ℤ) (places : List ℕ) : Type 0 where
+  pub some : 1 ≤ line.extent
+  pub long : length column ≡ length places
+  pub above : (k : ℕ) → k < length places → line.low ≤ℤ slice_index_or column k (pos 0)
+  pub few : (k : ℕ) → k < length places → natural_of (slice_index_or column k (pos 0) -ℤ line.low) < 2 ^ 64
+  pub fits : (k : ℕ) → k < length places → slice_index_or places k 0 * line.count + steps_on line (slice_index_or column k (pos 0)) < 2 ^ 64
 
 -- these are the places of the cells of versions
 pub record ArePlaces (place : List ℤ → ℕ) (versions : List Version) (places : List ℕ) : Type 0 where

@@ -8,9 +8,9 @@ ghost use Rattle.ts_domain.specs.Domains.{whole_domain};
 ghost use Rattle.ts_order.specs.Orders.{dim_at};
 ghost use Rattle.ts_table.specs.Orders.{cells_cmp, LiesInside};
 ghost use Rattle.ts_table.specs.Ordered.{AreOrdered};
-ghost use Rattle.ts_table.specs.Ranks.{IsCountable, IsLine, ArePlaces, place_in, front_place, tile_place, cell_place, ranks_of, rank_cmp};
-ghost use Rattle.ts_table.specs.Tables.{version_or};
+ghost use Rattle.ts_table.specs.Ranks.{IsCountable, IsLine, steps_on, CanCount, counted_on, ArePlaces, place_in, front_place, tile_place, cell_place, ranks_of, rank_cmp};
 
+use crate::numbers::Numbers;
 use crate::order::CellOrder;
 use crate::table::Table;
 use std::alloc::Global;
@@ -195,9 +195,33 @@ fn count_on(
 {
     let dim = dim_at(order, domain.count(), rank);
     let line = line_of(counted, domain.dim(dim));
+    if let Some(column) = table.column(dim) {
+        match column.as_narrow() {
+            Some(narrow) => count_narrow(&line, narrow, places),
+            None => count_wide(&line, column, places),
+        }
+    }
+}
+
+// Counts places on along a line, by these coordinates.
+fn count_narrow(line: &Line, column: &[i64], places: &mut [u64])
+    requires { CanCount line.now column.now places.old }
+    ensures { places.new ≡ counted_on line.now column.now places.old }
+{
     for place in 0..places.len() {
-        let number = coord_at(table, place as u64, dim);
-        places[place] = places[place] * line.count + steps_on(&line, number);
+        let steps = steps_on(line, column[place] as i128);
+        places[place] = places[place] * line.count + steps;
+    }
+}
+
+// Counts places on along a line, by these coordinates.
+fn count_wide(line: &Line, column: &Numbers, places: &mut [u64])
+    requires { CanCount line.now column.now places.old }
+    ensures { places.new ≡ counted_on line.now column.now places.old }
+{
+    for place in 0..places.len() {
+        let steps = steps_on(line, column.at_or_zero(place as u64));
+        places[place] = places[place] * line.count + steps;
     }
 }
 
@@ -211,14 +235,6 @@ fn dim_at(order: Order, count: u8, rank: u8) -> u8
         Order::Row => rank,
         Order::Col => count - 1 - rank,
     }
-}
-
-// The coordinate of a version along a dimension, or 0 if there is none.
-fn coord_at(table: &Table, place: u64, dim: u8) -> i128
-    requires { place < length table.now }
-    ensures { result ≡ slice_index_or (version_or table.now place).coords dim (pos 0) }
-{
-    table.coord(place, dim).unwrap_or(0)
 }
 
 // How the cells or the space tiles along a dimension are counted.
@@ -244,7 +260,7 @@ fn steps_on(line: &Line, number: i128) -> u64
     requires some { 1 ≤ line.now.extent }
     requires above { line.now.low ≤ℤ number }
     requires few { natural_of (number -ℤ line.now.low) < 2 ^ 64 }
-    ensures { result ≡ natural_of (number -ℤ line.now.low) / line.now.extent }
+    ensures { result ≡ steps_on line.now number }
 {
     let steps = number.abs_diff(line.low) as u64;
     if line.extent == 1 {
