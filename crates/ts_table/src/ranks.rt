@@ -1,5 +1,5 @@
 //! The places of the versions of a table in an order of their cells, found by counting cells.
-ghost use Rattle.std.specs.Prelude.{◌≡◌, ◌<◌, ◌≤◌, ◌↔◌, ◌+◌, ◌-◌, ◌/◌, ◌^◌, ◌≤ℤ◌, ◌-ℤ◌, pos, min, map, length, slice_index_or, IsTrue, All, IfOk};
+ghost use Rattle.std.specs.Prelude.{◌≡◌, ◌<◌, ◌≤◌, ◌+◌, ◌-◌, ◌^◌, ◌≤ℤ◌, ◌-ℤ◌, min, map, length, All, IfOk};
 ghost use Rattle.std.specs.List.Sorted.{IsPermutation, IsSorted};
 ghost use Rattle.ts_domain.specs.Bounds.{natural_of, count_between};
 ghost use Rattle.ts_domain.specs.Boxes.{cells_of};
