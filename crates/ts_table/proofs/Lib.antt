@@ -9,8 +9,10 @@ pub mod MergeSteps
 pub mod MergeLaws
 pub mod MergeAllLaws
 pub mod MergeTables
+pub mod PlaceOrders
 pub mod SpotOrders
 pub mod RankOrders
+pub mod RankSteps
 pub mod Neighbours
 pub mod BoxTables
 pub mod Narrow

@@ -1,5 +1,5 @@
 -- Lists whose integers do not all fit 64 bits.
-use Rattle.std.proofs.Common.{◌≡◌, ℤ, List, [], ◌∷◌, ◌++◌, All, refl, w64}
+use Rattle.std.proofs.Common.{◌≡◌, ℤ, List, [], ◌∷◌, ◌++◌, refl, w64}
 use Rattle.std.specs.Prelude.{FitsSigned}
 use Rattle.std.proofs.lemmas.List.Elements.{All-head, All-tail}
 use Rattle.ts_table.specs.Narrows.{AreNarrow, IsWideFirst}

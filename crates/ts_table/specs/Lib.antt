@@ -7,4 +7,5 @@ pub mod Merges
 pub mod BoxTables
 pub mod Ordered
 pub mod Spots
+pub mod Ranks
 pub mod Narrows

@@ -1,18 +1,17 @@
 //! Tables in an order of their cells.
 ghost use Rattle.std.specs.Prelude.{◌≡◌, ◌<◌, ◌↔◌, length, IsTrue, All, IfOk};
 ghost use Rattle.std.specs.List.{AllAdjacentBelow};
-ghost use Rattle.std.specs.List.Sorted.{IsSorted};
 ghost use Rattle.std.specs.declared.cmp.Ordering.TheVariants.{Less};
 ghost use Rattle.ts_base.specs.declared.heads.Version.{Version as AnyVersion};
 ghost use Rattle.ts_domain.specs.Domains.{is_in_domain};
 ghost use Rattle.ts_table.specs.Merges.{Climbs, version_cmp, VersionsAscend};
 ghost use Rattle.ts_table.specs.Orders.{cells_cmp, LiesInside};
-ghost use Rattle.ts_table.specs.Ordered.{place_cmp, AreOrdered};
+ghost use Rattle.ts_table.specs.Ordered.{AreOrdered};
 ghost use Rattle.ts_table.specs.Tables.{version_or};
 
 use crate::cell::Cell;
 use crate::order::CellOrder;
-use crate::ranks::Ranks;
+use crate::ranks::{cells_in, places_by_rank};
 use crate::spots::places_by_spot;
 use crate::table::Table;
 use std::alloc::Global;
@@ -97,8 +96,8 @@ fn compare_versions(domain: &Domain, order: CellOrder, table: &Table, a: u64, b:
 
 /// The places of the versions of a table in an order, those of one cell as they stand.
 ///
-/// It sorts numbers, where the cells of the domain can be counted in 64 bits. Else it sorts the
-/// cells themselves. No row is moved.
+/// It sorts the cells by their places in the domain, where the cells of the domain can be counted in
+/// 64 bits. Else it compares their coordinates. No row is moved.
 pub fn ordered_places(
     alloc: Global,
     domain: &Domain,
@@ -109,42 +108,10 @@ pub fn ordered_places(
     requires inside { All (LiesInside domain.now) table.now }
     ensures { IfOk result (AreOrdered (cells_cmp domain.now order) table.now) }
 {
-    let ranks = Ranks::of(alloc, domain, order)?;
-    if ranks.fit() {
-        let places = ranks.places(alloc, table)?;
-        if are_ordered(domain, order, table, places.as_slice()) {
-            return Ok(places);
-        }
+    if cells_in(domain.as_slice()) < u64::MAX {
+        return places_by_rank(alloc, domain, order, table);
     }
     places_by_spot(alloc, domain, order, table)
-}
-
-// Whether places ascend in the order of the cells.
-fn are_ordered(domain: &Domain, order: CellOrder, table: &Table, places: &[u32]) -> bool
-    requires inside { All (LiesInside domain.now) table.now }
-    requires within { All (λ place. place < length table.now) places.now }
-    ensures { IsTrue result ↔ IsSorted (place_cmp (cells_cmp domain.now order) table.now) places.now }
-{
-    for next in 1..places.len() {
-        let (place, before) = (places[next], places[next - 1]);
-        if compare_places(domain, order, table, place, before) == Ordering::Less {
-            return false;
-        }
-    }
-    true
-}
-
-// How two places of a table stand.
-fn compare_places(domain: &Domain, order: CellOrder, table: &Table, a: u32, b: u32) -> Ordering
-    requires inside { All (LiesInside domain.now) table.now }
-    requires first { a < length table.now }
-    requires second { b < length table.now }
-    ensures { result ≡ place_cmp (cells_cmp domain.now order) table.now a b }
-{
-    match compare_at(domain, order, table, a as u64, b as u64) {
-        Ordering::Equal => a.cmp(&b),
-        apart => apart,
-    }
 }
 
 // How the cells at two places of a table stand.

@@ -1,187 +1,291 @@
-//! The places of the versions of a table by the ranks of their cells.
-ghost use Rattle.std.specs.Prelude.{◌≡◌, ◌<◌, ◌≤◌, map, length, IfOk};
-ghost use Rattle.std.specs.List.{range_with_len};
-ghost use Rattle.std.specs.List.Sorted.{IsPermutation};
+//! The places of the versions of a table in an order of their cells, found by counting cells.
+ghost use Rattle.std.specs.Prelude.{◌≡◌, ◌<◌, ◌≤◌, ◌+◌, ◌-◌, ◌^◌, ◌≤ℤ◌, ◌-ℤ◌, min, map, length, All, IfOk};
+ghost use Rattle.std.specs.List.Sorted.{IsPermutation, IsSorted};
+ghost use Rattle.ts_domain.specs.Bounds.{natural_of, count_between};
+ghost use Rattle.ts_domain.specs.Boxes.{cells_of};
+ghost use Rattle.ts_domain.specs.Dims.{IsSoundDim};
+ghost use Rattle.ts_domain.specs.Domains.{whole_domain};
+ghost use Rattle.ts_order.specs.Orders.{dim_at};
+ghost use Rattle.ts_table.specs.Orders.{cells_cmp, LiesInside};
+ghost use Rattle.ts_table.specs.Ordered.{AreOrdered};
+ghost use Rattle.ts_table.specs.Ranks.{IsCountable, IsLine, steps_on, CanCount, counted_on, ArePlaces, place_in, front_place, tile_place, cell_place, ranks_of, rank_cmp};
 
+use crate::numbers::Numbers;
 use crate::order::CellOrder;
 use crate::table::Table;
 use std::alloc::Global;
 use ts_base::{IndexList, OutOfMemory, Sequence};
 use ts_domain::{Dim, Domain, Order};
 
-// What a dimension adds to a rank.
-#[derive(Clone, Copy, Debug)]
-struct Scale {
-    // The place of the dimension.
-    dim: u8,
-    // The least coordinate.
-    low: i128,
-    // The number of coordinates in a space tile.
-    extent: u64,
-    // The number of space tiles.
-    tiles: u64,
-}
-
-// How the rank of a cell is counted: by the space tiles first, then by the cells of one tile. In
-// row order and in column order all cells count as cells of one tile.
-#[derive(Debug, Drop)]
-pub(crate) struct Ranks {
-    // The dimensions, the one in front by which tiles are compared first.
-    tiles: Sequence<Scale>,
-    // The dimensions, the one in front by which cells are compared first.
-    cells: Sequence<Scale>,
-}
-
-// A rank, and the place of the version that has it.
+/// A version as it is compared: where its cell stands, and its place in a table.
 #[derive(Clone, Copy, Debug, PartialEq, Eq, PartialOrd, Ord)]
-struct Ranked {
-    rank: u64,
+pub(crate) struct Ranked {
+    // The place of the space tile among those of the domain. In row order and in column order it
+    // is 0.
+    tile: u64,
+    // The place of the cell in the domain.
+    cell: u64,
+    // The place of the version in its table.
     place: u32,
 }
 
 // A list of ranks.
 type RankedList = Sequence<Ranked>;
 
-impl Ranks {
-    // How ranks are counted in an order of the cells of a domain.
-    pub(crate) fn of(
-        alloc: Global,
-        domain: &Domain,
-        order: CellOrder,
-    ) -> Result<Ranks, OutOfMemory> {
-        let (tile, cell) = match order {
-            CellOrder::Plain(order) => (order, order),
-            CellOrder::Global { tile, cell } => (tile, cell),
-        };
-        Ok(Ranks {
-            tiles: scales_of(alloc, domain, order, tile)?,
-            cells: scales_of(alloc, domain, order, cell)?,
-        })
-    }
+/// What is counted.
+#[derive(Clone, Copy, Debug, PartialEq, Eq)]
+pub(crate) enum Counted {
+    /// The cells of the domain.
+    Cells,
+    /// Its space tiles.
+    Tiles,
+}
 
-    // Whether all ranks fit 64 bits.
-    pub(crate) fn fit(&self) -> bool {
-        let mut cells: u64 = 1;
-        for scale in self.tiles.as_slice() {
-            let in_tiles = cells.checked_mul(scale.extent);
-            cells = match in_tiles.and_then(|cells| cells.checked_mul(scale.tiles)) {
-                Some(cells) => cells,
-                None => return false,
-            };
-        }
-        true
-    }
+/// How the cells or the space tiles along a dimension are counted.
+#[derive(Clone, Copy, Debug)]
+pub(crate) struct Line {
+    // The least coordinate.
+    low: i128,
+    // The number of coordinates that count as one.
+    extent: u64,
+    // How many there are.
+    count: u64,
+}
 
-    // The rank of the cell at a place of a table.
-    fn rank(&self, table: &Table, place: u64) -> u64
-        requires { place < length table.now }
-    {
-        let mut rank: u64 = 0;
-        for scale in self.tiles.as_slice() {
-            let tile = steps(scale, table, place).checked_div(scale.extent);
-            rank = rank
-                .wrapping_mul(scale.tiles)
-                .wrapping_add(tile.unwrap_or(0));
-        }
-        for scale in self.cells.as_slice() {
-            let cell = steps(scale, table, place).checked_rem(scale.extent);
-            rank = rank
-                .wrapping_mul(scale.extent)
-                .wrapping_add(cell.unwrap_or(0));
-        }
-        rank
+// The number of cells of the domain of these dimensions, or 2^64 - 1 where there are more.
+pub(crate) fn cells_in(dims: &[Dim]) -> u64
+    requires { All IsSoundDim dims.now }
+    ensures { result ≡ min (cells_of (whole_domain dims.now)) (2 ^ 64 - 1) }
+{
+    let mut cells: u64 = 1;
+    for dim in 0..dims.len() {
+        cells = cells.saturating_mul(side_of(&dims[dim]));
     }
+    cells
+}
 
-    // The places of the versions of a table by their ranks, those of one rank as they stand.
-    pub(crate) fn places(&self, alloc: Global, table: &Table) -> Result<IndexList, OutOfMemory>
-        requires { length table.now < 4294967296 }
-        ensures { IfOk result (IsPermutation (range_with_len 0 (length table.now))) }
-    {
-        let list = self.ranked(alloc, table)?;
-        let list = sorted(list)?;
-        places_of(alloc, list.as_slice())
-    }
-
-    // The ranks of all versions, as they stand.
-    fn ranked(&self, alloc: Global, table: &Table) -> Result<RankedList, OutOfMemory>
-        requires { length table.now < 4294967296 }
-        ensures { IfOk result (λ list. map (λ ranked. ranked.place) list ≡ range_with_len 0 (length table.now)) }
-    {
-        let mut list = RankedList::from_vec(Vec::with_capacity(alloc, table.len() as usize)?);
-        for place in 0..table.len() {
-            let rank = self.rank(table, place);
-            list.push(Ranked {
-                rank,
-                place: place as u32,
-            })?;
-        }
-        Ok(list)
+// How many coordinates a dimension has, or 2^64 - 1 where there are more.
+fn side_of(dim: &Dim) -> u64
+    requires { IsSoundDim dim.now }
+    ensures { result ≡ min (count_between dim.now.low dim.now.high) (2 ^ 64 - 1) }
+{
+    let distance = dim.high.abs_diff(dim.low);
+    if distance < u64::MAX as u128 {
+        distance as u64 + 1
+    } else {
+        u64::MAX
     }
 }
 
-// What each dimension adds to a rank, the one in front that is compared first.
-fn scales_of(
+// The places of the versions of a table in an order, those of one cell as they stand.
+pub(crate) fn places_by_rank(
     alloc: Global,
     domain: &Domain,
     order: CellOrder,
-    by: Order,
-) -> Result<Sequence<Scale>, OutOfMemory> {
-    let mut scales = Vec::new(alloc);
-    for dim in 0..domain.count() {
-        scales.push(scale_of(dim, domain.dim(dim), order))?;
-    }
-    if by == Order::Col {
-        scales.reverse();
-    }
-    Ok(Sequence::from_vec(scales))
+    table: &Table,
+) -> Result<IndexList, OutOfMemory>
+    requires few { length table.now < 4294967296 }
+    requires inside { All (LiesInside domain.now) table.now }
+    requires sound { All IsSoundDim domain.now }
+    requires countable { IsCountable domain.now }
+    ensures { IfOk result (AreOrdered (cells_cmp domain.now order) table.now) }
+{
+    let ranks = ranks_of(alloc, domain, order, table)?;
+    let ranks = sorted(ranks);
+    places_of(alloc, ranks.as_slice())
 }
 
-// What a dimension adds to a rank.
-fn scale_of(place: u8, dim: &Dim, order: CellOrder) -> Scale {
-    let last = dim.high.abs_diff(dim.low);
-    let extent = match order {
-        CellOrder::Plain(_) => last.saturating_add(1),
-        CellOrder::Global { .. } => dim.extent.unsigned_abs(),
+// The ranks of all versions, as they stand.
+fn ranks_of(
+    alloc: Global,
+    domain: &Domain,
+    order: CellOrder,
+    table: &Table,
+) -> Result<RankedList, OutOfMemory>
+    requires few { length table.now < 4294967296 }
+    requires inside { All (LiesInside domain.now) table.now }
+    requires sound { All IsSoundDim domain.now }
+    requires countable { IsCountable domain.now }
+    ensures { IfOk result (λ ranks. ranks ≡ ranks_of domain.now order table.now) }
+{
+    let tiles = tile_places(alloc, domain, order, table)?;
+    let cells = cell_places(alloc, domain, order, table)?;
+    let mut ranks = RankedList::from_vec(Vec::with_capacity(alloc, cells.len())?);
+    for place in 0..cells.len() {
+        ranks.push(Ranked {
+            tile: tiles[place],
+            cell: cells[place],
+            place: place as u32,
+        })?;
+    }
+    Ok(ranks)
+}
+
+// For each version the place of its space tile.
+fn tile_places(
+    alloc: Global,
+    domain: &Domain,
+    order: CellOrder,
+    table: &Table,
+) -> Result<Vec<u64>, OutOfMemory>
+    requires inside { All (LiesInside domain.now) table.now }
+    requires sound { All IsSoundDim domain.now }
+    requires countable { IsCountable domain.now }
+    ensures { IfOk result (λ places. ArePlaces (tile_place domain.now order) table.now places.items) }
+{
+    match order {
+        CellOrder::Plain(_) => Ok(vec![in alloc; 0u64; table.len() as usize]?),
+        CellOrder::Global { tile, .. } => places_in(alloc, domain, Counted::Tiles, tile, table),
+    }
+}
+
+// For each version the place of its cell.
+fn cell_places(
+    alloc: Global,
+    domain: &Domain,
+    order: CellOrder,
+    table: &Table,
+) -> Result<Vec<u64>, OutOfMemory>
+    requires inside { All (LiesInside domain.now) table.now }
+    requires sound { All IsSoundDim domain.now }
+    requires countable { IsCountable domain.now }
+    ensures { IfOk result (λ places. ArePlaces (cell_place domain.now order) table.now places.items) }
+{
+    match order {
+        CellOrder::Plain(order) => places_in(alloc, domain, Counted::Cells, order, table),
+        CellOrder::Global { cell, .. } => places_in(alloc, domain, Counted::Cells, cell, table),
+    }
+}
+
+// For each version the place of its cell or of its space tile, counted in row or column order.
+fn places_in(
+    alloc: Global,
+    domain: &Domain,
+    counted: Counted,
+    order: Order,
+    table: &Table,
+) -> Result<Vec<u64>, OutOfMemory>
+    requires inside { All (LiesInside domain.now) table.now }
+    requires sound { All IsSoundDim domain.now }
+    requires countable { IsCountable domain.now }
+    ensures { IfOk result (λ places. ArePlaces (place_in counted domain.now order) table.now places.items) }
+{
+    let mut places = vec![in alloc; 0u64; table.len() as usize]?;
+    for rank in 0..domain.count() {
+        count_on(domain, counted, order, rank, table, &mut places);
+    }
+    Ok(places)
+}
+
+// Counts places on by the dimension that is compared after `rank` others.
+fn count_on(
+    domain: &Domain,
+    counted: Counted,
+    order: Order,
+    rank: u8,
+    table: &Table,
+    places: &mut [u64],
+)
+    requires inside { All (LiesInside domain.now) table.now }
+    requires sound { All IsSoundDim domain.now }
+    requires countable { IsCountable domain.now }
+    requires within { rank < length domain.now }
+    requires so_far { ArePlaces (front_place counted domain.now order rank) table.now places.old }
+    ensures { ArePlaces (front_place counted domain.now order (rank + 1)) table.now places.new }
+{
+    let dim = dim_at(order, domain.count(), rank);
+    let line = line_of(counted, domain.dim(dim));
+    if let Some(column) = table.column(dim) {
+        match column.as_narrow() {
+            Some(narrow) => count_narrow(&line, narrow, places),
+            None => count_wide(&line, column, places),
+        }
+    }
+}
+
+// Counts places on along a line, by these coordinates.
+fn count_narrow(line: &Line, column: &[i64], places: &mut [u64])
+    requires { CanCount line.now column.now places.old }
+    ensures { places.new ≡ counted_on line.now column.now places.old }
+{
+    for place in 0..places.len() {
+        let steps = steps_on(line, column[place] as i128);
+        places[place] = places[place] * line.count + steps;
+    }
+}
+
+// Counts places on along a line, by these coordinates.
+fn count_wide(line: &Line, column: &Numbers, places: &mut [u64])
+    requires { CanCount line.now column.now places.old }
+    ensures { places.new ≡ counted_on line.now column.now places.old }
+{
+    for place in 0..places.len() {
+        let steps = steps_on(line, column.at_or_zero(place as u64));
+        places[place] = places[place] * line.count + steps;
+    }
+}
+
+// The dimension that is compared after `rank` others.
+fn dim_at(order: Order, count: u8, rank: u8) -> u8
+    requires { rank < count }
+    ensures value { result ≡ dim_at order count rank }
+    ensures below { result < count }
+{
+    match order {
+        Order::Row => rank,
+        Order::Col => count - 1 - rank,
+    }
+}
+
+// How the cells or the space tiles along a dimension are counted.
+fn line_of(counted: Counted, dim: &Dim) -> Line
+    requires sound { IsSoundDim dim.now }
+    requires few { count_between dim.now.low dim.now.high < 2 ^ 64 }
+    ensures { IsLine counted dim.now result }
+{
+    let last = dim.high.abs_diff(dim.low) as u64;
+    let extent = match counted {
+        Counted::Cells => 1,
+        Counted::Tiles => dim.extent as u64,
     };
-    let tiles = last.checked_div(extent).unwrap_or(0).saturating_add(1);
-    Scale {
-        dim: place,
+    Line {
         low: dim.low,
-        extent: capped(extent),
-        tiles: capped(tiles),
+        extent,
+        count: last / extent + 1,
     }
 }
 
-// A number, or 2^64 - 1 in the place of a greater one.
-fn capped(number: u128) -> u64 {
-    u64::try_from(number).unwrap_or(u64::MAX)
-}
-
-// How far a coordinate of the cell at a place lies from the least, or 2^64 - 1 where that is more.
-fn steps(scale: &Scale, table: &Table, place: u64) -> u64
-    requires { place < length table.now }
+// How many cells or space tiles lie before that of a coordinate.
+fn steps_on(line: &Line, number: i128) -> u64
+    requires some { 1 ≤ line.now.extent }
+    requires above { line.now.low ≤ℤ number }
+    requires few { natural_of (number -ℤ line.now.low) < 2 ^ 64 }
+    ensures { result ≡ steps_on line.now number }
 {
-    match table.coord(place, scale.dim) {
-        Some(number) => capped(number.abs_diff(scale.low)),
-        None => 0,
+    let steps = number.abs_diff(line.low) as u64;
+    if line.extent == 1 {
+        steps
+    } else {
+        steps / line.extent
     }
 }
 
-// The ranks in their order.
-fn sorted(list: RankedList) -> Result<RankedList, OutOfMemory>
-    ensures { IfOk result (IsPermutation list) }
+// The ranks in their order. No two are the same, since each has a place of its own.
+fn sorted(ranks: RankedList) -> RankedList
+    ensures each { IsPermutation ranks result }
+    ensures sorted { IsSorted rank_cmp result }
 {
-    let mut list = list.into_vec();
-    list.sort()?;
-    Ok(RankedList::from_vec(list))
+    let mut ranks = ranks.into_vec();
+    ranks.sort_unstable();
+    RankedList::from_vec(ranks)
 }
 
 // The places of ranks.
-fn places_of(alloc: Global, list: &[Ranked]) -> Result<IndexList, OutOfMemory>
-    ensures { IfOk result (λ places. places ≡ map (λ ranked. ranked.place) list.now) }
+fn places_of(alloc: Global, ranks: &[Ranked]) -> Result<IndexList, OutOfMemory>
+    ensures { IfOk result (λ places. places ≡ map (λ ranked. ranked.place) ranks.now) }
 {
-    let mut places = IndexList::from_vec(Vec::with_capacity(alloc, list.len())?);
-    for ranked in list {
+    let mut places = IndexList::from_vec(Vec::with_capacity(alloc, ranks.len())?);
+    for ranked in ranks {
         places.push(ranked.place)?;
     }
     Ok(places)

@@ -1,5 +1,5 @@
 //! Tables of versions.
-ghost use Rattle.std.specs.Prelude.{◌≡◌, ◌<◌, ◌↔◌, ℤ, List, length, slice_get, slice_index_or, All, IfOk, IsTrue, option_map};
+ghost use Rattle.std.specs.Prelude.{◌≡◌, ◌<◌, ◌≤◌, ◌↔◌, ℤ, List, length, slice_get, slice_index_or, All, IfOk, IfSome, IfNone, IsTrue, option_map};
 ghost use Rattle.std.specs.List.{AllAdjacentBelow};
 ghost use Rattle.std.specs.Cmp.Lexicographic.{slice_cmp};
 ghost use Rattle.std.specs.Ordering.{int_cmp};
@@ -7,7 +7,7 @@ ghost use Rattle.std.specs.declared.cmp.Ordering.TheVariants.{Less};
 ghost use Rattle.ts_base.specs.declared.heads.Version.{Version as AnyVersion};
 ghost use Rattle.ts_base.specs.declared.values.Val.{Val as AnyVal};
 ghost use Rattle.ts_table.specs.Columns.{val_seen};
-ghost use Rattle.ts_table.specs.Tables.{across, no_origin, versions_from, IsTable, version_or};
+ghost use Rattle.ts_table.specs.Tables.{across, column_of, no_origin, versions_from, IsTable, version_or};
 
 use crate::column::{Column, Seen};
 use crate::numbers::Numbers;
@@ -88,6 +88,19 @@ impl Table {
         ensures { result ≡ slice_get (version_or self.now place).coords dim }
     {
         coord_of(self.dims.as_slice(), place, dim)
+    }
+
+    /// The coordinates of all versions along a dimension, if the columns of the table have it.
+    pub(crate) fn column(&self, dim: u8) -> Option<&Numbers>
+        ensures some { IfSome result (λ column. column.now ≡ column_of self.now dim) }
+        ensures none { IfNone result (All (λ (v : AnyVersion). length v.coords ≤ dim) self.now) }
+    {
+        let dims = self.dims.as_slice();
+        if (dim as usize) < dims.len() {
+            Some(&dims[dim as usize])
+        } else {
+            None
+        }
     }
 
     /// The coordinates of the version at a place. It takes no memory.
