@@ -31,6 +31,8 @@ mod schema;
 #[cfg(test)]
 mod store;
 #[cfg(test)]
+mod table;
+#[cfg(test)]
 mod value;
 #[cfg(test)]
 mod wire;

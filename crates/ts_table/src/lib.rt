@@ -15,8 +15,6 @@ mod ranks;
 mod rows;
 mod spots;
 mod table;
-#[cfg(test)]
-mod tests;
 mod texts;
 
 pub use box_table::BoxTable;

@@ -1,17 +1,15 @@
 //! Worked rows: each type beside the plain list that it stands for.
 ghost use Rattle.ts_domain.specs.Dims.{IsDim};
 
-use crate::ranks::cells_in;
-use crate::spots::places_by_spot;
-use crate::{
-    BoxTable, Cell, CellOrder, Column, Numbers, Origin, Picked, Seen, Table, Texts,
-    are_versions_in_order, is_inside, is_table, merge_tables, ordered_places, stamped,
-};
 use std::alloc::Global;
 use std::process::Abort;
 use std::test::Fail;
 use ts_base::{ByteList, Coords, Key, Label, OutOfMemory, Row, Val, ValType, Version, VersionList};
 use ts_domain::{Dim, Domain, Order, SubBox};
+use ts_table::{
+    BoxTable, Cell, CellOrder, Column, Numbers, Origin, Picked, Seen, Table, Texts,
+    are_versions_in_order, is_inside, is_table, merge_tables, ordered_places, stamped,
+};
 
 const LIMIT: i128 = 18_446_744_073_709_551_616;
 
@@ -246,7 +244,7 @@ fn tables_are_merged_to_the_newest_of_each_cell(rt: HostRuntime) -> Result<(), F
     Ok(())
 }
 
-// The places that are found by comparing cells, and those in order, are these.
+// The places of the versions of a table, in an order, are these.
 fn order_places(
     rt: &impl Abort,
     alloc: Global,
@@ -257,8 +255,6 @@ fn order_places(
 ) -> Result<(), OutOfMemory> {
     assert!(rt; table.len() < 4294967296);
     assert!(rt; is_inside(domain, table));
-    let by_spot = places_by_spot(alloc, domain, order, table)?;
-    assert!(rt; by_spot.as_slice() == places);
     let ordered = ordered_places(alloc, domain, order, table)?;
     assert!(rt; ordered.as_slice() == places);
     Ok(())
@@ -293,7 +289,6 @@ fn places_are_ordered_by_ranks(rt: HostRuntime) -> Result<(), Fail> {
     let alloc = rt.alloc();
     let domain = domain(&rt, 2, 1)?;
     let table = scattered(&rt, alloc)?;
-    assert_eq!(rt; cells_in(domain.as_slice()), 6);
     let col = CellOrder::Plain(Order::Col);
     order_places(&rt, alloc, &domain, col, &table, &[0, 6, 2, 5, 1, 3, 4])?;
     order_places(&rt, alloc, &domain, GLOBAL, &table, &[0, 6, 2, 1, 3, 5, 4])?;
@@ -305,7 +300,6 @@ fn places_of_a_large_domain_are_ordered_by_cells(rt: HostRuntime) -> Result<(), 
     let alloc = rt.alloc();
     let domain = domain(&rt, LIMIT - 1, LIMIT - 1)?;
     let table = scattered(&rt, alloc)?;
-    assert_eq!(rt; cells_in(domain.as_slice()), u64::MAX);
     order_places(&rt, alloc, &domain, GLOBAL, &table, &[0, 6, 2, 1, 3, 5, 4])?;
     Ok(())
 }
