@@ -2,3 +2,4 @@ pub mod Sames
 pub mod LeafReads
 pub mod TreeReads
 pub mod TreeSpells
+pub mod FooterReads
