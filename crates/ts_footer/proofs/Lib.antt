@@ -3,3 +3,5 @@ pub mod LeafReads
 pub mod TreeReads
 pub mod TreeSpells
 pub mod FooterReads
+pub mod Rects
+pub mod TreeExact

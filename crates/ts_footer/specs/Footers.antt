@@ -1,5 +1,5 @@
 -- The metadata of a sparse fragment: what its object stores, and how that is spelled and read.
-use Rattle.std.specs.Prelude.{◌≡◌, ℕ, ◌^◌, ◌<◌, List, [], ◌++◌, length, Option, Some, None, Result, Ok}
+use Rattle.std.specs.Prelude.{◌≡◌, ℕ, ◌^◌, ◌<◌, true, List, [], ◌++◌, length, Option, Some, None, Result, Ok}
 use Rattle.std.specs.List.{All, flat_map}
 use Rattle.std.specs.Option.{IsSomeAnd}
 use Rattle.ts_base.specs.declared.keys.FragKey.{FragKey}

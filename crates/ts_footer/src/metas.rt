@@ -23,3 +23,7 @@ pub struct Meta {
     /// The tree over the boxes of the tiles, which a sparse fragment has.
     pub tree: Option<Tree>,
 }
+
+// PROBE
+#[tactic(auto, using(crate::proofs::TreeExact::tree_exact))]
+fn probe() {}
