@@ -5,3 +5,4 @@ pub mod TreeSpells
 pub mod FooterReads
 pub mod Rects
 pub mod TreeExact
+pub mod FooterExact

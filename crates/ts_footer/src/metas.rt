@@ -25,5 +25,5 @@ pub struct Meta {
 }
 
 // PROBE
-#[tactic(auto, using(crate::proofs::TreeExact::tree_exact))]
+#[tactic(auto, using(crate::proofs::FooterExact::footer_exact))]
 fn probe() {}
