@@ -6,3 +6,5 @@ pub mod FooterReads
 pub mod Rects
 pub mod TreeExact
 pub mod FooterExact
+pub mod MetaObjects
+pub mod Writes

@@ -1,4 +1,5 @@
-//! The metadata of fragments in tiles.
+//! The metadata of fragments in tiles: which columns a fragment has, where their tiles start, and the
+//! tree over the boxes of its tiles.
 #![tactic(auto)]
 
 mod columns;
@@ -7,8 +8,9 @@ mod leaves;
 mod metas;
 mod sizes;
 mod trees;
+mod writing;
 
 pub use columns::{ColumnForm, ColumnSize, FormList, SizeList};
 pub use footers::Footer;
-pub use metas::Meta;
+pub use metas::{Meta, read_head};
 pub use trees::read_tree;
