@@ -9,10 +9,10 @@ use Rattle.ts_wire.specs.declared.faults.ReadFault.TheVariants as fault
 use Rattle.ts_wire.specs.declared.kinds.Kind.TheVariants as kind
 use Rattle.ts_wire.specs.Place.{Place, Read, place, ◌>>=◌, both, whole}
 use Rattle.ts_wire.specs.Exact.{IsBytes, EachFits}
-use Rattle.ts_wire.specs.Reading.{DecodesOr, IsRead}
-use Rattle.ts_wire.specs.Envelope.{wrapped, unwrapped, object_at}
-use Rattle.ts_wire.proofs.Laws.{same_ok, not_both, bound, goes_on}
-use Rattle.ts_wire.proofs.Objects.{object_found, object_only, length-wrapped}
+use Rattle.ts_wire.specs.Reading.{DecodesOr, IsRead, IsDamagedAt}
+use Rattle.ts_wire.specs.Envelope.{wrapped, unwrapped, IsCut, object_at}
+use Rattle.ts_wire.proofs.Laws.{same_ok, same_err, not_both, bound, goes_on}
+use Rattle.ts_wire.proofs.Objects.{object_found, object_only, unwrapped_cut, length-wrapped}
 use Rattle.ts_schema.specs.declared.attrs.Attr.{Attr}
 use Rattle.ts_schema.specs.declared.frames.Frame.{Frame}
 use Rattle.ts_rtree.specs.Trees.{Rooted}
@@ -255,3 +255,17 @@ pub meta_written : {E : Type 0} (frame : Frame) (attrs : List Attr) (m : Meta) (
 meta_written frame attrs m result sparse has =
     IfOk-weaker result (λ bytes. bytes ≡ wrapped kind.Meta (footer_bytes (footer_for frame attrs m))) (IsMetaObject frame attrs m)
     (λ bytes h. subst (IsMetaObject frame attrs m) (sym h) (stored_is_meta frame attrs m sparse has))
+
+-- an object that is cut behind its envelope is broken at its length
+pub cut_in : (frame : Frame) (attrs : List Attr) (frag : FragKey) (object body : List ℕ) (result : Result Meta ReadFault) → DecodesOr (λ m. m) (meta_in frame attrs frag object) result
+    → length body < 2 ^ 64 → IsCut 14 (wrapped kind.Meta body) object → IsDamagedAt 6 result
+unfolding meta_in footer_stored object_at
+cut_in frame attrs frag object body result h few cut = broken result (stays (footer_stored frame attrs frag object) (λ footer. Ok (meta_of frag footer)) 6 short) h
+  where
+    short : footer_stored frame attrs frag object ≡ Err 6
+    short = stays (unwrapped kind.Meta object) (λ b. whole (footer_at frame attrs frag) (place b 14)) 6 (unwrapped_cut kind.Meta body object few cut)
+
+    broken : (r : Result Meta ReadFault) → meta_in frame attrs frag object ≡ Err 6 → DecodesOr (λ m. m) (meta_in frame attrs frag object) r → IsDamagedAt 6 r
+    broken (Ok m) was k = absurd (not_both (meta_in frame attrs frag object) m 6 k was)
+    broken (Err (fault.Damaged damaged)) was k = same_err (meta_in frame attrs frag object) damaged.at 6 k was
+    broken (Err fault.OutOfMemory) was k = tt

@@ -18,7 +18,7 @@ use Rattle.ts_wire.proofs.Numbers.{length-number_bytes}
 use Rattle.ts_rtree.specs.Trees.{Rooted, nodes_above, upper_of, nodes_of}
 use Rattle.ts_rtree.proofs.Levels.{upper_of_more, length-nodes_above}
 use Rattle.ts_rtree.proofs.Likes.{nodes_of-like}
-use Rattle.ts_footer.specs.TreeTexts.{side_fields, box_fields, fields_of, topped, same_at, leaves_at, boxes_at, rooted, one_at, many_at, AreTiles}
+use Rattle.ts_footer.specs.TreeTexts.{side_fields, box_fields, fields_of, topped, same_at, leaves_at, boxes_at, rooted, one_at, many_at}
 
 -- the spelling of one box
 pub one_spelled : (box : SubBox) → flat_map rect_bytes (box ∷ []) ≡ rect_bytes box
@@ -296,14 +296,3 @@ unfolding many_at
 many_stops hull count leaves tree at p q leaf made above =
     let known : boxes_at hull (upper_of leaves) q ≡ Err at = ap (λ (t : Rooted). boxes_at hull (upper_of t.leaves) q) (sym made) ∙ above in
     rw (leaf, known) refl
-
--- ---- what is known of the tree
-
--- the leaf of a tree of one tile is like the hull
-pub one_tile : (hull : SubBox) (tree : Rooted) (leaves : List SubBox) → IsBox hull → leaves ≡ hull ∷ [] → tree ≡ rooted leaves → AreTiles hull 1 tree.leaves
-one_tile hull tree leaves valid is made =
-    let known : hull ∷ [] ≡ tree.leaves = sym (ap (λ (t : Rooted). t.leaves) made ∙ is) in
-    subst (AreTiles hull 1) known (refl, All-cons (IsLike hull) hull [] (record { valid = valid; dims = refl }) (All-nil (IsLike hull)))
-
-pub many_tiles : (hull : SubBox) (count : ℕ) (tree : Rooted) (leaves : List SubBox) → length leaves ≡ count → All (IsLike hull) leaves → tree ≡ rooted leaves → AreTiles hull count tree.leaves
-many_tiles hull count tree leaves many like made = subst (AreTiles hull count) (sym (ap (λ (t : Rooted). t.leaves) made)) (many, like)

@@ -81,27 +81,3 @@ pub map-zip : (xs ys : List (List ℕ)) → length ys ≡ length xs → map (λ 
 map-zip [] ys e = refl
 map-zip (x ∷ xs) [] e = absurd (omega arith)
 map-zip (x ∷ xs) (y ∷ ys) e = ap (λ zs. x ∷ zs) (map-zip xs ys (omega arith))
-
--- ---- whole trees
-
--- the one box of a tree is the hull, and takes its text
-pub one_taken : (hull : SubBox) (tree : Rooted) (p q : Place) → IsBytes p.rest → one_at hull p ≡ Ok (tree, q) → Takes p (flat_map rect_bytes (nodes_of tree.leaves)) q
-unfolding one_at upper_of
-one_taken hull tree p q all read =
-    let fields = fields_of (hull ∷ []) in
-    let b = bound (boxes_at hull (hull ∷ []) p) (λ x. Ok (rooted (hull ∷ []), x.1)) (tree, q) read in
-    let was = (boxes_exact hull (hull ∷ [])).takes p b.first all b.was in
-    let known : b.first.0 ≡ fields = fields_are (zip fields fields) b.first.0 was.1 ∙ map-zip fields fields refl in
-    let text : joined b.first.0 ≡ flat_map rect_bytes (hull ∷ []) = ap joined known ∙ fields_joined (hull ∷ []) in
-    subst (λ (y : Rooted × Place). Takes p (flat_map rect_bytes (nodes_of y.0.leaves)) y.1) (same_ok (Ok (rooted (hull ∷ []), b.first.1)) _ _ refl b.next)
-    (subst (λ (bytes : List ℕ). Takes p bytes b.first.1) text was.0)
-
--- the boxes of the tiles take their text, and those above them theirs
-pub many_taken : (hull : SubBox) (n count : ℕ) (tree : Rooted) (leaves : List SubBox) (p q r : Place) → IsBytes p.rest → leaves_at n count p ≡ Ok (leaves, q) → tree ≡ rooted leaves
-    → boxes_at hull (upper_of tree.leaves) q ≡ Ok (fields_of (upper_of tree.leaves), r) → Takes p (flat_map rect_bytes (nodes_of tree.leaves)) r
-many_taken hull n count tree leaves p q r all leaf made above =
-    let upper = upper_of tree.leaves in
-    let known : leaves_at n count p ≡ Ok (tree.leaves, q) = leaf ∙ ap (λ (t : Rooted). Ok (t.leaves, q)) (sym made) in
-    let front = ((leaves_exact n count).takes p (tree.leaves, q) all known).0 in
-    let back = subst (λ (bytes : List ℕ). Takes q bytes r) (fields_joined upper) ((boxes_exact hull upper).takes q (fields_of upper, r) front.bytes above).0 in
-    subst (λ (bytes : List ℕ). Takes p bytes r) (sym (flat_map-append rect_bytes tree.leaves upper)) (takes_both p q r (flat_map rect_bytes tree.leaves) (flat_map rect_bytes upper) front back)

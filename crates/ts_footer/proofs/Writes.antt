@@ -33,18 +33,17 @@ starts_more (s ∷ sizes) size = before s.starts (starts_of (sizes ++ size ∷ [
     before [] all front last e = e
     before (x ∷ xs) all front last e = ap (λ others. (x ∷ xs) ∷ others) e
 
--- an object that has starts, and one that has none
-pub starts_kept : (sizes : List ColumnSize) (size : ColumnSize) (old new : List (List ℕ)) → (size.starts ≡ [] → ⊥) → old ≡ starts_of sizes → new ≡ old ++ size.starts ∷ [] → new ≡ starts_of (sizes ++ size ∷ [])
-starts_kept sizes size old new some was pushed =
-    pushed ∙ ap (λ ss. ss ++ size.starts ∷ []) was ∙ sym (starts_more sizes size ∙ ap (λ last. starts_of sizes ++ last) (alone size.starts some))
-  where
-    alone : (starts : List ℕ) → (starts ≡ [] → ⊥) → some_before starts [] ≡ starts ∷ []
-    alone [] some = absurd (some refl)
-    alone (x ∷ xs) some = refl
+-- starts that are some, and that are none
+pub alone_none : (starts : List ℕ) → starts ≡ [] → some_before starts [] ≡ []
+alone_none starts none = ap (λ s. some_before s []) none
 
-pub starts_none : (sizes : List ColumnSize) (size : ColumnSize) (old : List (List ℕ)) → size.starts ≡ [] → old ≡ starts_of sizes → old ≡ starts_of (sizes ++ size ∷ [])
-starts_none sizes size old none was =
-    was ∙ sym (starts_more sizes size ∙ ap (λ starts. starts_of sizes ++ some_before starts []) none ∙ append-nil (starts_of sizes))
+pub alone_some : (starts : List ℕ) → (starts ≡ [] → ⊥) → some_before starts [] ≡ starts ∷ []
+alone_some [] some = absurd (some refl)
+alone_some (x ∷ xs) some = refl
+
+-- one object more
+pub ends_more : (sizes : List ColumnSize) (size : ColumnSize) (old new : List (List ℕ)) → old ≡ starts_of sizes → new ≡ old ++ some_before size.starts [] → new ≡ starts_of (sizes ++ size ∷ [])
+ends_more sizes size old new was pushed = pushed ∙ ap (λ ss. ss ++ some_before size.starts []) was ∙ sym (starts_more sizes size)
 
 -- ---- written
 
@@ -140,3 +139,7 @@ written_all forms lengths starts place next so_far all left over =
 -- no tree has no boxes
 pub no_boxes : flat_map rect_bytes (nodes_of []) ≡ []
 no_boxes = ap (flat_map rect_bytes) (upper_of_one [] (omega arith))
+
+pub ruleset taken_apart = (lengths_more, ends_more)
+
+pub ruleset some_alone = (alone_none, alone_some)

@@ -74,7 +74,3 @@ many_at hull count = mapped (λ x. rooted x.0) (both (leaves_at (length hull.low
 -- the tree over so many tiles whose cells have this hull
 abbrev pub tree_at : SubBox → ℕ → Place → Read Rooted
 tree_at hull count = if nat_eq count 1 then one_at hull else many_at hull count
-
--- so many boxes of as many dimensions as the hull
-abbrev pub AreTiles : SubBox → ℕ → List SubBox → Type 0
-AreTiles hull count boxes = (length boxes ≡ count) × All (IsLike hull) boxes

@@ -13,4 +13,3 @@ mod writing;
 pub use columns::{ColumnForm, ColumnSize, FormList, SizeList};
 pub use footers::Footer;
 pub use metas::{Meta, read_head};
-pub use trees::read_tree;

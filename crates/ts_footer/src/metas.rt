@@ -1,21 +1,21 @@
 //! The metadata of fragments in tiles.
-ghost use Rattle.std.specs.Prelude.{◌≡◌, false, List, length, map, IfOk};
+ghost use Rattle.std.specs.Prelude.{◌≡◌, ℕ, ◌^◌, ◌<◌, false, List, [], ◌++◌, length, map, IfOk, OnOk};
 ghost use Rattle.ts_base.specs.declared.heads.Head.{Head as AnyHead};
 ghost use Rattle.ts_wire.specs.declared.kinds.Kind.TheVariants as kind;
-ghost use Rattle.ts_wire.specs.Envelope.{wrapped};
-ghost use Rattle.ts_wire.specs.Reading.{DecodesOr, IsRead};
+ghost use Rattle.ts_wire.specs.Envelope.{wrapped, IsCut};
+ghost use Rattle.ts_wire.specs.Reading.{DecodesOr, IsRead, IsDamagedAt};
 ghost use Rattle.ts_schema.specs.declared.attrs.Attr.{Attr as AnyAttr};
 ghost use Rattle.ts_plain.specs.Insides.{IsHull};
 ghost use Rattle.ts_plain.specs.Pieces.{BreaksSo};
 ghost use Rattle.ts_footer.specs.declared.metas.Meta.{Meta as AnyMeta};
 ghost use Rattle.ts_footer.specs.Footers.{footer_bytes};
-ghost use Rattle.ts_footer.specs.Metas.{starts_of, meta_of, meta_in, head_in, footer_for, IsMetaObject, HasMetaObject, IsWritable};
+ghost use Rattle.ts_footer.specs.Metas.{some_before, starts_of, meta_of, meta_in, head_in, footer_for, IsMetaObject, HasMetaObject, IsWritable};
 
 use crate::columns::{ColumnSize, SizeList};
 use crate::footers::{Footer, read_footer, read_stored_head};
 use crate::writing::write_meta;
 use std::alloc::Global;
-use ts_base::{ByteList, FragKey, Head, LengthList, OutOfMemory, StartList};
+use ts_base::{ByteList, CountList, FragKey, Head, LengthList, OutOfMemory, StartList};
 use ts_plain::head_of;
 use ts_rtree::Tree;
 use ts_schema::{Attr, Frame, Schema};
@@ -61,6 +61,7 @@ impl Meta {
         ensures found { IfOk result (λ meta. IsMetaObject frame.now schema.now.attrs meta object.now × (meta.head.frag ≡ frag)) }
         ensures only { (meta : AnyMeta) → meta.head.frag ≡ frag → IsMetaObject frame.now schema.now.attrs meta object.now → IsRead (λ found. found) meta result }
         ensures writable { IfOk result (IsWritable frame.now schema.now.attrs) }
+        ensures cut { (body : List ℕ) → length body < 2 ^ 64 → IsCut 14 (wrapped kind.Meta body) object.now → IsDamagedAt 6 result }
     {
         read_meta(alloc, frame, schema.attrs.as_slice(), frag, object)
     }
@@ -161,6 +162,7 @@ fn meta_of(
 }
 
 // The lengths of objects, and the starts of those that have starts.
+#[tactic(auto, using(crate::proofs::Writes::taken_apart))]
 fn split(alloc: Global, sizes: SizeList) -> Result<(LengthList, StartList), OutOfMemory>
     ensures lengths { IfOk result (λ parts. parts.0 ≡ map (λ size. size.length) sizes) }
     ensures starts { IfOk result (λ parts. parts.1 ≡ starts_of sizes) }
@@ -170,9 +172,19 @@ fn split(alloc: Global, sizes: SizeList) -> Result<(LengthList, StartList), OutO
     for size in sizes.into_vec() {
         let ColumnSize { length, starts } = size;
         lengths.push(length)?;
-        if !starts.is_empty() {
-            var_starts.push(starts)?;
-        }
+        push_some(&mut var_starts, starts)?;
     }
     Ok((lengths, var_starts))
+}
+
+// Appends starts, if there are some.
+#[tactic(auto, using(crate::proofs::Writes::some_alone))]
+fn push_some(lists: &mut StartList, starts: CountList) -> Result<(), OutOfMemory>
+    ensures { OnOk result (lists.new ≡ lists.old ++ some_before starts []) }
+{
+    if starts.is_empty() {
+        Ok(())
+    } else {
+        lists.push(starts)
+    }
 }
