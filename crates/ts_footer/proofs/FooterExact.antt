@@ -1,5 +1,5 @@
 -- What the metadata stores is read exactly: each field, and the whole.
-use Rattle.std.proofs.Common.{◌≡◌, ℕ, suc, ◌^◌, ◌<◌, ◌≤◌, Bool, true, false, ◌&&◌, nat_eq, nat_le, int_le, List, [], ◌∷◌, ◌++◌, length, map, Option, Some, None, refl, sym, ap, subst, ◌∙◌, arith, append_assoc, ℤ}
+use Rattle.std.proofs.Common.{◌≡◌, ℕ, ◌^◌, ◌<◌, true, false, ◌&&◌, nat_eq, nat_le, int_le, List, [], ◌∷◌, ◌++◌, map, Option, Some, None, refl, sym, ap, subst, ◌∙◌, append_assoc, ℤ}
 use Rattle.std.specs.List.{All, flat_map}
 use Rattle.std.specs.Option.{IsSomeAnd}
 use Rattle.std.proofs.lemmas.Bool.{and_parts, and_from, eqb-true, eq-eqb}
@@ -9,9 +9,8 @@ use Rattle.std.proofs.lemmas.List.Elements.{All-nil, All-cons}
 use Rattle.ts_base.specs.declared.keys.FragKey.{FragKey}
 use Rattle.ts_domain.specs.declared.dims.Dim.{Dim}
 use Rattle.ts_domain.specs.Bounds.{are_bounds}
-use Rattle.ts_domain.specs.Boxes.{IsBox}
 use Rattle.ts_domain.specs.Rects.{rect_bytes}
-use Rattle.ts_wire.specs.Exact.{Exact, InTurn, EachFits}
+use Rattle.ts_wire.specs.Exact.{Exact, EachFits}
 use Rattle.ts_wire.specs.Numbers.{number_bytes, FitsInt}
 use Rattle.ts_wire.proofs.Laws.{restated, mapped_exact, both_exact, ruled_exact, items_exact, each_exact}
 use Rattle.ts_wire.proofs.Numbers.{number_exact}
@@ -21,7 +20,7 @@ use Rattle.ts_rtree.specs.Trees.{Rooted, nodes_of}
 use Rattle.ts_plain.specs.declared.stored.Side.{Side}
 use Rattle.ts_plain.specs.declared.stored.StoredHead.{StoredHead}
 use Rattle.ts_plain.specs.Plain.{head_bytes, FitsSide, FitsHead}
-use Rattle.ts_plain.specs.Rules.{last_of, is_on_side, side_of, from_on}
+use Rattle.ts_plain.specs.Rules.{last_of}
 use Rattle.ts_plain.proofs.PlainExact.{head_exact}
 use Rattle.ts_footer.specs.declared.columns.ColumnForm.{ColumnForm}
 use Rattle.ts_footer.specs.declared.columns.ColumnForm.TheVariants.{Fixed, Var}

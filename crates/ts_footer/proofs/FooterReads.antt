@@ -1,6 +1,6 @@
 -- Reading what the metadata stores.
-use Rattle.std.proofs.Common.{◌≡◌, ℕ, zero, suc, ◌+◌, ◌*◌, ◌/◌, ◌%◌, ◌≤◌, Bool, true, false, ◌&&◌, int_le, nat_eq, List, [], ◌∷◌, map, Ok, Err, refl, sym, subst, ap, arith}
-use Rattle.std.specs.Prelude.{◌≤ℤ◌, if◌then◌else◌, min, max}
+use Rattle.std.proofs.Common.{◌≡◌, ℕ, zero, suc, ◌+◌, ◌*◌, ◌/◌, ◌%◌, ◌≤◌, Bool, true, false, int_le, nat_eq, List, [], ◌∷◌, map, Ok, Err, refl, sym, subst, ap, arith}
+use Rattle.std.specs.Prelude.{if◌then◌else◌, min, max}
 use Rattle.std.proofs.Math.Nat.{div-add-mod}
 use Rattle.std.specs.List.{All}
 use Rattle.std.proofs.lemmas.Bool.{and_from, leb-true, eqb-true}

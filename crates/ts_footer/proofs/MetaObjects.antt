@@ -20,7 +20,7 @@ use Rattle.ts_plain.specs.declared.stored.Side.{Side}
 use Rattle.ts_plain.specs.declared.stored.StoredHead.{StoredHead}
 use Rattle.ts_plain.specs.Plain.{head_at}
 use Rattle.ts_plain.specs.Pieces.{head_of, BreaksSo}
-use Rattle.ts_plain.specs.Writes.{sides_of, stored_head}
+use Rattle.ts_plain.specs.Writes.{sides_of}
 use Rattle.ts_footer.specs.declared.columns.ColumnForm.{ColumnForm}
 use Rattle.ts_footer.specs.declared.columns.ColumnForm.TheVariants.{Fixed, Var}
 use Rattle.ts_footer.specs.declared.columns.ColumnSize.{ColumnSize}
@@ -146,7 +146,7 @@ sizes_back cells tiles (Fixed width ∷ forms) (size ∷ sizes) some (first, oth
     record {
       each = subst (HasEach forms lengths) (sym starts) rest.each;
       same = ap (λ s. record { length = size.length; starts = [] } ∷ sizes_for forms lengths s) starts ∙ ap (λ ss. record { length = size.length; starts = [] } ∷ ss) rest.same
-      ∙ ap (λ s. record { length = size.length; starts = s } ∷ sizes) (sym first.keeps.1);
+          ∙ ap (λ s. record { length = size.length; starts = s } ∷ sizes) (sym first.keeps.1);
     }
 sizes_back cells tiles (Var ∷ forms) (size ∷ sizes) some (first, others) =
     let rest = sizes_back cells tiles forms sizes some others in

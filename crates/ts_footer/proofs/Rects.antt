@@ -1,5 +1,5 @@
 -- Boxes whose bounds have room in 16 bytes: they are read as they are spelled, and so are their hulls.
-use Rattle.std.proofs.Common.{◌≡◌, ℕ, zero, suc, ◌+◌, ◌-◌, ℤ, Bool, true, ◌&&◌, int_le, nat_le, List, [], ◌∷◌, ◌++◌, length, map, Ok, refl, sym, ap, subst, ◌∙◌, arith}
+use Rattle.std.proofs.Common.{◌≡◌, ℕ, zero, suc, ◌-◌, ℤ, true, int_le, nat_le, List, [], ◌∷◌, ◌++◌, length, map, refl, ap, subst, ◌∙◌}
 use Rattle.std.specs.Prelude.{int_lt}
 use Rattle.std.specs.List.{All}
 use Rattle.std.specs.Int.{int_min, int_max}
@@ -8,9 +8,8 @@ use Rattle.std.proofs.lemmas.List.{length-map}
 use Rattle.std.proofs.lemmas.List.Elements.{All-nil, All-cons, All-head, All-tail, All-append}
 use Rattle.ts_domain.specs.declared.boxes.SubBox.{SubBox}
 use Rattle.ts_domain.specs.Bounds.{are_bounds, least_corner, greatest_corner}
-use Rattle.ts_domain.specs.Boxes.{IsBox, hull_of}
-use Rattle.ts_domain.specs.Rects.{IsLike, rect_bytes}
-use Rattle.ts_domain.proofs.Between.{length-are_bounds}
+use Rattle.ts_domain.specs.Boxes.{hull_of}
+use Rattle.ts_domain.specs.Rects.{rect_bytes}
 use Rattle.ts_wire.specs.Exact.{InTurn}
 use Rattle.ts_wire.specs.Numbers.{FitsInt}
 use Rattle.ts_wire.specs.Place.{place}
@@ -19,7 +18,7 @@ use Rattle.ts_rtree.specs.Trees.{hulls_from, hulls_of, nodes_above, upper_in, up
 use Rattle.ts_rtree.proofs.Likes.{like_hull}
 use Rattle.ts_plain.specs.declared.stored.Side.{Side}
 use Rattle.ts_plain.specs.Writes.{sides_of}
-use Rattle.ts_footer.specs.TreeTexts.{box_of, leaf_at}
+use Rattle.ts_footer.specs.TreeTexts.{leaf_at}
 use Rattle.ts_footer.specs.Footers.{FitsRect}
 use Rattle.ts_footer.proofs.LeafReads.{box_back}
 use Rattle.ts_footer.proofs.TreeSpells.{FitsSide, FitsLeaf, leaf_exact}
@@ -34,9 +33,10 @@ turn_sides : (front : List Side) (ls hs : List ℤ) → are_bounds ls hs ≡ tru
 turn_sides front [] hs e low high = tt
 turn_sides front (l ∷ ls) [] e low high = tt
 turn_sides front (l ∷ ls) (h ∷ hs) e low high =
-    let parts = and_parts (int_le l h) (are_bounds ls hs) e in
-    ((All-head Fits l ls low, (All-head Fits h hs high, parts.0)),
-      turn_sides (front ++ record { low = l; high = h } ∷ []) ls hs parts.1 (All-tail Fits l ls low) (All-tail Fits h hs high))
+    let parts = and_parts (int_le l h) (are_bounds ls hs) e in (
+      (All-head Fits l ls low, (All-head Fits h hs high, parts.0)),
+      turn_sides (front ++ record { low = l; high = h } ∷ []) ls hs parts.1 (All-tail Fits l ls low) (All-tail Fits h hs high),
+    )
 
 length-sides_of : (ls hs : List ℤ) → are_bounds ls hs ≡ true → length (sides_of ls hs) ≡ length ls
 length-sides_of [] hs e = refl
@@ -45,10 +45,13 @@ length-sides_of (l ∷ ls) (h ∷ hs) e = ap suc (length-sides_of ls hs (and_par
 
 -- a box with room is between sides with room
 pub rect_leaf : (hull box : SubBox) → FitsRect hull box → FitsLeaf (length hull.low) box
-rect_leaf hull box fits =
-    (sides_of box.low box.high,
-      ((length-sides_of box.low box.high fits.like.valid ∙ fits.like.dims, turn_sides [] box.low box.high fits.like.valid fits.low fits.high),
-        box_back box.low box.high fits.like.valid))
+rect_leaf hull box fits = (
+  sides_of box.low box.high,
+  (
+    (length-sides_of box.low box.high fits.like.valid ∙ fits.like.dims, turn_sides [] box.low box.high fits.like.valid fits.low fits.high),
+    box_back box.low box.high fits.like.valid,
+  ),
+)
 
 -- what is known of the box between some sides
 record AreSides (sides : List Side) : Type 0 where

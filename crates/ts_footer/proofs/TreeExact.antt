@@ -1,5 +1,5 @@
 -- The tree over the tiles is read exactly: each spelling that fits, and nothing else.
-use Rattle.std.proofs.Common.{◌≡◌, ℕ, zero, suc, ◌+◌, ◌-◌, ◌*◌, ◌≤◌, Bool, true, false, ◌&&◌, nat_eq, List, [], ◌∷◌, ◌++◌, length, map, Some, Ok, Err, refl, sym, ap, subst, ◌∙◌, arith, length-append, ℤ}
+use Rattle.std.proofs.Common.{◌≡◌, ℕ, suc, ◌-◌, ◌≤◌, Bool, true, false, nat_eq, List, [], ◌∷◌, ◌++◌, length, map, Some, refl, sym, ap, subst, ◌∙◌, arith, length-append, ℤ}
 use Rattle.std.specs.Prelude.{zip, if◌then◌else◌, slice_get}
 use Rattle.std.specs.List.{All, flat_map}
 use Rattle.std.proofs.lemmas.Bool.{and_parts, and_from, eqb-true, eq-eqb, eqb-false}
@@ -13,8 +13,7 @@ use Rattle.ts_domain.specs.declared.boxes.SubBox.{SubBox}
 use Rattle.ts_domain.specs.Boxes.{IsBox}
 use Rattle.ts_domain.specs.Rects.{IsLike, wide_bytes, rect_bytes}
 use Rattle.ts_wire.specs.Exact.{IsBytes, Exact, EachFits}
-use Rattle.ts_wire.specs.Place.{Place, Read}
-use Rattle.ts_wire.proofs.Laws.{AreBytes, mapped_exact, both_exact}
+use Rattle.ts_wire.proofs.Laws.{mapped_exact, both_exact}
 use Rattle.ts_wire.proofs.Numbers.{IsBytes-number}
 use Rattle.ts_rtree.specs.Trees.{Rooted, nodes_above, nodes_of, upper_of}
 use Rattle.ts_rtree.proofs.Levels.{upper_of_one, upper_of_more, length-nodes_above}
@@ -74,9 +73,10 @@ fields_bytes (b ∷ bs) = All-append IsBytes (box_fields b) (fields_of bs) (side
 -- fields that have to be themselves fit
 each_twin : (fields : List (List ℕ)) → All IsWide fields → All IsBytes fields → EachFits FitsSame (zip fields fields) fields
 each_twin [] wide all = tt
-each_twin (f ∷ fields) wide all =
-    (((All-head IsWide f fields wide, All-head IsBytes f fields all), and_from (are_same f f) (are_same f f) (same_self f) (same_self f)),
-      each_twin fields (All-tail IsWide f fields wide) (All-tail IsBytes f fields all))
+each_twin (f ∷ fields) wide all = (
+  ((All-head IsWide f fields wide, All-head IsBytes f fields all), and_from (are_same f f) (are_same f f) (same_self f) (same_self f)),
+  each_twin fields (All-tail IsWide f fields wide) (All-tail IsBytes f fields all),
+)
 
 twin_fields : (boxes : List SubBox) → EachFits FitsSame (zip (fields_of boxes) (fields_of boxes)) (fields_of boxes)
 twin_fields boxes = each_twin (fields_of boxes) (fields_wide boxes) (fields_bytes boxes)
@@ -119,17 +119,22 @@ one_exact : (hull : SubBox) → FitsRect hull hull → Exact (FitsTree hull 1) t
 unfolding one_at
 one_exact hull valid = mapped_exact (boxes_exact hull (hull ∷ [])) (record {
   there = λ fields fits.
-      let known = fields_are (zip (fields_of (hull ∷ [])) (fields_of (hull ∷ []))) fields fits ∙ map-zip (fields_of (hull ∷ [])) (fields_of (hull ∷ [])) refl in
-      (record {
-        fresh = refl;
-        many = refl;
-        leaves = All-cons (FitsRect hull) hull [] valid (All-nil (FitsRect hull));
-        top = ap (λ upper. last_of (hull ∷ upper)) (upper_of_one (hull ∷ []) (omega arith));
-      }, ap joined known ∙ fields_joined (hull ∷ []) ∙ sym (ap (λ upper. flat_map rect_bytes (hull ∷ upper)) (upper_of_one (hull ∷ []) (omega arith))));
+      let known = fields_are (zip (fields_of (hull ∷ [])) (fields_of (hull ∷ []))) fields fits ∙ map-zip (fields_of (hull ∷ [])) (fields_of (hull ∷ [])) refl in (
+        record {
+          fresh = refl;
+          many = refl;
+          leaves = All-cons (FitsRect hull) hull [] valid (All-nil (FitsRect hull));
+          top = ap (λ upper. last_of (hull ∷ upper)) (upper_of_one (hull ∷ []) (omega arith));
+        },
+        ap joined known ∙ fields_joined (hull ∷ []) ∙ sym (ap (λ upper. flat_map rect_bytes (hull ∷ upper)) (upper_of_one (hull ∷ []) (omega arith))),
+      );
   back = λ tree fits.
-      let leaf = one_leaf tree.leaves fits.many fits.top in
-      (fields_of (hull ∷ []), twin_fields (hull ∷ []), ap rooted (sym leaf) ∙ sym fits.fresh,
-        fields_joined (hull ∷ []) ∙ sym (ap (λ leaves. flat_map rect_bytes (nodes_of leaves)) leaf ∙ ap (λ upper. flat_map rect_bytes (hull ∷ upper)) (upper_of_one (hull ∷ []) (omega arith))));
+      let leaf = one_leaf tree.leaves fits.many fits.top in (
+        fields_of (hull ∷ []),
+        twin_fields (hull ∷ []),
+        ap rooted (sym leaf) ∙ sym fits.fresh,
+        fields_joined (hull ∷ []) ∙ sym (ap (λ leaves. flat_map rect_bytes (nodes_of leaves)) leaf ∙ ap (λ upper. flat_map rect_bytes (hull ∷ upper)) (upper_of_one (hull ∷ []) (omega arith))),
+      );
 })
   where
     one_leaf : (leaves : List SubBox) → length leaves ≡ 1 → last_of (nodes_of leaves) ≡ Some hull → leaves ≡ hull ∷ []
@@ -152,21 +157,25 @@ many_exact hull tiles two valid = mapped_exact (both_exact (leaves_exact (length
       let es = zip (fields_of upper) (fields_of (topped hull upper)) in
       let known = fields_are es x.1 fits.1 ∙ map-zip (fields_of upper) (fields_of (topped hull upper)) long in
       let too = fields_too es x.1 fits.1 ∙ map-zip_too (fields_of upper) (fields_of (topped hull upper)) long in
-      let some = some_above leaves (subst (λ n. 2 ≤ n) (sym fits.0.0) two) in
-      (record {
-        fresh = refl;
-        many = fits.0.0;
-        leaves = rects;
-        top = last_behind leaves upper some ∙ top_is hull upper some valid above (sym known ∙ too);
-      }, ap (λ fields. flat_map rect_bytes leaves ++ joined fields) known ∙ spelled leaves);
+      let some = some_above leaves (subst (λ n. 2 ≤ n) (sym fits.0.0) two) in (
+        record {
+          fresh = refl;
+          many = fits.0.0;
+          leaves = rects;
+          top = last_behind leaves upper some ∙ top_is hull upper some valid above (sym known ∙ too);
+        },
+        ap (λ fields. flat_map rect_bytes leaves ++ joined fields) known ∙ spelled leaves,
+      );
   back = λ tree fits.
       let upper = upper_of tree.leaves in
       let some = some_above tree.leaves (subst (λ n. 2 ≤ n) (sym fits.many) two) in
       let last = sym (last_behind tree.leaves upper some) ∙ fits.top in
-      let top = topped_same hull upper last in
-      ((tree.leaves, fields_of upper),
+      let top = topped_same hull upper last in (
+        (tree.leaves, fields_of upper),
         ((fits.many, rects_turn hull [] tree.leaves fits.leaves), subst (λ boxes. EachFits FitsSame (zip (fields_of upper) (fields_of boxes)) (fields_of upper)) (sym top) (twin_fields upper)),
-        sym fits.fresh, spelled tree.leaves);
+        sym fits.fresh,
+        spelled tree.leaves,
+      );
 })
   where
     spelled : (leaves : List SubBox) → flat_map rect_bytes leaves ++ joined (fields_of (upper_of leaves)) ≡ flat_map rect_bytes (nodes_of leaves)

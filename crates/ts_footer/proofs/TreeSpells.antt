@@ -1,21 +1,18 @@
 -- What is read of a tree is its spelling, and nothing else.
-use Rattle.std.proofs.Common.{◌≡◌, ℕ, true, ◌&&◌, int_le, List, [], ◌∷◌, ◌++◌, length, map, Ok, refl, sym, ap, subst, ◌∙◌, arith, append_assoc, lit≤}
+use Rattle.std.proofs.Common.{◌≡◌, ℕ, true, ◌&&◌, int_le, List, [], ◌∷◌, ◌++◌, length, map, refl, ap, ◌∙◌, arith, append_assoc, lit≤}
 use Rattle.std.specs.Prelude.{zip}
 use Rattle.std.specs.List.{flat_map}
 use Rattle.std.proofs.lemmas.Bool.{and_parts}
-use Rattle.std.proofs.lemmas.List.Concat.{flat_map-append}
 use Rattle.ts_domain.specs.declared.boxes.SubBox.{SubBox}
 use Rattle.ts_domain.specs.Rects.{wide_bytes, rect_bytes}
-use Rattle.ts_wire.specs.Exact.{IsBytes, Takes, Exact, EachFits}
+use Rattle.ts_wire.specs.Exact.{Exact, EachFits}
 use Rattle.ts_wire.specs.Numbers.{int_bytes, number_bytes, FitsInt}
-use Rattle.ts_wire.specs.Place.{Place}
-use Rattle.ts_wire.proofs.Laws.{AreBytes, AreInTurn, bytes_exact, ruled_exact, both_exact, mapped_exact, items_exact, each_exact, takes_both, bound, same_ok}
+use Rattle.ts_wire.proofs.Laws.{AreBytes, AreInTurn, bytes_exact, ruled_exact, both_exact, mapped_exact, items_exact, each_exact}
 use Rattle.ts_wire.proofs.Numbers.{int_exact}
-use Rattle.ts_rtree.specs.Trees.{Rooted, nodes_of, upper_of}
 use Rattle.ts_plain.specs.declared.stored.Side.{Side}
-use Rattle.ts_footer.specs.TreeTexts.{are_same, same_at, bounds_at, box_of, leaf_at, leaves_at, fields_of, topped, boxes_at, rooted, one_at}
+use Rattle.ts_footer.specs.TreeTexts.{are_same, same_at, bounds_at, box_of, leaf_at, leaves_at, fields_of, topped, boxes_at}
 use Rattle.ts_footer.proofs.Sames.{is_same_true}
-use Rattle.ts_footer.proofs.TreeReads.{joined, fields_joined}
+use Rattle.ts_footer.proofs.TreeReads.{joined}
 
 -- ---- the boxes of tiles
 

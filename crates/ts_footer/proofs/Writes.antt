@@ -1,5 +1,5 @@
 -- What is said of objects, taken apart into lengths and starts, and written one number after the other.
-use Rattle.std.proofs.Common.{◌≡◌, ℕ, zero, suc, ◌+◌, ◌<◌, ◌≤◌, List, [], ◌∷◌, ◌++◌, length, map, get_or, drop, Some, refl, sym, ap, ◌∙◌, subst, arith, append_assoc}
+use Rattle.std.proofs.Common.{◌≡◌, ℕ, suc, ◌+◌, ◌<◌, ◌≤◌, List, [], ◌∷◌, ◌++◌, length, map, get_or, drop, Some, refl, sym, ap, ◌∙◌, subst, arith, append_assoc}
 use Rattle.std.specs.Prelude.{slice_get}
 use Rattle.std.specs.List.{flat_map}
 use Rattle.std.proofs.lemmas.List.{append-nil, drop_more, drop_all, length-drop}
@@ -101,7 +101,7 @@ fixed_on forms lengths starts place next so_far all new d width n left more is h
     record {
       each = subst (λ xs. HasEach (Fixed width ∷ fs) xs ss) number (subst (λ xs. HasEach xs (drop place lengths) ss) item left.each);
       text = ap (λ text. text ++ numbers_text fs ls ss) pushed ∙ append_assoc so_far (number_bytes 8 n) (numbers_text fs ls ss)
-      ∙ sym (ap (λ xs. so_far ++ numbers_text xs (drop place lengths) ss) item ∙ ap (λ xs. so_far ++ numbers_text (Fixed width ∷ fs) xs ss) number) ∙ left.text;
+          ∙ sym (ap (λ xs. so_far ++ numbers_text xs (drop place lengths) ss) item ∙ ap (λ xs. so_far ++ numbers_text (Fixed width ∷ fs) xs ss) number) ∙ left.text;
     }
 
 -- an object of texts or blobs
@@ -121,12 +121,12 @@ var_on forms lengths starts place next so_far all new newer d n s left more is h
     record {
       each = subst (λ xs. HasEach (Var ∷ fs) (n ∷ ls) xs) first (subst (λ xs. HasEach (Var ∷ fs) xs (drop next starts)) number (subst (λ xs. HasEach xs (drop place lengths) (drop next starts)) item left.each));
       text = ap (λ text. text ++ rest) (wrote ∙ ap (λ text. text ++ words) pushed ∙ append_assoc so_far (number_bytes 8 n) words)
-      ∙ append_assoc so_far (number_bytes 8 n ++ words) rest
-      ∙ ap (λ text. so_far ++ text) (append_assoc (number_bytes 8 n) words rest ∙ sym joint)
-      ∙ sym (ap (λ xs. so_far ++ numbers_text xs (drop place lengths) (drop next starts)) item
-        ∙ ap (λ xs. so_far ++ numbers_text (Var ∷ fs) xs (drop next starts)) number
-        ∙ ap (λ xs. so_far ++ numbers_text (Var ∷ fs) (n ∷ ls) xs) first)
-      ∙ left.text;
+          ∙ append_assoc so_far (number_bytes 8 n ++ words) rest
+          ∙ ap (λ text. so_far ++ text) (append_assoc (number_bytes 8 n) words rest ∙ sym joint)
+          ∙ sym (ap (λ xs. so_far ++ numbers_text xs (drop place lengths) (drop next starts)) item
+          ∙ ap (λ xs. so_far ++ numbers_text (Var ∷ fs) xs (drop next starts)) number
+          ∙ ap (λ xs. so_far ++ numbers_text (Var ∷ fs) (n ∷ ls) xs) first)
+          ∙ left.text;
     }
 
 -- no object is left

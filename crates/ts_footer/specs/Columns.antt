@@ -6,9 +6,8 @@ use Rattle.ts_base.specs.Values.{is_integer, width_of}
 use Rattle.ts_domain.specs.declared.dims.Dim.{Dim}
 use Rattle.ts_wire.specs.Place.{Place, Read, mapped, both, ruled, items_at, each_at}
 use Rattle.ts_wire.specs.Exact.{InTurn}
-use Rattle.ts_wire.specs.Numbers.{number_bytes, number_at}
+use Rattle.ts_wire.specs.Numbers.{number_at}
 use Rattle.ts_schema.specs.declared.attrs.Attr.{Attr}
-use Rattle.ts_schema.specs.declared.frames.Frame.{Frame}
 use Rattle.ts_plain.specs.Rules.{last_of}
 use Rattle.ts_footer.specs.declared.columns.ColumnForm.{ColumnForm}
 use Rattle.ts_footer.specs.declared.columns.ColumnForm.TheVariants.{Fixed, Var}

@@ -61,12 +61,7 @@ fn read_tiles(
     ensures { ReadsOr (λ behind. (behind.0, (behind.1, behind.2))) (tiles_at frame.now attrs.now head.now) cursor.old cursor.new result }
 {
     let tiles = read_tile_count(frame.capacity, head.cells, cursor)?;
-    let forms = column_forms(
-        alloc,
-        frame.domain.as_slice(),
-        attrs,
-        head.consolidated,
-    )?;
+    let forms = column_forms(alloc, frame.domain.as_slice(), attrs, head.consolidated)?;
     let sizes = read_sizes(alloc, forms.as_slice(), head.cells, tiles, cursor)?;
     let hull = hull_box(frame, head.hull.as_slice());
     let tree = read_tree(alloc, &hull, tiles, cursor)?;

@@ -136,12 +136,7 @@ fn read_meta(
 
 // The metadata of the fragment of this name.
 #[tactic(auto, unfolding(crate::specs::Metas::meta_of))]
-fn meta_of(
-    alloc: Global,
-    frame: &Frame,
-    frag: FragKey,
-    stored: Footer,
-) -> Result<Meta, OutOfMemory>
+fn meta_of(alloc: Global, frame: &Frame, frag: FragKey, stored: Footer) -> Result<Meta, OutOfMemory>
     requires { IsHull frame.now.domain stored.head.hull }
     ensures { IfOk result (λ meta. meta ≡ meta_of frag stored) }
 {

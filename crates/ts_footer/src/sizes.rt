@@ -13,7 +13,11 @@ const ENVELOPE: u64 = 14;
 
 /// The number of tiles over so many cells.
 #[tactic(auto, unfolding(crate::specs::Columns::tile_count_at))]
-pub(crate) fn read_tile_count(capacity: u32, cells: u64, cursor: &mut Cursor) -> Result<u32, Damaged>
+pub(crate) fn read_tile_count(
+    capacity: u32,
+    cells: u64,
+    cursor: &mut Cursor,
+) -> Result<u32, Damaged>
     ensures { Reads (λ tiles. tiles) (tile_count_at capacity cells) cursor.old cursor.new result }
 {
     let at = cursor.at();
@@ -48,7 +52,12 @@ fn read_start(end: u64, front: &CountList, cursor: &mut Cursor) -> Result<u64, D
 }
 
 #[tactic(auto, using(ts_wire::proofs::Loop::items_loop), unfolding(crate::specs::Columns::starts_at))]
-fn read_starts(alloc: Global, tiles: u32, end: u64, cursor: &mut Cursor) -> Result<CountList, ReadFault>
+fn read_starts(
+    alloc: Global,
+    tiles: u32,
+    end: u64,
+    cursor: &mut Cursor,
+) -> Result<CountList, ReadFault>
     ensures { ReadsOr (λ starts. starts) (starts_at tiles end) cursor.old cursor.new result }
 {
     let mut starts = CountList::new(alloc);

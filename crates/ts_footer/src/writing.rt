@@ -85,11 +85,7 @@ fn write_starts(scribe: &mut Scribe, starts: &CountList) -> Result<(), OutOfMemo
 }
 
 // The boxes of a tree, where there is one.
-fn write_tree(
-    alloc: Global,
-    scribe: &mut Scribe,
-    tree: &Option<Tree>,
-) -> Result<(), OutOfMemory>
+fn write_tree(alloc: Global, scribe: &mut Scribe, tree: &Option<Tree>) -> Result<(), OutOfMemory>
     ensures { OnOk result (scribe.new ≡ scribe.old ++ flat_map rect_bytes (nodes_of (leaves_in tree.now))) }
 {
     match tree {

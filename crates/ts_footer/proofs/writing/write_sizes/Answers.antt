@@ -1,5 +1,4 @@
-use Rattle.std.proofs.Common.{◌<◌, length, sym, ap, ◌∙◌, arith}
-use Rattle.ts_footer.proofs.Writes.{length_there, starts_there, fixed_on, var_on, written_all}
+use Rattle.ts_footer.proofs.Writes.{length_there, fixed_on, var_on}
 use Rattle.ts_footer.proofs.writing.write_sizes.Goals as goal
 use Rattle.ts_footer.proofs.writing.write_sizes.Goals.{in-Fixed, in-Var+in_ok-write_starts-in-Var}
 
