@@ -1,8 +1,8 @@
 -- What the metadata stores is read exactly: each field, and the whole.
-use Rattle.std.proofs.Common.{◌≡◌, ℕ, ◌^◌, ◌<◌, true, false, ◌&&◌, nat_eq, nat_le, int_le, List, [], ◌∷◌, ◌++◌, map, Option, Some, None, refl, sym, ap, subst, ◌∙◌, append_assoc, ℤ}
+use Rattle.std.proofs.Common.{◌≡◌, ℕ, ◌^◌, ◌<◌, true, false, ◌&&◌, nat_eq, nat_le, int_le, List, [], ◌∷◌, ◌++◌, map, Option, Some, None, refl, sym, ap, subst, ◌∙◌, arith, append_assoc, ℤ}
 use Rattle.std.specs.List.{All, flat_map}
 use Rattle.std.specs.Option.{IsSomeAnd}
-use Rattle.std.proofs.lemmas.Bool.{and_parts, and_from, eqb-true, eq-eqb}
+use Rattle.std.proofs.lemmas.Bool.{and_parts, and_from, leb-true, eqb-true, eq-eqb}
 use Rattle.std.proofs.lemmas.List.{append-nil}
 use Rattle.std.proofs.lemmas.List.Concat.{flat_map-append}
 use Rattle.std.proofs.lemmas.List.Elements.{All-nil, All-cons}
@@ -42,16 +42,16 @@ fixed_exact : (width cells : ℕ) → Exact (λ n. (n < 256 ^ 8) × (nat_eq n (f
 unfolding fixed_at
 fixed_exact width cells = ruled_exact (λ n. nat_eq n (fixed_length width cells)) (number_exact 8)
 
-start_exact : (end : ℕ) (front : List ℕ) → Exact (FitsStart end front) (number_bytes 8) (start_at end front)
+start_exact : (end : ℕ) (front : List ℕ) → end < 256 ^ 8 → Exact (FitsStart end front) (number_bytes 8) (start_at end front)
 unfolding start_at
-start_exact end front =
-    restated (ruled_exact (λ start. may_start (last_of front) start && nat_le start end) (number_exact 8))
-    (λ start fits. (record { room = fits.0; in_place = fits.1 }, refl)) (λ start fits. (fits.room, fits.in_place))
+start_exact end front few =
+    restated (ruled_exact (λ start. may_start (last_of front) start && nat_le start end) (number_exact 8)) (λ start fits. (fits.1, refl))
+    (λ start fits. let most = leb-true start end (and_parts (may_start (last_of front) start) (nat_le start end) fits).1 in (omega (arith, few, most), fits))
 
-starts_exact : (tiles end : ℕ) → Exact (FitsStarts tiles end) (flat_map (number_bytes 8)) (starts_at tiles end)
+starts_exact : (tiles end : ℕ) → end < 256 ^ 8 → Exact (FitsStarts tiles end) (flat_map (number_bytes 8)) (starts_at tiles end)
 unfolding starts_at
-starts_exact tiles end =
-    restated (items_exact (start_exact end) tiles []) (λ starts fits. (record { many = fits.0; each = fits.1 }, refl)) (λ starts fits. (fits.many, fits.each))
+starts_exact tiles end few =
+    restated (items_exact (λ front. start_exact end front few) tiles []) (λ starts fits. (record { many = fits.0; each = fits.1 }, refl)) (λ starts fits. (fits.many, fits.each))
 
 -- the numbers that stand for one object
 abbrev size_bytes : ColumnSize → List ℕ
@@ -68,7 +68,7 @@ size_exact cells tiles (Fixed width) = mapped_exact (fixed_exact width cells) (r
     sym (append-nil (number_bytes 8 size.length)) ∙ ap (λ starts. number_bytes 8 size.length ++ flat_map (number_bytes 8) starts) (sym fits.keeps.1),
   );
 })
-size_exact cells tiles Var = mapped_exact (both_exact (number_exact 8) (λ n _. starts_exact tiles n)) (record {
+size_exact cells tiles Var = mapped_exact (both_exact (number_exact 8) (λ n few. starts_exact tiles n few)) (record {
   there = λ x fits. (record { room = fits.0; keeps = fits.1 }, refl);
   back = λ size fits. ((size.length, size.starts), (fits.room, fits.keeps), refl, refl);
 })

@@ -94,10 +94,9 @@ sizes_of (size ∷ sizes) = size.length ∷ (size.starts ++ sizes_of sizes)
 
 -- ---- what can be spelled
 
--- the start has room in its field, and may stand behind those before it
-pub record FitsStart (end : ℕ) (front : List ℕ) (start : ℕ) : Type 0 where
-  pub room : start < 256 ^ 8
-  pub in_place : IsTrue (may_start (last_of front) start && nat_le start end)
+-- the start may stand behind those before it, and is not past the end
+abbrev pub FitsStart : ℕ → List ℕ → ℕ → Type 0
+FitsStart end front start = IsTrue (may_start (last_of front) start && nat_le start end)
 
 -- there is a start for each tile, and it is in its place
 pub record FitsStarts (tiles end : ℕ) (starts : List ℕ) : Type 0 where
