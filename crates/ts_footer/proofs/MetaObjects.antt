@@ -7,7 +7,7 @@ use Rattle.ts_base.specs.declared.heads.Head.{Head}
 use Rattle.ts_wire.specs.declared.faults.ReadFault.{ReadFault}
 use Rattle.ts_wire.specs.declared.faults.ReadFault.TheVariants as fault
 use Rattle.ts_wire.specs.declared.kinds.Kind.TheVariants as kind
-use Rattle.ts_wire.specs.Place.{Place, Read, place, ◌>>=◌, both, whole}
+use Rattle.ts_wire.specs.Place.{Place, Read, place, ◌>>=◌, mapped, both, whole}
 use Rattle.ts_wire.specs.Exact.{IsBytes, EachFits}
 use Rattle.ts_wire.specs.Reading.{DecodesOr, IsRead, IsDamagedAt}
 use Rattle.ts_wire.specs.Envelope.{wrapped, unwrapped, IsCut, object_at}
@@ -75,6 +75,47 @@ Parts = StoredHead × (ℕ × (List ColumnSize × Rooted))
 abbrev footer_from : Parts → Footer
 footer_from x = record { head = x.0; tiles = x.1.0; sizes = x.1.1.0; tree = Some x.1.1.1 }
 
+-- the parts of a value that was read whole, the first of which stands at the place
+record Whole {A B C : Type 0} (read : Place → Read A) (f : A × B → C) (p : Place) (z : C) : Type 0 where
+  parts : A × B
+  behind : Place
+  first : read p ≡ Ok (parts.0, behind)
+  made : f parts ≡ z
+
+module _ {A B C : Type 0} (read : Place → Read A) (next : A → Place → Read B) (f : A × B → C) (p : Place) where
+  -- the steps of reading a value of two parts whole
+  abbrev pair_of : A × Place → B × Place → Read (A × B)
+  pair_of a b = Ok ((a.0, b.0), b.1)
+
+  abbrev then_next : A × Place → Read (A × B)
+  then_next a = next a.0 a.1 >>= pair_of a
+
+  abbrev made_of : (A × B) × Place → Read C
+  made_of x = Ok (f x.0, x.1)
+
+  abbrev end_of : C × Place → Result C ℕ
+  end_of x = if nat_eq (length x.1.rest) 0 then Ok x.0 else Err x.1.at
+
+  -- where the first part is broken, the whole is broken there
+  front_broken : (at : ℕ) → read p ≡ Err at → whole (mapped f (both read next)) p ≡ Err at
+  front_broken at was = ap (λ r. ((r >>= then_next) >>= made_of) >>= end_of) was
+
+  end_ok : (y : C × Place) (z : C) (b : Bool) → (if b then Ok y.0 else Err y.1.at) ≡ Ok z → y.0 ≡ z
+  end_ok y z true e = same_ok (Ok y.0) y.0 z refl e
+  end_ok y z false e = absurd (not_both (Err y.1.at) z y.1.at e refl)
+
+  by_second : (a : A × Place) (z : C) (r : Read B) → read p ≡ Ok a → (((r >>= pair_of a) >>= made_of) >>= end_of) ≡ Ok z → Whole read f p z
+  by_second a z (Ok b) was e = record { parts = (a.0, b.0); behind = a.1; first = was; made = end_ok (f (a.0, b.0), b.1) z (nat_eq (length b.1.rest) 0) e }
+  by_second a z (Err at) was e = absurd (not_both (Err at) z at e refl)
+
+  by_first : (z : C) (r : Read A) → read p ≡ r → (((r >>= then_next) >>= made_of) >>= end_of) ≡ Ok z → Whole read f p z
+  by_first z (Ok a) was e = by_second a z (next a.0 a.1) was e
+  by_first z (Err at) was e = absurd (not_both (Err at) z at e refl)
+
+  -- a value that is read whole has its first part at the place
+  front_read : (z : C) → whole (mapped f (both read next)) p ≡ Ok z → Whole read f p z
+  front_read z h = by_first z (read p) refl h
+
 -- where a field of the head is broken, the whole object is broken there, whatever the attributes are
 head_broken : (frame : Frame) (attrs : List Attr) (frag : FragKey) (object : List ℕ) (at : ℕ) → head_stored frame frag object ≡ Err at → footer_stored frame attrs frag object ≡ Err at
 unfolding head_stored footer_stored footer_at object_at
@@ -84,19 +125,8 @@ head_broken frame attrs frag object at h = by_body (unwrapped kind.Meta object) 
     by_head (Ok x) e = absurd (not_both (Ok x.0) x.0 at refl e)
     by_head (Err there) e = let same : there ≡ at = cc in ap Err same
 
-    made : Parts × Place → Read Footer
-    made x = Ok (footer_from x.0, x.1)
-
-    tiles_of : StoredHead × Place → Read Parts
-    tiles_of a = tiles_at frame attrs a.0 a.1 >>= λ b. Ok ((a.0, b.0), b.1)
-
-    end : Footer × Place → Result Footer ℕ
-    end x = if nat_eq (length x.1.rest) 0 then Ok x.0 else Err x.1.at
-
     by_body : (r : Result (List ℕ) ℕ) → (r >>= λ body. head_at frame frag (place body 14) >>= λ x. Ok x.0) ≡ Err at → (r >>= λ body. whole (footer_at frame attrs frag) (place body 14)) ≡ Err at
-    by_body (Ok body) e =
-        let head = head_at frame frag (place body 14) in
-        stays ((head >>= tiles_of) >>= made) end at (stays (head >>= tiles_of) made at (stays head tiles_of at (by_head head e)))
+    by_body (Ok body) e = front_broken (head_at frame frag) (tiles_at frame attrs) footer_from (place body 14) at (by_head (head_at frame frag (place body 14)) e)
     by_body (Err there) e = let same : there ≡ at = cc in ap Err same
 
 -- where the whole object is read, so is its head, whatever the attributes are
@@ -104,19 +134,9 @@ head_read : (frame : Frame) (attrs : List Attr) (frag : FragKey) (object : List 
 unfolding head_stored footer_stored footer_at object_at
 head_read frame attrs frag object stored h =
     let body = bound (unwrapped kind.Meta object) (λ body. whole (footer_at frame attrs frag) (place body 14)) stored h in
-    let inside = bound (footer_at frame attrs frag (place body.first 14)) (λ x. if nat_eq (length x.1.rest) 0 then Ok x.0 else Err x.1.at) stored body.next in
-    let kept : inside.first.0 ≡ stored = end_ok inside.first (nat_eq (length inside.first.1.rest) 0) inside.next in
-    let pair = bound (both (head_at frame frag) (tiles_at frame attrs) (place body.first 14)) (λ x. Ok (footer_from x.0, x.1)) inside.first inside.was in
-    let head = bound (head_at frame frag (place body.first 14)) (λ a. tiles_at frame attrs a.0 a.1 >>= λ b. Ok ((a.0, b.0), b.1)) pair.first pair.was in
-    let tiles = bound (tiles_at frame attrs head.first.0 head.first.1) (λ b. Ok ((head.first.0, b.0), b.1)) pair.first head.next in
-    let first : head.first.0 ≡ pair.first.0.0 = ap (λ x. x.0.0) (same_ok (Ok ((head.first.0, tiles.first.0), tiles.first.1)) _ pair.first refl tiles.next) in
-    let last : pair.first.0.0 ≡ stored.head = ap (λ x. x.0.head) (same_ok (Ok (footer_from pair.first.0, pair.first.1)) _ inside.first refl pair.next) ∙ ap (λ s. s.head) kept in
+    let front = front_read (head_at frame frag) (tiles_at frame attrs) footer_from (place body.first 14) stored body.next in
     goes_on (unwrapped kind.Meta object) (λ b. head_at frame frag (place b 14) >>= λ x. Ok x.0) body.first (Ok stored.head) body.was
-    (goes_on (head_at frame frag (place body.first 14)) (λ x. Ok x.0) head.first (Ok stored.head) head.was (ap Ok (first ∙ last)))
-  where
-    end_ok : (y : Footer × Place) (b : Bool) → (if b then Ok y.0 else Err y.1.at) ≡ Ok stored → y.0 ≡ stored
-    end_ok y true e = same_ok (Ok y.0) y.0 stored refl e
-    end_ok y false e = absurd (not_both (Err y.1.at) stored y.1.at e refl)
+    (goes_on (head_at frame frag (place body.first 14)) (λ x. Ok x.0) (front.parts.0, front.behind) (Ok stored.head) front.first (ap (λ s. Ok s.head) front.made))
 
 -- ---- what is written again
 

@@ -1,8 +1,8 @@
 -- What is said of objects, taken apart into lengths and starts, and written one number after the other.
-use Rattle.std.proofs.Common.{◌≡◌, ℕ, suc, ◌+◌, ◌<◌, ◌≤◌, List, [], ◌∷◌, ◌++◌, length, map, get_or, drop, Some, refl, sym, ap, ◌∙◌, subst, arith, append_assoc}
+use Rattle.std.proofs.Common.{◌≡◌, ℕ, suc, ◌+◌, ◌<◌, List, [], ◌∷◌, ◌++◌, length, map, get_or, drop, Some, refl, sym, ap, ◌∙◌, subst, arith, append_assoc}
 use Rattle.std.specs.Prelude.{slice_get}
 use Rattle.std.specs.List.{flat_map}
-use Rattle.std.proofs.lemmas.List.{append-nil, drop_more, drop_all, length-drop}
+use Rattle.std.proofs.lemmas.List.{drop_more, length-drop}
 use Rattle.std.proofs.lemmas.List.Concat.{flat_map-append}
 use Rattle.std.proofs.lemmas.Option.{slice_get_within, get_or_from_slice_get}
 use Rattle.ts_domain.specs.Rects.{rect_bytes}
@@ -75,19 +75,6 @@ pub length_there : (forms : List ColumnForm) (lengths : List ℕ) (starts : List
 length_there forms lengths starts place next so_far all left more =
     omega (arith, each_length (drop place forms) (drop place lengths) (drop next starts) left.each, length-drop place forms, length-drop place lengths)
 
--- there are starts for each object of texts or blobs
-pub starts_there : (forms : List ColumnForm) (lengths : List ℕ) (starts : List (List ℕ)) (place next : ℕ) (so_far all : List ℕ) (d : ColumnForm) → Written forms lengths starts place next so_far all
-    → place < length forms → get_or forms place d ≡ Var → next < length starts
-starts_there forms lengths starts place next so_far all d left more is =
-    let item : drop place forms ≡ Var ∷ drop (place + 1) forms = drop_more forms place d more ∙ ap (λ f. f ∷ drop (place + 1) forms) is in
-    let some = some_starts (drop (place + 1) forms) (drop place lengths) (drop next starts) (subst (λ fs. HasEach fs (drop place lengths) (drop next starts)) item left.each) in
-    omega (arith, some, length-drop next starts)
-  where
-    some_starts : (fs : List ColumnForm) (ls : List ℕ) (ss : List (List ℕ)) → HasEach (Var ∷ fs) ls ss → 1 ≤ length ss
-    some_starts fs [] ss each = absurd each
-    some_starts fs (n ∷ ls) [] each = absurd each
-    some_starts fs (n ∷ ls) (s ∷ ss) each = omega arith
-
 -- an object with so many bytes for each cell
 pub fixed_on : (forms : List ColumnForm) (lengths : List ℕ) (starts : List (List ℕ)) (place next : ℕ) (so_far all new : List ℕ) (d : ColumnForm) (width n : ℕ)
     → Written forms lengths starts place next so_far all → place < length forms → get_or forms place d ≡ Fixed width → slice_get lengths place ≡ Some n
@@ -129,14 +116,7 @@ var_on forms lengths starts place next so_far all new newer d n s left more is h
           ∙ left.text;
     }
 
--- no object is left
-pub written_all : (forms : List ColumnForm) (lengths : List ℕ) (starts : List (List ℕ)) (place next : ℕ) (so_far all : List ℕ) → Written forms lengths starts place next so_far all
-    → length forms ≤ place → so_far ≡ all
-written_all forms lengths starts place next so_far all left over =
-    let none : drop place forms ≡ [] = drop_all place forms over in
-    sym (append-nil so_far) ∙ sym (ap (λ fs. so_far ++ numbers_text fs (drop place lengths) (drop next starts)) none) ∙ left.text
-
--- no tree has no boxes
+-- where there is no tree there are no boxes
 pub no_boxes : flat_map rect_bytes (nodes_of []) ≡ []
 no_boxes = ap (flat_map rect_bytes) (upper_of_one [] (omega arith))
 

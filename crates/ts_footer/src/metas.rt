@@ -1,6 +1,5 @@
 //! The metadata of fragments in tiles.
 ghost use Rattle.std.specs.Prelude.{◌≡◌, ℕ, ◌^◌, ◌<◌, false, List, [], ◌++◌, length, map, IfOk, OnOk};
-ghost use Rattle.ts_base.specs.declared.heads.Head.{Head as AnyHead};
 ghost use Rattle.ts_wire.specs.declared.kinds.Kind.TheVariants as kind;
 ghost use Rattle.ts_wire.specs.Envelope.{wrapped, IsCut};
 ghost use Rattle.ts_wire.specs.Reading.{DecodesOr, IsRead, IsDamagedAt};
