@@ -276,6 +276,13 @@ meta_written frame attrs m result sparse has =
     IfOk-weaker result (λ bytes. bytes ≡ wrapped kind.Meta (footer_bytes (footer_for frame attrs m))) (IsMetaObject frame attrs m)
     (λ bytes h. subst (IsMetaObject frame attrs m) (sym h) (stored_is_meta frame attrs m sparse has))
 
+-- what is written so is read again
+pub meta_undone : {E : Type 0} (frame : Frame) (attrs : List Attr) (m : Meta) (result : Result (List ℕ) E) → frame.dense ≡ false → HasMetaObject frame attrs m
+    → IfOk result (λ bytes. bytes ≡ wrapped kind.Meta (footer_bytes (footer_for frame attrs m))) → IfOk result (λ bytes. meta_in frame attrs m.head.frag bytes ≡ Ok m)
+meta_undone frame attrs m result sparse has written =
+    IfOk-weaker result (IsMetaObject frame attrs m) (λ bytes. meta_in frame attrs m.head.frag bytes ≡ Ok m) (λ bytes is. meta_again frame attrs m bytes sparse is)
+    (meta_written frame attrs m result sparse has written)
+
 -- an object that is cut behind its envelope is broken at its length
 pub cut_in : (frame : Frame) (attrs : List Attr) (frag : FragKey) (object body : List ℕ) (result : Result Meta ReadFault) → DecodesOr (λ m. m) (meta_in frame attrs frag object) result
     → length body < 2 ^ 64 → IsCut 14 (wrapped kind.Meta body) object → IsDamagedAt 6 result

@@ -1,5 +1,5 @@
 //! The metadata of fragments in tiles.
-ghost use Rattle.std.specs.Prelude.{◌≡◌, ℕ, ◌^◌, ◌<◌, false, List, [], ◌++◌, length, map, IfOk, OnOk};
+ghost use Rattle.std.specs.Prelude.{◌≡◌, ℕ, ◌^◌, ◌<◌, false, List, [], ◌++◌, length, map, Ok, IfOk, OnOk};
 ghost use Rattle.ts_wire.specs.declared.kinds.Kind.TheVariants as kind;
 ghost use Rattle.ts_wire.specs.Envelope.{wrapped, IsCut};
 ghost use Rattle.ts_wire.specs.Reading.{DecodesOr, IsRead, IsDamagedAt};
@@ -69,7 +69,8 @@ impl Meta {
     /// array of this frame.
     ///
     /// Something has to be said of each object that the frame and the schema ask for. Where some object
-    /// holds the metadata, this is the one that does; of other metadata the bytes may be no object.
+    /// holds the metadata, this is the one that does, and [`Meta::decode`] gives the metadata back
+    /// (`undone`); of other metadata the bytes may be no object.
     pub fn encode(
         &self,
         alloc: Global,
@@ -80,6 +81,7 @@ impl Meta {
         requires writable { IsWritable frame.now schema.now.attrs self.now }
         ensures stored { IfOk result (λ object. object ≡ wrapped kind.Meta (footer_bytes (footer_for frame.now schema.now.attrs self.now))) }
         ensures spelled { HasMetaObject frame.now schema.now.attrs self.now → IfOk result (IsMetaObject frame.now schema.now.attrs self.now) }
+        ensures undone { HasMetaObject frame.now schema.now.attrs self.now → IfOk result (λ object. meta_in frame.now schema.now.attrs self.now.head.frag object ≡ Ok self.now) }
     {
         write_meta(alloc, frame, schema.attrs.as_slice(), self)
     }
