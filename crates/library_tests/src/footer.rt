@@ -4,7 +4,7 @@ ghost use Rattle.std.specs.Prelude.{◌≡◌, false, IfOk};
 
 use std::alloc::Global;
 use std::test::Fail;
-use ts_base::{ByteList, Coords, FragKey, Key, Label, OutOfMemory, Val, ValType};
+use ts_base::{ByteList, FragKey, Key, Label, OutOfMemory, Val, ValType};
 use ts_domain::{Dim, Domain, Order};
 use ts_footer::{Meta, read_head};
 use ts_schema::{Attr, AttrList, Frame, Schema};
@@ -231,74 +231,71 @@ fn broken_at(
     }
 }
 
-#[test]
-fn the_metadata_of_a_write_has_its_160_bytes(rt: HostRuntime) -> Result<(), Fail> {
-    let alloc = rt.alloc();
-    let frame = frame(10_000)?;
-    let schema = schema(alloc, ValType::I64, false, Val::Int(0))?;
-    let meta = Meta::decode(alloc, &frame, &schema, FRAG, &ONE_TILE)?;
-    assert_eq!(rt; meta.head, read_head(alloc, &frame, FRAG, &ONE_TILE)?);
-    assert_eq!(rt; meta.head.low, Coords::new(&[5]));
-    assert_eq!(rt;
-        meta.head.origins.as_slice(),
-        [Key { t: 1, id: 2 }].as_slice()
-    );
-    assert_eq!(rt; meta.tiles, 1);
-    assert_eq!(rt; meta.lengths.as_slice(), [22, 22].as_slice());
-    assert_eq!(rt; meta.var_starts.len(), 0);
-    assert_eq!(rt;
-        meta.encode(alloc, &frame, &schema)?.as_slice(),
-        ONE_TILE.as_slice()
-    );
-    for change in &ONE_TILE_CHANGES {
-        let at = broken_at(alloc, &frame, &schema, &ONE_TILE, change)?;
+// Whether each change breaks the object at its offset.
+fn breaks_so(
+    alloc: Global,
+    frame: &Frame,
+    schema: &Schema,
+    object: &[u8],
+    changes: &[Change],
+) -> Result<bool, OutOfMemory>
+    requires { frame.now.dense ≡ false }
+{
+    for change in changes {
         let Change(_, _, broken) = change;
-        assert_eq!(rt; at, Some(*broken));
+        if broken_at(alloc, frame, schema, object, change)? != Some(*broken) {
+            return Ok(false);
+        }
     }
-    Ok(())
+    Ok(true)
 }
 
-#[test]
-fn the_tree_over_two_tiles_has_three_boxes(rt: HostRuntime) -> Result<(), Fail> {
-    let alloc = rt.alloc();
-    let frame = frame(3)?;
-    let schema = schema(alloc, ValType::I64, false, Val::Int(0))?;
-    let meta = Meta::decode(alloc, &frame, &schema, FRAG, &TWO_TILES)?;
-    assert_eq!(rt; meta.tiles, 2);
-    assert_eq!(rt; meta.lengths.as_slice(), [46, 46].as_slice());
-    let Some(tree) = &meta.tree else {
-        return Err(Fail::from("no tree"));
+// Whether the object is read as metadata with these lengths of objects, and these starts of texts, its
+// head also without the schema, and is written back.
+fn is_read_back(
+    alloc: Global,
+    frame: &Frame,
+    schema: &Schema,
+    object: &[u8],
+    lengths: &[u64],
+    starts: &[u64],
+) -> Result<bool, ReadFault>
+    requires { frame.now.dense ≡ false }
+{
+    let meta = Meta::decode(alloc, frame, schema, FRAG, object)?;
+    let known = match meta.var_starts.as_slice() {
+        [] => starts.is_empty(),
+        [list] => list.as_slice() == starts,
+        _ => false,
     };
-    assert_eq!(rt; tree.bytes(alloc)?.as_slice(), &TWO_TILES[128..]);
-    assert_eq!(rt;
-        meta.encode(alloc, &frame, &schema)?.as_slice(),
-        TWO_TILES.as_slice()
-    );
-    for change in &TWO_TILES_CHANGES {
-        let at = broken_at(alloc, &frame, &schema, &TWO_TILES, change)?;
-        let Change(_, _, broken) = change;
-        assert_eq!(rt; at, Some(*broken));
-    }
+    let head = read_head(alloc, frame, FRAG, object)?;
+    let bytes = meta.encode(alloc, frame, schema)?;
+    Ok(
+        known
+            && meta.lengths.as_slice() == lengths
+            && meta.head == head
+            && bytes.as_slice() == object,
+    )
+}
+
+#[test]
+fn metadata_of_integers_has_its_160_and_224_bytes(rt: HostRuntime) -> Result<(), Fail> {
+    let alloc = rt.alloc();
+    let schema = schema(alloc, ValType::I64, false, Val::Int(0))?;
+    let (wide, narrow) = (frame(10_000)?, frame(3)?);
+    assert!(rt; is_read_back(alloc, &wide, &schema, &ONE_TILE, &[22, 22], &[])?);
+    assert!(rt; breaks_so(alloc, &wide, &schema, &ONE_TILE, &ONE_TILE_CHANGES)?);
+    assert!(rt; is_read_back(alloc, &narrow, &schema, &TWO_TILES, &[46, 46], &[])?);
+    assert!(rt; breaks_so(alloc, &narrow, &schema, &TWO_TILES, &TWO_TILES_CHANGES)?);
     Ok(())
 }
 
 #[test]
-fn texts_tell_where_their_tiles_start(rt: HostRuntime) -> Result<(), Fail> {
+fn metadata_of_texts_tells_where_their_tiles_start(rt: HostRuntime) -> Result<(), Fail> {
     let alloc = rt.alloc();
-    let frame = frame(1)?;
     let schema = schema(alloc, ValType::Text, true, Val::Null)?;
-    let meta = Meta::decode(alloc, &frame, &schema, FRAG, &TEXTS)?;
-    assert_eq!(rt; meta.lengths.as_slice(), [30, 30, 17, 16].as_slice());
-    assert_eq!(rt; meta.var_starts.len(), 1);
-    assert_eq!(rt; meta.var_starts.at(0).as_slice(), [14, 16].as_slice());
-    assert_eq!(rt;
-        meta.encode(alloc, &frame, &schema)?.as_slice(),
-        TEXTS.as_slice()
-    );
-    for change in &TEXTS_CHANGES {
-        let at = broken_at(alloc, &frame, &schema, &TEXTS, change)?;
-        let Change(_, _, broken) = change;
-        assert_eq!(rt; at, Some(*broken));
-    }
+    let frame = frame(1)?;
+    assert!(rt; is_read_back(alloc, &frame, &schema, &TEXTS, &[30, 30, 17, 16], &[14, 16])?);
+    assert!(rt; breaks_so(alloc, &frame, &schema, &TEXTS, &TEXTS_CHANGES)?);
     Ok(())
 }
