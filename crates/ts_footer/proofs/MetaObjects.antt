@@ -212,12 +212,11 @@ footer_writable frame attrs frag footer sparse fits =
 pub is_writable : (frame : Frame) (attrs : List Attr) (m : Meta) (bytes : List ℕ) → frame.dense ≡ false → IsMetaObject frame attrs m bytes → IsWritable frame attrs m
 is_writable frame attrs m bytes sparse is = subst (IsWritable frame attrs) (sym is.same) (footer_writable frame attrs m.head.frag is.stored sparse is.fits)
 
--- what is stored of it spells it
-stored_is_meta : (frame : Frame) (attrs : List Attr) (m : Meta) → frame.dense ≡ false → HasMetaObject frame attrs m → IsMetaObject frame attrs m (wrapped kind.Meta (footer_bytes (footer_for frame attrs m)))
-stored_is_meta frame attrs m sparse has =
-    let is = has.spelled in
+-- what is stored of it is what each object that holds it stores
+stored_one : (frame : Frame) (attrs : List Attr) (m : Meta) (bytes : List ℕ) → frame.dense ≡ false → IsMetaObject frame attrs m bytes → wrapped kind.Meta (footer_bytes (footer_for frame attrs m)) ≡ bytes
+stored_one frame attrs m bytes sparse is =
     let same : footer_for frame attrs m ≡ is.stored = ap (footer_for frame attrs) is.same ∙ footer_back frame attrs m.head.frag is.stored sparse is.fits in
-    record { stored = is.stored; fits = is.fits; few = is.few; spelled = ap (λ stored. wrapped kind.Meta (footer_bytes stored)) same; same = is.same }
+    ap (λ stored. wrapped kind.Meta (footer_bytes stored)) same ∙ sym is.spelled
 
 -- ---- what the calls say
 
@@ -269,12 +268,18 @@ broken_head frame attrs frag object (Err (fault.Damaged damaged)) h =
     by_head (Ok head) e = absurd (not_both (Ok (head_of frag head)) _ damaged.at refl e)
     by_head (Err there) e = let same : there ≡ damaged.at = cc in ap Err same
 
--- writing metadata that some object holds gives such an object
+-- metadata that some object holds is written as that object
+pub one_meta : {E : Type 0} (frame : Frame) (attrs : List Attr) (m : Meta) (object : List ℕ) (result : Result (List ℕ) E) → frame.dense ≡ false → IsMetaObject frame attrs m object
+    → IfOk result (λ bytes. bytes ≡ wrapped kind.Meta (footer_bytes (footer_for frame attrs m))) → IfOk result (λ bytes. bytes ≡ object)
+one_meta frame attrs m object result sparse is =
+    IfOk-weaker result (λ bytes. bytes ≡ wrapped kind.Meta (footer_bytes (footer_for frame attrs m))) (λ bytes. bytes ≡ object) (λ bytes h. h ∙ stored_one frame attrs m object sparse is)
+
+-- so it gives such an object
 pub meta_written : {E : Type 0} (frame : Frame) (attrs : List Attr) (m : Meta) (result : Result (List ℕ) E) → frame.dense ≡ false → HasMetaObject frame attrs m
     → IfOk result (λ bytes. bytes ≡ wrapped kind.Meta (footer_bytes (footer_for frame attrs m))) → IfOk result (IsMetaObject frame attrs m)
-meta_written frame attrs m result sparse has =
-    IfOk-weaker result (λ bytes. bytes ≡ wrapped kind.Meta (footer_bytes (footer_for frame attrs m))) (IsMetaObject frame attrs m)
-    (λ bytes h. subst (IsMetaObject frame attrs m) (sym h) (stored_is_meta frame attrs m sparse has))
+meta_written frame attrs m result sparse has written =
+    IfOk-weaker result (λ bytes. bytes ≡ has.bytes) (IsMetaObject frame attrs m) (λ bytes h. subst (IsMetaObject frame attrs m) (sym h) has.spelled)
+    (one_meta frame attrs m has.bytes result sparse has.spelled written)
 
 -- what is written so is read again
 pub meta_undone : {E : Type 0} (frame : Frame) (attrs : List Attr) (m : Meta) (result : Result (List ℕ) E) → frame.dense ≡ false → HasMetaObject frame attrs m

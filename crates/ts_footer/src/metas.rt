@@ -69,8 +69,8 @@ impl Meta {
     /// array of this frame.
     ///
     /// Something has to be said of each object that the frame and the schema ask for. Where some object
-    /// holds the metadata, this is the one that does, and [`Meta::decode`] gives the metadata back
-    /// (`undone`); of other metadata the bytes may be no object.
+    /// holds the metadata, this one does (`spelled`), and no other (`one`), and [`Meta::decode`] gives
+    /// the metadata back (`undone`). Of other metadata the bytes may be no object.
     pub fn encode(
         &self,
         alloc: Global,
@@ -81,6 +81,7 @@ impl Meta {
         requires writable { IsWritable frame.now schema.now.attrs self.now }
         ensures stored { IfOk result (λ object. object ≡ wrapped kind.Meta (footer_bytes (footer_for frame.now schema.now.attrs self.now))) }
         ensures spelled { HasMetaObject frame.now schema.now.attrs self.now → IfOk result (IsMetaObject frame.now schema.now.attrs self.now) }
+        ensures one { (object : List ℕ) → IsMetaObject frame.now schema.now.attrs self.now object → IfOk result (λ written. written ≡ object) }
         ensures undone { HasMetaObject frame.now schema.now.attrs self.now → IfOk result (λ object. meta_in frame.now schema.now.attrs self.now.head.frag object ≡ Ok self.now) }
     {
         write_meta(alloc, frame, schema.attrs.as_slice(), self)
