@@ -15,6 +15,8 @@ mod cond;
 #[cfg(test)]
 mod domain;
 #[cfg(test)]
+mod footer;
+#[cfg(test)]
 mod lease;
 #[cfg(test)]
 mod model;

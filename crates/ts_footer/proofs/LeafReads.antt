@@ -56,7 +56,7 @@ corners_done n i ls hs p all over (count, bounds, so) = items_done (λ _. bounds
 pub ruleset corners_loop = (corners_on, corners_stop, corners_done)
 
 -- the box between the sides of its corners
-box_back : (ls hs : List ℤ) → are_bounds ls hs ≡ true → box_of (sides_of ls hs) ≡ record { low = ls; high = hs }
+pub box_back : (ls hs : List ℤ) → are_bounds ls hs ≡ true → box_of (sides_of ls hs) ≡ record { low = ls; high = hs }
 box_back [] [] e = refl
 box_back [] (h ∷ hs) e = cc
 box_back (l ∷ ls) [] e = cc

@@ -18,7 +18,7 @@ use Rattle.ts_wire.proofs.Numbers.{length-number_bytes}
 use Rattle.ts_rtree.specs.Trees.{Rooted, nodes_above, upper_of, nodes_of}
 use Rattle.ts_rtree.proofs.Levels.{upper_of_more, length-nodes_above}
 use Rattle.ts_rtree.proofs.Likes.{nodes_of-like}
-use Rattle.ts_footer.specs.TreeTexts.{side_fields, box_fields, fields_of, topped, same_at, leaves_at, boxes_at, rooted, one_at, many_at, AreTiles}
+use Rattle.ts_footer.specs.TreeTexts.{side_fields, box_fields, fields_of, topped, same_at, leaves_at, boxes_at, rooted, one_at, many_at}
 
 -- the spelling of one box
 pub one_spelled : (box : SubBox) → flat_map rect_bytes (box ∷ []) ≡ rect_bytes box
@@ -26,7 +26,7 @@ one_spelled box = append-nil (rect_bytes box)
 
 -- ---- fields
 
-abbrev IsWide : List ℕ → Type 0
+abbrev pub IsWide : List ℕ → Type 0
 IsWide field = length field ≡ 16
 
 is_wide : (x : ℤ) → IsWide (wide_bytes x)
@@ -39,7 +39,7 @@ sides_wide (l ∷ ls) [] = All-nil IsWide
 sides_wide (l ∷ ls) (h ∷ hs) =
     All-cons IsWide (wide_bytes l) (wide_bytes h ∷ side_fields ls hs) (is_wide l) (All-cons IsWide (wide_bytes h) (side_fields ls hs) (is_wide h) (sides_wide ls hs))
 
-fields_wide : (boxes : List SubBox) → All IsWide (fields_of boxes)
+pub fields_wide : (boxes : List SubBox) → All IsWide (fields_of boxes)
 fields_wide [] = All-nil IsWide
 fields_wide (b ∷ bs) = All-append IsWide (box_fields b) (fields_of bs) (sides_wide b.low b.high) (fields_wide bs)
 
@@ -95,7 +95,7 @@ length-rect_bytes box valid = length-sides_bytes box.low box.high (length-are_bo
 abbrev AreAsLong : ℕ → List SubBox → Type 0
 AreAsLong width boxes = All (λ b. length (rect_bytes b) ≡ width) boxes
 
-as_long : (hull : SubBox) (boxes : List SubBox) → IsBox hull → All (IsLike hull) boxes → AreAsLong (length (rect_bytes hull)) boxes
+pub as_long : (hull : SubBox) (boxes : List SubBox) → IsBox hull → All (IsLike hull) boxes → AreAsLong (length (rect_bytes hull)) boxes
 as_long hull boxes valid like i d within =
     let is = like i d within in
     length-rect_bytes (get_or boxes i d) is.valid ∙ ap (λ n. 32 * n) is.dims ∙ sym (length-rect_bytes hull valid)
@@ -139,7 +139,7 @@ topped_text hull (b ∷ (c ∷ bs)) some long =
         let more : length (x ∷ xs) + n ≡ suc (length xs + n) = omega arith in
         ap (λ k. take k (x ∷ (xs ++ ys))) more ∙ ap (λ zs. x ∷ zs) (take_past xs ys n)
 
-length-topped : (hull : SubBox) (boxes : List SubBox) → AreAsLong (length (rect_bytes hull)) boxes → length (flat_map rect_bytes (topped hull boxes)) ≡ length (flat_map rect_bytes boxes)
+pub length-topped : (hull : SubBox) (boxes : List SubBox) → AreAsLong (length (rect_bytes hull)) boxes → length (flat_map rect_bytes (topped hull boxes)) ≡ length (flat_map rect_bytes boxes)
 length-topped hull [] long = refl
 length-topped hull (b ∷ []) long =
     omega (arith, length-append (rect_bytes hull) [], length-append (rect_bytes b) [], All-head (λ b. length (rect_bytes b) ≡ length (rect_bytes hull)) b [] long)
@@ -158,7 +158,7 @@ pub record AreFieldsOf (hull : SubBox) (boxes : List SubBox) (first second : Lis
   pub same : (p : Place) → each_at same_at (zip (first_chunks 16 count first) (first_chunks 16 count second)) p ≡ boxes_at hull boxes p
 
 -- so many fields of the text of boxes
-text_fields : (boxes : List SubBox) (text : List ℕ) → text ≡ flat_map rect_bytes boxes → length text ≡ 16 * length (fields_of boxes)
+pub text_fields : (boxes : List SubBox) (text : List ℕ) → text ≡ flat_map rect_bytes boxes → length text ≡ 16 * length (fields_of boxes)
 text_fields boxes text is = ap length (is ∙ sym (fields_joined boxes)) ∙ length-joined (fields_of boxes) (fields_wide boxes)
 
 text_chunks : (boxes : List SubBox) (text : List ℕ) (count : ℕ) → text ≡ flat_map rect_bytes boxes → count ≡ length (fields_of boxes) → first_chunks 16 count text ≡ fields_of boxes
@@ -296,14 +296,3 @@ unfolding many_at
 many_stops hull count leaves tree at p q leaf made above =
     let known : boxes_at hull (upper_of leaves) q ≡ Err at = ap (λ (t : Rooted). boxes_at hull (upper_of t.leaves) q) (sym made) ∙ above in
     rw (leaf, known) refl
-
--- ---- what is known of the tree
-
--- the leaf of a tree of one tile is like the hull
-pub one_tile : (hull : SubBox) (tree : Rooted) (leaves : List SubBox) → IsBox hull → leaves ≡ hull ∷ [] → tree ≡ rooted leaves → AreTiles hull 1 tree.leaves
-one_tile hull tree leaves valid is made =
-    let known : hull ∷ [] ≡ tree.leaves = sym (ap (λ (t : Rooted). t.leaves) made ∙ is) in
-    subst (AreTiles hull 1) known (refl, All-cons (IsLike hull) hull [] (record { valid = valid; dims = refl }) (All-nil (IsLike hull)))
-
-pub many_tiles : (hull : SubBox) (count : ℕ) (tree : Rooted) (leaves : List SubBox) → length leaves ≡ count → All (IsLike hull) leaves → tree ≡ rooted leaves → AreTiles hull count tree.leaves
-many_tiles hull count tree leaves many like made = subst (AreTiles hull count) (sym (ap (λ (t : Rooted). t.leaves) made)) (many, like)

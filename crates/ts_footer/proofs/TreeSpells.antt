@@ -1,25 +1,22 @@
 -- What is read of a tree is its spelling, and nothing else.
-use Rattle.std.proofs.Common.{◌≡◌, ℕ, true, ◌&&◌, int_le, List, [], ◌∷◌, ◌++◌, length, map, Ok, refl, sym, ap, subst, ◌∙◌, arith, append_assoc, lit≤}
+use Rattle.std.proofs.Common.{◌≡◌, ℕ, true, ◌&&◌, int_le, List, [], ◌∷◌, ◌++◌, length, map, refl, ap, ◌∙◌, arith, append_assoc, lit≤}
 use Rattle.std.specs.Prelude.{zip}
 use Rattle.std.specs.List.{flat_map}
 use Rattle.std.proofs.lemmas.Bool.{and_parts}
-use Rattle.std.proofs.lemmas.List.Concat.{flat_map-append}
 use Rattle.ts_domain.specs.declared.boxes.SubBox.{SubBox}
 use Rattle.ts_domain.specs.Rects.{wide_bytes, rect_bytes}
-use Rattle.ts_wire.specs.Exact.{IsBytes, Takes, Exact, EachFits}
+use Rattle.ts_wire.specs.Exact.{Exact, EachFits}
 use Rattle.ts_wire.specs.Numbers.{int_bytes, number_bytes, FitsInt}
-use Rattle.ts_wire.specs.Place.{Place}
-use Rattle.ts_wire.proofs.Laws.{AreBytes, AreInTurn, bytes_exact, ruled_exact, both_exact, mapped_exact, items_exact, each_exact, takes_both, bound, same_ok}
+use Rattle.ts_wire.proofs.Laws.{AreBytes, AreInTurn, bytes_exact, ruled_exact, both_exact, mapped_exact, items_exact, each_exact}
 use Rattle.ts_wire.proofs.Numbers.{int_exact}
-use Rattle.ts_rtree.specs.Trees.{Rooted, nodes_of, upper_of}
 use Rattle.ts_plain.specs.declared.stored.Side.{Side}
-use Rattle.ts_footer.specs.TreeTexts.{are_same, same_at, bounds_at, box_of, leaf_at, leaves_at, fields_of, topped, boxes_at, rooted, one_at}
+use Rattle.ts_footer.specs.TreeTexts.{are_same, same_at, bounds_at, box_of, leaf_at, leaves_at, fields_of, topped, boxes_at}
 use Rattle.ts_footer.proofs.Sames.{is_same_true}
-use Rattle.ts_footer.proofs.TreeReads.{joined, fields_joined}
+use Rattle.ts_footer.proofs.TreeReads.{joined}
 
 -- ---- the boxes of tiles
 
-abbrev FitsSide : Side → Type 0
+abbrev pub FitsSide : Side → Type 0
 FitsSide side = FitsInt 16 true side.low × (FitsInt 16 true side.high × (int_le side.low side.high ≡ true))
 
 abbrev side_text : Side → List ℕ
@@ -41,35 +38,35 @@ sides_spell (s ∷ sides) =
     append_assoc (wide_bytes s.low) (wide_bytes s.high) (flat_map side_text sides) ∙ ap (λ rest. wide_bytes s.low ++ (wide_bytes s.high ++ rest)) (sides_spell sides)
 
 -- it is between so many bounds that fit
-abbrev FitsLeaf : ℕ → SubBox → Type 0
+abbrev pub FitsLeaf : ℕ → SubBox → Type 0
 FitsLeaf n box = (sides : List Side) × (AreInTurn (λ _. FitsSide) n [] sides × (box_of sides ≡ box))
 
-leaf_exact : (n : ℕ) → Exact (FitsLeaf n) rect_bytes (leaf_at n)
+pub leaf_exact : (n : ℕ) → Exact (FitsLeaf n) rect_bytes (leaf_at n)
 unfolding leaf_at
 leaf_exact n = mapped_exact (items_exact (λ _. bounds_exact) n []) (record {
   there = λ sides fits. ((sides, (fits, refl)), sides_spell sides);
   back = λ box fits. (fits.0, fits.1.0, fits.1.1, sides_spell fits.0 ∙ ap rect_bytes fits.1.1);
 })
 
-leaves_exact : (n count : ℕ) → Exact (AreInTurn (λ _. FitsLeaf n) count []) (flat_map rect_bytes) (leaves_at n count)
+pub leaves_exact : (n count : ℕ) → Exact (AreInTurn (λ _. FitsLeaf n) count []) (flat_map rect_bytes) (leaves_at n count)
 unfolding leaves_at
 leaves_exact n count = items_exact (λ _. leaf_exact n) count []
 
 -- ---- the boxes above them
 
-abbrev FitsSame : List ℕ × List ℕ → List ℕ → Type 0
+abbrev pub FitsSame : List ℕ × List ℕ → List ℕ → Type 0
 FitsSame e bytes = AreBytes 16 bytes × (are_same bytes e.0 && are_same bytes e.1 ≡ true)
 
 same_exact : (e : List ℕ × List ℕ) → Exact (FitsSame e) (λ bytes. bytes) (same_at e)
 unfolding same_at
 same_exact e = ruled_exact (λ bytes. are_same bytes e.0 && are_same bytes e.1) (bytes_exact 16)
 
-boxes_exact : (hull : SubBox) (boxes : List SubBox) → Exact (EachFits FitsSame (zip (fields_of boxes) (fields_of (topped hull boxes)))) joined (boxes_at hull boxes)
+pub boxes_exact : (hull : SubBox) (boxes : List SubBox) → Exact (EachFits FitsSame (zip (fields_of boxes) (fields_of (topped hull boxes)))) joined (boxes_at hull boxes)
 unfolding boxes_at
 boxes_exact hull boxes = each_exact same_exact (zip (fields_of boxes) (fields_of (topped hull boxes)))
 
 -- the fields that fit are those that have to be there
-fields_are : (es : List (List ℕ × List ℕ)) (xs : List (List ℕ)) → EachFits FitsSame es xs → xs ≡ map (λ e. e.0) es
+pub fields_are : (es : List (List ℕ × List ℕ)) (xs : List (List ℕ)) → EachFits FitsSame es xs → xs ≡ map (λ e. e.0) es
 fields_are [] [] fits = refl
 fields_are [] (x ∷ xs) fits = absurd fits
 fields_are (e ∷ es) [] fits = absurd fits
@@ -77,31 +74,7 @@ fields_are (e ∷ es) (x ∷ xs) (first, others) =
     let here = is_same_true x e.0 (and_parts (are_same x e.0) (are_same x e.1) first.1).0 in
     ap (λ y. y ∷ xs) here ∙ ap (λ ys. e.0 ∷ ys) (fields_are es xs others)
 
-map-zip : (xs ys : List (List ℕ)) → length ys ≡ length xs → map (λ e. e.0) (zip xs ys) ≡ xs
+pub map-zip : (xs ys : List (List ℕ)) → length ys ≡ length xs → map (λ e. e.0) (zip xs ys) ≡ xs
 map-zip [] ys e = refl
 map-zip (x ∷ xs) [] e = absurd (omega arith)
 map-zip (x ∷ xs) (y ∷ ys) e = ap (λ zs. x ∷ zs) (map-zip xs ys (omega arith))
-
--- ---- whole trees
-
--- the one box of a tree is the hull, and takes its text
-pub one_taken : (hull : SubBox) (tree : Rooted) (p q : Place) → IsBytes p.rest → one_at hull p ≡ Ok (tree, q) → Takes p (flat_map rect_bytes (nodes_of tree.leaves)) q
-unfolding one_at upper_of
-one_taken hull tree p q all read =
-    let fields = fields_of (hull ∷ []) in
-    let b = bound (boxes_at hull (hull ∷ []) p) (λ x. Ok (rooted (hull ∷ []), x.1)) (tree, q) read in
-    let was = (boxes_exact hull (hull ∷ [])).takes p b.first all b.was in
-    let known : b.first.0 ≡ fields = fields_are (zip fields fields) b.first.0 was.1 ∙ map-zip fields fields refl in
-    let text : joined b.first.0 ≡ flat_map rect_bytes (hull ∷ []) = ap joined known ∙ fields_joined (hull ∷ []) in
-    subst (λ (y : Rooted × Place). Takes p (flat_map rect_bytes (nodes_of y.0.leaves)) y.1) (same_ok (Ok (rooted (hull ∷ []), b.first.1)) _ _ refl b.next)
-    (subst (λ (bytes : List ℕ). Takes p bytes b.first.1) text was.0)
-
--- the boxes of the tiles take their text, and those above them theirs
-pub many_taken : (hull : SubBox) (n count : ℕ) (tree : Rooted) (leaves : List SubBox) (p q r : Place) → IsBytes p.rest → leaves_at n count p ≡ Ok (leaves, q) → tree ≡ rooted leaves
-    → boxes_at hull (upper_of tree.leaves) q ≡ Ok (fields_of (upper_of tree.leaves), r) → Takes p (flat_map rect_bytes (nodes_of tree.leaves)) r
-many_taken hull n count tree leaves p q r all leaf made above =
-    let upper = upper_of tree.leaves in
-    let known : leaves_at n count p ≡ Ok (tree.leaves, q) = leaf ∙ ap (λ (t : Rooted). Ok (t.leaves, q)) (sym made) in
-    let front = ((leaves_exact n count).takes p (tree.leaves, q) all known).0 in
-    let back = subst (λ (bytes : List ℕ). Takes q bytes r) (fields_joined upper) ((boxes_exact hull upper).takes q (fields_of upper, r) front.bytes above).0 in
-    subst (λ (bytes : List ℕ). Takes p bytes r) (sym (flat_map-append rect_bytes tree.leaves upper)) (takes_both p q r (flat_map rect_bytes tree.leaves) (flat_map rect_bytes upper) front back)

@@ -1,9 +1,9 @@
 -- How the tree over the tiles of a sparse fragment is read.
-use Rattle.std.specs.Prelude.{◌≡◌, ◌≤ℤ◌, ℕ, ℤ, Bool, true, ◌&&◌, nat_eq, int_le, if◌then◌else◌, List, [], ◌∷◌, map, zip, length}
-use Rattle.std.specs.List.{All, flat_map}
+use Rattle.std.specs.Prelude.{◌≤ℤ◌, ℕ, ℤ, Bool, true, ◌&&◌, nat_eq, int_le, if◌then◌else◌, List, [], ◌∷◌, map, zip, length}
+use Rattle.std.specs.List.{flat_map}
 use Rattle.std.specs.Cmp.Lexicographic.{pointwise}
 use Rattle.ts_domain.specs.declared.boxes.SubBox.{SubBox}
-use Rattle.ts_domain.specs.Rects.{IsLike, wide_bytes}
+use Rattle.ts_domain.specs.Rects.{wide_bytes}
 use Rattle.ts_wire.specs.Place.{Place, Read, mapped, both, ruled, bytes_at, items_at, each_at}
 use Rattle.ts_wire.specs.Numbers.{int_at}
 use Rattle.ts_rtree.specs.Trees.{Rooted, upper_of}
@@ -74,7 +74,3 @@ many_at hull count = mapped (λ x. rooted x.0) (both (leaves_at (length hull.low
 -- the tree over so many tiles whose cells have this hull
 abbrev pub tree_at : SubBox → ℕ → Place → Read Rooted
 tree_at hull count = if nat_eq count 1 then one_at hull else many_at hull count
-
--- so many boxes of as many dimensions as the hull
-abbrev pub AreTiles : SubBox → ℕ → List SubBox → Type 0
-AreTiles hull count boxes = (length boxes ≡ count) × All (IsLike hull) boxes

@@ -1,7 +1,15 @@
-//! The metadata of fragments in tiles.
+//! The metadata of fragments in tiles: which columns a fragment has, where their tiles start, and the
+//! tree over the boxes of its tiles.
 #![tactic(auto)]
 
+mod columns;
+mod footers;
 mod leaves;
+mod metas;
+mod sizes;
 mod trees;
+mod writing;
 
-pub use trees::read_tree;
+pub use columns::{ColumnForm, ColumnSize, FormList, SizeList};
+pub use footers::Footer;
+pub use metas::{Meta, read_head};

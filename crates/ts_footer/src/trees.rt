@@ -1,14 +1,12 @@
 //! Reading the tree over the tiles of a sparse fragment.
 ghost use Rattle.std.specs.Prelude.{◌≡◌, ◌≤◌, ◌<◌, ◌*◌, ◌^◌, length, zip, IfOk, All};
-ghost use Rattle.std.specs.List.{flat_map};
 ghost use Rattle.std.specs.Simd.{first_chunks};
 ghost use Rattle.ts_domain.specs.Boxes.{IsBox};
 ghost use Rattle.ts_domain.specs.Rects.{IsLike, rect_bytes};
-ghost use Rattle.ts_wire.specs.Exact.{IsBytes, Takes};
 ghost use Rattle.ts_wire.specs.Place.{each_at};
 ghost use Rattle.ts_wire.specs.Reading.{Reads, ReadsOr};
-ghost use Rattle.ts_rtree.specs.Trees.{nodes_of, upper_of};
-ghost use Rattle.ts_footer.specs.TreeTexts.{same_at, fields_of, boxes_at, rooted, one_at, many_at, tree_at, AreTiles};
+ghost use Rattle.ts_rtree.specs.Trees.{upper_of};
+ghost use Rattle.ts_footer.specs.TreeTexts.{same_at, fields_of, boxes_at, rooted, one_at, many_at, tree_at};
 
 use crate::leaves::read_leaves;
 use std::alloc::Global;
@@ -22,7 +20,7 @@ use ts_wire::{Cursor, Damaged, ReadFault};
 /// Each bound takes 16 bytes. The boxes of the tiles come first, and then level by level those above,
 /// which are computed and compared; the last one is the hull. Where there is one tile, its box is the hull.
 /// `Damaged` tells the offset of the first bound that is broken or not there.
-pub fn read_tree(
+pub(crate) fn read_tree(
     alloc: Global,
     hull: &SubBox,
     count: u32,
@@ -30,9 +28,7 @@ pub fn read_tree(
 ) -> Result<Tree, ReadFault>
     requires hull { IsBox hull.now }
     requires some { 1 ≤ count }
-    ensures exact { ReadsOr (λ tree. tree) (tree_at hull.now count) cursor.old cursor.new result }
-    ensures tiles { IfOk result (λ tree. AreTiles hull.now count tree.leaves) }
-    ensures spelled { IfOk result (λ tree. Takes cursor.old (flat_map rect_bytes (nodes_of tree.leaves)) cursor.new) }
+    ensures { ReadsOr (λ tree. tree) (tree_at hull.now count) cursor.old cursor.new result }
 {
     if count == 1 {
         read_one(alloc, hull, cursor)
@@ -42,14 +38,10 @@ pub fn read_tree(
 }
 
 // The tree of one tile, whose box is the hull.
-#[tactic(auto, using(crate::proofs::TreeReads::one_tile))]
 fn read_one(alloc: Global, hull: &SubBox, cursor: &mut Cursor) -> Result<Tree, ReadFault>
     requires hull { IsBox hull.now }
-    ensures reads { ReadsOr (λ tree. tree) (one_at hull.now) cursor.old cursor.new result }
-    ensures tiles { IfOk result (λ tree. AreTiles hull.now 1 tree.leaves) }
-    ensures spelled { IfOk result (λ tree. Takes cursor.old (flat_map rect_bytes (nodes_of tree.leaves)) cursor.new) }
+    ensures { ReadsOr (λ tree. tree) (one_at hull.now) cursor.old cursor.new result }
 {
-    are_bytes(cursor.rest());
     let mut leaves = BoxList::new(alloc);
     leaves.push(*hull)?;
     let tree = tree_over(alloc, hull, &leaves)?;
@@ -62,7 +54,7 @@ fn read_one(alloc: Global, hull: &SubBox, cursor: &mut Cursor) -> Result<Tree, R
 }
 
 // The tree over two tiles or more.
-#[tactic(auto, using(crate::proofs::TreeReads::many_read, crate::proofs::TreeReads::many_stops, crate::proofs::TreeReads::many_tiles), unfolding(crate::specs::TreeTexts::many_at))]
+#[tactic(auto, using(crate::proofs::TreeReads::many_read, crate::proofs::TreeReads::many_stops), unfolding(crate::specs::TreeTexts::many_at))]
 fn read_many(
     alloc: Global,
     hull: &SubBox,
@@ -71,21 +63,13 @@ fn read_many(
 ) -> Result<Tree, ReadFault>
     requires hull { IsBox hull.now }
     requires some { 2 ≤ count }
-    ensures reads { ReadsOr (λ tree. tree) (many_at hull.now count) cursor.old cursor.new result }
-    ensures tiles { IfOk result (λ tree. AreTiles hull.now count tree.leaves) }
-    ensures spelled { IfOk result (λ tree. Takes cursor.old (flat_map rect_bytes (nodes_of tree.leaves)) cursor.new) }
+    ensures { ReadsOr (λ tree. tree) (many_at hull.now count) cursor.old cursor.new result }
 {
-    are_bytes(cursor.rest());
     let leaves = read_leaves(alloc, hull, count, cursor)?;
     let tree = tree_over(alloc, hull, &leaves)?;
     read_upper(alloc, hull, count, &tree, cursor)?;
     Ok(tree)
 }
-
-// Each number of a slice of bytes is a byte. The call itself does nothing.
-fn are_bytes(bytes: &[u8])
-    ensures { IsBytes bytes.now }
-{}
 
 // The tree over boxes that are like the hull.
 fn tree_over(alloc: Global, hull: &SubBox, leaves: &BoxList) -> Result<Tree, OutOfMemory>

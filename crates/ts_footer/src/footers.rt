@@ -1,0 +1,165 @@
+//! Reading what the metadata of a fragment stores.
+ghost use Rattle.std.specs.Prelude.{◌≡◌, ◌≤◌, false, IfOk};
+ghost use Rattle.ts_domain.specs.Boxes.{IsBox};
+ghost use Rattle.ts_wire.specs.Exact.{IsBytes};
+ghost use Rattle.ts_wire.specs.Place.{whole};
+ghost use Rattle.ts_wire.specs.Reading.{ReadsOr, DecodesOr};
+ghost use Rattle.ts_plain.specs.Insides.{IsHull};
+ghost use Rattle.ts_plain.specs.Plain.{head_at};
+ghost use Rattle.ts_footer.specs.TreeTexts.{box_of};
+ghost use Rattle.ts_footer.specs.Footers.{tiles_at, footer_at, footer_stored, head_stored};
+
+use crate::columns::{SizeList, column_forms};
+use crate::sizes::{read_sizes, read_tile_count};
+use crate::trees::read_tree;
+use std::alloc::Global;
+use ts_base::FragKey;
+use ts_domain::SubBox;
+use ts_plain::{Side, StoredHead, highs, lows, read_fields};
+use ts_rtree::Tree;
+use ts_schema::{Attr, Frame};
+use ts_wire::{Cursor, Kind, ReadFault, unwrap_body};
+
+/// What the metadata of a fragment stores, in the order of the layout.
+#[derive(Debug, Drop, PartialEq, Eq)]
+pub struct Footer {
+    /// The fields that all objects of fragments begin with.
+    pub head: StoredHead,
+    /// The number of tiles.
+    pub tiles: u32,
+    /// What is said of the object of each column.
+    pub sizes: SizeList,
+    /// The tree over the boxes of the tiles, which a sparse fragment has.
+    pub tree: Option<Tree>,
+}
+
+// The box between the sides of a hull.
+#[tactic(auto, using(ts_plain::proofs::Insides::hull_length, crate::proofs::FooterReads::box_valid))]
+fn hull_box(frame: &Frame, hull: &[Side]) -> SubBox
+    requires { IsHull frame.now.domain hull.now }
+    ensures corners { result ≡ box_of hull.now }
+    ensures valid { IsBox result }
+{
+    let _count = frame.domain.count();
+    SubBox {
+        low: lows(hull),
+        high: highs(hull),
+    }
+}
+
+// What stands behind a head.
+#[tactic(auto, unfolding(crate::specs::Footers::tiles_at))]
+fn read_tiles(
+    alloc: Global,
+    frame: &Frame,
+    attrs: &[Attr],
+    head: &StoredHead,
+    cursor: &mut Cursor,
+) -> Result<(u32, SizeList, Tree), ReadFault>
+    requires hull { IsHull frame.now.domain head.now.hull }
+    requires some { 1 ≤ head.now.cells }
+    ensures { ReadsOr (λ behind. (behind.0, (behind.1, behind.2))) (tiles_at frame.now attrs.now head.now) cursor.old cursor.new result }
+{
+    let tiles = read_tile_count(frame.capacity, head.cells, cursor)?;
+    let forms = column_forms(alloc, frame.domain.as_slice(), attrs, head.consolidated)?;
+    let sizes = read_sizes(alloc, forms.as_slice(), head.cells, tiles, cursor)?;
+    let hull = hull_box(frame, head.hull.as_slice());
+    let tree = read_tree(alloc, &hull, tiles, cursor)?;
+    Ok((tiles, sizes, tree))
+}
+
+// Each number of a slice of bytes is a byte. The call itself does nothing.
+fn are_bytes(bytes: &[u8])
+    ensures { IsBytes bytes.now }
+{}
+
+// The fields that all objects of fragments begin with, of a sparse array.
+fn read_sparse_head(
+    alloc: Global,
+    frame: &Frame,
+    frag: FragKey,
+    cursor: &mut Cursor,
+) -> Result<StoredHead, ReadFault>
+    requires sparse { frame.now.dense ≡ false }
+    ensures reads { ReadsOr (λ head. head) (head_at frame.now frag) cursor.old cursor.new result }
+    ensures inside { IfOk result (λ head. IsHull frame.now.domain head.hull) }
+    ensures some { IfOk result (λ head. 1 ≤ head.cells) }
+{
+    are_bytes(cursor.rest());
+    let head = read_fields(alloc, frame, frag, cursor)?;
+    Ok(head)
+}
+
+#[tactic(auto, unfolding(crate::specs::Footers::footer_at))]
+fn read_body(
+    alloc: Global,
+    frame: &Frame,
+    attrs: &[Attr],
+    frag: FragKey,
+    cursor: &mut Cursor,
+) -> Result<Footer, ReadFault>
+    requires sparse { frame.now.dense ≡ false }
+    ensures reads { ReadsOr (λ footer. footer) (footer_at frame.now attrs.now frag) cursor.old cursor.new result }
+    ensures inside { IfOk result (λ footer. IsHull frame.now.domain footer.head.hull) }
+{
+    let head = read_sparse_head(alloc, frame, frag, cursor)?;
+    let (tiles, sizes, tree) = read_tiles(alloc, frame, attrs, &head, cursor)?;
+    Ok(Footer {
+        head,
+        tiles,
+        sizes,
+        tree: Some(tree),
+    })
+}
+
+// What the rest of an object spells, with nothing behind it.
+#[tactic(auto, unfolding(ts_wire::specs::Place::whole))]
+fn read_whole(
+    alloc: Global,
+    frame: &Frame,
+    attrs: &[Attr],
+    frag: FragKey,
+    cursor: &mut Cursor,
+) -> Result<Footer, ReadFault>
+    requires sparse { frame.now.dense ≡ false }
+    ensures reads { DecodesOr (λ footer. footer) (whole (footer_at frame.now attrs.now frag) cursor.old) result }
+    ensures inside { IfOk result (λ footer. IsHull frame.now.domain footer.head.hull) }
+{
+    let footer = read_body(alloc, frame, attrs, frag, cursor)?;
+    cursor.end()?;
+    Ok(footer)
+}
+
+/// What the metadata of a fragment stores.
+#[tactic(auto, unfolding(crate::specs::Footers::footer_stored, ts_wire::specs::Envelope::object_at))]
+pub(crate) fn read_footer(
+    alloc: Global,
+    frame: &Frame,
+    attrs: &[Attr],
+    frag: FragKey,
+    object: &[u8],
+) -> Result<Footer, ReadFault>
+    requires sparse { frame.now.dense ≡ false }
+    ensures reads { DecodesOr (λ footer. footer) (footer_stored frame.now attrs.now frag object.now) result }
+    ensures inside { IfOk result (λ footer. IsHull frame.now.domain footer.head.hull) }
+{
+    let body = unwrap_body(Kind::Meta, object)?;
+    let mut cursor = Cursor::new(body, 14);
+    read_whole(alloc, frame, attrs, frag, &mut cursor)
+}
+
+/// What the metadata of a fragment stores before the number of tiles.
+#[tactic(auto, unfolding(crate::specs::Footers::head_stored))]
+pub(crate) fn read_stored_head(
+    alloc: Global,
+    frame: &Frame,
+    frag: FragKey,
+    object: &[u8],
+) -> Result<StoredHead, ReadFault>
+    ensures reads { DecodesOr (λ head. head) (head_stored frame.now frag object.now) result }
+    ensures inside { IfOk result (λ head. IsHull frame.now.domain head.hull) }
+{
+    let body = unwrap_body(Kind::Meta, object)?;
+    let mut cursor = Cursor::new(body, 14);
+    read_fields(alloc, frame, frag, &mut cursor)
+}
