@@ -1,0 +1,15 @@
+pub mod Apart
+pub mod Shapes
+pub mod Rows
+pub mod ColumnLaws
+pub mod OnePiece
+pub mod MeetLaws
+pub mod CutLaws
+pub mod FormLaws
+pub mod OrderLaws
+pub mod HullLaws
+pub mod WorkedSizes
+pub mod TopLaws
+pub mod OnceLaws
+pub mod RangeLaws
+pub mod RoomLaws
