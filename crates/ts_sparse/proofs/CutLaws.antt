@@ -103,7 +103,7 @@ module _ (sub : SubBox) where
   abbrev LikeCells : List StoredCell → Type 0
   LikeCells cells = All (λ c. length c.coords ≡ length sub.low) cells
 
-  box_like : (c : StoredCell) → length c.coords ≡ length sub.low → IsLike sub (cell_box c)
+  pub box_like : (c : StoredCell) → length c.coords ≡ length sub.low → IsLike sub (cell_box c)
   box_like c long = record { valid = same_bounds c.coords; dims = long }
 
   covers_from : (hull : SubBox) (cells : List StoredCell) → IsLike sub hull → LikeCells cells

@@ -9,7 +9,12 @@ pub mod FormLaws
 pub mod OrderLaws
 pub mod HullLaws
 pub mod WorkedSizes
+pub mod StartLaws
 pub mod TopLaws
 pub mod OnceLaws
 pub mod RangeLaws
 pub mod RoomLaws
+pub mod FitLaws
+pub mod LayLaws
+pub mod MetaLaws
+pub mod BuildLaws

@@ -1,3 +1,5 @@
 pub mod Tilings
 pub mod Sparse
 pub mod Cuts
+pub mod Laying
+pub mod Walks

@@ -1,0 +1,81 @@
+//! The metadata of a sparse fragment.
+ghost use Rattle.std.specs.Prelude.{◌≡◌, ◌++◌, ◌≤◌, length, IfOk, OnOk};
+ghost use Rattle.std.specs.List.{flat_map};
+ghost use Rattle.ts_domain.specs.Rects.{AllLike};
+ghost use Rattle.ts_wire.specs.declared.kinds.Kind.TheVariants as kind;
+ghost use Rattle.ts_wire.specs.Envelope.{wrapped};
+ghost use Rattle.ts_wire.specs.Numbers.{number_bytes};
+ghost use Rattle.ts_plain.specs.Writes.{stored_for, NamesWrites};
+ghost use Rattle.ts_sparse.specs.Sparse.{leaves_of, FitsSparse};
+ghost use Rattle.ts_sparse.specs.Laying.{boxes_of, cells_of, meta_with};
+
+use std::alloc::Global;
+use ts_base::{ByteList, OutOfMemory, Piece, Version};
+use ts_domain::{BoxList, SubBox};
+use ts_plain::write_head;
+use ts_rtree::{Tree, hulls_of};
+use ts_schema::{Frame, Schema};
+use ts_wire::{Kind, Scribe};
+
+/// The object of the metadata, in which the sizes of the columns' objects are these.
+#[tactic(auto, unfolding(crate::specs::Laying::meta_with))]
+pub(crate) fn meta_object(
+    alloc: Global,
+    frame: &Frame,
+    schema: &Schema,
+    piece: &Piece,
+    sizes: &[u64],
+) -> Result<ByteList, OutOfMemory>
+    requires names { NamesWrites piece.now }
+    requires fits { FitsSparse frame.now schema.now.attrs piece.now.head.frag (stored_for piece.now) }
+    ensures { IfOk result (λ bytes. bytes ≡ wrapped kind.Meta (meta_with frame.now piece.now sizes.now)) }
+{
+    let leaves = leaves_of(alloc, frame, schema, piece)?;
+    let tree = Tree::build(alloc, &leaves)?;
+    let mut scribe = Scribe::new(alloc);
+    write_head(&mut scribe, &piece.head)?;
+    scribe.u32(leaves.len() as u32)?;
+    write_sizes(&mut scribe, sizes)?;
+    scribe.bytes(tree.bytes(alloc)?.as_slice())?;
+    scribe.into_object(Kind::Meta)
+}
+
+// Writes sizes in eight bytes each.
+fn write_sizes(scribe: &mut Scribe, sizes: &[u64]) -> Result<(), OutOfMemory>
+    ensures { OnOk result (scribe.new ≡ scribe.old ++ flat_map (number_bytes 8) sizes.now) }
+{
+    for size in sizes {
+        scribe.u64(*size)?;
+    }
+    Ok(())
+}
+
+// The boxes of the tiles.
+fn leaves_of(
+    alloc: Global,
+    frame: &Frame,
+    schema: &Schema,
+    piece: &Piece,
+) -> Result<BoxList, OutOfMemory>
+    requires { FitsSparse frame.now schema.now.attrs piece.now.head.frag (stored_for piece.now) }
+    ensures leaves { IfOk result (λ leaves. leaves ≡ leaves_of frame.now.capacity (cells_of piece.now)) }
+    ensures alike { IfOk result AllLike }
+    ensures some { IfOk result (λ leaves. 1 ≤ length leaves) }
+{
+    let boxes = cell_boxes(alloc, piece.versions.as_slice())?;
+    hulls_of(alloc, frame.capacity, boxes.as_slice())
+}
+
+// The boxes of cells.
+fn cell_boxes(alloc: Global, versions: &[Version]) -> Result<BoxList, OutOfMemory>
+    ensures { IfOk result (λ boxes. boxes ≡ boxes_of versions.now) }
+{
+    let mut boxes = BoxList::new(alloc);
+    for version in versions {
+        boxes.push(SubBox {
+            low: version.coords,
+            high: version.coords,
+        })?;
+    }
+    Ok(boxes)
+}
