@@ -1,9 +1,8 @@
 -- What the objects of a column tell of its values.
-use Rattle.std.proofs.Common.{◌≡◌, ℕ, ◌+◌, ◌^◌, ◌<◌, ◌≤◌, ℤ, pos, negsuc, Bool, true, false, ◌&&◌, List, [], ◌∷◌, ◌++◌, length, map, refl, sym, ap, ◌∙◌, subst, arith, append_assoc, length-append}
+use Rattle.std.proofs.Common.{◌≡◌, ℕ, ◌+◌, ◌^◌, ◌<◌, ℤ, Bool, true, false, ◌&&◌, List, [], ◌∷◌, ◌++◌, length, map, refl, sym, ap, ◌∙◌, subst, arith, append_assoc, length-append}
 use Rattle.std.specs.Prelude.{IsTrue, int_le}
 use Rattle.std.specs.List.{flat_map, All}
 use Rattle.std.proofs.lemmas.Bool.{true≢false, and_parts}
-use Rattle.std.proofs.lemmas.Int.{ints}
 use Rattle.std.proofs.lemmas.List.{length-map}
 use Rattle.std.proofs.lemmas.List.Elements.{All-head, All-tail, All-nil, All-cons, All-append}
 use Rattle.ts_base.specs.declared.values.Val.{Val}
@@ -13,6 +12,8 @@ use Rattle.ts_base.specs.declared.values.ValType.TheVariants.{I8, I16, I32, I64,
 use Rattle.ts_base.specs.Values.{width_of, is_integer, least_of, greatest_of}
 use Rattle.ts_base.specs.declared.names.Part.TheVariants as part
 use Rattle.ts_value.specs.Fits.{fits_of}
+use Rattle.ts_value.proofs.FitLaws.{Fits-fits_of}
+use Rattle.ts_column.proofs.TileLaws.{widths, number_fits}
 use Rattle.ts_wire.specs.Numbers.{FitsInt}
 use Rattle.ts_wire.proofs.Numbers.{number_exact, int_exact}
 use Rattle.ts_wire.proofs.FieldLaws.{bool_exact}
@@ -29,59 +30,9 @@ use Rattle.ts_sparse.proofs.Rows.{cons_parts}
 
 -- ---- numbers
 
-pub width_some : (ty : ValType) → is_integer ty ≡ true → (1 ≤ width_of ty) × (width_of ty ≤ 16)
-width_some I8 is = (omega arith, omega arith)
-width_some I16 is = (omega arith, omega arith)
-width_some I32 is = (omega arith, omega arith)
-width_some I64 is = (omega arith, omega arith)
-width_some U8 is = (omega arith, omega arith)
-width_some U16 is = (omega arith, omega arith)
-width_some U32 is = (omega arith, omega arith)
-width_some U64 is = (omega arith, omega arith)
-width_some Text is = absurd (true≢false (sym is))
-width_some Blob is = absurd (true≢false (sym is))
-
--- an integer in the range of a type has room in its width
-pub in_type : (ty : ValType) (z : ℤ) → is_integer ty ≡ true → int_le (least_of ty) z ≡ true → int_le z (greatest_of ty) ≡ true → FitsInt (width_of ty) (is_signed ty) z
-in_type I8 (pos n) is low high = omega (arith, ints, high)
-in_type I8 (negsuc n) is low high = omega (arith, ints, low)
-in_type I16 (pos n) is low high = omega (arith, ints, high)
-in_type I16 (negsuc n) is low high = omega (arith, ints, low)
-in_type I32 (pos n) is low high = omega (arith, ints, high)
-in_type I32 (negsuc n) is low high = omega (arith, ints, low)
-in_type I64 (pos n) is low high = omega (arith, ints, high)
-in_type I64 (negsuc n) is low high = omega (arith, ints, low)
-in_type U8 (pos n) is low high = omega (arith, ints, high)
-in_type U8 (negsuc n) is low high = omega (arith, ints, low)
-in_type U16 (pos n) is low high = omega (arith, ints, high)
-in_type U16 (negsuc n) is low high = omega (arith, ints, low)
-in_type U32 (pos n) is low high = omega (arith, ints, high)
-in_type U32 (negsuc n) is low high = omega (arith, ints, low)
-in_type U64 (pos n) is low high = omega (arith, ints, high)
-in_type U64 (negsuc n) is low high = omega (arith, ints, low)
-in_type Text z is low high = absurd (true≢false (sym is))
-in_type Blob z is low high = absurd (true≢false (sym is))
-
--- what stands for no number has room in any type
-zero_in : (ty : ValType) → is_integer ty ≡ true → FitsInt (width_of ty) (is_signed ty) (pos 0)
-zero_in I8 is = omega arith
-zero_in I16 is = omega arith
-zero_in I32 is = omega arith
-zero_in I64 is = omega arith
-zero_in U8 is = omega arith
-zero_in U16 is = omega arith
-zero_in U32 is = omega arith
-zero_in U64 is = omega arith
-zero_in Text is = absurd (true≢false (sym is))
-zero_in Blob is = absurd (true≢false (sym is))
-
+-- what stands for a value that passes the test has room in the width of its type
 pub number_in : (ty : ValType) (nullable : Bool) (v : Val) → is_integer ty ≡ true → IsTrue (fits_of ty nullable v) → FitsInt (width_of ty) (is_signed ty) (number_of v)
-number_in ty nullable Null is fits = zero_in ty is
-number_in ty nullable (Int z) is fits =
-    let parts = and_parts (is_integer ty) (int_le (least_of ty) z && int_le z (greatest_of ty)) fits in
-    let range = and_parts (int_le (least_of ty) z) (int_le z (greatest_of ty)) parts.1 in
-    in_type ty z is range.0 range.1
-number_in ty nullable (Bytes bytes) is fits = zero_in ty is
+number_in ty nullable v is fits = number_fits ty nullable v is (Fits-fits_of ty nullable v fits)
 
 -- ---- values from what stands for them
 
@@ -218,7 +169,7 @@ module _ (a : Attr) where
   pub column_same : (n k : ℕ) (b : Bool) (vs ws : List Val) → is_integer a.ty ≡ b → length vs ≡ length ws → Fitting vs → Fitting ws → Short (fixed_objects b n k a.ty vs) → Short (fixed_objects b n k a.ty ws)
       → fixed_objects b n k a.ty vs ≡ fixed_objects b n k a.ty ws → validity_objects a.nullable k vs ≡ validity_objects a.nullable k ws → vs ≡ ws
   column_same n k true vs ws is long fv fw sv sw fixed validity =
-      let width = width_some a.ty is in
+      let width = widths a.ty is in
       let numbers = lists_same (int_exact (width_of a.ty) (is_signed a.ty) width.0 width.1) (map number_of vs) (map number_of ws) (length-map vs number_of ∙ long ∙ sym (length-map ws number_of)) (numbers_fit vs is fv) (numbers_fit ws is fw) (ap first_body fixed) in
       ints_same vs ws is fv fw numbers (marks_same a.nullable k vs ws refl long fv fw validity)
     where

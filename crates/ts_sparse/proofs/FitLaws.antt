@@ -1,20 +1,16 @@
 -- What a stored piece that fits says of the versions of the piece.
-use Rattle.std.proofs.Common.{◌≡◌, ℕ, zero, suc, ◌<◌, ℤ, pos, true, List, [], ◌∷◌, length, get_or, map, refl, sym, subst, arith}
-use Rattle.std.specs.Prelude.{IsTrue}
+use Rattle.std.proofs.Common.{◌≡◌, ℕ, zero, suc, ◌<◌, ℤ, pos, true, List, [], ◌∷◌, length, get_or, map, sym, subst, arith}
 use Rattle.std.specs.List.{All}
-use Rattle.std.proofs.lemmas.Bool.{true≢false}
 use Rattle.std.proofs.lemmas.List.Elements.{All-head, All-tail, All-nil, All-cons, All-weaker}
 use Rattle.ts_base.specs.declared.keys.FragKey.{FragKey}
 use Rattle.ts_base.specs.declared.keys.Key.{Key}
 use Rattle.ts_base.specs.declared.heads.Piece.{Piece}
 use Rattle.ts_base.specs.declared.heads.Version.{Version}
 use Rattle.ts_base.specs.declared.values.Val.TheVariants.{Null}
-use Rattle.ts_base.specs.declared.values.ValType.{ValType}
-use Rattle.ts_base.specs.declared.values.ValType.TheVariants.{I8, I16, I32, I64, U8, U16, U32, U64, Text, Blob}
 use Rattle.ts_base.specs.Values.{width_of, is_integer}
 use Rattle.ts_domain.specs.declared.dims.Dim.{Dim}
 use Rattle.ts_wire.specs.Exact.{EachFits}
-use Rattle.ts_wire.specs.Numbers.{is_width, FitsInt}
+use Rattle.ts_wire.specs.Numbers.{FitsInt}
 use Rattle.ts_schema.specs.declared.attrs.Attr.{Attr}
 use Rattle.ts_schema.specs.declared.frames.Frame.{Frame}
 use Rattle.ts_plain.specs.declared.stored.StoredCell.{StoredCell}
@@ -26,19 +22,6 @@ use Rattle.ts_sparse.specs.Sparse.{FitsTypes, FitsSparse}
 use Rattle.ts_sparse.specs.Laying.{CoordsFit, ValuesFit}
 use Rattle.ts_sparse.proofs.ColumnLaws.{number_in}
 use Rattle.ts_sparse.proofs.OnePiece.{in_turn_all}
-
--- a type of integers has a width that numbers can have
-pub int_width : (ty : ValType) → is_integer ty ≡ true → IsTrue (is_width (width_of ty) (is_signed ty))
-int_width I8 is = refl
-int_width I16 is = refl
-int_width I32 is = refl
-int_width I64 is = refl
-int_width U8 is = refl
-int_width U16 is = refl
-int_width U32 is = refl
-int_width U64 is = refl
-int_width Text is = absurd (true≢false (sym is))
-int_width Blob is = absurd (true≢false (sym is))
 
 -- what holds of the cells of versions
 of_versions : (P : StoredCell → Type 0) (origins : List Key) (versions : List Version) → All P (map (stored_cell origins) versions) → All (λ v. P (stored_cell origins v)) versions

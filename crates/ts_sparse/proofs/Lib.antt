@@ -18,3 +18,4 @@ pub mod FitLaws
 pub mod LayLaws
 pub mod MetaLaws
 pub mod BuildLaws
+pub mod CountLaws

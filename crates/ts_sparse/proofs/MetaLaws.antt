@@ -23,6 +23,7 @@ use Rattle.ts_schema.specs.declared.attrs.Attr.{Attr}
 use Rattle.ts_schema.specs.declared.frames.Frame.{Frame}
 use Rattle.ts_plain.specs.declared.stored.Side.{Side}
 use Rattle.ts_plain.specs.declared.stored.StoredCell.{StoredCell}
+use Rattle.ts_plain.specs.declared.stored.StoredPiece.{StoredPiece}
 use Rattle.ts_plain.specs.Plain.{head_bytes, FitsSide}
 use Rattle.ts_plain.specs.Rules.{volume, is_full, may_hold}
 use Rattle.ts_plain.specs.Writes.{stored_cell, stored_for}
@@ -77,16 +78,27 @@ some_held : (full : Bool) (hull : List Side) (cells : ℕ) → 1 ≤ volume hull
 some_held true hull cells some held = let same = eqb-true cells (volume hull) held in omega arith
 some_held false hull cells some held = leb-true 1 cells held
 
+-- what is stored has a cell
+some_cells : (frame : Frame) (attrs : List Attr) (frag : FragKey) (s : StoredPiece) → FitsSparse frame attrs frag s → 1 ≤ length s.cells
+some_cells frame attrs frag s fits =
+    let head = (fits.plain).head in
+    let held = some_held (is_full frame.dense s.head.consolidated) s.head.hull s.head.cells (some_volume frame.domain s.head.hull head.hull) head.as_many in
+    let count : length s.cells ≡ s.head.cells = (fits.plain).count in
+    omega arith
+
+-- so its tree has a leaf
+pub some_leaves : (frame : Frame) (attrs : List Attr) (frag : FragKey) (s : StoredPiece) → FitsSparse frame attrs frag s → 1 ≤ length (leaves_of frame.capacity s.cells)
+some_leaves frame attrs frag s fits =
+    let some = some_hulls frame.capacity (map cell_box s.cells) (omega (arith, some_cells frame attrs frag s fits, length-map s.cells cell_box)) in
+    subst (λ (boxes : List SubBox). 1 ≤ length boxes) (sym (leaves_are_hulls frame.capacity s.cells)) some
+
 -- ---- what a stored piece that fits says of its leaves
 
 module _ (frame : Frame) (attrs : List Attr) (frag : FragKey) (piece : Piece) (fits : FitsSparse frame attrs frag (stored_for piece)) where
   pub some_boxes : (boxes : List SubBox) → boxes ≡ boxes_of piece.versions → 1 ≤ length boxes
   some_boxes boxes made =
-      let head = (fits.plain).head in
-      let held = some_held (is_full frame.dense piece.head.consolidated) (stored_for piece).head.hull piece.head.cells (some_volume frame.domain (stored_for piece).head.hull head.hull) head.as_many in
-      let count : length (cells_of piece) ≡ piece.head.cells = (fits.plain).count in
       let long = ap length (made ∙ sym (boxes_same piece)) ∙ length-map (cells_of piece) cell_box in
-      omega arith
+      omega (arith, long, some_cells frame attrs frag (stored_for piece) fits)
 
   -- they have as many dimensions as the domain
   like : SubBox

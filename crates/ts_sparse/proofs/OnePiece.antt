@@ -31,13 +31,14 @@ use Rattle.ts_plain.specs.Plain.{FitsValue, FitsCell}
 use Rattle.ts_plain.specs.Pieces.{piece_of}
 use Rattle.ts_plain.proofs.PlainExact.{head_exact}
 use Rattle.ts_column.specs.Tiles.{is_signed}
+use Rattle.ts_column.proofs.TileLaws.{widths}
 use Rattle.ts_column.specs.Spelled.{text_of}
 use Rattle.ts_sparse.specs.Tilings.{tiles_of}
 use Rattle.ts_sparse.specs.Sparse.{coord_column, value_column, origin_column, Object, dim_objects, fixed_objects, validity_objects, attr_objects, origin_objects, objects_of, sizes_of, meta_bytes, column_part, meta_part, parts_of, FitsSparse, IsThere, IsSparse}
 use Rattle.ts_sparse.proofs.Apart.{split_same, spells_apart, lists_apart, lists_same}
 use Rattle.ts_sparse.proofs.Shapes.{shaped, shaped_many, length-tile_starts}
 use Rattle.ts_sparse.proofs.Rows.{cons_parts, Ends, Same, here, next, rows_same}
-use Rattle.ts_sparse.proofs.ColumnLaws.{width_some, column_same}
+use Rattle.ts_sparse.proofs.ColumnLaws.{column_same}
 
 -- ---- objects
 
@@ -121,7 +122,7 @@ module _ (cs es : List StoredCell) (long : length cs ≡ length es) where
   dims_apart k [] more rest ints fc fe same = (tt, same)
   dims_apart k (d ∷ ds) more rest ints fc fe same =
       let parts = cons_parts _ _ (dim_objects (suc k) ds cs ++ more) (dim_objects (suc k) ds es ++ rest) same in
-      let width = width_some d.ty (All-head (λ d. is_integer d.ty ≡ true) d ds ints) in
+      let width = widths d.ty (All-head (λ d. is_integer d.ty ≡ true) d ds ints) in
       let column = lists_same (int_exact (width_of d.ty) (is_signed d.ty) width.0 width.1) (coord_column k cs) (coord_column k es)
       (length-map cs (λ c. _) ∙ long ∙ sym (length-map es (λ c. _))) (here OfType (pos 0) (λ c. c.coords) k d ds cs fc) (here OfType (pos 0) (λ c. c.coords) k d ds es fe) (ap (λ o. o.body) parts.0) in
       let others = dims_apart (suc k) ds more rest (All-tail (λ d. is_integer d.ty ≡ true) d ds ints) (next OfType (pos 0) (λ c. c.coords) k d ds cs fc) (next OfType (pos 0) (λ c. c.coords) k d ds es fe) parts.1 in

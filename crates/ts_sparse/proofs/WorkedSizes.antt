@@ -1,6 +1,9 @@
--- Sizes and bytes of worked fragments: one cell, and four cells in tiles of three.
-use Rattle.std.proofs.Common.{◌≡◌, ℕ, ℤ, pos, false, List, [], ◌∷◌, length, refl}
-use Rattle.ts_base.specs.declared.values.Val.TheVariants.{Int}
+-- Sizes and bytes of worked fragments: one cell, four cells in tiles of three, and three texts in tiles of two.
+use Rattle.std.proofs.Common.{◌≡◌, ℕ, ℤ, pos, true, false, List, [], ◌∷◌, length, refl}
+use Rattle.std.specs.List.{flat_map}
+use Rattle.ts_base.specs.declared.names.Part.TheVariants as part
+use Rattle.ts_base.specs.declared.values.Val.{Val}
+use Rattle.ts_base.specs.declared.values.Val.TheVariants.{Null, Int, Bytes}
 use Rattle.ts_base.specs.declared.values.ValType.TheVariants.{I64}
 use Rattle.ts_domain.specs.declared.orders.Order.TheVariants.{Row}
 use Rattle.ts_wire.specs.declared.kinds.Kind.TheVariants as kind
@@ -14,7 +17,7 @@ use Rattle.ts_plain.specs.declared.stored.StoredPiece.{StoredPiece}
 use Rattle.ts_plain.specs.Plain.{head_bytes, hull_bytes, side_bytes, origins_bytes}
 use Rattle.ts_domain.specs.Rects.{rect_bytes}
 use Rattle.ts_rtree.specs.Trees.{upper_of}
-use Rattle.ts_sparse.specs.Sparse.{Object, objects_of, meta_bytes}
+use Rattle.ts_sparse.specs.Sparse.{Object, starts_object, bytes_object, validity_objects, objects_of, meta_bytes}
 
 pub frame_of : ℕ → Frame
 frame_of capacity = record { dense = false; domain = record { name = 120 ∷ []; ty = I64; low = pos 0; high = pos 9; extent = pos 10 } ∷ []; cell = Row; tile = Row; capacity = capacity }
@@ -70,3 +73,19 @@ pub values_of_one : second (objects_of (frame_of 10000) attrs one)
     ≡ 0x54 ∷ (0x44 ∷ (0x42 ∷ (0x55 ∷ (6 ∷ (1 ∷ (8 ∷ (0 ∷ (0 ∷ (0 ∷ (0 ∷ (0 ∷ (0 ∷ (0 ∷ (10 ∷ (0 ∷ (0 ∷ (0 ∷ (0 ∷ (0 ∷ (0 ∷ (0 ∷ [])))))))))))))))))))))
 unfolding second frame_of attrs cell piece one number_bytes int_bytes objects_of wrapped envelope_bytes
 values_of_one = refl
+
+-- three texts, the second one a null, in tiles of two: where each starts in its tile, all bytes and where the tiles start, and which are there
+pub values : List Val
+values = Bytes (97 ∷ (98 ∷ [])) ∷ (Null ∷ (Bytes (99 ∷ []) ∷ []))
+
+pub starts_of_texts : starts_object 2 0 values ≡ record { part = part.Attr 0; body = flat_map (number_bytes 8) (0 ∷ (2 ∷ (0 ∷ []))); starts = [] }
+unfolding values
+starts_of_texts = refl
+
+pub bytes_of_texts : bytes_object 2 0 values ≡ record { part = part.Var 0; body = 97 ∷ (98 ∷ (99 ∷ [])); starts = 14 ∷ (16 ∷ []) }
+unfolding values
+bytes_of_texts = refl
+
+pub marks_of_texts : validity_objects true 0 values ≡ record { part = part.Validity 0; body = 1 ∷ (0 ∷ (1 ∷ [])); starts = [] } ∷ []
+unfolding values number_bytes bool_bytes
+marks_of_texts = refl

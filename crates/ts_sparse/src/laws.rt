@@ -1,5 +1,5 @@
 //! What holds of sparse fragments, whatever a store does. The calls do nothing.
-ghost use Rattle.std.specs.Prelude.{◌≡◌, ◌^◌, ◌<◌, ℕ, List, Option, length, map, All};
+ghost use Rattle.std.specs.Prelude.{◌≡◌, ◌+◌, ◌*◌, ◌^◌, ◌<◌, ◌≤◌, ℕ, List, [], ◌∷◌, Option, Some, None, length, map, take, drop, get_or, All};
 ghost use Rattle.ts_base.specs.declared.heads.Piece.{Piece as AnyPiece};
 ghost use Rattle.ts_base.specs.declared.keys.FragKey.{FragKey as AnyFragKey};
 ghost use Rattle.ts_base.specs.declared.names.Part.{Part as AnyPart};
@@ -12,12 +12,17 @@ ghost use Rattle.ts_schema.specs.declared.wants.Want.{Want as AnyWant};
 ghost use Rattle.ts_schema.specs.Wants.{taken};
 ghost use Rattle.ts_schema.specs.Parts.{look_in};
 ghost use Rattle.ts_plain.specs.declared.stored.StoredPiece.{StoredPiece as AnyStoredPiece};
+ghost use Rattle.ts_plain.specs.declared.stored.StoredHead.{StoredHead as AnyStoredHead};
+ghost use Rattle.ts_plain.specs.declared.stored.StoredCell.{StoredCell as AnyStoredCell};
+ghost use Rattle.ts_plain.specs.Merges.{VersionsAscend, global_order};
+ghost use Rattle.ts_plain.specs.Rules.{last_of};
+ghost use Rattle.ts_rtree.specs.Trees.{nodes_of};
 ghost use Rattle.ts_plain.specs.Pieces.{piece_of, version_in};
 ghost use Rattle.ts_plain.specs.Writes.{stored_for};
 ghost use Rattle.ts_domain.specs.Rects.{places_meeting};
-ghost use Rattle.ts_sparse.specs.Cuts.{taken_at};
+ghost use Rattle.ts_sparse.specs.Cuts.{taken_at, IsHullOfCells, Rise, TilesRise};
 ghost use Rattle.ts_sparse.specs.Tilings.{tiles_of};
-ghost use Rattle.ts_sparse.specs.Sparse.{IsSparse, FitsSparse, parts_of, leaves_of};
+ghost use Rattle.ts_sparse.specs.Sparse.{IsSparse, FitsSparse, parts_of, leaf_of, leaves_of, box_of};
 
 /// Two pieces of one fragment with the same parts are one piece.
 #[tactic(auto, using(crate::proofs::OnePiece::one_sparse))]
@@ -35,6 +40,35 @@ pub fn pieces_have_one_form()
 #[tactic(auto, using(crate::proofs::OnceLaws::parts_spell))]
 pub fn parts_spell_their_piece()
     ensures { (frame : AnyFrame) (schema : AnySchema) (piece : AnyPiece) → FitsSparse frame schema.attrs piece.head.frag (stored_for piece) → piece ≡ piece_of piece.head.frag (stored_for piece) → All (λ (p : AnyPartBytes). length p.bytes < 2 ^ 64) (parts_of frame schema.attrs (stored_for piece)) → IsSparse frame schema piece (look_in (parts_of frame schema.attrs (stored_for piece))) }
+{}
+
+/// There are as many tiles as there are cells divided by the size of a tile, rounded up, and each tile is
+/// the next range of cells.
+#[tactic(auto, using(crate::proofs::CountLaws::tiles_counted, crate::proofs::CountLaws::tiles_ranges))]
+pub fn tiles_are_ranges()
+    ensures count { (n : ℕ) (cells : List AnyStoredCell) → 1 ≤ n → (length cells ≤ length (tiles_of n cells) * n) × (length (tiles_of n cells) * n < length cells + n) }
+    ensures range { (n i : ℕ) (cells : List AnyStoredCell) → 1 ≤ n → get_or (tiles_of n cells) i [] ≡ take n (drop (i * n) cells) }
+{}
+
+/// The leaf of a tile is the least box that has its cells.
+#[tactic(auto, using(crate::proofs::CutLaws::leaf_is_hull))]
+pub fn a_leaf_is_the_hull_of_its_cells()
+    ensures { (sub : AnySubBox) (first : AnyStoredCell) (others : List AnyStoredCell) → All (λ (cell : AnyStoredCell). length cell.coords ≡ length sub.low) (first ∷ others) → IsHullOfCells (leaf_of (first ∷ others)) (first ∷ others) }
+{}
+
+/// The last box of the tree is the hull that the metadata says.
+#[tactic(auto, using(crate::proofs::CountLaws::last_is_hull))]
+pub fn the_last_box_is_the_hull()
+    ensures { (frame : AnyFrame) (attrs : List AnyAttr) (frag : AnyFragKey) (s : AnyStoredPiece) → FitsSparse frame attrs frag s → last_of (nodes_of (leaves_of frame.capacity s.cells)) ≡ Some (box_of s.head.hull) }
+{}
+
+/// The versions of a fragment ascend in global order, and cells are in order where they are so in each
+/// tile and from tile to tile.
+#[tactic(auto, using(crate::proofs::OrderLaws::sparse_ascends, crate::proofs::OrderLaws::order_by_tiles, crate::proofs::OrderLaws::order_from_tiles))]
+pub fn tiles_keep_the_order()
+    ensures whole { (frame : AnyFrame) (attrs : List AnyAttr) (frag : AnyFragKey) (s : AnyStoredPiece) → FitsSparse frame attrs frag s → VersionsAscend (global_order frame) (map (version_in s.head) s.cells) }
+    ensures tiles { (frame : AnyFrame) (head : AnyStoredHead) (n : ℕ) (cells : List AnyStoredCell) → Rise frame head None cells → TilesRise frame head None (tiles_of n cells) }
+    ensures back { (frame : AnyFrame) (head : AnyStoredHead) (n : ℕ) (cells : List AnyStoredCell) → TilesRise frame head None (tiles_of n cells) → Rise frame head None cells }
 {}
 
 /// The tiles whose leaves meet a box have all that is wanted in it.
