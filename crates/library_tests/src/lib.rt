@@ -27,6 +27,8 @@ mod rtree;
 #[cfg(test)]
 mod schema;
 #[cfg(test)]
+mod sparse;
+#[cfg(test)]
 mod store;
 #[cfg(test)]
 mod value;
