@@ -4,9 +4,10 @@ ghost use Rattle.ts_base.specs.Values.{is_integer};
 ghost use Rattle.ts_base.specs.declared.heads.Version.{Version as AnyVersion};
 ghost use Rattle.ts_base.specs.declared.values.Val.TheVariants as val;
 ghost use Rattle.ts_domain.specs.declared.dims.Dim.{Dim as AnyDim};
+ghost use Rattle.ts_schema.specs.Parts.{look_in};
 ghost use Rattle.ts_plain.specs.Plain.{FitsValue};
 ghost use Rattle.ts_plain.specs.Writes.{stored_for, NamesWrites};
-ghost use Rattle.ts_sparse.specs.Sparse.{value_column, dim_objects, numbers_object, starts_object, bytes_object, fixed_objects, validity_objects, attr_objects, origin_objects, objects_of, parts_of, FitsSparse};
+ghost use Rattle.ts_sparse.specs.Sparse.{value_column, dim_objects, numbers_object, starts_object, bytes_object, fixed_objects, validity_objects, attr_objects, origin_objects, objects_of, parts_of, FitsSparse, IsSparse};
 ghost use Rattle.ts_sparse.specs.Laying.{with_objects, none_laid, cells_of, CoordsFit, ValuesFit};
 
 use crate::columns::{coords_object, numbers_object, origins_object, texts_of, validity_object};
@@ -26,7 +27,7 @@ use ts_wire::{Kind, wrap};
 /// The writes of the piece have to be such as [`ts_plain::write_plain`] asks for, and the piece one that a
 /// sparse fragment of the array can store. A tile has as many cells as the capacity of the frame, the
 /// last one the rest. It fails for want of memory alone.
-#[tactic(auto, using(crate::proofs::BuildLaws::all_parts_built))]
+#[tactic(auto, using(crate::proofs::BuildLaws::all_parts_built, crate::proofs::BuildLaws::built_spells))]
 pub fn build(
     alloc: Global,
     frame: &Frame,
@@ -35,11 +36,14 @@ pub fn build(
 ) -> Result<PartList, OutOfMemory>
     requires names { NamesWrites piece.now }
     requires fits { FitsSparse frame.now schema.now.attrs piece.now.head.frag (stored_for piece.now) }
-    ensures { IfOk result (λ parts. parts ≡ parts_of frame.now schema.now.attrs (stored_for piece.now)) }
+    ensures parts { IfOk result (λ parts. parts ≡ parts_of frame.now schema.now.attrs (stored_for piece.now)) }
+    ensures spelled { All (λ (v : AnyVersion). v.schema ≡ piece.now.head.schema) piece.now.versions → IfOk result (λ parts. IsSparse frame.now schema.now piece.now (look_in parts)) }
 {
     let laid = lay_columns(alloc, frame, schema, piece)?;
     let Laid { mut parts, sizes } = laid;
     let bytes = meta_object(alloc, frame, schema, piece, sizes.as_slice())?;
+    // No object has 2^64 bytes.
+    let _size = bytes.len();
     parts.push(PartBytes {
         part: Part::Meta,
         bytes,

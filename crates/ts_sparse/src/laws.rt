@@ -22,18 +22,18 @@ ghost use Rattle.ts_plain.specs.Writes.{stored_for};
 ghost use Rattle.ts_domain.specs.Rects.{places_meeting};
 ghost use Rattle.ts_sparse.specs.Cuts.{taken_at, IsHullOfCells, Rise, TilesRise};
 ghost use Rattle.ts_sparse.specs.Tilings.{tiles_of};
-ghost use Rattle.ts_sparse.specs.Sparse.{IsSparse, FitsSparse, parts_of, leaf_of, leaves_of, box_of};
+ghost use Rattle.ts_sparse.specs.Sparse.{IsSparse, IsThere, FitsSparse, parts_of, leaf_of, leaves_of, box_of};
 
 /// Two pieces of one fragment with the same parts are one piece.
-#[tactic(auto, using(crate::proofs::OnePiece::one_sparse))]
 pub fn parts_store_one_piece()
     ensures { (frame : AnyFrame) (schema : AnySchema) (p q : AnyPiece) (look : AnyPart → Option (List ℕ)) → p.head.frag ≡ q.head.frag → IsSparse frame schema p look → IsSparse frame schema q look → p ≡ q }
 {}
 
-/// A piece has one stored form.
+/// A piece has one stored form, and one spelling: the parts of that form.
 #[tactic(auto, using(crate::proofs::FormLaws::one_form))]
 pub fn pieces_have_one_form()
-    ensures { (frame : AnyFrame) (attrs : List AnyAttr) (frag : AnyFragKey) (s t : AnyStoredPiece) → FitsSparse frame attrs frag s → FitsSparse frame attrs frag t → piece_of frag s ≡ piece_of frag t → s ≡ t }
+    ensures form { (frame : AnyFrame) (attrs : List AnyAttr) (frag : AnyFragKey) (s t : AnyStoredPiece) → FitsSparse frame attrs frag s → FitsSparse frame attrs frag t → piece_of frag s ≡ piece_of frag t → s ≡ t }
+    ensures spelling { (frame : AnyFrame) (schema : AnySchema) (piece : AnyPiece) (look : AnyPart → Option (List ℕ)) → IsSparse frame schema piece look → All (IsThere look) (parts_of frame schema.attrs (stored_for piece)) }
 {}
 
 /// The parts of a piece whose stored form fits spell it, where each is short enough to be got at once.
