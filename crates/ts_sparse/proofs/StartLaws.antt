@@ -6,7 +6,20 @@ use Rattle.ts_wire.specs.Numbers.{number_bytes}
 use Rattle.std.proofs.lemmas.Option.{get_or_from_slice_get}
 use Rattle.ts_table.specs.Texts.{joined, starts_from}
 use Rattle.ts_sparse.specs.Tilings.{tiles_from, tiles_of, tile_starts, starts_in}
-use Rattle.ts_sparse.specs.Walks.{starts_on, tiles_on}
+
+-- ---- walks
+
+-- where byte lists start in their tiles: `left` more go into this tile, the next one at `at`; then a tile of n begins
+abbrev pub starts_on : ℕ → ℕ → ℕ → List (List ℕ) → List ℕ
+starts_on n left at [] = []
+starts_on n zero at (t ∷ texts) = 0 ∷ starts_on n (n - 1) (length t) texts
+starts_on n (suc left) at (t ∷ texts) = at ∷ starts_on n left (at + length t) texts
+
+-- where tiles start: `left` more byte lists go into this tile, the next one at `at`; then a tile of n begins
+abbrev pub tiles_on : ℕ → ℕ → ℕ → List (List ℕ) → List ℕ
+tiles_on n left at [] = []
+tiles_on n zero at (t ∷ texts) = at ∷ tiles_on n (n - 1) (at + length t) texts
+tiles_on n (suc left) at (t ∷ texts) = tiles_on n left (at + length t) texts
 
 starts_more : (at : ℕ) (tile : List (List ℕ)) (t : List ℕ) → starts_from at (tile ++ t ∷ []) ≡ starts_from at tile ++ (at + length (joined tile)) ∷ []
 starts_more at [] t = let same : at ≡ at + 0 = omega arith in ap (λ i. i ∷ []) same

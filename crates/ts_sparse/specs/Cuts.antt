@@ -23,13 +23,15 @@ pub record CutOf : Type 0 where
 abbrev pub IsInLeaf : CutOf → Type 0
 IsInLeaf tile = All (λ v. IsTrue (is_in_box tile.leaf v.coords)) tile.versions
 
--- the leaves of tiles, the versions of each, and all versions
+-- the leaves of tiles
 abbrev pub leaves_in : List CutOf → List SubBox
 leaves_in tiles = map (λ t. t.leaf) tiles
 
+-- the versions of each tile
 abbrev pub versions_by_tile : List CutOf → List (List Version)
 versions_by_tile tiles = map (λ t. t.versions) tiles
 
+-- the versions of all tiles
 abbrev pub all_versions : List CutOf → List Version
 all_versions tiles = flat_map (λ t. t.versions) tiles
 
@@ -41,6 +43,7 @@ taken_at want tiles places = flat_map (λ i. taken want (get_or tiles i [])) pla
 abbrev pub cut_of : StoredHead → List StoredCell → CutOf
 cut_of head tile = record { leaf = leaf_of tile; versions = map (version_in head) tile }
 
+-- the tiles of n cells each
 abbrev pub cuts_of : ℕ → StoredHead → List StoredCell → List CutOf
 cuts_of n head cells = map (cut_of head) (tiles_of n cells)
 

@@ -2,4 +2,3 @@ pub mod Tilings
 pub mod Sparse
 pub mod Cuts
 pub mod Laying
-pub mod Walks

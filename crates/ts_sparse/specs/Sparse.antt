@@ -65,10 +65,11 @@ dim_objects k (d ∷ ds) cells =
 abbrev pub numbers_object : ℕ → ValType → List Val → Object
 numbers_object k ty vals = record { part = part.Attr k; body = flat_map (int_bytes (width_of ty)) (map number_of vals); starts = [] }
 
--- the two objects of a column of byte lists, in tiles of n cells
+-- the first of the two objects of a column of byte lists, in tiles of n cells: where each starts in its tile
 abbrev pub starts_object : ℕ → ℕ → List Val → Object
 starts_object n k vals = record { part = part.Attr k; body = flat_map (number_bytes 8) (starts_in (tiles_of n (map text_of vals))); starts = [] }
 
+-- the second one: all bytes, and where those of each tile start, the first behind the 14 bytes of the envelope
 abbrev pub bytes_object : ℕ → ℕ → List Val → Object
 bytes_object n k vals = record { part = part.Var k; body = joined (map text_of vals); starts = tile_starts 14 (tiles_of n (map text_of vals)) }
 
@@ -88,6 +89,7 @@ attr_objects n k [] cells = []
 attr_objects n k (a ∷ attrs) cells =
     fixed_objects (is_integer a.ty) n k a.ty (value_column k cells) ++ (validity_objects a.nullable k (value_column k cells) ++ attr_objects n (suc k) attrs cells)
 
+-- a consolidated fragment says which write each cell is of
 abbrev pub origin_objects : Bool → List StoredCell → List Object
 origin_objects false cells = []
 origin_objects true cells = record { part = part.Origin; body = flat_map (number_bytes 4) (origin_column cells); starts = [] } ∷ []
@@ -108,6 +110,7 @@ sizes_of (o ∷ objects) = (14 + length o.body) ∷ (o.starts ++ sizes_of object
 abbrev pub cell_box : StoredCell → SubBox
 cell_box c = record { low = c.coords; high = c.coords }
 
+-- the hull of a box and some cells
 abbrev pub hull_from : SubBox → List StoredCell → SubBox
 hull_from hull [] = hull
 hull_from hull (c ∷ cells) = hull_from (hull_of hull (cell_box c)) cells
@@ -133,9 +136,11 @@ meta_bytes frame attrs stored =
 
 -- ---- the parts of a fragment
 
+-- the part of the object of a column
 abbrev pub column_part : Object → PartBytes
 column_part o = record { part = o.part; bytes = wrapped kind.Column o.body }
 
+-- the part of the metadata
 abbrev pub meta_part : Frame → List Attr → StoredPiece → PartBytes
 meta_part frame attrs stored = record { part = part.Meta; bytes = wrapped kind.Meta (meta_bytes frame attrs stored) }
 
@@ -147,7 +152,7 @@ parts_of frame attrs stored = map column_part (objects_of frame attrs stored) ++
 abbrev pub FitsTypes : List Dim → StoredCell → Type 0
 FitsTypes dims cell = EachFits (λ (d : Dim) (x : ℤ). FitsInt (width_of d.ty) (is_signed d.ty) x) dims cell.coords
 
--- what can be stored: what a plain object can, with coordinates in their types and a hull that is no larger than the cells ask for
+-- what can be stored in tiles: what a plain object can, of few attributes, with coordinates in their types, a hull that is no larger than the cells ask for, few tiles, and lengths that eight bytes can say
 pub record FitsSparse (frame : Frame) (attrs : List Attr) (frag : FragKey) (stored : StoredPiece) : Type 0 where
   pub plain : FitsPlain frame attrs frag stored
   pub capacity : 1 ≤ frame.capacity
@@ -170,5 +175,6 @@ pub record IsStored (frame : Frame) (attrs : List Attr) (piece : Piece) (look : 
   pub parts : All (IsThere look) (parts_of frame attrs stored)
   pub same : piece ≡ piece_of piece.head.frag stored
 
+-- the parts of a sparse fragment hold the piece
 abbrev pub IsSparse : Frame → Schema → Piece → (Part → Option (List ℕ)) → Type 0
 IsSparse frame schema piece look = IsStored frame schema.attrs piece look
