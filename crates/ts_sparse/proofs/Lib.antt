@@ -19,3 +19,4 @@ pub mod LayLaws
 pub mod MetaLaws
 pub mod BuildLaws
 pub mod CountLaws
+pub mod TileBoxes

@@ -30,7 +30,7 @@ use Rattle.ts_plain.specs.Writes.{stored_cell, stored_for}
 use Rattle.ts_plain.proofs.Volumes.{count_is}
 use Rattle.ts_sparse.specs.Tilings.{tiles_of}
 use Rattle.ts_sparse.specs.Sparse.{cell_box, leaf_of, leaves_of, objects_of, sizes_of, meta_bytes, FitsTypes, FitsSparse}
-use Rattle.ts_sparse.specs.Laying.{cells_of, boxes_of, meta_with}
+use Rattle.ts_sparse.specs.Laying.{cells_of, box_of_version, boxes_of, meta_with}
 use Rattle.ts_sparse.proofs.HullLaws.{leaves_are_hulls}
 use Rattle.ts_sparse.proofs.CutLaws.{box_like}
 
@@ -48,9 +48,8 @@ meta_same frame attrs piece =
 boxes_same : (piece : Piece) → map cell_box (cells_of piece) ≡ boxes_of piece.versions
 boxes_same piece = map-map cell_box (stored_cell piece.head.origins) piece.versions
 
-pub leaves_same : (n : ℕ) (piece : Piece) (boxes leaves : List SubBox) → boxes ≡ boxes_of piece.versions → leaves ≡ hulls_of n boxes → leaves ≡ leaves_of n (cells_of piece)
-leaves_same n piece boxes leaves made hulled =
-    hulled ∙ ap (hulls_of n) (made ∙ sym (boxes_same piece)) ∙ sym (leaves_are_hulls n (cells_of piece))
+pub leaves_same : (n : ℕ) (piece : Piece) → hulls_of n (boxes_of piece.versions) ≡ leaves_of n (cells_of piece)
+leaves_same n piece = ap (hulls_of n) (sym (boxes_same piece)) ∙ sym (leaves_are_hulls n (cells_of piece))
 
 some_from : (rest left : ℕ) (hull : SubBox) (bs : List SubBox) → 1 ≤ length (hulls_from rest left hull bs)
 some_from rest left hull [] = omega arith
@@ -95,24 +94,27 @@ some_leaves frame attrs frag s fits =
 -- ---- what a stored piece that fits says of its leaves
 
 module _ (frame : Frame) (attrs : List Attr) (frag : FragKey) (piece : Piece) (fits : FitsSparse frame attrs frag (stored_for piece)) where
-  pub some_boxes : (boxes : List SubBox) → boxes ≡ boxes_of piece.versions → 1 ≤ length boxes
-  some_boxes boxes made =
-      let long = ap length (made ∙ sym (boxes_same piece)) ∙ length-map (cells_of piece) cell_box in
+  pub some_versions : 1 ≤ length piece.versions
+  some_versions =
+      let long = length-map piece.versions (stored_cell piece.head.origins) in
       omega (arith, long, some_cells frame attrs frag (stored_for piece) fits)
 
   -- they have as many dimensions as the domain
   like : SubBox
   like = record { low = map (λ (d : Dim). d.low) frame.domain; high = [] }
 
-  all_like : (boxes : List SubBox) → boxes ≡ boxes_of piece.versions → All (IsLike like) boxes
+  all_like : All (IsLike like) (boxes_of piece.versions)
   unfolding like
-  all_like boxes made =
+  all_like =
       let each = All-weaker (FitsTypes frame.domain) (λ (c : StoredCell). IsLike like (cell_box c))
       (λ c f. box_like like c (EachFits-length _ frame.domain c.coords f ∙ sym (length-map frame.domain (λ (d : Dim). d.low)))) (cells_of piece) fits.typed in
-      subst (All (IsLike like)) (boxes_same piece ∙ sym made) (All-map (IsLike like) cell_box (cells_of piece) each)
+      subst (All (IsLike like)) (boxes_same piece) (All-map (IsLike like) cell_box (cells_of piece) each)
 
-  pub boxes_alike : (boxes : List SubBox) → boxes ≡ boxes_of piece.versions → AllLike boxes
-  boxes_alike boxes made = (like, all_like boxes made)
+  pub boxes_alike : AllLike (boxes_of piece.versions)
+  boxes_alike = (like, all_like)
 
-  pub leaves_alike : (boxes leaves : List SubBox) → boxes ≡ boxes_of piece.versions → leaves ≡ hulls_of frame.capacity boxes → AllLike leaves
-  leaves_alike boxes leaves made hulled = (like, subst (All (IsLike like)) (sym hulled) (hulls_of-like like frame.capacity boxes (all_like boxes made)))
+  pub leaves_alike : AllLike (hulls_of frame.capacity (boxes_of piece.versions))
+  leaves_alike = (like, hulls_of-like like frame.capacity (boxes_of piece.versions) all_like)
+
+  pub leaves_there : 1 ≤ length (hulls_of frame.capacity (boxes_of piece.versions))
+  leaves_there = let long = length-map piece.versions box_of_version in some_hulls frame.capacity (boxes_of piece.versions) (omega (arith, long, some_versions))

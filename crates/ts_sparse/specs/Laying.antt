@@ -50,9 +50,13 @@ coords_along k versions = map (λ (v : Version). get_or v.coords k (pos 0)) vers
 abbrev pub values_along : ℕ → List Version → List Val
 values_along k versions = map (λ (v : Version). get_or v.row k Null) versions
 
+-- the box of the cell of a version
+abbrev pub box_of_version : Version → SubBox
+box_of_version v = record { low = v.coords; high = v.coords }
+
 -- the boxes of the cells of versions
 abbrev pub boxes_of : List Version → List SubBox
-boxes_of versions = map (λ (v : Version). record { low = v.coords; high = v.coords }) versions
+boxes_of versions = map box_of_version versions
 
 -- the coordinates of versions have room in the types of their dimensions
 abbrev pub CoordsFit : List Dim → List Version → Type 0

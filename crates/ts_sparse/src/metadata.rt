@@ -2,18 +2,19 @@
 ghost use Rattle.std.specs.Prelude.{◌≡◌, ◌++◌, ◌≤◌, length, IfOk, OnOk};
 ghost use Rattle.std.specs.List.{flat_map};
 ghost use Rattle.ts_domain.specs.Rects.{AllLike};
+ghost use Rattle.ts_rtree.specs.Trees.{hulls_of};
 ghost use Rattle.ts_wire.specs.declared.kinds.Kind.TheVariants as kind;
 ghost use Rattle.ts_wire.specs.Envelope.{wrapped};
 ghost use Rattle.ts_wire.specs.Numbers.{number_bytes};
 ghost use Rattle.ts_plain.specs.Writes.{stored_for, NamesWrites};
 ghost use Rattle.ts_sparse.specs.Sparse.{leaves_of, FitsSparse};
-ghost use Rattle.ts_sparse.specs.Laying.{boxes_of, cells_of, meta_with};
+ghost use Rattle.ts_sparse.specs.Laying.{box_of_version, boxes_of, cells_of, meta_with};
 
 use std::alloc::Global;
 use ts_base::{ByteList, OutOfMemory, Piece, Version};
 use ts_domain::{BoxList, SubBox};
 use ts_plain::write_head;
-use ts_rtree::{Tree, hulls_of};
+use ts_rtree::Tree;
 use ts_schema::{Frame, Schema};
 use ts_wire::{Kind, Scribe};
 
@@ -62,20 +63,41 @@ fn leaves_of(
     ensures alike { IfOk result AllLike }
     ensures some { IfOk result (λ leaves. 1 ≤ length leaves) }
 {
-    let boxes = cell_boxes(alloc, piece.versions.as_slice())?;
-    hulls_of(alloc, frame.capacity, boxes.as_slice())
+    tile_boxes(alloc, frame.capacity, piece.versions.as_slice())
 }
 
-// The boxes of cells.
-fn cell_boxes(alloc: Global, versions: &[Version]) -> Result<BoxList, OutOfMemory>
-    ensures { IfOk result (λ boxes. boxes ≡ boxes_of versions.now) }
+// The boxes of the tiles of so many cells each. It makes no list of the boxes of the cells.
+
+fn tile_boxes(alloc: Global, tile: u32, versions: &[Version]) -> Result<BoxList, OutOfMemory>
+    requires tile { 1 ≤ tile }
+    requires some { 1 ≤ length versions.now }
+    requires alike { AllLike (boxes_of versions.now) }
+    ensures { IfOk result (λ leaves. leaves ≡ hulls_of tile (boxes_of versions.now)) }
 {
-    let mut boxes = BoxList::new(alloc);
-    for version in versions {
-        boxes.push(SubBox {
-            low: version.coords,
-            high: version.coords,
-        })?;
+    let mut leaves = BoxList::new(alloc);
+    let mut hull = cell_box(&versions[0]);
+    let mut left = tile - 1;
+    for place in 1..versions.len() {
+        let next = cell_box(&versions[place]);
+        if left == 0 {
+            leaves.push(hull)?;
+            hull = next;
+            left = tile - 1;
+        } else {
+            hull = hull.hull(&next);
+            left -= 1;
+        }
     }
-    Ok(boxes)
+    leaves.push(hull)?;
+    Ok(leaves)
+}
+
+// The box of one cell.
+fn cell_box(version: &Version) -> SubBox
+    ensures { result ≡ box_of_version version.now }
+{
+    SubBox {
+        low: version.coords,
+        high: version.coords,
+    }
 }
