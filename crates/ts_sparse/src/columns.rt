@@ -1,5 +1,5 @@
 //! The objects of columns.
-ghost use Rattle.std.specs.Prelude.{◌≡◌, ◌<◌, ◌^◌, pos, true, length, map, get_or, All, IfOk};
+ghost use Rattle.std.specs.Prelude.{◌≡◌, ◌<◌, ◌^◌, [], pos, true, length, map, get_or, All, IfOk};
 ghost use Rattle.std.specs.List.{flat_map};
 ghost use Rattle.std.specs.List.Sorted.{IsStrictlySortedBy};
 ghost use Rattle.ts_base.specs.Keys.{key_cmp};
@@ -19,6 +19,16 @@ use std::alloc::Global;
 use ts_base::{ByteList, Key, KeyList, OutOfMemory, Val, ValType, Version};
 use ts_table::Texts;
 use ts_wire::{Kind, Scribe};
+
+// A scribe with room for so many bytes for each cell.
+fn room_for(alloc: Global, versions: &[Version], width: u8) -> Result<Scribe, OutOfMemory>
+    ensures { IfOk result (λ scribe. scribe ≡ []) }
+{
+    let mut scribe = Scribe::new(alloc);
+    let cells = versions.len() as u64;
+    scribe.reserve(cells.saturating_mul(u64::from(width)))?;
+    Ok(scribe)
+}
 
 // Whether the integers of the type may be negative.
 fn is_signed(ty: ValType) -> bool
@@ -49,7 +59,7 @@ pub(crate) fn coords_object(
     requires fits { All (λ (v : AnyVersion). FitsInt (width_of ty) (is_signed ty) (get_or v.coords dim (pos 0))) versions.now }
     ensures { IfOk result (λ bytes. bytes ≡ wrapped kind.Column (flat_map (int_bytes (width_of ty)) (coords_along dim versions.now))) }
 {
-    let mut scribe = Scribe::new(alloc);
+    let mut scribe = room_for(alloc, versions, ty.width())?;
     for version in versions {
         scribe.int(ty.width(), is_signed(ty), coord_of(version, dim))?;
     }
@@ -78,7 +88,7 @@ pub(crate) fn numbers_object(
     requires fits { All (λ (v : AnyVersion). FitsInt (width_of ty) (is_signed ty) (number_of (get_or v.row attr val.Null))) versions.now }
     ensures { IfOk result (λ bytes. bytes ≡ wrapped kind.Column (flat_map (int_bytes (width_of ty)) (map number_of (values_along attr versions.now)))) }
 {
-    let mut scribe = Scribe::new(alloc);
+    let mut scribe = room_for(alloc, versions, ty.width())?;
     for version in versions {
         scribe.int(ty.width(), is_signed(ty), number_of(version, attr))?;
     }
@@ -103,7 +113,7 @@ pub(crate) fn validity_object(
 ) -> Result<ByteList, OutOfMemory>
     ensures { IfOk result (λ bytes. bytes ≡ wrapped kind.Column (flat_map bool_bytes (map is_there (values_along attr versions.now)))) }
 {
-    let mut scribe = Scribe::new(alloc);
+    let mut scribe = room_for(alloc, versions, 1)?;
     for version in versions {
         scribe.bool(is_there(version, attr))?;
     }
@@ -155,7 +165,7 @@ pub(crate) fn origins_object(
     requires known { All (λ (v : AnyVersion). HasPlace origins.now v.key) versions.now }
     ensures { IfOk result (λ bytes. bytes ≡ wrapped kind.Column (flat_map (number_bytes 4) (map (λ (v : AnyVersion). place_of origins.now v.key) versions.now))) }
 {
-    let mut scribe = Scribe::new(alloc);
+    let mut scribe = room_for(alloc, versions, 4)?;
     for version in versions {
         scribe.u32(place_of(origins, version.key))?;
     }

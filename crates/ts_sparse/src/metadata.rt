@@ -67,7 +67,6 @@ fn leaves_of(
 }
 
 // The boxes of the tiles of so many cells each. It makes no list of the boxes of the cells.
-
 fn tile_boxes(alloc: Global, tile: u32, versions: &[Version]) -> Result<BoxList, OutOfMemory>
     requires tile { 1 ≤ tile }
     requires some { 1 ≤ length versions.now }

@@ -25,6 +25,7 @@ pub(crate) fn starts_object(
 {
     let _room = texts.bytes().len();
     let mut scribe = Scribe::new(alloc);
+    scribe.reserve(texts.len().saturating_mul(8))?;
     write_starts(&mut scribe, tile, texts)?;
     scribe.into_object(Kind::Column)
 }
