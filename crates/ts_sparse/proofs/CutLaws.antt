@@ -25,12 +25,20 @@ use Rattle.ts_plain.specs.declared.stored.StoredHead.{StoredHead}
 use Rattle.ts_plain.specs.declared.stored.StoredCell.{StoredCell}
 use Rattle.ts_plain.specs.declared.stored.StoredPiece.{StoredPiece}
 use Rattle.ts_plain.specs.Pieces.{version_in}
-use Rattle.ts_sparse.proofs.MeetLaws.{tiles_suffice}
+use Rattle.ts_sparse.proofs.MeetLaws.{CutOf, IsInLeaf, versions_by_tile, all_versions, tiles_suffice}
 use Rattle.ts_sparse.specs.Tilings.{tiles_from, tiles_of}
 use Rattle.ts_sparse.specs.Sparse.{cell_box, hull_from, leaf_of, leaves_of, FitsTypes, FitsSparse}
-use Rattle.ts_sparse.specs.Cuts.{CutOf, IsInLeaf, versions_by_tile, all_versions, taken_at, cut_of, cuts_of, IsHullOfCells}
+use Rattle.ts_sparse.specs.Cuts.{taken_at, IsHullOfCells}
 use Rattle.ts_sparse.proofs.Shapes.{all_tiles}
 use Rattle.ts_sparse.proofs.OnePiece.{all_parts}
+
+-- the versions of a tile of cells, with its leaf
+abbrev pub cut_of : StoredHead → List StoredCell → CutOf
+cut_of head tile = record { leaf = leaf_of tile; versions = map (version_in head) tile }
+
+-- the tiles of n cells each
+abbrev pub cuts_of : ℕ → StoredHead → List StoredCell → List CutOf
+cuts_of n head cells = map (cut_of head) (tiles_of n cells)
 
 -- ---- a tile is a range
 

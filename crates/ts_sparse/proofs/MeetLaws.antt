@@ -1,6 +1,6 @@
 -- A read needs the tiles alone whose leaves meet its box.
 use Rattle.std.proofs.Common.{◌≡◌, Bool, true, false, List, [], ◌∷◌, ◌++◌, refl, sym, ap, ◌∙◌, arith}
-use Rattle.std.specs.Prelude.{ℤ, IsTrue, All, ◌&&◌, ◌+◌, length, map, filter, get_or, int_le}
+use Rattle.std.specs.Prelude.{ℤ, IsTrue, All, ◌&&◌, ◌+◌, length, map, filter, flat_map, get_or, int_le}
 use Rattle.std.proofs.lemmas.Bool.{and_parts, and_from}
 use Rattle.std.proofs.lemmas.Int.{ints}
 use Rattle.std.proofs.lemmas.List.{length_push, append_assoc, map-append}
@@ -15,7 +15,28 @@ use Rattle.ts_domain.specs.Boxes.{is_in_box, do_boxes_meet}
 use Rattle.ts_schema.specs.declared.wants.Want.{Want}
 use Rattle.ts_schema.specs.Wants.{taken, is_wanted, cut}
 use Rattle.ts_domain.specs.Rects.{places_from, places_meeting}
-use Rattle.ts_sparse.specs.Cuts.{CutOf, IsInLeaf, leaves_in, versions_by_tile, all_versions, taken_at}
+use Rattle.ts_sparse.specs.Cuts.{taken_at}
+
+-- a tile of versions, with the box that its cells lie in
+pub record CutOf : Type 0 where
+  pub leaf : SubBox
+  pub versions : List Version
+
+-- each cell of the tile lies in its leaf
+abbrev pub IsInLeaf : CutOf → Type 0
+IsInLeaf tile = All (λ v. IsTrue (is_in_box tile.leaf v.coords)) tile.versions
+
+-- the leaves of tiles
+abbrev pub leaves_in : List CutOf → List SubBox
+leaves_in tiles = map (λ t. t.leaf) tiles
+
+-- the versions of each tile
+abbrev pub versions_by_tile : List CutOf → List (List Version)
+versions_by_tile tiles = map (λ t. t.versions) tiles
+
+-- the versions of all tiles
+abbrev pub all_versions : List CutOf → List Version
+all_versions tiles = flat_map (λ t. t.versions) tiles
 
 -- where some cell lies in both boxes, they meet
 pub cell_meets : (ls hs ks gs xs : List ℤ) → is_between ls hs xs ≡ true → is_between ks gs xs ≡ true → do_meet ls hs ks gs ≡ true

@@ -1,5 +1,5 @@
--- Tiles of versions, and the order of cells tile by tile.
-use Rattle.std.specs.Prelude.{ℕ, nat_lt, ◌&&◌, IsTrue, List, [], ◌∷◌, length, map, get_or, Option, Some}
+-- What tiles have that is wanted, hulls of cells, and the order of cells tile by tile.
+use Rattle.std.specs.Prelude.{ℕ, nat_lt, ◌&&◌, IsTrue, List, [], ◌∷◌, length, get_or, Option, Some}
 use Rattle.std.specs.List.{flat_map, All}
 use Rattle.ts_base.specs.declared.heads.Version.{Version}
 use Rattle.ts_domain.specs.declared.boxes.SubBox.{SubBox}
@@ -10,42 +10,10 @@ use Rattle.ts_schema.specs.Wants.{taken}
 use Rattle.ts_plain.specs.declared.stored.StoredHead.{StoredHead}
 use Rattle.ts_plain.specs.declared.stored.StoredCell.{StoredCell}
 use Rattle.ts_plain.specs.Rules.{coords_rise, origin_rises}
-use Rattle.ts_plain.specs.Pieces.{version_in}
-use Rattle.ts_sparse.specs.Tilings.{tiles_of}
-use Rattle.ts_sparse.specs.Sparse.{leaf_of}
-
--- a tile of versions, with the box that its cells lie in
-pub record CutOf : Type 0 where
-  pub leaf : SubBox
-  pub versions : List Version
-
--- each cell of the tile lies in its leaf
-abbrev pub IsInLeaf : CutOf → Type 0
-IsInLeaf tile = All (λ v. IsTrue (is_in_box tile.leaf v.coords)) tile.versions
-
--- the leaves of tiles
-abbrev pub leaves_in : List CutOf → List SubBox
-leaves_in tiles = map (λ t. t.leaf) tiles
-
--- the versions of each tile
-abbrev pub versions_by_tile : List CutOf → List (List Version)
-versions_by_tile tiles = map (λ t. t.versions) tiles
-
--- the versions of all tiles
-abbrev pub all_versions : List CutOf → List Version
-all_versions tiles = flat_map (λ t. t.versions) tiles
 
 -- what the tiles at these places have that is wanted
 abbrev pub taken_at : Want → List (List Version) → List ℕ → List Version
 taken_at want tiles places = flat_map (λ i. taken want (get_or tiles i [])) places
-
--- the versions of a tile of cells, with its leaf
-abbrev pub cut_of : StoredHead → List StoredCell → CutOf
-cut_of head tile = record { leaf = leaf_of tile; versions = map (version_in head) tile }
-
--- the tiles of n cells each
-abbrev pub cuts_of : ℕ → StoredHead → List StoredCell → List CutOf
-cuts_of n head cells = map (cut_of head) (tiles_of n cells)
 
 -- the box has all these cells, and lies in every box that has them
 pub record IsHullOfCells (hull : SubBox) (cells : List StoredCell) : Type 0 where

@@ -27,7 +27,7 @@ use Rattle.ts_sparse.specs.Sparse.{Object, column_part, leaves_of}
 abbrev pub with_part : Laid → PartBytes → List ℕ → Laid
 with_part laid p starts = record { parts = laid.parts ++ p ∷ []; sizes = laid.sizes ++ length p.bytes ∷ starts }
 
--- these objects more
+-- these objects more, one after another
 abbrev pub with_objects : Laid → List Object → Laid
 with_objects laid [] = laid
 with_objects laid (o ∷ objects) = with_objects (with_part laid (column_part o) o.starts) objects
@@ -38,7 +38,7 @@ none_laid = record { parts = []; sizes = [] }
 
 -- ---- what is laid of a piece
 
--- its cells as they are stored
+-- the cells of a piece as they are stored
 abbrev pub cells_of : Piece → List StoredCell
 cells_of piece = map (stored_cell piece.head.origins) piece.versions
 

@@ -144,7 +144,7 @@ column_part o = record { part = o.part; bytes = wrapped kind.Column o.body }
 abbrev pub meta_part : Frame → List Attr → StoredPiece → PartBytes
 meta_part frame attrs stored = record { part = part.Meta; bytes = wrapped kind.Meta (meta_bytes frame attrs stored) }
 
--- the parts in the order of their puts, that of the head last
+-- the parts in the order of their puts, that of the metadata last
 unfoldable pub parts_of : Frame → List Attr → StoredPiece → List PartBytes
 parts_of frame attrs stored = map column_part (objects_of frame attrs stored) ++ meta_part frame attrs stored ∷ []
 
@@ -152,7 +152,7 @@ parts_of frame attrs stored = map column_part (objects_of frame attrs stored) ++
 abbrev pub FitsTypes : List Dim → StoredCell → Type 0
 FitsTypes dims cell = EachFits (λ (d : Dim) (x : ℤ). FitsInt (width_of d.ty) (is_signed d.ty) x) dims cell.coords
 
--- what can be stored in tiles: what a plain object can, of few attributes, with coordinates in their types, a hull that is no larger than the cells ask for, few tiles, and lengths that eight bytes can say
+-- what can be stored in tiles: what a plain object can, with coordinates in their types and a hull no larger than the cells ask for; attributes and tiles are few, and eight bytes can say each length
 pub record FitsSparse (frame : Frame) (attrs : List Attr) (frag : FragKey) (stored : StoredPiece) : Type 0 where
   pub plain : FitsPlain frame attrs frag stored
   pub capacity : 1 ≤ frame.capacity
