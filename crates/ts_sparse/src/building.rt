@@ -66,6 +66,7 @@ fn lay_columns(
         parts: PartList::new(alloc),
         sizes: LengthList::new(alloc),
     };
+    // A domain has 8 dimensions at most.
     let _count = frame.domain.count();
     lay_dims(alloc, &mut laid, frame.domain.as_slice(), piece)?;
     lay_attrs(
@@ -172,6 +173,7 @@ fn lay_texts(
     let part = Part::Attr(place);
     laid.lay(PartBytes { part, bytes }, &[])?;
     let bytes = wrap(alloc, Kind::Column, texts.bytes())?;
+    // No object has 2^64 bytes, so where its tiles start has room in eight.
     let _size = bytes.len();
     let starts = tile_starts(alloc, tile, &texts)?;
     let part = Part::Var(place);

@@ -23,6 +23,7 @@ pub(crate) fn starts_object(
     requires tile { 1 ≤ tile }
     ensures { IfOk result (λ bytes. bytes ≡ wrapped kind.Column (flat_map (number_bytes 8) (starts_in (tiles_of tile texts.now)))) }
 {
+    // All byte lists together have less than 2^64 bytes.
     let _room = texts.bytes().len();
     let mut scribe = Scribe::new(alloc);
     scribe.reserve(texts.len().saturating_mul(8))?;
