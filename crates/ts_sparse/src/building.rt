@@ -20,13 +20,16 @@ use ts_domain::Dim;
 use ts_schema::{Attr, Frame, Schema};
 use ts_wire::{Kind, wrap};
 
-/// The parts of a sparse fragment, in the order in which they are put: the coordinates of each dimension,
-/// of each attribute its values and which of them are there, the writes of a consolidated fragment's
-/// cells, and last the metadata. See the TileDB format specification, "Fragment".
+/// The parts of a sparse fragment, in the order in which they are put and in the layout of FORMATS.md,
+/// "The sparse fragment in tiles". See the TileDB format specification, "Fragment".
 ///
-/// The writes of the piece have to be such as [`ts_plain::write_plain`] asks for, and the piece one that a
-/// sparse fragment of the array can store. A tile has as many cells as the capacity of the frame, the
-/// last one the rest. It fails for want of memory alone.
+/// First come the coordinates of each dimension. Then come of each attribute its values, and where they
+/// may be null which of them are there, and then the writes of a consolidated fragment's cells. The
+/// metadata is last.
+///
+/// The versions have to name their writes, as [`ts_plain::write_plain`] asks too, and the piece has to be
+/// one that a sparse fragment of the array can store. A tile has as many cells as the capacity of the
+/// frame, the last one the rest. There is no error but want of memory.
 #[tactic(auto, using(crate::proofs::BuildLaws::all_parts_built, crate::proofs::BuildLaws::built_spells))]
 pub fn build(
     alloc: Global,
