@@ -1,3 +1,4 @@
 mod LikeLemmas
 mod WorkedHeads
 mod WorkedHistories
+mod OneCellFits

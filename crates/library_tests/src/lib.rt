@@ -31,6 +31,8 @@ mod rtree;
 #[cfg(test)]
 mod schema;
 #[cfg(test)]
+mod sparse;
+#[cfg(test)]
 mod store;
 #[cfg(test)]
 mod table;

@@ -1,0 +1,4 @@
+pub mod Tilings
+pub mod Sparse
+pub mod Cuts
+pub mod Laying

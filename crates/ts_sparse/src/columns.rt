@@ -1,0 +1,173 @@
+//! The objects of columns.
+ghost use Rattle.std.specs.Prelude.{◌≡◌, ◌<◌, ◌^◌, [], pos, true, length, map, get_or, All, IfOk};
+ghost use Rattle.std.specs.List.{flat_map};
+ghost use Rattle.std.specs.List.Sorted.{IsStrictlySortedBy};
+ghost use Rattle.ts_base.specs.Keys.{key_cmp};
+ghost use Rattle.ts_base.specs.Values.{width_of, is_integer};
+ghost use Rattle.ts_base.specs.declared.heads.Version.{Version as AnyVersion};
+ghost use Rattle.ts_base.specs.declared.values.Val.TheVariants as val;
+ghost use Rattle.ts_wire.specs.declared.kinds.Kind.TheVariants as kind;
+ghost use Rattle.ts_wire.specs.Envelope.{wrapped};
+ghost use Rattle.ts_wire.specs.Fields.{bool_bytes};
+ghost use Rattle.ts_wire.specs.Numbers.{FitsInt, number_bytes, int_bytes};
+ghost use Rattle.ts_column.specs.Spelled.{number_of, text_of};
+ghost use Rattle.ts_column.specs.Tiles.{is_signed, is_there};
+ghost use Rattle.ts_plain.specs.Writes.{place_of, HasPlace};
+ghost use Rattle.ts_sparse.specs.Laying.{coords_along, values_along};
+
+use std::alloc::Global;
+use ts_base::{ByteList, Key, KeyList, OutOfMemory, Val, ValType, Version};
+use ts_table::Texts;
+use ts_wire::{Kind, Scribe};
+
+// A scribe with room for so many bytes for each cell.
+fn room_for(alloc: Global, versions: &[Version], width: u8) -> Result<Scribe, OutOfMemory>
+    ensures { IfOk result (λ scribe. scribe ≡ []) }
+{
+    let mut scribe = Scribe::new(alloc);
+    let cells = versions.len() as u64;
+    scribe.reserve(cells.saturating_mul(u64::from(width)))?;
+    Ok(scribe)
+}
+
+// Whether the integers of the type may be negative.
+fn is_signed(ty: ValType) -> bool
+    ensures { result ≡ is_signed ty }
+{
+    matches!(ty, ValType::I8 | ValType::I16 | ValType::I32 | ValType::I64)
+}
+
+// The coordinate of a cell along a dimension, or 0 where there is no such dimension.
+fn coord_of(version: &Version, dim: u8) -> i128
+    ensures { result ≡ get_or version.now.coords dim (pos 0) }
+{
+    match version.coords.as_slice().get(dim as usize) {
+        Some(x) => *x,
+        None => 0,
+    }
+}
+
+/// The object of the coordinates along a dimension, of which each takes the width of the type.
+#[tactic(auto, using(ts_column::proofs::Written::width_is))]
+pub(crate) fn coords_object(
+    alloc: Global,
+    ty: ValType,
+    dim: u8,
+    versions: &[Version],
+) -> Result<ByteList, OutOfMemory>
+    requires integer { is_integer ty ≡ true }
+    requires fits { All (λ (v : AnyVersion). FitsInt (width_of ty) (is_signed ty) (get_or v.coords dim (pos 0))) versions.now }
+    ensures { IfOk result (λ bytes. bytes ≡ wrapped kind.Column (flat_map (int_bytes (width_of ty)) (coords_along dim versions.now))) }
+{
+    let mut scribe = room_for(alloc, versions, ty.width())?;
+    for version in versions {
+        scribe.int(ty.width(), is_signed(ty), coord_of(version, dim))?;
+    }
+    scribe.into_object(Kind::Column)
+}
+
+// The integer that is stored for the value of an attribute: 0 for a null.
+fn number_of(version: &Version, attr: u8) -> i128
+    ensures { result ≡ number_of (get_or version.now.row attr val.Null) }
+{
+    match version.row.as_slice().get(attr as usize) {
+        Some(Val::Int(number)) => *number,
+        Some(Val::Null) | Some(Val::Bytes(_)) | None => 0,
+    }
+}
+
+/// The object of the values of an attribute that are integers, of which each takes the width of the type.
+#[tactic(auto, using(ts_column::proofs::Written::width_is))]
+pub(crate) fn numbers_object(
+    alloc: Global,
+    ty: ValType,
+    attr: u8,
+    versions: &[Version],
+) -> Result<ByteList, OutOfMemory>
+    requires integer { is_integer ty ≡ true }
+    requires fits { All (λ (v : AnyVersion). FitsInt (width_of ty) (is_signed ty) (number_of (get_or v.row attr val.Null))) versions.now }
+    ensures { IfOk result (λ bytes. bytes ≡ wrapped kind.Column (flat_map (int_bytes (width_of ty)) (map number_of (values_along attr versions.now)))) }
+{
+    let mut scribe = room_for(alloc, versions, ty.width())?;
+    for version in versions {
+        scribe.int(ty.width(), is_signed(ty), number_of(version, attr))?;
+    }
+    scribe.into_object(Kind::Column)
+}
+
+// Whether the value of an attribute is no null.
+fn is_there(version: &Version, attr: u8) -> bool
+    ensures { result ≡ is_there (get_or version.now.row attr val.Null) }
+{
+    match version.row.as_slice().get(attr as usize) {
+        Some(Val::Int(_)) | Some(Val::Bytes(_)) => true,
+        Some(Val::Null) | None => false,
+    }
+}
+
+/// The object that tells of each cell whether its value of an attribute is there: one byte each.
+pub(crate) fn validity_object(
+    alloc: Global,
+    attr: u8,
+    versions: &[Version],
+) -> Result<ByteList, OutOfMemory>
+    ensures { IfOk result (λ bytes. bytes ≡ wrapped kind.Column (flat_map bool_bytes (map is_there (values_along attr versions.now)))) }
+{
+    let mut scribe = room_for(alloc, versions, 1)?;
+    for version in versions {
+        scribe.bool(is_there(version, attr))?;
+    }
+    scribe.into_object(Kind::Column)
+}
+
+// The bytes that are stored for the value of an attribute: none for a null.
+fn text_of(version: &Version, attr: u8) -> &[u8]
+    ensures { result.now ≡ text_of (get_or version.now.row attr val.Null) }
+{
+    match version.row.as_slice().get(attr as usize) {
+        Some(Val::Bytes(bytes)) => bytes.as_slice(),
+        Some(Val::Int(_)) | Some(Val::Null) | None => &[],
+    }
+}
+
+/// The values of an attribute that are byte lists, a null as the empty one.
+pub(crate) fn texts_of(alloc: Global, attr: u8, versions: &[Version]) -> Result<Texts, OutOfMemory>
+    ensures { IfOk result (λ texts. texts ≡ map text_of (values_along attr versions.now)) }
+{
+    let mut texts = Texts::new(alloc);
+    for version in versions {
+        texts.push(text_of(version, attr))?;
+    }
+    Ok(texts)
+}
+
+// The place of a key among keys that ascend.
+fn place_of(origins: &KeyList, key: Key) -> u32
+    requires few { length origins.now < 2 ^ 32 }
+    requires ascend { IsStrictlySortedBy key_cmp origins.now }
+    requires known { HasPlace origins.now key }
+    ensures { result ≡ place_of origins.now key }
+{
+    match origins.as_slice().binary_search(&key) {
+        Ok(place) => place as u32,
+        Err(_) => unreachable!(),
+    }
+}
+
+/// The object that tells of each cell which write laid it: its place among the origins in four bytes.
+pub(crate) fn origins_object(
+    alloc: Global,
+    origins: &KeyList,
+    versions: &[Version],
+) -> Result<ByteList, OutOfMemory>
+    requires few { length origins.now < 2 ^ 32 }
+    requires ascend { IsStrictlySortedBy key_cmp origins.now }
+    requires known { All (λ (v : AnyVersion). HasPlace origins.now v.key) versions.now }
+    ensures { IfOk result (λ bytes. bytes ≡ wrapped kind.Column (flat_map (number_bytes 4) (map (λ (v : AnyVersion). place_of origins.now v.key) versions.now))) }
+{
+    let mut scribe = room_for(alloc, versions, 4)?;
+    for version in versions {
+        scribe.u32(place_of(origins, version.key))?;
+    }
+    scribe.into_object(Kind::Column)
+}

@@ -1,0 +1,17 @@
+//! Sparse fragments in tiles: each column in an object of its own, and metadata with a tree over the
+//! boxes of the tiles.
+#![tactic(auto)]
+
+mod building;
+mod columns;
+mod laws;
+mod laying;
+mod metadata;
+mod starts;
+
+pub use building::build;
+pub use laws::{
+    a_leaf_is_the_hull_of_its_cells, parts_spell_their_piece, parts_store_one_piece,
+    pieces_have_one_form, the_last_box_is_the_hull, tiles_are_ranges, tiles_keep_the_order,
+    tiles_that_meet_suffice,
+};
