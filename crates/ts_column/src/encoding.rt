@@ -61,8 +61,8 @@ fn encode_parts(
     })
 }
 
-// Whether the integers of the type may be negative.
-fn is_signed(ty: ValType) -> bool
+/// Whether the integers of the type may be negative. It takes no memory.
+pub fn is_signed(ty: ValType) -> bool
     ensures { result ≡ is_signed ty }
 {
     matches!(ty, ValType::I8 | ValType::I16 | ValType::I32 | ValType::I64)

@@ -17,7 +17,7 @@ mod tiles;
 
 pub use coords::decode_coords;
 pub use decoding::decode_column;
-pub use encoding::encode_column;
+pub use encoding::{encode_column, is_signed};
 pub use objects::column_object;
 pub use origins::{decode_origins, encode_origins};
 pub use parallel::{ColumnList, decode_all};

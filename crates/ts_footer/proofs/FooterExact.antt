@@ -27,7 +27,7 @@ use Rattle.ts_footer.specs.declared.columns.ColumnForm.TheVariants.{Fixed, Var}
 use Rattle.ts_footer.specs.declared.columns.ColumnSize.{ColumnSize}
 use Rattle.ts_footer.specs.declared.footers.Footer.{Footer}
 use Rattle.ts_footer.specs.Columns.{tiles_for, tile_count_at, column_forms, fixed_length, fixed_at, may_start, start_at, starts_at, size_at, sizes_at, sizes_of, FitsStart, FitsStarts, FitsSize}
-use Rattle.ts_footer.specs.TreeTexts.{box_of}
+use Rattle.ts_plain.specs.Writes.{box_of}
 use Rattle.ts_footer.specs.Footers.{tiles_at, footer_at, leaves_in, layout_bytes, footer_bytes, FitsRect, FitsTree, FitsFooter}
 use Rattle.ts_footer.proofs.FooterReads.{some_cell, tiles_some}
 use Rattle.ts_footer.proofs.TreeExact.{tree_text, tree_exact}

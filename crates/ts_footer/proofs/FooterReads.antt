@@ -22,7 +22,7 @@ use Rattle.ts_plain.specs.Plain.{head_at, FitsHead}
 use Rattle.ts_plain.specs.Insides.{IsSide, IsHull}
 use Rattle.ts_plain.proofs.PlainExact.{head_exact}
 use Rattle.ts_plain.proofs.Insides.{hull_sides}
-use Rattle.ts_footer.specs.TreeTexts.{box_of}
+use Rattle.ts_plain.specs.Writes.{box_of}
 use Rattle.ts_footer.specs.Columns.{rounded_up, tiles_for, tile_count_at}
 
 sides_bound : (hull : List Side) → All IsSide hull → are_bounds (map (λ side. side.low) hull) (map (λ side. side.high) hull) ≡ true

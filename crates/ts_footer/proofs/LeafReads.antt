@@ -12,7 +12,8 @@ use Rattle.ts_wire.specs.Place.{Place, Read, ◌>>=◌, items_at}
 use Rattle.ts_wire.proofs.Loop.{with_front, items_on, items_stop, items_done}
 use Rattle.ts_plain.specs.declared.stored.Side.{Side}
 use Rattle.ts_plain.specs.Writes.{sides_of}
-use Rattle.ts_footer.specs.TreeTexts.{IsSpan, box_of, bounds_at, leaf_at}
+use Rattle.ts_footer.specs.TreeTexts.{IsSpan, bounds_at, leaf_at}
+use Rattle.ts_plain.specs.Writes.{box_of}
 
 -- one side more
 sides_more : (ls hs : List ℤ) (l h : ℤ) → are_bounds ls hs ≡ true → sides_of (ls ++ l ∷ []) (hs ++ h ∷ []) ≡ sides_of ls hs ++ record { low = l; high = h } ∷ []

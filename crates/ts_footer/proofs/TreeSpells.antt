@@ -10,7 +10,8 @@ use Rattle.ts_wire.specs.Numbers.{int_bytes, number_bytes, FitsInt}
 use Rattle.ts_wire.proofs.Laws.{AreBytes, AreInTurn, bytes_exact, ruled_exact, both_exact, mapped_exact, items_exact, each_exact}
 use Rattle.ts_wire.proofs.Numbers.{int_exact}
 use Rattle.ts_plain.specs.declared.stored.Side.{Side}
-use Rattle.ts_footer.specs.TreeTexts.{are_same, same_at, bounds_at, box_of, leaf_at, leaves_at, fields_of, topped, boxes_at}
+use Rattle.ts_footer.specs.TreeTexts.{are_same, same_at, bounds_at, leaf_at, leaves_at, fields_of, topped, boxes_at}
+use Rattle.ts_plain.specs.Writes.{box_of}
 use Rattle.ts_footer.proofs.Sames.{is_same_true}
 use Rattle.ts_footer.proofs.TreeReads.{joined}
 

@@ -19,7 +19,8 @@ use Rattle.ts_plain.specs.Plain.{head_at, head_bytes, FitsHead}
 use Rattle.ts_footer.specs.declared.columns.ColumnSize.{ColumnSize}
 use Rattle.ts_footer.specs.declared.footers.Footer.{Footer}
 use Rattle.ts_footer.specs.Columns.{tiles_for, tile_count_at, column_forms, sizes_at, sizes_of, FitsSize}
-use Rattle.ts_footer.specs.TreeTexts.{box_of, rooted, tree_at}
+use Rattle.ts_footer.specs.TreeTexts.{rooted, tree_at}
+use Rattle.ts_plain.specs.Writes.{box_of}
 
 -- ---- reading
 

@@ -1,4 +1,5 @@
 -- How the tree over the tiles of a sparse fragment is read.
+use Rattle.ts_plain.specs.Writes.{box_of}
 use Rattle.std.specs.Prelude.{◌≤ℤ◌, ℕ, ℤ, Bool, true, ◌&&◌, nat_eq, int_le, if◌then◌else◌, List, [], ◌∷◌, map, zip, length}
 use Rattle.std.specs.List.{flat_map}
 use Rattle.std.specs.Cmp.Lexicographic.{pointwise}
@@ -24,10 +25,6 @@ bounds_at = mapped (λ x. record { low = x.0; high = x.1 }) (both (int_at 16 tru
 -- the low bound is not above the high one
 abbrev pub IsSpan : Side → Type 0
 IsSpan side = side.low ≤ℤ side.high
-
--- the box between these bounds, dimension by dimension
-abbrev pub box_of : List Side → SubBox
-box_of sides = record { low = map (λ side. side.low) sides; high = map (λ side. side.high) sides }
 
 -- the box of a tile in n dimensions
 unfoldable pub leaf_at : ℕ → Place → Read SubBox

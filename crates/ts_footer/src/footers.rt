@@ -6,7 +6,7 @@ ghost use Rattle.ts_wire.specs.Place.{whole};
 ghost use Rattle.ts_wire.specs.Reading.{ReadsOr, DecodesOr};
 ghost use Rattle.ts_plain.specs.Insides.{IsHull};
 ghost use Rattle.ts_plain.specs.Plain.{head_at};
-ghost use Rattle.ts_footer.specs.TreeTexts.{box_of};
+ghost use Rattle.ts_plain.specs.Writes.{box_of};
 ghost use Rattle.ts_footer.specs.Footers.{tiles_at, footer_at, footer_stored, head_stored};
 
 use crate::columns::{SizeList, column_forms};

@@ -6,6 +6,7 @@ use Rattle.ts_base.specs.declared.heads.Head.{Head}
 use Rattle.ts_base.specs.declared.heads.Version.{Version}
 use Rattle.ts_base.specs.declared.heads.Piece.{Piece}
 use Rattle.ts_base.specs.Keys.{key_cmp, key_eq}
+use Rattle.ts_domain.specs.declared.boxes.SubBox.{SubBox}
 use Rattle.ts_schema.specs.declared.attrs.Attr.{Attr}
 use Rattle.ts_schema.specs.declared.frames.Frame.{Frame}
 use Rattle.ts_plain.specs.declared.stored.Side.{Side}
@@ -32,6 +33,10 @@ HasPlace keys key = place_of keys key < length keys
 abbrev pub sides_of : List ℤ → List ℤ → List Side
 sides_of (l ∷ ls) (h ∷ hs) = record { low = l; high = h } ∷ sides_of ls hs
 sides_of _ _ = []
+
+-- the box between sides
+abbrev pub box_of : List Side → SubBox
+box_of sides = record { low = map (λ side. side.low) sides; high = map (λ side. side.high) sides }
 
 -- what stands before the cells
 abbrev pub stored_head : Head → StoredHead

@@ -27,7 +27,8 @@ const PLACE_BYTES: u64 = 4;
 
 const VAL_BYTES: u64 = 17;
 
-fn place_of(origins: &KeyList, key: Key) -> u32
+/// The place of a key among origins, which ascend. It takes no memory.
+pub fn place_of(origins: &KeyList, key: Key) -> u32
     requires few { length origins.now < 2 ^ 32 }
     requires ascend { IsStrictlySortedBy key_cmp origins.now }
     requires known { HasPlace origins.now key }

@@ -8,7 +8,8 @@ use Rattle.ts_schema.specs.declared.frames.Frame.{Frame}
 use Rattle.ts_plain.specs.declared.stored.StoredPiece.{StoredPiece}
 use Rattle.ts_plain.specs.Rules.{last_of}
 use Rattle.ts_sparse.specs.Tilings.{tiles_from, tiles_of}
-use Rattle.ts_sparse.specs.Sparse.{leaves_of, box_of, FitsSparse}
+use Rattle.ts_sparse.specs.Sparse.{leaves_of, FitsSparse}
+use Rattle.ts_plain.specs.Writes.{box_of}
 use Rattle.ts_sparse.proofs.CutLaws.{tile_at}
 use Rattle.ts_sparse.proofs.MetaLaws.{some_leaves}
 use Rattle.ts_sparse.proofs.TopLaws.{last_box, top_of_cells}

@@ -1,4 +1,5 @@
 -- A sparse fragment: its metadata, and its columns whole. Tiles enter at the leaves and at the starts of byte lists alone.
+use Rattle.ts_plain.specs.Writes.{box_of}
 use Rattle.std.specs.Prelude.{◌≡◌, ℕ, suc, ◌+◌, ◌^◌, ◌<◌, ◌≤◌, ℤ, pos, Bool, true, false, List, [], ◌∷◌, ◌++◌, length, map, get_or, Option, Some}
 use Rattle.std.specs.List.{flat_map, All}
 use Rattle.ts_base.specs.declared.keys.FragKey.{FragKey}
@@ -123,10 +124,6 @@ leaf_of (c ∷ cells) = hull_from (cell_box c) cells
 -- the hull of each tile of n cells
 abbrev pub leaves_of : ℕ → List StoredCell → List SubBox
 leaves_of n cells = map leaf_of (tiles_of n cells)
-
--- the box between the sides of a hull
-abbrev pub box_of : List Side → SubBox
-box_of hull = record { low = map (λ side. side.low) hull; high = map (λ side. side.high) hull }
 
 -- the body of the metadata: what stands before the cells of a plain fragment, the number of tiles, the sizes and the tree
 unfoldable pub meta_bytes : Frame → List Attr → StoredPiece → List ℕ

@@ -16,7 +16,9 @@ ghost use Rattle.ts_plain.specs.Writes.{place_of, HasPlace};
 ghost use Rattle.ts_sparse.specs.Laying.{coords_along, values_along};
 
 use std::alloc::Global;
-use ts_base::{ByteList, Key, KeyList, OutOfMemory, Val, ValType, Version};
+use ts_base::{ByteList, KeyList, OutOfMemory, Val, ValType, Version};
+use ts_column::is_signed;
+use ts_plain::place_of;
 use ts_table::Texts;
 use ts_wire::{Kind, Scribe};
 
@@ -28,13 +30,6 @@ fn room_for(alloc: Global, versions: &[Version], width: u8) -> Result<Scribe, Ou
     let cells = versions.len() as u64;
     scribe.reserve(cells.saturating_mul(u64::from(width)))?;
     Ok(scribe)
-}
-
-// Whether the integers of the type may be negative.
-fn is_signed(ty: ValType) -> bool
-    ensures { result ≡ is_signed ty }
-{
-    matches!(ty, ValType::I8 | ValType::I16 | ValType::I32 | ValType::I64)
 }
 
 // The coordinate of a cell along a dimension, or 0 where there is no such dimension.
@@ -139,19 +134,6 @@ pub(crate) fn texts_of(alloc: Global, attr: u8, versions: &[Version]) -> Result<
         texts.push(text_of(version, attr))?;
     }
     Ok(texts)
-}
-
-// The place of a key among keys that ascend.
-fn place_of(origins: &KeyList, key: Key) -> u32
-    requires few { length origins.now < 2 ^ 32 }
-    requires ascend { IsStrictlySortedBy key_cmp origins.now }
-    requires known { HasPlace origins.now key }
-    ensures { result ≡ place_of origins.now key }
-{
-    match origins.as_slice().binary_search(&key) {
-        Ok(place) => place as u32,
-        Err(_) => unreachable!(),
-    }
 }
 
 /// The object that tells of each cell which write laid it: its place among the origins in four bytes.

@@ -22,7 +22,8 @@ ghost use Rattle.ts_plain.specs.Writes.{stored_for};
 ghost use Rattle.ts_domain.specs.Rects.{places_meeting};
 ghost use Rattle.ts_sparse.specs.Cuts.{taken_at, IsHullOfCells, Rise, TilesRise};
 ghost use Rattle.ts_sparse.specs.Tilings.{tiles_of};
-ghost use Rattle.ts_sparse.specs.Sparse.{IsSparse, IsThere, FitsSparse, parts_of, leaf_of, leaves_of, box_of};
+ghost use Rattle.ts_sparse.specs.Sparse.{IsSparse, IsThere, FitsSparse, parts_of, leaf_of, leaves_of};
+ghost use Rattle.ts_plain.specs.Writes.{box_of};
 
 /// Two pieces of one fragment with the same parts are one piece.
 pub fn parts_store_one_piece()
