@@ -21,7 +21,7 @@ use Rattle.ts_sparse.specs.Laying.{with_objects, none_laid, cells_of, meta_with}
 use Rattle.ts_sparse.proofs.LayLaws.{with_both, laid_all}
 use Rattle.ts_sparse.proofs.MetaLaws.{meta_same}
 use Rattle.ts_sparse.proofs.FormLaws.{piece_back}
-use Rattle.ts_sparse.proofs.OnePiece.{all_parts}
+use Rattle.ts_sparse.proofs.Shapes.{all_parts}
 use Rattle.ts_sparse.proofs.OnceLaws.{parts_spell}
 
 module _ (frame : Frame) (attrs : List Attr) (piece : Piece) where
@@ -60,21 +60,21 @@ module _ (frame : Frame) (attrs : List Attr) (piece : Piece) where
       let others = all_parts (λ size. size < 2 ^ 64) o.starts (sizes_of objects) (All-tail (λ size. size < 2 ^ 64) (14 + length o.body) (o.starts ++ sizes_of objects) small) in
       All-cons (λ (p : PartBytes). length p.bytes < 2 ^ 64) (column_part o) (map column_part objects) (omega (arith, long, first)) (short_objects objects others.1)
 
-  short_built : FitsSparse frame attrs piece.head.frag (stored_for piece) → length (wrapped kind.Meta (meta_bytes frame attrs (stored_for piece))) < 2 ^ 64
+  short_built : All (λ size. size < 2 ^ 64) (sizes_of (objects_of frame attrs (stored_for piece))) → length (wrapped kind.Meta (meta_bytes frame attrs (stored_for piece))) < 2 ^ 64
       → All (λ (p : PartBytes). length p.bytes < 2 ^ 64) (parts_of frame attrs (stored_for piece))
   unfolding parts_of
-  short_built fits few =
+  short_built room few =
       let short = λ (p : PartBytes). length p.bytes < 2 ^ 64 in
-      All-append short (map column_part (objects_of frame attrs (stored_for piece))) (meta_part frame attrs (stored_for piece) ∷ []) (short_objects (objects_of frame attrs (stored_for piece)) fits.room)
+      All-append short (map column_part (objects_of frame attrs (stored_for piece))) (meta_part frame attrs (stored_for piece) ∷ []) (short_objects (objects_of frame attrs (stored_for piece)) room)
       (All-cons short (meta_part frame attrs (stored_for piece)) [] few (All-nil short))
 
 -- so what is built spells the piece
 pub built_spells : (frame : Frame) (schema : Schema) (piece : Piece) (laid : Laid) (bytes : List ℕ) (parts : List PartBytes) → NamesWrites piece → FitsSparse frame schema.attrs piece.head.frag (stored_for piece)
-    → laid ≡ with_objects none_laid (objects_of frame schema.attrs (stored_for piece)) → bytes ≡ wrapped kind.Meta (meta_with frame piece laid.sizes) → length bytes < 2 ^ 64
+    → laid ≡ with_objects none_laid (objects_of frame schema.attrs (stored_for piece)) → bytes ≡ wrapped kind.Meta (meta_with frame piece laid.sizes) → length bytes < 2 ^ 64 → All (λ size. size < 2 ^ 64) laid.sizes
     → parts ≡ laid.parts ++ record { part = part.Meta; bytes = bytes } ∷ [] → All (λ (v : Version). v.schema ≡ piece.head.schema) piece.versions → IsSparse frame schema piece (look_in parts)
-built_spells frame schema piece laid bytes parts names fits columns spelled few push schemas =
+built_spells frame schema piece laid bytes parts names fits columns spelled few room push schemas =
     let stored = stored_for piece in
     let sizes : laid.sizes ≡ sizes_of (objects_of frame schema.attrs stored) = ap (λ (l : Laid). l.sizes) (columns ∙ laid_all (objects_of frame schema.attrs stored)) in
     let text : bytes ≡ wrapped kind.Meta (meta_bytes frame schema.attrs stored) = spelled ∙ ap (λ sizes. wrapped kind.Meta (meta_with frame piece sizes)) sizes ∙ ap (wrapped kind.Meta) (meta_same frame schema.attrs piece) in
-    let short = short_built frame schema.attrs piece fits (subst (λ body. length body < 2 ^ 64) text few) in
+    let short = short_built frame schema.attrs piece (subst (All (λ size. size < 2 ^ 64)) sizes room) (subst (λ body. length body < 2 ^ 64) text few) in
     subst (λ all. IsSparse frame schema piece (look_in all)) (sym (all_parts_built frame schema.attrs piece laid bytes parts columns spelled push)) (parts_spell frame schema piece fits (piece_back piece names schemas) short)

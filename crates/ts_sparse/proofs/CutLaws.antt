@@ -2,13 +2,14 @@
 use Rattle.std.proofs.Common.{◌≡◌, ℕ, zero, suc, ◌+◌, ◌-◌, ◌*◌, ℤ, true, ◌&&◌, int_le, List, [], ◌∷◌, ◌++◌, length, map, get_or, take, drop, refl, sym, ap, ◌∙◌, subst, arith, append_assoc}
 use Rattle.std.specs.Prelude.{IsTrue}
 use Rattle.std.specs.List.{flat_map, All}
-use Rattle.std.proofs.lemmas.List.{map-append, drop-drop}
+use Rattle.std.proofs.lemmas.List.{length-map, map-append, drop-drop}
 use Rattle.std.proofs.lemmas.Simd.{map-map}
 use Rattle.std.proofs.lemmas.List.Elements.{All-head, All-tail, All-nil, All-cons, All-weaker}
 use Rattle.std.proofs.lemmas.Bool.{and_from, and_parts}
 use Rattle.std.proofs.lemmas.Int.{ints}
 use Rattle.ts_base.specs.declared.keys.FragKey.{FragKey}
 use Rattle.ts_base.specs.declared.heads.Version.{Version}
+use Rattle.ts_domain.specs.declared.dims.Dim.{Dim}
 use Rattle.ts_domain.specs.declared.boxes.SubBox.{SubBox}
 use Rattle.ts_domain.specs.Bounds.{are_bounds, is_between}
 use Rattle.ts_domain.specs.Boxes.{is_in_box, hull_of, Covers}
@@ -29,8 +30,7 @@ use Rattle.ts_sparse.proofs.MeetLaws.{CutOf, IsInLeaf, versions_by_tile, all_ver
 use Rattle.ts_sparse.specs.Tilings.{tiles_from, tiles_of}
 use Rattle.ts_sparse.specs.Sparse.{cell_box, hull_from, leaf_of, leaves_of, FitsTypes, FitsSparse}
 use Rattle.ts_sparse.specs.Cuts.{taken_at, IsHullOfCells}
-use Rattle.ts_sparse.proofs.Shapes.{all_tiles}
-use Rattle.ts_sparse.proofs.OnePiece.{all_parts}
+use Rattle.ts_sparse.proofs.Shapes.{all_parts, all_tiles}
 
 -- the versions of a tile of cells, with its leaf
 abbrev pub cut_of : StoredHead → List StoredCell → CutOf
@@ -169,7 +169,7 @@ all_mapped_tiles head [] = refl
 all_mapped_tiles head (t ∷ tiles) = ap (λ vs. map (version_in head) t ++ vs) (all_mapped_tiles head tiles) ∙ sym (map-append (version_in head) t (flat_map (λ t. t) tiles))
 
 -- the tiles whose leaves meet the box have all that is wanted of the piece
-pub sparse_suffices : (frame : Frame) (attrs : List Attr) (frag : FragKey) (s : StoredPiece) (sub : SubBox) (want : Want) → length sub.low ≡ length frame.domain → FitsSparse frame attrs frag s
+sparse_suffices : (frame : Frame) (attrs : List Attr) (frag : FragKey) (s : StoredPiece) (sub : SubBox) (want : Want) → length sub.low ≡ length frame.domain → FitsSparse frame attrs frag s
     → taken_at want (map (map (version_in s.head)) (tiles_of frame.capacity s.cells)) (places_meeting want.sub (leaves_of frame.capacity s.cells)) ≡ taken want (map (version_in s.head) s.cells)
 sparse_suffices frame attrs frag s sub want dims fits =
     let n = frame.capacity in
@@ -183,3 +183,8 @@ sparse_suffices frame attrs frag s sub want dims fits =
     ∙ ap (λ leaves. taken_at want (versions_by_tile cuts) (places_meeting want.sub leaves)) (sym (map-map (λ (t : CutOf). t.leaf) (cut_of s.head) tiles))
     ∙ found
     ∙ ap (taken want) (all_mapped_tiles s.head tiles ∙ ap (map (version_in s.head)) (all_tiles n s.cells))
+
+-- also of a want whose box has another number of dimensions
+pub all_suffice : (frame : Frame) (attrs : List Attr) (frag : FragKey) (s : StoredPiece) (want : Want) → FitsSparse frame attrs frag s
+    → taken_at want (map (map (version_in s.head)) (tiles_of frame.capacity s.cells)) (places_meeting want.sub (leaves_of frame.capacity s.cells)) ≡ taken want (map (version_in s.head) s.cells)
+all_suffice frame attrs frag s want fits = sparse_suffices frame attrs frag s (record { low = map (λ (d : Dim). d.low) frame.domain; high = [] }) want (length-map frame.domain (λ (d : Dim). d.low)) fits

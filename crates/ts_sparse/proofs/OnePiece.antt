@@ -4,8 +4,9 @@ use Rattle.std.specs.Prelude.{IsTrue, nat_lt}
 use Rattle.std.specs.List.{All}
 use Rattle.std.proofs.lemmas.Bool.{and_parts, ltb-true, eqb-true}
 use Rattle.std.proofs.lemmas.List.{length-map}
-use Rattle.std.proofs.lemmas.List.Elements.{All-head, All-tail, All-nil, All-cons}
+use Rattle.std.proofs.lemmas.List.Elements.{All-head, All-tail, All-nil, All-cons, All-weaker}
 use Rattle.std.proofs.lemmas.Option.{same_Some}
+use Rattle.ts_base.specs.declared.names.PartBytes.{PartBytes}
 use Rattle.ts_base.specs.declared.keys.FragKey.{FragKey}
 use Rattle.ts_base.specs.declared.values.Val.TheVariants.{Null}
 use Rattle.ts_base.specs.declared.heads.Piece.{Piece}
@@ -36,7 +37,8 @@ use Rattle.ts_column.specs.Spelled.{text_of}
 use Rattle.ts_sparse.specs.Tilings.{tiles_of}
 use Rattle.ts_sparse.specs.Sparse.{coord_column, value_column, origin_column, Object, dim_objects, fixed_objects, validity_objects, attr_objects, origin_objects, objects_of, sizes_of, meta_bytes, column_part, meta_part, parts_of, FitsSparse, IsThere, IsSparse}
 use Rattle.ts_sparse.proofs.Apart.{split_same, spells_apart, lists_apart, lists_same}
-use Rattle.ts_sparse.proofs.Shapes.{shaped, shaped_many, length-tile_starts}
+use Rattle.ts_sparse.proofs.Shapes.{all_parts, shaped, shaped_many, length-tile_starts}
+use Rattle.ts_sparse.proofs.RoomLaws.{room_of_short}
 use Rattle.ts_sparse.proofs.Rows.{cons_parts, Ends, Same, here, next, rows_same}
 use Rattle.ts_sparse.proofs.ColumnLaws.{column_same}
 
@@ -180,12 +182,6 @@ cells_same (c ∷ cs) (e ∷ es) a b o =
 
 -- ---- what is there under one name
 
-pub all_parts : {X : Type 0} (P : X → Type 0) (xs ys : List X) → All P (xs ++ ys) → All P xs × All P ys
-all_parts P [] ys all = (All-nil P, all)
-all_parts P (x ∷ xs) ys all =
-    let rest = all_parts P xs ys (All-tail P x (xs ++ ys) all) in
-    (All-cons P x xs (All-head P x (xs ++ ys) all) rest.0, rest.1)
-
 -- one object has one body
 body_same : (k : Kind) (a b : List ℕ) → length (wrapped k a) < 2 ^ 64 → length (wrapped k b) < 2 ^ 64 → wrapped k a ≡ wrapped k b → a ≡ b
 body_same k a b fa fb same =
@@ -270,6 +266,10 @@ module _ (frame : Frame) (attrs : List Attr) (frag : FragKey) where
       (rows_same FitsValue Null (λ c. c.row) 0 attrs cs es long (rows_fit s fs) (rows_fit t ft) values.0)
       origins
 
+  -- eight bytes can say each length of an object that is there
+  room : {look : Part → Option (List ℕ)} (s : StoredPiece) → All (IsThere look) (parts_of frame attrs s) → All (λ size. size < 2 ^ 64) (sizes_of (objects_of frame attrs s))
+  room {look = look} s there = room_of_short frame attrs s (All-weaker (IsThere look) (λ (p : PartBytes). length p.bytes < 2 ^ 64) (λ p is. is.few) (parts_of frame attrs s) there)
+
   -- the parts store one thing
   pub one_stored : (look : Part → Option (List ℕ)) (s t : StoredPiece) → FitsSparse frame attrs frag s → FitsSparse frame attrs frag t
       → All (IsThere look) (parts_of frame attrs s) → All (IsThere look) (parts_of frame attrs t) → s ≡ t
@@ -282,7 +282,7 @@ module _ (frame : Frame) (attrs : List Attr) (frag : FragKey) where
       let tiles = spells_apart (number_exact 4) (length (tiles_of frame.capacity s.cells)) (length (tiles_of frame.capacity t.cells)) _ _ fs.few ft.few head.1 in
       let long : length s.cells ≡ length t.cells = (fs.plain).count ∙ ap (λ h. h.cells) head.0 ∙ sym (ft.plain).count in
       let alike = objects_alike s t head.0 long in
-      let sizes = lists_apart (number_exact 8) (sizes_of (objects_of frame attrs s)) (sizes_of (objects_of frame attrs t)) _ _ (alike_sizes (objects_of frame attrs s) (objects_of frame attrs t) alike) fs.room ft.room tiles.1 in
+      let sizes = lists_apart (number_exact 8) (sizes_of (objects_of frame attrs s)) (sizes_of (objects_of frame attrs t)) _ _ (alike_sizes (objects_of frame attrs s) (objects_of frame attrs t) alike) (room s ps) (room t pt) tiles.1 in
       let objects = objects_same look (objects_of frame attrs s) (objects_of frame attrs t) alike p.0 q.0 sizes.0 in
       let cells = objects_tell s t fs ft head.0 long (there_short look (objects_of frame attrs s) p.0) (there_short look (objects_of frame attrs t) q.0) objects in
       let first = head.0 in

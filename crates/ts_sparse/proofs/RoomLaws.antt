@@ -16,8 +16,7 @@ use Rattle.ts_table.specs.Texts.{joined}
 use Rattle.ts_sparse.specs.Tilings.{tiles_of, tile_starts}
 use Rattle.ts_column.specs.Spelled.{text_of}
 use Rattle.ts_sparse.specs.Sparse.{value_column, Object, dim_objects, starts_object, bytes_object, fixed_objects, validity_objects, attr_objects, origin_objects, objects_of, sizes_of, column_part, meta_part, parts_of}
-use Rattle.ts_sparse.proofs.Shapes.{all_tiles}
-use Rattle.ts_sparse.proofs.OnePiece.{all_parts}
+use Rattle.ts_sparse.proofs.Shapes.{all_parts, all_tiles}
 
 -- no start lies behind the end of its object
 abbrev Inside : Object → Type 0

@@ -1,6 +1,7 @@
 -- Tiles: how many there are and how long they are follows from the length of the list alone.
 use Rattle.std.proofs.Common.{◌≡◌, ℕ, zero, suc, ◌+◌, ◌-◌, List, [], ◌∷◌, ◌++◌, length, map, refl, sym, ap, ◌∙◌, arith, append_assoc, length-append}
-use Rattle.std.specs.List.{flat_map}
+use Rattle.std.specs.List.{flat_map, All}
+use Rattle.std.proofs.lemmas.List.Elements.{All-head, All-tail, All-nil, All-cons}
 use Rattle.std.proofs.lemmas.List.{map-append, append-nil}
 use Rattle.ts_table.specs.Texts.{joined, starts_from}
 use Rattle.ts_sparse.specs.Tilings.{tiles_from, tiles_of, tile_starts, starts_in}
@@ -128,3 +129,12 @@ pub texts_same : (n : ℕ) (xs ys : List (List ℕ)) → length xs ≡ length ys
 texts_same n xs ys long inside starts bytes =
     let same = tiles_same 14 (tiles_of n xs) (tiles_of n ys) (shaped n xs ys long) inside starts (ap joined (all_tiles n xs) ∙ bytes ∙ ap joined (sym (all_tiles n ys))) in
     sym (all_tiles n xs) ∙ ap (flat_map (λ t. t)) same ∙ all_tiles n ys
+
+-- ---- parts of a list
+
+-- what holds of all items of two lists holds of those of each
+pub all_parts : {X : Type 0} (P : X → Type 0) (xs ys : List X) → All P (xs ++ ys) → All P xs × All P ys
+all_parts P [] ys all = (All-nil P, all)
+all_parts P (x ∷ xs) ys all =
+    let rest = all_parts P xs ys (All-tail P x (xs ++ ys) all) in
+    (All-cons P x xs (All-head P x (xs ++ ys) all) rest.0, rest.1)

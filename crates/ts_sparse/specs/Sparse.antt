@@ -149,7 +149,7 @@ parts_of frame attrs stored = map column_part (objects_of frame attrs stored) ++
 abbrev pub FitsTypes : List Dim → StoredCell → Type 0
 FitsTypes dims cell = EachFits (λ (d : Dim) (x : ℤ). FitsInt (width_of d.ty) (is_signed d.ty) x) dims cell.coords
 
--- what can be stored in tiles: what a plain object can, with coordinates in their types and a hull no larger than the cells ask for; attributes and tiles are few, and eight bytes can say each length
+-- what can be stored in tiles: what a plain object can, with coordinates in their types and a hull no larger than the cells ask for; attributes and tiles are few
 pub record FitsSparse (frame : Frame) (attrs : List Attr) (frag : FragKey) (stored : StoredPiece) : Type 0 where
   pub plain : FitsPlain frame attrs frag stored
   pub capacity : 1 ≤ frame.capacity
@@ -158,7 +158,6 @@ pub record FitsSparse (frame : Frame) (attrs : List Attr) (frag : FragKey) (stor
   pub typed : All (FitsTypes frame.domain) stored.cells
   pub tight : leaf_of stored.cells ≡ box_of stored.head.hull
   pub few : length (tiles_of frame.capacity stored.cells) < 2 ^ 32
-  pub room : All (λ size. size < 2 ^ 64) (sizes_of (objects_of frame attrs stored))
 
 -- the part is there, as it is spelled, and no longer than a length can say
 pub record IsThere (look : Part → Option (List ℕ)) (p : PartBytes) : Type 0 where

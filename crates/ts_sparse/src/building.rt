@@ -1,5 +1,5 @@
 //! Building the parts of a sparse fragment.
-ghost use Rattle.std.specs.Prelude.{◌≡◌, ◌≤◌, ◌∷◌, [], true, length, get_or, All, IfOk, OnOk};
+ghost use Rattle.std.specs.Prelude.{◌≡◌, ◌≤◌, ◌<◌, ◌^◌, ◌∷◌, [], true, length, get_or, All, IfOk, OnOk};
 ghost use Rattle.ts_base.specs.Values.{is_integer};
 ghost use Rattle.ts_base.specs.declared.heads.Version.{Version as AnyVersion};
 ghost use Rattle.ts_base.specs.declared.values.Val.TheVariants as val;
@@ -44,6 +44,7 @@ pub fn build(
 {
     let laid = lay_columns(alloc, frame, schema, piece)?;
     let Laid { mut parts, sizes } = laid;
+    are_lengths(sizes.as_slice());
     let bytes = meta_object(alloc, frame, schema, piece, sizes.as_slice())?;
     // No object has 2^64 bytes.
     let _size = bytes.len();
@@ -53,6 +54,11 @@ pub fn build(
     })?;
     Ok(parts)
 }
+
+// Each length has 64 bits. The call itself does nothing.
+fn are_lengths(sizes: &[u64])
+    ensures { All (λ size. size < 2 ^ 64) sizes.now }
+{}
 
 // Lays the objects of all columns.
 fn lay_columns(

@@ -73,7 +73,7 @@ pub fn tiles_keep_the_order()
 {}
 
 /// The tiles whose leaves meet a box have all that is wanted in it.
-#[tactic(auto, using(crate::proofs::CutLaws::sparse_suffices))]
+#[tactic(auto, using(crate::proofs::CutLaws::all_suffice))]
 pub fn tiles_that_meet_suffice()
-    ensures { (frame : AnyFrame) (attrs : List AnyAttr) (frag : AnyFragKey) (s : AnyStoredPiece) (sub : AnySubBox) (want : AnyWant) → length sub.low ≡ length frame.domain → FitsSparse frame attrs frag s → taken_at want (map (map (version_in s.head)) (tiles_of frame.capacity s.cells)) (places_meeting want.sub (leaves_of frame.capacity s.cells)) ≡ taken want (map (version_in s.head) s.cells) }
+    ensures { (frame : AnyFrame) (attrs : List AnyAttr) (frag : AnyFragKey) (s : AnyStoredPiece) (want : AnyWant) → FitsSparse frame attrs frag s → taken_at want (map (map (version_in s.head)) (tiles_of frame.capacity s.cells)) (places_meeting want.sub (leaves_of frame.capacity s.cells)) ≡ taken want (map (version_in s.head) s.cells) }
 {}
