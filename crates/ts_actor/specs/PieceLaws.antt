@@ -80,9 +80,9 @@ abbrev pub sized_with : Call → Reply → List Sized → List Sized
 sized_with (call.Size (name.Part frag part)) (reply.Length count) sizes = record { part = part; size = count } ∷ sizes
 sized_with _ _ sizes = sizes
 
--- the reply can come to the call: it fits it, and a get is told at most as many bytes as it asks for
+-- the reply can come to the call: it fits it, and a get is told bytes, at most as many as it asks for
 abbrev pub MayReply : Call → Reply → Type 0
-MayReply (call.Get n from len) (reply.Bytes bytes) = length bytes ≤ len
+MayReply (call.Get n from len) (reply.Bytes bytes) = IsBytes bytes × (length bytes ≤ len)
 MayReply c r = FitsCall c r
 
 -- a fetch waits for the reply to a call, after so much was got and told, whatever of what can come that was

@@ -3,6 +3,7 @@ ghost use Rattle.std.specs.Prelude.{◌≡◌, ◌≤◌, ◌<◌, ◌-◌, ◌+
 ghost use Rattle.ts_schema.specs.FrameTexts.{IsFrame};
 ghost use Rattle.ts_schema.specs.SchemaTexts.{AreAttrs};
 ghost use Rattle.ts_model.specs.States.{after_source, all_of, merging_from, source_leads};
+ghost use Rattle.ts_wire.specs.Exact.{IsBytes};
 ghost use Rattle.ts_actor.specs.PieceLaws.{MayReply};
 ghost use Rattle.ts_consolidate.specs.Merges.{AreGot, HasSources, IsFetching, IsMergeState, IsSource, fetches_left, merges_left};
 ghost use Rattle.ts_consolidate.specs.Fetching.{AsksSpelled, HasFewer, LeadsOn, step_by, step_of};
@@ -212,11 +213,19 @@ fn may_reply(call: &Call, reply: &Reply) -> bool
     ensures { result ≡ true → MayReply call.now reply.now }
 {
     match (call, reply) {
-        (Call::Get(_, _, most), Reply::Bytes(bytes)) => bytes.len() <= *most,
+        (Call::Get(_, _, most), Reply::Bytes(bytes)) => {
+            are_bytes(bytes.as_slice());
+            bytes.len() <= *most
+        }
         (Call::Size(_), Reply::Length(_)) => true,
         _ => false,
     }
 }
+
+// Each number of a slice of bytes is a byte. The call itself does nothing.
+fn are_bytes(bytes: &[u8])
+    ensures { IsBytes bytes.now }
+{}
 
 // Where bytes or a length lead a fetch. Those that cannot come to its call lead nowhere.
 fn after_told<P: Pieces, R: Threads + Sync>(
