@@ -98,8 +98,8 @@ module _ {G : Type 0} (judge : Judging G) where
   -- the next call of the plan
   asked_next : (given : G) (frag : FragKey) (p : Planned) (left : List Planned) (got : List (List ℕ))
       → Asked frag (gets_among (p ∷ left)) (record { given = given; frag = frag; waits = Some p; left = left; got = got }) (call_of frag p)
-  asked_next given frag (SizeOf part size) left got = record { looks = (); pays = omega arith; own = (refl, (part, refl)) }
-  asked_next given frag (Range part from count) left got = record { looks = (); pays = omega arith; own = (refl, (part, refl)) }
+  asked_next given frag (SizeOf part size) left got = record { looks = refl; pays = omega arith; own = (refl, (part, refl)) }
+  asked_next given frag (Range part from count) left got = record { looks = refl; pays = omega arith; own = (refl, (part, refl)) }
 
   next_asked : (given : G) (frag : FragKey) (left : List Planned) (got : List (List ℕ)) (g : Going G) (c : Call) → asks_next judge given frag left got ≡ Asks g c → Asked frag (gets_among left) g c
   next_asked given frag [] got g c e = absurd (over (judge given got) e)
@@ -110,7 +110,7 @@ module _ {G : Type 0} (judge : Judging G) where
   next_asked given frag (p ∷ left) got g c e = asked_as frag (gets_among (p ∷ left)) _ g (call_of frag p) c e (asked_next given frag p left got)
 
   size_asked : (given : G) (frag : FragKey) (p : Planned) (part : Part) (left : List Planned) (got : List (List ℕ)) (g : Going G) (c : Call) → asks_size given frag p part left got ≡ Asks g c → Asked frag (gets_among left) g c
-  size_asked given frag p part left got g c e = asked_as frag (gets_among left) _ g (call.Size (name.Part frag part)) c e (record { looks = (); pays = omega arith; own = (refl, (part, refl)) })
+  size_asked given frag p part left got g c e = asked_as frag (gets_among left) _ g (call.Size (name.Part frag part)) c e (record { looks = refl; pays = omega arith; own = (refl, (part, refl)) })
 
   -- each step asks so
   told_asked : (given : G) (frag : FragKey) (w : Option Planned) (left : List Planned) (got : List (List ℕ)) (g : Going G) (r : Reply) (c : Call) → told judge given frag w left got r ≡ Asks g c → Asked frag (gets_among left) g c

@@ -5,7 +5,6 @@ use crate::judging::Judge;
 
 /// A fetch of a fragment that is held, by a plan that is right about it, asks for parts that are held,
 /// goes on well when it is told what is held, and ends with what the judge finds in those ranges.
-#[tactic(auto, using(crate::proofs::PlanLaws::starts_well, crate::proofs::PlanLaws::asks_held, crate::proofs::PlanLaws::goes_well))]
 pub fn fetches_find_what_is_held<J: Judge>()
     ensures starts { StartsWell J.judge }
     ensures asks { AsksParts J.judge }
@@ -14,7 +13,6 @@ pub fn fetches_find_what_is_held<J: Judge>()
 
 /// Whatever replies come, a fetch asks for nothing but gets and sizes of parts of its own fragment, and
 /// each get is one of those that were planned.
-#[tactic(auto, using(crate::proofs::PlanLaws::plan_looks, crate::proofs::PlanLaws::plan_pays, crate::proofs::PlanLaws::plan_own))]
 pub fn fetches_keep_to_their_plan<J: Judge>()
     ensures looks { PlanLooks J.judge }
     ensures pays { PlanPays J.judge }
@@ -22,7 +20,6 @@ pub fn fetches_keep_to_their_plan<J: Judge>()
 {}
 
 /// A told size other than the stated one is damage at the lesser of the two.
-#[tactic(auto, using(crate::proofs::PlanLaws::breaks_lesser))]
 pub fn other_sizes_are_broken<J: Judge>()
     ensures { BreaksAtLesser J.judge }
 {}
