@@ -1,5 +1,5 @@
 -- Fetches whose calls are known once the metadata is read: the sizes of the objects that are used, and the ranges of the tiles.
-use Rattle.std.specs.Prelude.{◌≡◌, ℕ, ◌+◌, nat_eq, min, if◌then◌else◌, List, [], ◌∷◌, ◌++◌, length, Option, Some, None, All}
+use Rattle.std.specs.Prelude.{◌≡◌, ◌≢◌, ℕ, ◌+◌, ◌≤◌, ⊤, nat_eq, nat_lt, min, if◌then◌else◌, List, [], ◌∷◌, ◌++◌, length, Option, Some, None, All}
 use Rattle.ts_base.specs.declared.keys.FragKey.{FragKey}
 use Rattle.ts_base.specs.declared.names.Part.{Part}
 use Rattle.ts_base.specs.declared.names.Name.TheVariants as name
@@ -10,7 +10,7 @@ use Rattle.ts_store.specs.declared.call.Call.TheVariants as call
 use Rattle.ts_store.specs.declared.call.Reply.{Reply}
 use Rattle.ts_store.specs.declared.call.Reply.TheVariants as reply
 use Rattle.ts_store.specs.Calls.{part_of}
-use Rattle.ts_schema.specs.Parts.{Look}
+use Rattle.ts_schema.specs.Parts.{Look, Got, Sized}
 use Rattle.ts_model.specs.Codecs.{Stepped, Asks, Takes, Breaks}
 use Rattle.ts_fetch.specs.declared.planned.Planned.{Planned}
 use Rattle.ts_fetch.specs.declared.planned.Planned.TheVariants.{SizeOf, Range}
@@ -114,3 +114,52 @@ pub record OnPlan {G : Type 0} (judge : Judging G) (look : Look) (frag : FragKey
   pub right : IsRight look now
   pub rest : All (IsRight look) f.left
   pub finds : judge f.given (f.got ++ ranges_of look (now ∷ f.left)) ≡ Whole wanted
+
+-- ---- over what was heard
+
+-- each get of a list got a range, no longer than it asked for
+abbrev pub AreRanges : List Planned → List (List ℕ) → Type 0
+AreRanges [] [] = ⊤
+AreRanges [] (bytes ∷ got) = ⊥
+AreRanges (SizeOf part size ∷ plan) got = AreRanges plan got
+AreRanges (Range part from count ∷ plan) [] = ⊥
+AreRanges (Range part from count ∷ plan) (bytes ∷ got) = (length bytes ≤ count) × AreRanges plan got
+
+-- what was got of the parts after these calls, the last first
+abbrev pub gots_after : List Planned → List (List ℕ) → List Got → List Got
+gots_after [] got gots = gots
+gots_after (SizeOf part size ∷ plan) got gots = gots_after plan got gots
+gots_after (Range part from count ∷ plan) [] gots = gots
+gots_after (Range part from count ∷ plan) (bytes ∷ got) gots = gots_after plan got (record { part = part; at = from; bytes = bytes; ends = nat_lt (length bytes) count } ∷ gots)
+
+-- which sizes were told after these calls, each the stated one, the last first
+abbrev pub sizes_after : List Planned → List Sized → List Sized
+sizes_after [] sizes = sizes
+sizes_after (SizeOf part size ∷ plan) sizes = sizes_after plan (record { part = part; size = size } ∷ sizes)
+sizes_after (Range part from count ∷ plan) sizes = sizes_after plan sizes
+
+-- all these calls had their replies: the ranges that were got, and each size as stated
+pub record HeardAll (start : List Got) (plan : List Planned) (got : List (List ℕ)) (gots : List Got) (sizes : List Sized) : Type 0 where
+  pub ranges : AreRanges plan got
+  pub gots_are : gots ≡ gots_after plan got start
+  pub sizes_are : sizes ≡ sizes_after plan []
+
+-- the whole plan had its replies, and the judge says this of the ranges
+pub record IsJudged {G : Type 0} (judge : Judging G) (start : List Got) (given : G) (plan : List Planned) (verdict : Verdict) (gots : List Got) (sizes : List Sized) : Type 0 where
+  pub got : List (List ℕ)
+  pub heard : HeardAll start plan got gots sizes
+  pub judged : judge given got ≡ verdict
+
+-- the last size that was told is another than the stated one, and this is the lesser of the two
+pub record IsOtherSize (start : List Got) (plan : List Planned) (part : Part) (at : ℕ) (gots : List Got) (sizes : List Sized) : Type 0 where
+  pub front : List Planned
+  pub rest : List Planned
+  pub got : List (List ℕ)
+  pub before : List Sized
+  pub size : ℕ
+  pub count : ℕ
+  pub plan_is : plan ≡ front ++ SizeOf part size ∷ rest
+  pub heard : HeardAll start front got gots before
+  pub told_is : sizes ≡ record { part = part; size = count } ∷ before
+  pub other : count ≢ size
+  pub at_is : at ≡ min count size

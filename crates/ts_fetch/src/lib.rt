@@ -8,5 +8,8 @@ mod planned;
 
 pub use fetching::TileFetch;
 pub use judging::{Judge, Verdict};
-pub use laws::{fetches_find_what_is_held, fetches_keep_to_their_plan, other_sizes_are_broken};
+pub use laws::{
+    fetches_find_what_is_held, fetches_keep_to_their_plan, fetches_tell_what_the_judge_says,
+    other_sizes_are_broken,
+};
 pub use planned::Planned;
