@@ -1,12 +1,11 @@
 -- What a fetch by a plan heard when it asks, takes or breaks.
-use Rattle.std.proofs.Common.{◌≡◌, ℕ, ◌≤◌, Bool, true, false, nat_eq, min, List, [], ◌∷◌, ◌++◌, length, Option, Some, None, Ok, refl, sym, ap, subst, ◌∙◌, append_assoc, inl, inr, ◌⊎◌}
+use Rattle.std.proofs.Common.{◌≡◌, ℕ, ◌≤◌, Bool, true, false, nat_eq, min, List, [], ◌∷◌, ◌++◌, length, Option, Some, Ok, refl, sym, ap, subst, ◌∙◌, append_assoc, inl, inr, ◌⊎◌}
 use Rattle.std.specs.Prelude.{if◌then◌else◌, nat_lt}
 use Rattle.std.proofs.lemmas.Bool.{eqb-true, eqb-false}
 use Rattle.std.proofs.lemmas.List.{append-nil}
 use Rattle.ts_base.specs.declared.keys.FragKey.{FragKey}
 use Rattle.ts_base.specs.declared.names.Part.{Part}
 use Rattle.ts_base.specs.declared.names.Name.TheVariants as name
-use Rattle.ts_base.specs.declared.heads.Version.{Version}
 use Rattle.ts_store.specs.declared.call.Call.{Call}
 use Rattle.ts_store.specs.declared.call.Call.TheVariants as call
 use Rattle.ts_store.specs.declared.call.Reply.{Reply}
@@ -21,7 +20,7 @@ use Rattle.ts_fetch.specs.declared.planned.Planned.{Planned}
 use Rattle.ts_fetch.specs.declared.planned.Planned.TheVariants.{SizeOf, Range}
 use Rattle.ts_fetch.specs.declared.judging.Verdict.{Verdict}
 use Rattle.ts_fetch.specs.declared.judging.Verdict.TheVariants.{Whole, Broken}
-use Rattle.ts_fetch.specs.Plans.{Judging, Going, begun, call_of, stepped, asks_next, asks_size, told, plan_steps, AreRanges, gots_after, sizes_after, HeardAll, IsJudged, IsOtherSize}
+use Rattle.ts_fetch.specs.Plans.{Judging, Going, call_of, stepped, asks_next, asks_size, told, plan_steps, AreRanges, gots_after, sizes_after, HeardAll, IsJudged, IsOtherSize}
 use Rattle.ts_fetch.specs.PlanCodecs.{GoesByPlan, TakesJudged, BreaksJudged}
 
 -- ---- one call more

@@ -1,5 +1,5 @@
 -- What fetches by a plan keep.
-use Rattle.std.proofs.Common.{◌≡◌, ℕ, ◌+◌, ◌≤◌, Bool, true, false, nat_eq, min, cond, List, [], ◌∷◌, ◌++◌, length, Option, Some, None, refl, sym, ap, subst, ◌∙◌, arith, append_assoc}
+use Rattle.std.proofs.Common.{◌≡◌, ℕ, ◌+◌, ◌≤◌, Bool, true, false, nat_eq, min, List, [], ◌∷◌, ◌++◌, length, Option, Some, None, refl, sym, ap, subst, ◌∙◌, arith, append_assoc}
 use Rattle.std.specs.Prelude.{IsTrue, if◌then◌else◌}
 use Rattle.std.specs.List.{All}
 use Rattle.std.proofs.lemmas.Bool.{eq-eqb, ne_eqb, cond-true, cond-false}
@@ -8,7 +8,6 @@ use Rattle.std.proofs.lemmas.List.{append-nil}
 use Rattle.std.proofs.lemmas.List.Elements.{All-head, All-tail}
 use Rattle.ts_base.specs.declared.keys.FragKey.{FragKey}
 use Rattle.ts_base.specs.declared.names.Part.{Part}
-use Rattle.ts_base.specs.declared.names.Name.{Name}
 use Rattle.ts_base.specs.declared.names.Name.TheVariants as name
 use Rattle.ts_base.specs.declared.heads.Version.{Version}
 use Rattle.ts_store.specs.declared.call.Call.{Call}
@@ -17,13 +16,13 @@ use Rattle.ts_store.specs.declared.call.Reply.{Reply}
 use Rattle.ts_store.specs.declared.call.Reply.TheVariants as reply
 use Rattle.ts_store.specs.Calls.{part_of}
 use Rattle.ts_schema.specs.Parts.{Look}
-use Rattle.ts_model.specs.Codecs.{Stepped, Asks, Takes, Breaks, is_look, IsToldOf, SpeaksOf, AsksHeld, GoesWell}
+use Rattle.ts_model.specs.Codecs.{Stepped, Asks, Breaks, is_look, IsToldOf, SpeaksOf, AsksHeld, GoesWell}
 use Rattle.ts_actor.specs.PieceLaws.{gets_of}
 use Rattle.ts_fetch.specs.declared.planned.Planned.{Planned}
 use Rattle.ts_fetch.specs.declared.planned.Planned.TheVariants.{SizeOf, Range}
 use Rattle.ts_fetch.specs.declared.judging.Verdict.{Verdict}
 use Rattle.ts_fetch.specs.declared.judging.Verdict.TheVariants.{Whole, Broken}
-use Rattle.ts_fetch.specs.Plans.{Judging, Going, call_of, stepped, asks_next, asks_size, told, plan_steps, IsRight, bytes_in, ranges_of, gets_among, gets_left, OnPlan}
+use Rattle.ts_fetch.specs.Plans.{Judging, Going, call_of, stepped, asks_next, asks_size, told, IsRight, bytes_in, ranges_of, gets_among, gets_left, OnPlan}
 use Rattle.ts_fetch.specs.PlanLaws.{StartsWell, AsksParts, GoesOn, PlanLooks, PlanPays, PlanOwn, BreaksAtLesser}
 
 module _ {G : Type 0} (judge : Judging G) where

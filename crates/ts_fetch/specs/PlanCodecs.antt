@@ -1,15 +1,17 @@
 -- What holds of a way to read fragments whose fetches go by a plan.
-use Rattle.std.specs.Prelude.{◌≡◌, ℕ, List, Ok, ◌⊎◌}
+use Rattle.std.specs.Prelude.{◌≡◌, ℕ, List, [], Ok, ◌⊎◌}
 use Rattle.ts_base.specs.declared.keys.FragKey.{FragKey}
 use Rattle.ts_base.specs.declared.names.Part.{Part}
 use Rattle.ts_base.specs.declared.heads.Version.{Version}
+use Rattle.ts_domain.specs.declared.boxes.SubBox.{SubBox}
 use Rattle.ts_store.specs.declared.call.Reply.{Reply}
+use Rattle.ts_store.specs.declared.call.Reply.TheVariants as reply
 use Rattle.ts_schema.specs.declared.frames.Frame.{Frame}
 use Rattle.ts_schema.specs.declared.schemas.Schema.{Schema}
 use Rattle.ts_schema.specs.declared.wants.Want.{Want}
 use Rattle.ts_schema.specs.Parts.{Got, Sized}
 use Rattle.ts_model.specs.Codecs.{Codec, Takes, Breaks}
-use Rattle.ts_actor.specs.PieceLaws.{whole_got, EndsWith}
+use Rattle.ts_actor.specs.PieceLaws.{whole_got, IsFetchIn, EndsWith}
 use Rattle.ts_fetch.specs.declared.judging.Verdict.TheVariants.{Whole, Broken}
 use Rattle.ts_fetch.specs.Plans.{Judging, Going, begun, plan_steps, IsJudged, IsOtherSize}
 
@@ -30,3 +32,25 @@ BreaksJudged {G} judge codec = (frame : Frame) (s : Schema) (frag : FragKey) (ob
     → EndsWith codec frame s frag object want (Breaks part at) gots sizes
     → (f : Going G) × (codec.opens frame s frag object want ≡ Ok f)
     × (IsJudged judge (whole_got (codec.head_part frame) object) f.given f.left (Broken part at) gots sizes ⊎ IsOtherSize (whole_got (codec.head_part frame) object) f.left part at gots sizes)
+
+-- a fetch that takes versions without a call has an empty plan, and the judge says so of no ranges
+abbrev pub TakesAtOnce : {G : Type 0} → Judging G → Codec (Going G) → Type 0
+TakesAtOnce {G} judge codec = (frame : Frame) (s : Schema) (frag : FragKey) (object : List ℕ) (want : Want) (f : Going G) (versions : List Version) → codec.opens frame s frag object want ≡ Ok f
+    → codec.steps f reply.Start ≡ Takes versions → (f.left ≡ []) × (judge f.given [] ≡ Whole versions)
+
+-- some fetch of what is wanted in a box began so that the judge says this of some ranges
+pub record IsJudgedIn {G : Type 0} (judge : Judging G) (codec : Codec (Going G)) (sub : SubBox) (versions : List Version) : Type 0 where
+  pub frame : Frame
+  pub schema : Schema
+  pub frag : FragKey
+  pub object : List ℕ
+  pub want : Want
+  pub first : Going G
+  pub got : List (List ℕ)
+  pub sub_is : want.sub ≡ sub
+  pub opened : codec.opens frame schema frag object want ≡ Ok first
+  pub judged : judge first.given got ≡ Whole versions
+
+-- whatever replies come, also those that cannot, what a fetch takes is what the judge says of some ranges
+abbrev pub TakesJudgedIn : {G : Type 0} → Judging G → Codec (Going G) → Type 0
+TakesJudgedIn {G} judge codec = (sub : SubBox) (f : Going G) (r : Reply) (versions : List Version) → IsFetchIn codec sub f → codec.steps f r ≡ Takes versions → IsJudgedIn judge codec sub versions

@@ -1,6 +1,6 @@
 //! What holds of fetches by a plan, whatever the judge and the plan are. The calls do nothing.
 ghost use Rattle.ts_fetch.specs.PlanLaws.{StartsWell, AsksParts, GoesOn, PlanLooks, PlanPays, PlanOwn, BreaksAtLesser};
-ghost use Rattle.ts_fetch.specs.PlanCodecs.{GoesByPlan, TakesJudged, BreaksJudged};
+ghost use Rattle.ts_fetch.specs.PlanCodecs.{GoesByPlan, TakesJudged, BreaksJudged, TakesAtOnce, TakesJudgedIn};
 
 use crate::fetching::TileFetch;
 use crate::judging::Judge;
@@ -33,4 +33,6 @@ pub fn fetches_tell_what_the_judge_says<J: Judge, P: Pieces<Fetch = TileFetch<J>
     requires { GoesByPlan J.judge P.codec }
     ensures takes { TakesJudged J.judge P.codec }
     ensures breaks { BreaksJudged J.judge P.codec }
+    ensures once { TakesAtOnce J.judge P.codec }
+    ensures inside { TakesJudgedIn J.judge P.codec }
 {}
