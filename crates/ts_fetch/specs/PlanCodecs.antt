@@ -20,13 +20,13 @@ pub record GoesByPlan {G : Type 0} (judge : Judging G) (codec : Codec (Going G))
   pub begins : (frame : Frame) (s : Schema) (frag : FragKey) (object : List ℕ) (want : Want) (f : Going G) → codec.opens frame s frag object want ≡ Ok f → f ≡ begun f.given frag f.left
   pub steps : (f : Going G) (r : Reply) → codec.steps f r ≡ plan_steps judge f r
 
--- whatever replies come, what a fetch takes is what the judge says of the ranges of the whole plan
+-- whatever of the replies that can come, what a fetch takes is what the judge says of the ranges of the whole plan
 abbrev pub TakesJudged : {G : Type 0} → Judging G → Codec (Going G) → Type 0
 TakesJudged {G} judge codec = (frame : Frame) (s : Schema) (frag : FragKey) (object : List ℕ) (want : Want) (gots : List Got) (sizes : List Sized) (versions : List Version)
     → EndsWith codec frame s frag object want (Takes versions) gots sizes
     → (f : Going G) × (codec.opens frame s frag object want ≡ Ok f) × IsJudged judge (whole_got (codec.head_part frame) object) f.given f.left (Whole versions) gots sizes
 
--- whatever replies come, where a fetch finds a part broken the judge says so of the ranges of the whole plan, or a told size is another than the stated one
+-- whatever of the replies that can come, where a fetch finds a part broken the judge says so of the ranges of the whole plan, or a told size is another than the stated one
 abbrev pub BreaksJudged : {G : Type 0} → Judging G → Codec (Going G) → Type 0
 BreaksJudged {G} judge codec = (frame : Frame) (s : Schema) (frag : FragKey) (object : List ℕ) (want : Want) (gots : List Got) (sizes : List Sized) (part : Part) (at : ℕ)
     → EndsWith codec frame s frag object want (Breaks part at) gots sizes

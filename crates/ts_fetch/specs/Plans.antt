@@ -61,7 +61,7 @@ asks_next judge given frag (p ∷ left) got = Asks (record { given = given; frag
 abbrev pub asks_size : {G : Type 0} → G → FragKey → Planned → Part → List Planned → List (List ℕ) → Stepped (Going G)
 asks_size given frag p part left got = Asks (record { given = given; frag = frag; waits = Some p; left = left; got = got }) (call.Size (name.Part frag part))
 
--- what it does with a reply to the call that it waits for: a size has to be the stated one, a range is kept; a reply of another kind tells it nothing, and it gets no range by it
+-- what it does with a reply to the call that it waits for: a size has to be the stated one, a range is kept. A reply of another kind tells it nothing: there it would ask for the size of the part, where the code ends for want of memory, as it may at each step
 abbrev pub told : {G : Type 0} → Judging G → G → FragKey → Option Planned → List Planned → List (List ℕ) → Reply → Stepped (Going G)
 told judge given frag None left got r = asks_next judge given frag left got
 told judge given frag (Some (SizeOf part size)) left got (reply.Length count) = if nat_eq count size then asks_next judge given frag left got else Breaks part (min count size)
