@@ -12,6 +12,8 @@ use Rattle.ts_store.specs.declared.call.Reply.TheVariants as reply
 use Rattle.ts_store.specs.Calls.{part_of}
 use Rattle.ts_schema.specs.Parts.{Look, Got, Sized}
 use Rattle.ts_model.specs.Codecs.{Stepped, Asks, Takes, Breaks}
+use Rattle.ts_actor.specs.declared.pieces.Fetched.{Fetched}
+use Rattle.ts_actor.specs.declared.pieces.Fetched.TheVariants as fetched
 use Rattle.ts_fetch.specs.declared.planned.Planned.{Planned}
 use Rattle.ts_fetch.specs.declared.planned.Planned.TheVariants.{SizeOf, Range}
 use Rattle.ts_fetch.specs.declared.judging.Verdict.{Verdict}
@@ -72,6 +74,18 @@ told judge given frag (Some (Range part from count)) left got r = asks_size give
 -- a step of a fetch by a plan
 abbrev pub plan_steps : {G : Type 0} → Judging G → Going G → Reply → Stepped (Going G)
 plan_steps judge f r = told judge f.given f.frag f.waits f.left f.got r
+
+-- where a fetch may lack memory: it keeps a range, it judges since no call is left, or the reply was of another kind
+abbrev pub MayLack : Option Planned → List Planned → Reply → Type 0
+MayLack None left r = left ≡ []
+MayLack (Some (SizeOf part size)) left (reply.Length count) = (left ≡ []) × (count ≡ size)
+MayLack (Some (SizeOf part size)) left r = ⊤
+MayLack (Some (Range part from count)) left r = ⊤
+
+-- where it ended for want of memory, this was the cause
+abbrev pub LacksFor : Type 0 → Fetched → Type 0
+LacksFor cause fetched.OutOfMemory = cause
+LacksFor cause _ = ⊤
 
 -- more than the calls that a fetch still asks for
 abbrev pub calls_left : {G : Type 0} → Going G → ℕ

@@ -1,8 +1,8 @@
 //! Fetches that make the calls of a plan, and then judge what they got.
-ghost use Rattle.std.specs.Prelude.{◌≡◌, ◌<◌, ◌^◌, ℕ, List, All};
+ghost use Rattle.std.specs.Prelude.{◌≡◌, ◌<◌, ◌^◌, ℕ, List, [], All};
 ghost use Rattle.ts_base.specs.Names.{IsSpelledFrag};
 ghost use Rattle.ts_actor.specs.Fetches.{IsStep, FallsAtAsk, AsksSpelled};
-ghost use Rattle.ts_fetch.specs.Plans.{IsSpelledPlanned, begun, asks_next, plan_steps, calls_left};
+ghost use Rattle.ts_fetch.specs.Plans.{IsSpelledPlanned, begun, asks_next, plan_steps, calls_left, MayLack, LacksFor};
 
 use crate::judging::{Judge, Verdict};
 use crate::planned::Planned;
@@ -67,6 +67,7 @@ impl<J: Judge> TileFetch<J> {
         ensures is { IsStep (plan_steps J.judge self.old reply) self.new result }
         ensures falls { FallsAtAsk (calls_left self.old) (calls_left self.new) result }
         ensures spelled { AsksSpelled result }
+        ensures lacks { LacksFor (MayLack self.old.waits self.old.left reply) result }
     {
         match self.waits {
             None => self.go_on(rt, alloc),
@@ -96,6 +97,7 @@ impl<J: Judge> TileFetch<J> {
         ensures is { IsStep (asks_next J.judge self.old.given self.old.frag self.old.left self.old.got) self.new result }
         ensures falls { FallsAtAsk (calls_left self.old) (calls_left self.new) result }
         ensures spelled { AsksSpelled result }
+        ensures lacks { LacksFor (self.old.left ≡ []) result }
     {
         match self.left.pop_front() {
             Some(planned) => {
