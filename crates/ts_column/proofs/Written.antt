@@ -42,24 +42,15 @@ get_there [] i v h = absurd (cc)
 get_there (w ∷ vals) zero v h = cc
 get_there (w ∷ vals) (suc i) v h = get_there vals i v h
 
--- words one after another
-pub flat_joined : {A : Type 0} (spell : A → List ℕ) (xs : List A) → flat_map (λ (x : List ℕ). x) (map spell xs) ≡ flat_map spell xs
-flat_joined spell [] = refl
-flat_joined spell (x ∷ xs) = ap (λ more. spell x ++ more) (flat_joined spell xs)
+-- one integer more
+pub number_more : (n : ℕ) (vals : List Val) (i : ℕ) (out next : List ℕ) → i < length vals → out ≡ flat_map (int_bytes n) (map number_of (take i vals)) → next ≡ out ++ int_bytes n (number_of (get_or vals i Null))
+    → next ≡ flat_map (int_bytes n) (map number_of (take (i + 1) vals))
+number_more n vals i out next within was is = is ∙ ap (λ o. o ++ int_bytes n (number_of (get_or vals i Null))) was ∙ sym (spelled_more (int_bytes n) number_of vals i Null within)
 
--- the word of one integer more
-pub word_more : (n : ℕ) (vals : List Val) (i : ℕ) (out next : List (List ℕ)) → i < length vals → out ≡ map (int_bytes n) (map number_of (take i vals)) → next ≡ out ++ int_bytes n (number_of (get_or vals i Null)) ∷ []
-    → next ≡ map (int_bytes n) (map number_of (take (i + 1) vals))
-word_more n vals i out next within was is =
-    is ∙ ap (λ o. o ++ int_bytes n (number_of (get_or vals i Null)) ∷ []) was
-    ∙ sym (ap (map (int_bytes n)) (mapped_more number_of vals i Null within) ∙ map_more (int_bytes n) (map number_of (take i vals)) (number_of (get_or vals i Null)))
+pub all_numbers : (n : ℕ) (vals : List Val) (i : ℕ) → length vals ≤ i → flat_map (int_bytes n) (map number_of (take i vals)) ≡ flat_map (int_bytes n) (map number_of vals)
+all_numbers n vals i past = ap (λ vs. flat_map (int_bytes n) (map number_of vs)) (take_all i vals past)
 
-pub all_words : (n : ℕ) (vals : List Val) (i : ℕ) (words : List (List ℕ)) (bytes : List ℕ) → length vals ≤ i → words ≡ map (int_bytes n) (map number_of (take i vals)) → bytes ≡ flat_map (λ (x : List ℕ). x) words
-    → bytes ≡ flat_map (int_bytes n) (map number_of vals)
-all_words n vals i words bytes past was is =
-    is ∙ ap (flat_map (λ (x : List ℕ). x)) (was ∙ ap (λ vs. map (int_bytes n) (map number_of vs)) (take_all i vals past)) ∙ flat_joined (int_bytes n) (map number_of vals)
-
-pub ruleset words = (word_more, all_words)
+pub ruleset numbers = (number_more, all_numbers)
 
 -- one text more
 starts_more : (at : ℕ) (texts : List (List ℕ)) (t : List ℕ) → starts_from at (texts ++ t ∷ []) ≡ starts_from at texts ++ (at + length (joined texts)) ∷ []
@@ -72,22 +63,24 @@ joined_more : (texts : List (List ℕ)) (t : List ℕ) → joined (texts ++ t �
 joined_more [] t = append-nil t
 joined_more (x ∷ texts) t = ap (λ more. x ++ more) (joined_more texts t) ∙ sym (append_assoc x (joined texts) t)
 
-pub start_more : (vals : List Val) (i : ℕ) (bytes : List ℕ) (words next : List (List ℕ)) → i < length vals → bytes ≡ joined (map text_of (take i vals)) → words ≡ map (number_bytes 8) (starts_from 0 (map text_of (take i vals)))
-    → next ≡ words ++ number_bytes 8 (length bytes) ∷ [] → next ≡ map (number_bytes 8) (starts_from 0 (map text_of (take (i + 1) vals)))
-start_more vals i bytes words next within are was is =
+flat_one : (spell : ℕ → List ℕ) (xs : List ℕ) (y : ℕ) → flat_map spell (xs ++ y ∷ []) ≡ flat_map spell xs ++ spell y
+flat_one spell [] y = append-nil (spell y)
+flat_one spell (x ∷ xs) y = ap (λ more. spell x ++ more) (flat_one spell xs y) ∙ sym (append_assoc (spell x) (flat_map spell xs) (spell y))
+
+pub start_more : (vals : List Val) (i : ℕ) (bytes out next : List ℕ) → i < length vals → bytes ≡ joined (map text_of (take i vals)) → out ≡ flat_map (number_bytes 8) (starts_from 0 (map text_of (take i vals)))
+    → next ≡ out ++ number_bytes 8 (length bytes) → next ≡ flat_map (number_bytes 8) (starts_from 0 (map text_of (take (i + 1) vals)))
+start_more vals i bytes out next within are was is =
     let front = map text_of (take i vals) in
     let none : 0 + length (joined front) ≡ length (joined front) = omega arith in
-    is ∙ ap (λ w. w ++ number_bytes 8 (length bytes) ∷ []) was ∙ ap (λ b. map (number_bytes 8) (starts_from 0 front) ++ number_bytes 8 (length b) ∷ []) are
-    ∙ sym (ap (λ ts. map (number_bytes 8) (starts_from 0 ts)) (mapped_more text_of vals i Null within) ∙ ap (map (number_bytes 8)) (starts_more 0 front (text_of (get_or vals i Null)) ∙ ap (λ n. starts_from 0 front ++ n ∷ []) none) ∙ map_more (number_bytes 8) (starts_from 0 front) (length (joined front)))
+    is ∙ ap (λ o. o ++ number_bytes 8 (length bytes)) was ∙ ap (λ b. flat_map (number_bytes 8) (starts_from 0 front) ++ number_bytes 8 (length b)) are
+    ∙ sym (ap (λ ts. flat_map (number_bytes 8) (starts_from 0 ts)) (mapped_more text_of vals i Null within) ∙ ap (flat_map (number_bytes 8)) (starts_more 0 front (text_of (get_or vals i Null)) ∙ ap (λ n. starts_from 0 front ++ n ∷ []) none) ∙ flat_one (number_bytes 8) (starts_from 0 front) (length (joined front)))
 
 pub text_more : (vals : List Val) (i : ℕ) (bytes next : List ℕ) → i < length vals → bytes ≡ joined (map text_of (take i vals)) → next ≡ bytes ++ text_of (get_or vals i Null) → next ≡ joined (map text_of (take (i + 1) vals))
 text_more vals i bytes next within was is =
     is ∙ ap (λ b. b ++ text_of (get_or vals i Null)) was ∙ sym (ap joined (mapped_more text_of vals i Null within) ∙ joined_more (map text_of (take i vals)) (text_of (get_or vals i Null)))
 
-pub all_starts : (vals : List Val) (i : ℕ) (words : List (List ℕ)) (bytes : List ℕ) → length vals ≤ i → words ≡ map (number_bytes 8) (starts_from 0 (map text_of (take i vals))) → bytes ≡ flat_map (λ (x : List ℕ). x) words
-    → bytes ≡ flat_map (number_bytes 8) (starts_from 0 (map text_of vals))
-all_starts vals i words bytes past was is =
-    is ∙ ap (flat_map (λ (x : List ℕ). x)) (was ∙ ap (λ vs. map (number_bytes 8) (starts_from 0 (map text_of vs))) (take_all i vals past)) ∙ flat_joined (number_bytes 8) (starts_from 0 (map text_of vals))
+pub all_starts : (vals : List Val) (i : ℕ) → length vals ≤ i → flat_map (number_bytes 8) (starts_from 0 (map text_of (take i vals))) ≡ flat_map (number_bytes 8) (starts_from 0 (map text_of vals))
+all_starts vals i past = ap (λ vs. flat_map (number_bytes 8) (starts_from 0 (map text_of vs))) (take_all i vals past)
 
 pub all_texts : (vals : List Val) (i : ℕ) → length vals ≤ i → joined (map text_of (take i vals)) ≡ joined (map text_of vals)
 all_texts vals i past = ap (λ vs. joined (map text_of vs)) (take_all i vals past)

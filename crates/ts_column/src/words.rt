@@ -14,55 +14,51 @@ use ts_base::{ByteList, OutOfMemory};
 use ts_table::{Column, Seen};
 
 /// The integers of the values in one byte each, those of nulls as 0.
-#[tactic(auto, using(crate::proofs::Written::words))]
+#[tactic(auto, using(crate::proofs::Written::numbers))]
 pub(crate) fn write_1(alloc: Global, column: &Column) -> Result<ByteList, OutOfMemory>
     ensures { IfOk result (λ bytes. bytes ≡ flat_map (int_bytes 1) (map number_of column.now)) }
 {
-    let mut words = Vec::with_capacity(alloc, column.len() as usize)?;
+    let mut bytes = Vec::with_capacity(alloc, column.len().saturating_mul(1) as usize)?;
     for place in 0..column.len() {
-        words.push(word_1(number_at(column, place)))?;
+        bytes.extend_from_slice(&word_1(number_at(column, place)))?;
     }
-    let bytes = ByteList::of_bytes(alloc, words.as_slice().as_flattened())?;
-    Ok(bytes)
+    Ok(ByteList::from_vec(bytes))
 }
 
 /// The integers of the values in 2 bytes each, those of nulls as 0.
-#[tactic(auto, using(crate::proofs::Written::words))]
+#[tactic(auto, using(crate::proofs::Written::numbers))]
 pub(crate) fn write_2(alloc: Global, column: &Column) -> Result<ByteList, OutOfMemory>
     ensures { IfOk result (λ bytes. bytes ≡ flat_map (int_bytes 2) (map number_of column.now)) }
 {
-    let mut words = Vec::with_capacity(alloc, column.len() as usize)?;
+    let mut bytes = Vec::with_capacity(alloc, column.len().saturating_mul(2) as usize)?;
     for place in 0..column.len() {
-        words.push(word_2(number_at(column, place)))?;
+        bytes.extend_from_slice(&word_2(number_at(column, place)))?;
     }
-    let bytes = ByteList::of_bytes(alloc, words.as_slice().as_flattened())?;
-    Ok(bytes)
+    Ok(ByteList::from_vec(bytes))
 }
 
 /// The integers of the values in 4 bytes each, those of nulls as 0.
-#[tactic(auto, using(crate::proofs::Written::words))]
+#[tactic(auto, using(crate::proofs::Written::numbers))]
 pub(crate) fn write_4(alloc: Global, column: &Column) -> Result<ByteList, OutOfMemory>
     ensures { IfOk result (λ bytes. bytes ≡ flat_map (int_bytes 4) (map number_of column.now)) }
 {
-    let mut words = Vec::with_capacity(alloc, column.len() as usize)?;
+    let mut bytes = Vec::with_capacity(alloc, column.len().saturating_mul(4) as usize)?;
     for place in 0..column.len() {
-        words.push(word_4(number_at(column, place)))?;
+        bytes.extend_from_slice(&word_4(number_at(column, place)))?;
     }
-    let bytes = ByteList::of_bytes(alloc, words.as_slice().as_flattened())?;
-    Ok(bytes)
+    Ok(ByteList::from_vec(bytes))
 }
 
 /// The integers of the values in 8 bytes each, those of nulls as 0.
-#[tactic(auto, using(crate::proofs::Written::words))]
+#[tactic(auto, using(crate::proofs::Written::numbers))]
 pub(crate) fn write_8(alloc: Global, column: &Column) -> Result<ByteList, OutOfMemory>
     ensures { IfOk result (λ bytes. bytes ≡ flat_map (int_bytes 8) (map number_of column.now)) }
 {
-    let mut words = Vec::with_capacity(alloc, column.len() as usize)?;
+    let mut bytes = Vec::with_capacity(alloc, column.len().saturating_mul(8) as usize)?;
     for place in 0..column.len() {
-        words.push(word_8(number_at(column, place)))?;
+        bytes.extend_from_slice(&word_8(number_at(column, place)))?;
     }
-    let bytes = ByteList::of_bytes(alloc, words.as_slice().as_flattened())?;
-    Ok(bytes)
+    Ok(ByteList::from_vec(bytes))
 }
 
 // The integer of the value at a place, 0 where it has none.
@@ -125,14 +121,13 @@ pub(crate) fn write_texts(
     ensures starts { IfOk result (λ parts. parts.0 ≡ flat_map (number_bytes 8) (starts_from 0 (map text_of column.now))) }
     ensures bytes { IfOk result (λ parts. parts.1 ≡ joined (map text_of column.now)) }
 {
-    let mut words = Vec::with_capacity(alloc, column.len() as usize)?;
+    let mut starts = Vec::with_capacity(alloc, column.len().saturating_mul(8) as usize)?;
     let mut bytes = ByteList::new(alloc);
     for place in 0..column.len() {
-        words.push(start_word(bytes.len()))?;
+        starts.extend_from_slice(&start_word(bytes.len()))?;
         bytes.append(text_at(column, place))?;
     }
-    let starts = ByteList::of_bytes(alloc, words.as_slice().as_flattened())?;
-    Ok((starts, bytes))
+    Ok((ByteList::from_vec(starts), bytes))
 }
 
 // The bytes of the value at a place, none where it is no text.
