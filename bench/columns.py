@@ -38,7 +38,7 @@ def main():
             others |= least([plain, work])
     print("work\town\tplain Rust\ttimes")
     for name, took in own.items():
-        print("%s\t%.1f\t%.1f\t%.1f" % (name, took, others[name], took / others[name]))
+        print("%s\t%.2f\t%.2f\t%.1f" % (name, took, others[name], took / others[name]))
 
 
 if __name__ == "__main__":

@@ -1,5 +1,5 @@
 -- Values that were decoded fit their type.
-use Rattle.std.proofs.Common.{◌≡◌, ℕ, Bool, List, Result, Ok, Err}
+use Rattle.std.proofs.Common.{ℕ, Bool, List}
 use Rattle.std.specs.List.{All}
 use Rattle.ts_base.specs.declared.values.Val.{Val}
 use Rattle.ts_base.specs.declared.values.ValType.{ValType}

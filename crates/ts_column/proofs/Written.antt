@@ -1,10 +1,10 @@
 -- Loops that write a tile: what was written so far is the spelling of the values before the place.
-use Rattle.std.proofs.Common.{◌≡◌, ℕ, zero, suc, ◌+◌, ◌<◌, ◌≤◌, Bool, true, false, ℤ, pos, List, [], ◌∷◌, ◌++◌, length, map, take, get_or, Option, Some, Result, Ok, Err, refl, sym, ap, subst, ◌∙◌, arith, append_assoc, length-append, add-one}
+use Rattle.std.proofs.Common.{◌≡◌, ℕ, zero, suc, ◌+◌, ◌<◌, ◌≤◌, Bool, List, [], ◌∷◌, ◌++◌, length, map, take, get_or, Some, Result, Ok, Err, refl, sym, ap, ◌∙◌, arith, append_assoc, length-append, add-one}
 use Rattle.std.specs.Prelude.{IfOk}
 use Rattle.std.specs.List.{flat_map, slice_get}
 use Rattle.std.proofs.lemmas.List.{append-nil, take_all, length-map}
 use Rattle.ts_base.specs.declared.values.Val.{Val}
-use Rattle.ts_base.specs.declared.values.Val.TheVariants.{Null, Int, Bytes}
+use Rattle.ts_base.specs.declared.values.Val.TheVariants.{Null}
 use Rattle.ts_base.specs.declared.values.ValType.{ValType}
 use Rattle.ts_table.specs.Texts.{joined, starts_from}
 use Rattle.ts_wire.specs.Numbers.{number_bytes, int_bytes}
