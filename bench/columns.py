@@ -1,5 +1,5 @@
 #!/usr/bin/env python3
-"""Times the work of tables of a million cells beside the same work in plain Rust.
+"""Times the work of tables of a million cells, and that of tiles of a million values, beside the same work in plain Rust.
 
     bench/columns.py
 
@@ -32,10 +32,13 @@ def main():
     with tempfile.TemporaryDirectory() as folder:
         plain = os.path.join(folder, "columns")
         subprocess.run(["rustc", "--edition", "2021", "-O", "-o", plain, os.path.join(TOP, "bench", "columns.rs")], check=True)
-        own, others = least([program, "table"]), least([plain])
+        own, others = {}, {}
+        for work in "table", "tiles":
+            own |= least([program, work])
+            others |= least([plain, work])
     print("work\town\tplain Rust\ttimes")
     for name, took in own.items():
-        print("%s\t%.1f\t%.1f\t%.1f" % (name, took, others[name], took / others[name]))
+        print("%s\t%.2f\t%.2f\t%.1f" % (name, took, others[name], took / others[name]))
 
 
 if __name__ == "__main__":

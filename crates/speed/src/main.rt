@@ -1,5 +1,5 @@
-//! Times the fields of objects, the orders of cells and the work of tables: `speed fields`,
-//! `speed orders` or `speed table`.
+//! Times the fields of objects, the orders of cells, the work of tables and that of tiles: `speed
+//! fields`, `speed orders`, `speed table` or `speed tiles`.
 //!
 //! It prints picoseconds for each call, and a number that depends on all results, so that no call is
 //! left out. Without a word it does nothing.
@@ -9,8 +9,10 @@ ghost use Rattle.std.specs.Prelude.{◌≡◌, ◌<◌, length};
 ghost use Rattle.ts_domain.specs.Dims.{IsDim};
 
 mod table;
+mod tiles;
 
 use crate::table::time_table;
+use crate::tiles::time_tiles;
 use std::alloc::Global;
 use std::cmp::Ordering;
 use std::rt::{Clock, Env};
@@ -36,6 +38,7 @@ fn main(rt: HostRuntime) -> io::Result<()> {
         Some(word) if word.as_str() == "fields" => time_fields(&rt),
         Some(word) if word.as_str() == "orders" => time_orders(&rt),
         Some(word) if word.as_str() == "table" => time_table(&rt),
+        Some(word) if word.as_str() == "tiles" => time_tiles(&rt),
         _ => Ok(()),
     }
 }

@@ -23,9 +23,6 @@ const SIDE: u64 = 1000;
 /// How far a cell lies from the next, in row order.
 const STRIDE: u64 = 611_953;
 
-/// The bytes whose front is the text of a cell.
-const NAME: &[u8] = b"cell 0123456789";
-
 // The columns of a table.
 #[derive(Drop)]
 struct Columns {
@@ -33,15 +30,28 @@ struct Columns {
     attrs: Vec<Column>,
 }
 
+// The columns, each by its name.
+#[derive(Drop)]
+struct Fields {
+    x: Numbers,
+    y: Numbers,
+    height: Column,
+    kind: Column,
+    name: Column,
+}
+
 /// Times all work, and prints how long it took for each cell.
 pub(crate) fn time_table<R: Clock + Print + AllocGlobal>(rt: &R) -> io::Result<()> {
     let alloc = rt.alloc();
+    let Ok(letters) = letters(alloc) else {
+        return Ok(());
+    };
     let start = Instant::now(rt)?;
-    let Ok(columns) = made(alloc) else {
+    let Ok(columns) = made(alloc, letters.as_slice()) else {
         return Ok(());
     };
     report(rt, "make", start, CELLS, columns.dims.len() as u64)?;
-    let Ok(Some(table)) = table_of(alloc) else {
+    let Ok(Some(table)) = table_of(alloc, letters.as_slice()) else {
         return Ok(());
     };
     let start = Instant::now(rt)?;
@@ -82,48 +92,82 @@ fn time_order<R: Clock + Print + AllocGlobal>(
     report(rt, "gather", start, CELLS, gathered.attrs.len() as u64)
 }
 
-// The columns of the cells.
-fn made(alloc: Global) -> Result<Columns, OutOfMemory> {
-    let (mut x, mut y) = (Numbers::new(alloc), Numbers::new(alloc));
-    let (mut height, mut kind, mut name) = (
-        Column::new(alloc),
-        Column::new(alloc),
-        Column::new(alloc),
-    );
+// The columns of the cells, with texts of these letters.
+fn made(alloc: Global, letters: &[u8]) -> Result<Columns, OutOfMemory> {
+    let mut fields = Fields {
+        x: Numbers::new(alloc),
+        y: Numbers::new(alloc),
+        height: Column::new(alloc),
+        kind: Column::new(alloc),
+        name: Column::new(alloc),
+    };
     for cell in 0..CELLS {
-        let place = cell.wrapping_mul(STRIDE) % CELLS;
-        x.push(i128::from(place / SIDE))?;
-        y.push(i128::from(place % SIDE))?;
-        height.push_number(i128::from(cell))?;
-        kind.push_number(i128::from(cell % 256))?;
-        name.push_text(text_of(cell))?;
+        push_cell(&mut fields, letters, cell)?;
     }
+    let Fields {
+        x,
+        y,
+        height,
+        kind,
+        name,
+    } = fields;
+    let dims = dims_of(alloc, x, y)?;
+    let attrs = attrs_of(alloc, height, kind, name)?;
+    Ok(Columns { dims, attrs })
+}
+
+// Appends the fields of a cell.
+fn push_cell(fields: &mut Fields, letters: &[u8], cell: u64) -> Result<(), OutOfMemory> {
+    let place = cell.wrapping_mul(STRIDE) % CELLS;
+    fields.x.push(i128::from(place / SIDE))?;
+    fields.y.push(i128::from(place % SIDE))?;
+    fields.height.push_number(i128::from(cell))?;
+    fields.kind.push_number(i128::from(cell % 256))?;
+    fields.name.push_text(text_of(letters, cell))
+}
+
+fn dims_of(alloc: Global, x: Numbers, y: Numbers) -> Result<Vec<Numbers>, OutOfMemory> {
     let mut dims = Vec::new(alloc);
     dims.push(x)?;
     dims.push(y)?;
+    Ok(dims)
+}
+
+fn attrs_of(
+    alloc: Global,
+    height: Column,
+    kind: Column,
+    name: Column,
+) -> Result<Vec<Column>, OutOfMemory> {
     let mut attrs = Vec::new(alloc);
     attrs.push(height)?;
     attrs.push(kind)?;
     attrs.push(name)?;
-    Ok(Columns { dims, attrs })
+    Ok(attrs)
 }
 
-// The text of a cell.
-fn text_of(cell: u64) -> &'static [u8] {
-    front(NAME, 5 + (cell % 10) as usize)
+/// Letters, more than the text of a cell has.
+pub(crate) fn letters(alloc: Global) -> Result<Vec<u8>, OutOfMemory> {
+    let mut letters = Vec::new(alloc);
+    for letter in b'a'..b'p' {
+        letters.push(letter)?;
+    }
+    Ok(letters)
 }
 
-// The front of bytes, or all where they are fewer.
-fn front(bytes: &[u8], count: usize) -> &[u8] {
-    match bytes.get(..count) {
-        Some(front) => front,
-        None => bytes,
+/// The text of a cell: from 5 to 14 letters of these, or all where they are fewer.
+pub(crate) fn text_of(letters: &[u8], cell: u64) -> &[u8] {
+    let count = 5 + (cell % 10) as usize;
+    if count <= letters.len() {
+        &letters[..count]
+    } else {
+        letters
     }
 }
 
 // The table of all cells, if the columns make one.
-fn table_of(alloc: Global) -> Result<Option<Table>, OutOfMemory> {
-    let Columns { dims, attrs } = made(alloc)?;
+fn table_of(alloc: Global, letters: &[u8]) -> Result<Option<Table>, OutOfMemory> {
+    let Columns { dims, attrs } = made(alloc, letters)?;
     let key = Key { t: 1, id: 1 };
     let mut origins = Vec::new(alloc);
     origins.push(Origin { key, schema: key })?;

@@ -1,22 +1,18 @@
 -- Loops that write a tile: what was written so far is the spelling of the values before the place.
-use Rattle.std.proofs.Common.{◌≡◌, ℕ, zero, suc, ◌+◌, ◌<◌, ◌≤◌, Bool, true, false, ℤ, pos, List, [], ◌∷◌, ◌++◌, length, map, take, get_or, Option, Some, Result, Ok, Err, refl, sym, ap, subst, ◌∙◌, arith, append_assoc, add-one}
+use Rattle.std.proofs.Common.{◌≡◌, ℕ, zero, suc, ◌+◌, ◌<◌, ◌≤◌, Bool, List, [], ◌∷◌, ◌++◌, length, map, take, get_or, Some, Result, Ok, Err, refl, sym, ap, ◌∙◌, arith, append_assoc, length-append, add-one}
 use Rattle.std.specs.Prelude.{IfOk}
-use Rattle.std.specs.List.{flat_map, All, slice_get}
+use Rattle.std.specs.List.{flat_map, slice_get}
 use Rattle.std.proofs.lemmas.List.{append-nil, take_all, length-map}
-use Rattle.std.proofs.lemmas.List.Elements.{All-head, All-tail}
 use Rattle.ts_base.specs.declared.values.Val.{Val}
-use Rattle.ts_base.specs.declared.values.Val.TheVariants.{Null, Int, Bytes}
+use Rattle.ts_base.specs.declared.values.Val.TheVariants.{Null}
 use Rattle.ts_base.specs.declared.values.ValType.{ValType}
-use Rattle.ts_base.specs.declared.values.ValType.TheVariants.{I8, I16, I32, I64, U8, U16, U32, U64, Text, Blob}
-use Rattle.ts_base.specs.Values.{is_integer, width_of}
-use Rattle.ts_value.specs.Fits.{Fits}
-use Rattle.ts_wire.specs.Numbers.{is_width, int_bytes, FitsInt}
+use Rattle.ts_table.specs.Texts.{joined, starts_from}
+use Rattle.ts_wire.specs.Numbers.{number_bytes, int_bytes}
 use Rattle.ts_wire.specs.Fields.{bool_bytes}
 use Rattle.ts_base.specs.declared.lists.OutOfMemory.{OutOfMemory}
 use Rattle.ts_column.specs.declared.tiles.Tile.{Tile}
-use Rattle.ts_column.specs.Tiles.{is_signed, is_there, tile_vals}
+use Rattle.ts_column.specs.Tiles.{is_there, tile_vals}
 use Rattle.ts_column.specs.Spelled.{number_of, text_of, value_column}
-use Rattle.ts_column.proofs.TileLaws.{number_fits}
 
 -- one value more
 take_more : {A : Type 0} (xs : List A) (i : ℕ) (d : A) → i < length xs → take (suc i) xs ≡ take i xs ++ get_or xs i d ∷ []
@@ -47,55 +43,60 @@ get_there (w ∷ vals) zero v h = cc
 get_there (w ∷ vals) (suc i) v h = get_there vals i v h
 
 -- one integer more
-pub number_more : (ty : ValType) (vals : List Val) (i : ℕ) (out next : List ℕ) → i < length vals → out ≡ flat_map (int_bytes (width_of ty)) (map number_of (take i vals)) → next ≡ out ++ int_bytes (width_of ty) (number_of (get_or vals i Null))
-    → next ≡ flat_map (int_bytes (width_of ty)) (map number_of (take (i + 1) vals))
-number_more ty vals i out next within was is = is ∙ ap (λ o. o ++ int_bytes (width_of ty) (number_of (get_or vals i Null))) was ∙ sym (spelled_more (int_bytes (width_of ty)) number_of vals i Null within)
+pub number_more : (n : ℕ) (vals : List Val) (i : ℕ) (out next : List ℕ) → i < length vals → out ≡ flat_map (int_bytes n) (map number_of (take i vals)) → next ≡ out ++ int_bytes n (number_of (get_or vals i Null))
+    → next ≡ flat_map (int_bytes n) (map number_of (take (i + 1) vals))
+number_more n vals i out next within was is = is ∙ ap (λ o. o ++ int_bytes n (number_of (get_or vals i Null))) was ∙ sym (spelled_more (int_bytes n) number_of vals i Null within)
 
-pub all_numbers : (ty : ValType) (vals : List Val) (i : ℕ) → length vals ≤ i → flat_map (int_bytes (width_of ty)) (map number_of (take i vals)) ≡ flat_map (int_bytes (width_of ty)) (map number_of vals)
-all_numbers ty vals i past = ap (λ vs. flat_map (int_bytes (width_of ty)) (map number_of vs)) (take_all i vals past)
+pub all_numbers : (n : ℕ) (vals : List Val) (i : ℕ) → length vals ≤ i → flat_map (int_bytes n) (map number_of (take i vals)) ≡ flat_map (int_bytes n) (map number_of vals)
+all_numbers n vals i past = ap (λ vs. flat_map (int_bytes n) (map number_of vs)) (take_all i vals past)
 
 pub ruleset numbers = (number_more, all_numbers)
 
 -- one text more
-pub text_more : (vals : List Val) (i : ℕ) (out next : List (List ℕ)) → i < length vals → out ≡ map text_of (take i vals) → next ≡ out ++ text_of (get_or vals i Null) ∷ [] → next ≡ map text_of (take (i + 1) vals)
-text_more vals i out next within was is = is ∙ ap (λ o. o ++ text_of (get_or vals i Null) ∷ []) was ∙ sym (mapped_more text_of vals i Null within)
+starts_more : (at : ℕ) (texts : List (List ℕ)) (t : List ℕ) → starts_from at (texts ++ t ∷ []) ≡ starts_from at texts ++ (at + length (joined texts)) ∷ []
+starts_more at [] t = ap (λ n. n ∷ []) (omega arith)
+starts_more at (x ∷ texts) t =
+    let long : at + length x + length (joined texts) ≡ at + length (x ++ joined texts) = omega (arith, length-append x (joined texts)) in
+    ap (λ starts. at ∷ starts) (starts_more (at + length x) texts t ∙ ap (λ n. starts_from (at + length x) texts ++ n ∷ []) long)
 
-pub all_texts : (vals : List Val) (i : ℕ) → length vals ≤ i → map text_of (take i vals) ≡ map text_of vals
-all_texts vals i past = ap (map text_of) (take_all i vals past)
+joined_more : (texts : List (List ℕ)) (t : List ℕ) → joined (texts ++ t ∷ []) ≡ joined texts ++ t
+joined_more [] t = append-nil t
+joined_more (x ∷ texts) t = ap (λ more. x ++ more) (joined_more texts t) ∙ sym (append_assoc x (joined texts) t)
 
-pub ruleset texts = (text_more, all_texts)
+flat_one : (spell : ℕ → List ℕ) (xs : List ℕ) (y : ℕ) → flat_map spell (xs ++ y ∷ []) ≡ flat_map spell xs ++ spell y
+flat_one spell [] y = append-nil (spell y)
+flat_one spell (x ∷ xs) y = ap (λ more. spell x ++ more) (flat_one spell xs y) ∙ sym (append_assoc (spell x) (flat_map spell xs) (spell y))
+
+pub start_more : (vals : List Val) (i : ℕ) (bytes out next : List ℕ) → i < length vals → bytes ≡ joined (map text_of (take i vals)) → out ≡ flat_map (number_bytes 8) (starts_from 0 (map text_of (take i vals)))
+    → next ≡ out ++ number_bytes 8 (length bytes) → next ≡ flat_map (number_bytes 8) (starts_from 0 (map text_of (take (i + 1) vals)))
+start_more vals i bytes out next within are was is =
+    let front = map text_of (take i vals) in
+    let none : 0 + length (joined front) ≡ length (joined front) = omega arith in
+    is ∙ ap (λ o. o ++ number_bytes 8 (length bytes)) was ∙ ap (λ b. flat_map (number_bytes 8) (starts_from 0 front) ++ number_bytes 8 (length b)) are
+    ∙ sym (ap (λ ts. flat_map (number_bytes 8) (starts_from 0 ts)) (mapped_more text_of vals i Null within) ∙ ap (flat_map (number_bytes 8)) (starts_more 0 front (text_of (get_or vals i Null)) ∙ ap (λ n. starts_from 0 front ++ n ∷ []) none) ∙ flat_one (number_bytes 8) (starts_from 0 front) (length (joined front)))
+
+pub text_more : (vals : List Val) (i : ℕ) (bytes next : List ℕ) → i < length vals → bytes ≡ joined (map text_of (take i vals)) → next ≡ bytes ++ text_of (get_or vals i Null) → next ≡ joined (map text_of (take (i + 1) vals))
+text_more vals i bytes next within was is =
+    is ∙ ap (λ b. b ++ text_of (get_or vals i Null)) was ∙ sym (ap joined (mapped_more text_of vals i Null within) ∙ joined_more (map text_of (take i vals)) (text_of (get_or vals i Null)))
+
+pub all_starts : (vals : List Val) (i : ℕ) → length vals ≤ i → flat_map (number_bytes 8) (starts_from 0 (map text_of (take i vals))) ≡ flat_map (number_bytes 8) (starts_from 0 (map text_of vals))
+all_starts vals i past = ap (λ vs. flat_map (number_bytes 8) (starts_from 0 (map text_of vs))) (take_all i vals past)
+
+pub all_texts : (vals : List Val) (i : ℕ) → length vals ≤ i → joined (map text_of (take i vals)) ≡ joined (map text_of vals)
+all_texts vals i past = ap (λ vs. joined (map text_of vs)) (take_all i vals past)
+
+pub ruleset texts = (start_more, text_more, all_starts, all_texts)
 
 -- one mark more
-pub mark_more : (vals : List Val) (i : ℕ) (out next : List ℕ) → i < length vals → out ≡ flat_map bool_bytes (map is_there (take i vals)) → next ≡ out ++ bool_bytes (is_there (get_or vals i Null))
+pub mark_more : (vals : List Val) (i mark : ℕ) (out next : List ℕ) → i < length vals → out ≡ flat_map bool_bytes (map is_there (take i vals)) → next ≡ out ++ mark ∷ [] → bool_bytes (is_there (get_or vals i Null)) ≡ mark ∷ []
     → next ≡ flat_map bool_bytes (map is_there (take (i + 1) vals))
-mark_more vals i out next within was is = is ∙ ap (λ o. o ++ bool_bytes (is_there (get_or vals i Null))) was ∙ sym (spelled_more bool_bytes is_there vals i Null within)
+mark_more vals i mark out next within was is means =
+    is ∙ ap (λ o. o ++ mark ∷ []) was ∙ ap (λ m. flat_map bool_bytes (map is_there (take i vals)) ++ m) (sym means) ∙ sym (spelled_more bool_bytes is_there vals i Null within)
 
 pub all_marks : (vals : List Val) (i : ℕ) → length vals ≤ i → flat_map bool_bytes (map is_there (take i vals)) ≡ flat_map bool_bytes (map is_there vals)
 all_marks vals i past = ap (λ vs. flat_map bool_bytes (map is_there vs)) (take_all i vals past)
 
 pub ruleset marks = (mark_more, all_marks)
-
--- the integer of a value has room in the width of the type
-pub width_is : (ty : ValType) → is_integer ty ≡ true → is_width (width_of ty) (is_signed ty) ≡ true
-width_is I8 is = refl
-width_is I16 is = refl
-width_is I32 is = refl
-width_is I64 is = refl
-width_is U8 is = refl
-width_is U16 is = refl
-width_is U32 is = refl
-width_is U64 is = refl
-width_is Text is = cc
-width_is Blob is = cc
-
-pub number_has_room : (ty : ValType) (nullable : Bool) (vals : List Val) (i : ℕ) (v : Val) → is_integer ty ≡ true → All (Fits ty nullable) vals → slice_get vals i ≡ Some v → FitsInt (width_of ty) (is_signed ty) (number_of v)
-number_has_room ty nullable [] i v is fits got = absurd (cc)
-number_has_room ty nullable (w ∷ vals) zero v is fits got =
-    let same : w ≡ v = cc in
-    subst (λ (u : Val). FitsInt (width_of ty) (is_signed ty) (number_of u)) same (number_fits ty nullable w is (All-head (Fits ty nullable) w vals fits))
-number_has_room ty nullable (w ∷ vals) (suc i) v is fits got = number_has_room ty nullable vals i v is (All-tail (Fits ty nullable) w vals fits) got
-
-pub ruleset fitting = (width_is, number_has_room, get_there)
 
 -- the values of a column as a row
 pub row_more : (vals : List Val) (i : ℕ) (out next : List Val) → i < length vals → out ≡ take i vals → next ≡ out ++ get_or vals i Null ∷ [] → next ≡ take (i + 1) vals

@@ -1,20 +1,18 @@
 //! Encoding tiles.
-ghost use Rattle.std.specs.Prelude.{◌≡◌, ◌<◌, ◌++◌, ◌∷◌, [], Ok, false, true, length, map, slice_index_or, IfOk, IsTrue, OnOk};
+ghost use Rattle.std.specs.Prelude.{◌≡◌, Ok, length, map, IfOk, IsTrue};
 ghost use Rattle.std.specs.List.{flat_map, All};
 ghost use Rattle.ts_base.specs.Values.{is_integer, width_of};
-ghost use Rattle.ts_base.specs.declared.values.Val.TheVariants as val;
 ghost use Rattle.ts_value.specs.Fits.{Fits};
-ghost use Rattle.ts_wire.specs.Fields.{bool_bytes};
-ghost use Rattle.ts_wire.specs.Numbers.{number_bytes, int_bytes};
-ghost use Rattle.ts_column.specs.Spelled.{number_of, text_of, validity_bytes, tile_of};
-ghost use Rattle.ts_column.specs.Tiles.{is_signed, is_there, tile_vals};
+ghost use Rattle.ts_wire.specs.Numbers.{int_bytes};
+ghost use Rattle.ts_column.specs.Spelled.{number_of, validity_bytes, tile_of};
+ghost use Rattle.ts_column.specs.Tiles.{tile_vals};
 
 use crate::bytes::has_bytes;
 use crate::tiles::Tile;
+use crate::words;
 use std::alloc::Global;
 use ts_base::{ByteList, OutOfMemory, ValType};
-use ts_table::{Column, Seen, Texts};
-use ts_wire::Scribe;
+use ts_table::Column;
 
 /// The tile of the values of a column, which fit the type.
 ///
@@ -48,15 +46,15 @@ fn encode_parts(
 {
     if ty.is_integer() {
         return Ok(Tile {
-            fixed: write_numbers(alloc, ty, nullable, column)?,
+            fixed: write_numbers(alloc, ty, column)?,
             var: ByteList::new(alloc),
             validity: write_marks(alloc, nullable, column)?,
         });
     }
-    let texts = texts_of(alloc, column)?;
+    let (fixed, var) = words::write_texts(alloc, column)?;
     Ok(Tile {
-        fixed: write_starts(alloc, texts.starts())?,
-        var: ByteList::of_bytes(alloc, texts.bytes())?,
+        fixed,
+        var,
         validity: write_marks(alloc, nullable, column)?,
     })
 }
@@ -69,77 +67,17 @@ pub fn is_signed(ty: ValType) -> bool
 }
 
 // The integers of the values, those of nulls as 0.
-#[tactic(auto, using(crate::proofs::Written::numbers))]
-fn write_numbers(
-    alloc: Global,
-    ty: ValType,
-    nullable: bool,
-    column: &Column,
-) -> Result<ByteList, OutOfMemory>
-    requires integer { IsTrue (is_integer ty) }
-    requires fits { All (Fits ty nullable) column.now }
+fn write_numbers(alloc: Global, ty: ValType, column: &Column) -> Result<ByteList, OutOfMemory>
+    requires { IsTrue (is_integer ty) }
     ensures { IfOk result (λ bytes. bytes ≡ flat_map (int_bytes (width_of ty)) (map number_of column.now)) }
 {
-    let mut scribe = Scribe::new(alloc);
-    for place in 0..column.len() {
-        write_number(&mut scribe, ty, nullable, column, place)?;
+    match ty {
+        ValType::I8 | ValType::U8 => words::write_1(alloc, column),
+        ValType::I16 | ValType::U16 => words::write_2(alloc, column),
+        ValType::I32 | ValType::U32 => words::write_4(alloc, column),
+        ValType::I64 | ValType::U64 => words::write_8(alloc, column),
+        ValType::Text | ValType::Blob => unreachable!(),
     }
-    Ok(scribe.take())
-}
-
-// Appends the integer of the value at a place.
-#[tactic(auto, using(crate::proofs::Written::fitting))]
-fn write_number(
-    scribe: &mut Scribe,
-    ty: ValType,
-    nullable: bool,
-    column: &Column,
-    place: u64,
-) -> Result<(), OutOfMemory>
-    requires integer { IsTrue (is_integer ty) }
-    requires fits { All (Fits ty nullable) column.now }
-    requires within { place < length column.now }
-    ensures { OnOk result (scribe.new ≡ scribe.old ++ int_bytes (width_of ty) (number_of (slice_index_or column.now place val.Null))) }
-{
-    match column.at(place) {
-        Seen::Int(number) => scribe.int(ty.width(), is_signed(ty), number),
-        Seen::Null | Seen::Bytes(_) => scribe.int(ty.width(), is_signed(ty), 0),
-    }
-}
-
-// The bytes of the values, none for nulls.
-#[tactic(auto, using(crate::proofs::Written::texts))]
-fn texts_of(alloc: Global, column: &Column) -> Result<Texts, OutOfMemory>
-    ensures { IfOk result (λ texts. texts ≡ map text_of column.now) }
-{
-    let mut texts = Texts::new(alloc);
-    for place in 0..column.len() {
-        push_text(&mut texts, column, place)?;
-    }
-    Ok(texts)
-}
-
-// Appends the bytes of the value at a place.
-#[tactic(auto, using(crate::proofs::Written::get_there))]
-fn push_text(texts: &mut Texts, column: &Column, place: u64) -> Result<(), OutOfMemory>
-    requires { place < length column.now }
-    ensures { OnOk result (texts.new ≡ texts.old ++ text_of (slice_index_or column.now place val.Null) ∷ []) }
-{
-    match column.at(place) {
-        Seen::Bytes(bytes) => texts.push(bytes),
-        Seen::Null | Seen::Int(_) => texts.push(&[]),
-    }
-}
-
-// The starts in eight bytes each.
-fn write_starts(alloc: Global, starts: &[u64]) -> Result<ByteList, OutOfMemory>
-    ensures { IfOk result (λ bytes. bytes ≡ flat_map (number_bytes 8) starts.now) }
-{
-    let mut scribe = Scribe::new(alloc);
-    for start in starts {
-        scribe.u64(*start)?;
-    }
-    Ok(scribe.take())
 }
 
 // For each value whether it is there, where there may be nulls.
@@ -147,32 +85,8 @@ fn write_marks(alloc: Global, nullable: bool, column: &Column) -> Result<ByteLis
     ensures { IfOk result (λ bytes. bytes ≡ validity_bytes nullable column.now) }
 {
     if nullable {
-        write_each_mark(alloc, column)
+        words::write_marks(alloc, column)
     } else {
         Ok(ByteList::new(alloc))
-    }
-}
-
-#[tactic(auto, using(crate::proofs::Written::marks))]
-fn write_each_mark(alloc: Global, column: &Column) -> Result<ByteList, OutOfMemory>
-    ensures { IfOk result (λ bytes. bytes ≡ flat_map bool_bytes (map is_there column.now)) }
-{
-    let mut scribe = Scribe::new(alloc);
-    for place in 0..column.len() {
-        let there = is_there(column, place);
-        scribe.bool(there)?;
-    }
-    Ok(scribe.take())
-}
-
-// Whether the value at a place is no null.
-#[tactic(auto, using(crate::proofs::Written::get_there))]
-fn is_there(column: &Column, place: u64) -> bool
-    requires { place < length column.now }
-    ensures { result ≡ is_there (slice_index_or column.now place val.Null) }
-{
-    match column.at(place) {
-        Seen::Null => false,
-        Seen::Int(_) | Seen::Bytes(_) => true,
     }
 }

@@ -14,6 +14,7 @@ mod rows;
 mod stored;
 mod texts;
 mod tiles;
+mod words;
 
 pub use coords::decode_coords;
 pub use decoding::decode_column;
