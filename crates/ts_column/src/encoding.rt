@@ -5,7 +5,7 @@ ghost use Rattle.ts_base.specs.Values.{is_integer, width_of};
 ghost use Rattle.ts_value.specs.Fits.{Fits};
 ghost use Rattle.ts_wire.specs.Numbers.{int_bytes};
 ghost use Rattle.ts_column.specs.Spelled.{number_of, validity_bytes, tile_of};
-ghost use Rattle.ts_column.specs.Tiles.{tile_vals};
+ghost use Rattle.ts_column.specs.Tiles.{tile_vals, is_signed};
 
 use crate::bytes::has_bytes;
 use crate::tiles::Tile;
