@@ -14,6 +14,7 @@ pub mod TopLaws
 pub mod OnceLaws
 pub mod RangeLaws
 pub mod RoomLaws
+pub mod Widths
 pub mod FitLaws
 pub mod LayLaws
 pub mod MetaLaws

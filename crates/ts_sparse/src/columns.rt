@@ -43,7 +43,7 @@ fn coord_of(version: &Version, dim: u8) -> i128
 }
 
 /// The object of the coordinates along a dimension, of which each takes the width of the type.
-#[tactic(auto, using(ts_column::proofs::Written::width_is))]
+#[tactic(auto, using(crate::proofs::Widths::width_is))]
 pub(crate) fn coords_object(
     alloc: Global,
     ty: ValType,
@@ -72,7 +72,7 @@ fn number_of(version: &Version, attr: u8) -> i128
 }
 
 /// The object of the values of an attribute that are integers, of which each takes the width of the type.
-#[tactic(auto, using(ts_column::proofs::Written::width_is))]
+#[tactic(auto, using(crate::proofs::Widths::width_is))]
 pub(crate) fn numbers_object(
     alloc: Global,
     ty: ValType,
