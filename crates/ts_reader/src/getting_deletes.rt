@@ -28,19 +28,7 @@ pub(crate) fn next_delete<P: Pieces, R: Threads + Sync>(
 {
     let count = gathered.reading.delete_names.len();
     if gathered.reading.deletions.len() < count {
-        let Gathered {
-            reading,
-            opened,
-            schemas,
-        } = gathered;
-        let deletes = Boxed::new(
-            alloc,
-            Collecting::GetsDeletes {
-                reading,
-                opened,
-                schemas,
-            },
-        )?;
+        let deletes = Boxed::new(alloc, gathered.gets_deletes())?;
         return Ok(State::Collects(deletes));
     }
     fetch_from::<P, R>(rt, alloc, gathered, 0, VersionList::new(alloc))
