@@ -10,7 +10,7 @@ use std::thread::Threads;
 use ts_actor::{Pieces, get_all};
 use ts_base::{Boxed, ByteList, CommitKind, FragKey, Key, Name, OutOfMemory, VersionList};
 use ts_cond::Cond;
-use ts_model::{Collecting, Deletion, Outcome, State};
+use ts_model::{Deletion, Outcome, State};
 use ts_store::Reply;
 use ts_wire::ReadFault;
 
