@@ -63,7 +63,7 @@ pub struct Listed {
 }
 
 /// What a read knows of the array, and what it asks of it.
-#[derive(Debug, Drop)]
+#[derive(Debug)]
 pub struct Reading {
     /// The least timestamp of the interval, in milliseconds since 1970-01-01.
     pub from: u64,
@@ -90,6 +90,25 @@ pub struct Reading {
     pub deletions: DeletionList,
 }
 
+// By hand and not derived, so that each drop is one call and its proof stays small.
+impl Drop for Reading {
+    fn drop(self) {
+        let Reading {
+            from: _,
+            to: _,
+            ready: _,
+            frame: _,
+            there: _,
+            fragments: _,
+            counting: _,
+            vacs: _,
+            clipped: _,
+            delete_names: _,
+            deletions: _,
+        } = self;
+    }
+}
+
 /// What a consolidation chooses from, of those fragments that it found in its listing of the commits.
 #[derive(Debug, Drop, PartialEq, Eq)]
 pub struct Candidates {
@@ -100,7 +119,7 @@ pub struct Candidates {
 }
 
 /// What a consolidation knows of the array, and what it may merge.
-#[derive(Debug, Drop)]
+#[derive(Debug)]
 pub struct Survey {
     /// The least timestamp of the interval, in milliseconds since 1970-01-01.
     pub from: u64,
@@ -118,8 +137,23 @@ pub struct Survey {
     pub vacs: VacList,
 }
 
+// By hand and not derived, so that each drop is one call and its proof stays small.
+impl Drop for Survey {
+    fn drop(self) {
+        let Survey {
+            from: _,
+            to: _,
+            limits: _,
+            frame: _,
+            fragments: _,
+            counting: _,
+            vacs: _,
+        } = self;
+    }
+}
+
 /// What a vacuum found in its listing of the commits, and the `.vac` objects that it got.
-#[derive(Debug, Drop)]
+#[derive(Debug)]
 pub struct Sweep {
     /// The committed fragments, ascending.
     pub committed: FragList,
@@ -129,6 +163,18 @@ pub struct Sweep {
     pub counting: FragList,
     /// The `.vac` objects of the first of them, as many as it got.
     pub vacs: VacList,
+}
+
+// By hand and not derived, so that each drop is one call and its proof stays small.
+impl Drop for Sweep {
+    fn drop(self) {
+        let Sweep {
+            committed: _,
+            with_vac: _,
+            counting: _,
+            vacs: _,
+        } = self;
+    }
 }
 
 /// The names of several listings.

@@ -15,14 +15,13 @@ use crate::known::{known_schema, want_of};
 use std::alloc::Global;
 use std::thread::Threads;
 use ts_actor::{Fetched, Pieces};
-use ts_base::{Boxed, FragKey, Name, OutOfMemory, VersionList};
+use ts_base::{Boxed, FragKey, KeyList, Name, OutOfMemory, VersionList};
 use ts_model::{Collecting, Opened, OpenedList, Outcome, Reading, Refusal, State};
 use ts_schema::SchemaList;
 use ts_store::{Call, Reply};
 use ts_wire::ReadFault;
 
 /// What a read has once it fetches.
-#[derive(Drop)]
 pub(crate) struct Gathered {
     /// What it reads.
     pub reading: Reading,
@@ -30,6 +29,79 @@ pub(crate) struct Gathered {
     pub opened: OpenedList,
     /// The further schemas that it knows.
     pub schemas: SchemaList,
+}
+
+// By hand and not derived, so that each drop is one call and its proof stays small.
+impl Drop for Gathered {
+    fn drop(self) {
+        let Gathered {
+            reading: _,
+            opened: _,
+            schemas: _,
+        } = self;
+    }
+}
+
+impl Gathered {
+    /// A read gets the next further schema.
+    pub(crate) fn gets_schemas<F>(self, keys: KeyList) -> Collecting<F>
+        ensures { result ≡ Collecting.GetsSchemas self.reading self.opened keys self.schemas }
+    {
+        let Gathered {
+            reading,
+            opened,
+            schemas,
+        } = self;
+        Collecting::GetsSchemas {
+            reading,
+            opened,
+            keys,
+            schemas,
+        }
+    }
+
+    /// A read gets the next delete.
+    pub(crate) fn gets_deletes<F>(self) -> Collecting<F>
+        ensures { result ≡ Collecting.GetsDeletes self.reading self.opened self.schemas }
+    {
+        let Gathered {
+            reading,
+            opened,
+            schemas,
+        } = self;
+        Collecting::GetsDeletes {
+            reading,
+            opened,
+            schemas,
+        }
+    }
+
+    // A read waits for the reply to a call of a fetch.
+    fn fetches<F>(self, ongoing: OngoingFetch<F>, asked: Call) -> Collecting<F>
+        ensures { result ≡ Collecting.Fetches self.reading self.opened self.schemas ongoing.next ongoing.frag ongoing.got ongoing.fetch asked }
+    {
+        let Gathered {
+            reading,
+            opened,
+            schemas,
+        } = self;
+        let OngoingFetch {
+            next,
+            frag,
+            got,
+            fetch,
+        } = ongoing;
+        Collecting::Fetches {
+            reading,
+            opened,
+            schemas,
+            next,
+            frag,
+            got,
+            fetch,
+            asked,
+        }
+    }
 }
 
 /// How far a fetch has come, as its state has it.
@@ -86,7 +158,7 @@ pub(crate) fn fetch_from<P: Pieces, R: Threads + Sync>(
                     got,
                     fetch,
                 };
-                let waiting = Boxed::new(alloc, fetches(gathered, ongoing, asked))?;
+                let waiting = Boxed::new(alloc, gathered.fetches(ongoing, asked))?;
                 return Ok(State::Collects(waiting));
             }
             FetchStep::Takes(versions) => got = joined(got, versions)?,
@@ -95,33 +167,6 @@ pub(crate) fn fetch_from<P: Pieces, R: Threads + Sync>(
     }
     let answer = answer_of(alloc, &gathered.reading, &gathered.schemas, got)?;
     Ok(State::Over(Outcome::Read(answer)))
-}
-
-// A read waits for the reply to a call of a fetch.
-fn fetches<F>(gathered: Gathered, ongoing: OngoingFetch<F>, asked: Call) -> Collecting<F>
-    ensures { result ≡ Collecting.Fetches gathered.reading gathered.opened gathered.schemas ongoing.next ongoing.frag ongoing.got ongoing.fetch asked }
-{
-    let Gathered {
-        reading,
-        opened,
-        schemas,
-    } = gathered;
-    let OngoingFetch {
-        next,
-        frag,
-        got,
-        fetch,
-    } = ongoing;
-    Collecting::Fetches {
-        reading,
-        opened,
-        schemas,
-        next,
-        frag,
-        got,
-        fetch,
-        asked,
-    }
 }
 
 // Begins to fetch a fragment.
@@ -260,7 +305,7 @@ fn after_told<P: Pieces, R: Threads + Sync>(
                 got,
                 fetch,
             };
-            let waiting = Boxed::new(alloc, fetches(gathered, ongoing, asked))?;
+            let waiting = Boxed::new(alloc, gathered.fetches(ongoing, asked))?;
             Ok(State::Collects(waiting))
         }
         FetchStep::Takes(versions) => fetch_from::<P, R>(

@@ -10,7 +10,7 @@ use std::thread::Threads;
 use ts_actor::{Pieces, get_all};
 use ts_base::{Boxed, ByteList, CommitKind, FragKey, Key, Name, OutOfMemory, VersionList};
 use ts_cond::Cond;
-use ts_model::{Collecting, Deletion, Outcome, State};
+use ts_model::{Deletion, Outcome, State};
 use ts_store::Reply;
 use ts_wire::ReadFault;
 
@@ -28,19 +28,7 @@ pub(crate) fn next_delete<P: Pieces, R: Threads + Sync>(
 {
     let count = gathered.reading.delete_names.len();
     if gathered.reading.deletions.len() < count {
-        let Gathered {
-            reading,
-            opened,
-            schemas,
-        } = gathered;
-        let deletes = Boxed::new(
-            alloc,
-            Collecting::GetsDeletes {
-                reading,
-                opened,
-                schemas,
-            },
-        )?;
+        let deletes = Boxed::new(alloc, gathered.gets_deletes())?;
         return Ok(State::Collects(deletes));
     }
     fetch_from::<P, R>(rt, alloc, gathered, 0, VersionList::new(alloc))

@@ -243,20 +243,7 @@ fn gather_next<P: Pieces, R: Threads + Sync>(
 {
     let count = keys.len();
     if gathered.schemas.len() < count {
-        let Gathered {
-            reading,
-            opened,
-            schemas,
-        } = gathered;
-        let further = Boxed::new(
-            alloc,
-            Collecting::GetsSchemas {
-                reading,
-                opened,
-                keys,
-                schemas,
-            },
-        )?;
+        let further = Boxed::new(alloc, gathered.gets_schemas(keys))?;
         return Ok(State::Collects(further));
     }
     next_delete::<P, R>(rt, alloc, gathered)
