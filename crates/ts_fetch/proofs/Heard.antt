@@ -3,6 +3,7 @@ use Rattle.std.proofs.Common.{◌≡◌, ℕ, ◌≤◌, Bool, true, false, nat_
 use Rattle.std.specs.Prelude.{if◌then◌else◌, nat_lt}
 use Rattle.std.proofs.lemmas.Bool.{eqb-true, eqb-false}
 use Rattle.std.proofs.lemmas.List.{append-nil}
+use Rattle.ts_wire.specs.Exact.{IsBytes}
 use Rattle.ts_base.specs.declared.keys.FragKey.{FragKey}
 use Rattle.ts_base.specs.declared.names.Part.{Part}
 use Rattle.ts_base.specs.declared.names.Name.TheVariants as name
@@ -32,7 +33,7 @@ ranges_size (SizeOf q n ∷ done) got part size are = ranges_size done got part 
 ranges_size (Range q from n ∷ done) [] part size are = are
 ranges_size (Range q from n ∷ done) (b ∷ got) part size are = (are.0, ranges_size done got part size are.1)
 
-ranges_range : (done : List Planned) (got : List (List ℕ)) (part : Part) (from count : ℕ) (bytes : List ℕ) → AreRanges done got → length bytes ≤ count → AreRanges (done ++ Range part from count ∷ []) (got ++ bytes ∷ [])
+ranges_range : (done : List Planned) (got : List (List ℕ)) (part : Part) (from count : ℕ) (bytes : List ℕ) → AreRanges done got → IsBytes bytes × (length bytes ≤ count) → AreRanges (done ++ Range part from count ∷ []) (got ++ bytes ∷ [])
 ranges_range [] [] part from count bytes are few = (few, are)
 ranges_range [] (b ∷ got) part from count bytes are few = absurd are
 ranges_range (SizeOf q n ∷ done) got part from count bytes are few = ranges_range done got part from count bytes are few
@@ -71,7 +72,7 @@ heard_size start done got gots sizes part size heard = record {
   sizes_are = ap (λ (zs : List Sized). record { part = part; size = size } ∷ zs) heard.sizes_are ∙ sym (sizes_size done [] part size);
 }
 
-heard_range : (start : List Got) (done : List Planned) (got : List (List ℕ)) (gots : List Got) (sizes : List Sized) (part : Part) (from count : ℕ) (bytes : List ℕ) → HeardAll start done got gots sizes → length bytes ≤ count
+heard_range : (start : List Got) (done : List Planned) (got : List (List ℕ)) (gots : List Got) (sizes : List Sized) (part : Part) (from count : ℕ) (bytes : List ℕ) → HeardAll start done got gots sizes → IsBytes bytes × (length bytes ≤ count)
     → HeardAll start (done ++ Range part from count ∷ []) (got ++ bytes ∷ []) (record { part = part; at = from; bytes = bytes; ends = nat_lt (length bytes) count } ∷ gots) sizes
 heard_range start done got gots sizes part from count bytes heard few = record {
   ranges = ranges_range done got part from count bytes heard.ranges few;

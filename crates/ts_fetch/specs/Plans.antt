@@ -1,5 +1,6 @@
 -- Fetches whose calls are known once the metadata is read: the sizes of the objects that are used, and the ranges of the tiles.
 use Rattle.std.specs.Prelude.{◌≡◌, ◌≢◌, ℕ, ◌+◌, ◌≤◌, ⊤, nat_eq, nat_lt, min, if◌then◌else◌, List, [], ◌∷◌, ◌++◌, length, Option, Some, None, All}
+use Rattle.ts_wire.specs.Exact.{IsBytes}
 use Rattle.ts_base.specs.declared.keys.FragKey.{FragKey}
 use Rattle.ts_base.specs.declared.names.Part.{Part}
 use Rattle.ts_base.specs.declared.names.Name.TheVariants as name
@@ -131,13 +132,13 @@ pub record OnPlan {G : Type 0} (judge : Judging G) (look : Look) (frag : FragKey
 
 -- ---- over what was heard
 
--- each get of a list got a range, no longer than it asked for
+-- each get of a list got a range of bytes, no longer than it asked for
 abbrev pub AreRanges : List Planned → List (List ℕ) → Type 0
 AreRanges [] [] = ⊤
 AreRanges [] (bytes ∷ got) = ⊥
 AreRanges (SizeOf part size ∷ plan) got = AreRanges plan got
 AreRanges (Range part from count ∷ plan) [] = ⊥
-AreRanges (Range part from count ∷ plan) (bytes ∷ got) = (length bytes ≤ count) × AreRanges plan got
+AreRanges (Range part from count ∷ plan) (bytes ∷ got) = (IsBytes bytes × (length bytes ≤ count)) × AreRanges plan got
 
 -- what was got of the parts after these calls, the last first
 abbrev pub gots_after : List Planned → List (List ℕ) → List Got → List Got
