@@ -128,7 +128,7 @@ hulls_from_fit hull rest zero box (b ∷ bs) this all =
 hulls_from_fit hull rest (suc left) box (b ∷ bs) this all =
     hulls_from_fit hull rest left (hull_of box b) bs (hull_fits hull box b this (All-head (FitsRect hull) b bs all)) (All-tail (FitsRect hull) b bs all)
 
-hulls_fit : (hull : SubBox) (n : ℕ) (boxes : List SubBox) → All (FitsRect hull) boxes → All (FitsRect hull) (hulls_of n boxes)
+pub hulls_fit : (hull : SubBox) (n : ℕ) (boxes : List SubBox) → All (FitsRect hull) boxes → All (FitsRect hull) (hulls_of n boxes)
 hulls_fit hull n [] all = all
 hulls_fit hull n (b ∷ bs) all = hulls_from_fit hull (n - 1) (n - 1) b bs (All-head (FitsRect hull) b bs all) (All-tail (FitsRect hull) b bs all)
 

@@ -21,3 +21,4 @@ pub mod MetaLaws
 pub mod BuildLaws
 pub mod CountLaws
 pub mod TileBoxes
+pub mod ToldLaws

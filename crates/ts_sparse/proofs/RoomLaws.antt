@@ -22,7 +22,7 @@ use Rattle.ts_sparse.proofs.Shapes.{all_parts, all_tiles}
 abbrev Inside : Object → Type 0
 Inside o = All (λ i. i ≤ 14 + length o.body) o.starts
 
-starts_inside : (end at : ℕ) (tiles : List (List (List ℕ))) → at + length (joined (flat_map (λ t. t) tiles)) ≤ end → All (λ i. i ≤ end) (tile_starts at tiles)
+pub starts_inside : (end at : ℕ) (tiles : List (List (List ℕ))) → at + length (joined (flat_map (λ t. t) tiles)) ≤ end → All (λ i. i ≤ end) (tile_starts at tiles)
 starts_inside end at [] room = All-nil (λ i. i ≤ end)
 starts_inside end at (t ∷ tiles) room =
     let long = ap length (more t (flat_map (λ t. t) tiles)) ∙ length-append (joined t) (joined (flat_map (λ t. t) tiles)) in

@@ -2,3 +2,4 @@ pub mod Tilings
 pub mod Sparse
 pub mod Cuts
 pub mod Laying
+pub mod Told

@@ -1,8 +1,10 @@
 //! What holds of sparse fragments, whatever a store does. The calls do nothing.
-ghost use Rattle.std.specs.Prelude.{◌≡◌, ◌+◌, ◌*◌, ◌^◌, ◌<◌, ◌≤◌, ℕ, List, [], ◌∷◌, Option, Some, None, length, map, take, drop, get_or, All};
+ghost use Rattle.std.specs.Prelude.{◌≡◌, ◌+◌, ◌*◌, ◌^◌, ◌<◌, ◌≤◌, ℕ, List, [], ◌∷◌, Option, Some, None, Ok, false, length, map, take, drop, get_or, All};
+ghost use Rattle.std.specs.Option.{IsSomeAnd};
 ghost use Rattle.ts_base.specs.declared.heads.Piece.{Piece as AnyPiece};
 ghost use Rattle.ts_base.specs.declared.keys.FragKey.{FragKey as AnyFragKey};
 ghost use Rattle.ts_base.specs.declared.names.Part.{Part as AnyPart};
+ghost use Rattle.ts_base.specs.declared.names.Part.TheVariants as part;
 ghost use Rattle.ts_base.specs.declared.names.PartBytes.{PartBytes as AnyPartBytes};
 ghost use Rattle.ts_domain.specs.declared.boxes.SubBox.{SubBox as AnySubBox};
 ghost use Rattle.ts_schema.specs.declared.attrs.Attr.{Attr as AnyAttr};
@@ -20,9 +22,11 @@ ghost use Rattle.ts_rtree.specs.Trees.{nodes_of};
 ghost use Rattle.ts_plain.specs.Pieces.{piece_of, version_in};
 ghost use Rattle.ts_plain.specs.Writes.{stored_for};
 ghost use Rattle.ts_domain.specs.Rects.{places_meeting};
+ghost use Rattle.ts_footer.specs.Metas.{meta_in};
+ghost use Rattle.ts_sparse.specs.Told.{meta_for};
 ghost use Rattle.ts_sparse.specs.Cuts.{taken_at, IsHullOfCells, Rise, TilesRise};
 ghost use Rattle.ts_sparse.specs.Tilings.{tiles_of};
-ghost use Rattle.ts_sparse.specs.Sparse.{IsSparse, IsThere, FitsSparse, parts_of, leaf_of, leaves_of};
+ghost use Rattle.ts_sparse.specs.Sparse.{IsSparse, IsThere, FitsSparse, meta_part, parts_of, leaf_of, leaves_of};
 ghost use Rattle.ts_plain.specs.Writes.{box_of};
 
 /// Two pieces of one fragment with the same parts are one piece.
@@ -61,6 +65,17 @@ pub fn a_leaf_is_the_hull_of_its_cells()
 #[tactic(auto, using(crate::proofs::CountLaws::last_is_hull))]
 pub fn the_last_box_is_the_hull()
     ensures { (frame : AnyFrame) (attrs : List AnyAttr) (frag : AnyFragKey) (s : AnyStoredPiece) → FitsSparse frame attrs frag s → last_of (nodes_of (leaves_of frame.capacity s.cells)) ≡ Some (box_of s.head.hull) }
+{}
+
+/// Read by the grammar of `ts_footer`, the object of the metadata says the head, the length of each object
+/// and where the tiles start in those of byte lists, the number of tiles, and the tree over the hulls of the
+/// tiles (`object`). So does the object that is there among the parts of a piece (`piece`), and the head is
+/// that of the piece (`head`).
+#[tactic(auto, using(crate::proofs::ToldLaws::read_back, crate::proofs::ToldLaws::piece_told))]
+pub fn metadata_is_read_back()
+    ensures object { (frame : AnyFrame) (attrs : List AnyAttr) (frag : AnyFragKey) (s : AnyStoredPiece) → frame.dense ≡ false → FitsSparse frame attrs frag s → All (λ (p : AnyPartBytes). length p.bytes < 2 ^ 64) (parts_of frame attrs s) → meta_in frame attrs frag (meta_part frame attrs s).bytes ≡ Ok (meta_for frame attrs frag s) }
+    ensures piece { (frame : AnyFrame) (schema : AnySchema) (piece : AnyPiece) (look : AnyPart → Option (List ℕ)) → frame.dense ≡ false → IsSparse frame schema piece look → IsSomeAnd (look part.Meta) (λ object. meta_in frame schema.attrs piece.head.frag object ≡ Ok (meta_for frame schema.attrs piece.head.frag (stored_for piece))) }
+    ensures head { (frame : AnyFrame) (schema : AnySchema) (piece : AnyPiece) (look : AnyPart → Option (List ℕ)) → IsSparse frame schema piece look → (meta_for frame schema.attrs piece.head.frag (stored_for piece)).head ≡ piece.head }
 {}
 
 /// The versions of a fragment ascend in global order, and cells are in order where they are so in each

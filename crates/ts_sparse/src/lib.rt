@@ -11,7 +11,7 @@ mod starts;
 
 pub use building::build;
 pub use laws::{
-    a_leaf_is_the_hull_of_its_cells, parts_spell_their_piece, parts_store_one_piece,
-    pieces_have_one_form, the_last_box_is_the_hull, tiles_are_ranges, tiles_keep_the_order,
-    tiles_that_meet_suffice,
+    a_leaf_is_the_hull_of_its_cells, metadata_is_read_back, parts_spell_their_piece,
+    parts_store_one_piece, pieces_have_one_form, the_last_box_is_the_hull, tiles_are_ranges,
+    tiles_keep_the_order, tiles_that_meet_suffice,
 };
