@@ -1,5 +1,5 @@
 -- The fragment of one cell can be stored as a sparse one.
-use Rattle.std.proofs.Common.{◌≡◌, ℕ, ◌<◌, ◌^◌, true, List, [], ◌∷◌, refl, subst, sym, arith}
+use Rattle.std.proofs.Common.{◌≡◌, ℕ, true, List, [], refl, subst, sym, arith}
 use Rattle.std.specs.List.{All}
 use Rattle.std.specs.List.Sorted.{IsStrictlySortedBy}
 use Rattle.std.proofs.lemmas.List.Elements.{All-nil, All-cons}
@@ -7,12 +7,11 @@ use Rattle.ts_base.specs.declared.heads.Piece.{Piece}
 use Rattle.ts_base.specs.declared.heads.Version.{Version}
 use Rattle.ts_base.specs.Values.{is_integer}
 use Rattle.ts_domain.specs.declared.dims.Dim.{Dim}
-use Rattle.ts_wire.specs.Numbers.{number_bytes, int_bytes}
 use Rattle.ts_schema.specs.declared.attrs.Attr.{Attr}
 use Rattle.ts_schema.specs.declared.frames.Frame.{Frame}
 use Rattle.ts_plain.specs.Plain.{FitsHead, FitsPlain}
 use Rattle.ts_plain.specs.Writes.{place_of, HasPlace, stored_for, NamesWrites}
-use Rattle.ts_sparse.specs.Sparse.{FitsTypes, FitsSparse, objects_of, sizes_of}
+use Rattle.ts_sparse.specs.Sparse.{FitsTypes, FitsSparse}
 use Rattle.library_tests.specs.OneCell.{frame_of, attrs_of, one_cell}
 
 names : NamesWrites one_cell
@@ -46,11 +45,6 @@ module _ (name label : List ℕ) where
     cells = (record { coords = ((omega arith, refl), tt); rises = refl; origin = omega arith; known = refl; row = ((omega arith, refl), tt) }, tt);
   }
 
-  -- each object has 22 bytes
-  sizes : sizes_of (objects_of (frame_of name) (attrs_of label) (stored_for one_cell)) ≡ 22 ∷ 22 ∷ []
-  unfolding place_of objects_of int_bytes number_bytes
-  sizes = refl
-
   fits : FitsSparse (frame_of name) (attrs_of label) one_cell.head.frag (stored_for one_cell)
   unfolding place_of
   fits = record {
@@ -61,7 +55,6 @@ module _ (name label : List ℕ) where
     typed = All-cons (FitsTypes (frame_of name).domain) _ [] (omega arith, tt) (All-nil (FitsTypes (frame_of name).domain));
     tight = refl;
     few = omega arith;
-    room = subst (All (λ size. size < 2 ^ 64)) (sym sizes) (All-cons (λ size. size < 2 ^ 64) 22 (22 ∷ []) (omega arith) (All-cons (λ size. size < 2 ^ 64) 22 [] (omega arith) (All-nil (λ size. size < 2 ^ 64))));
   }
 
 pub names_there : (piece : Piece) → piece ≡ one_cell → NamesWrites piece
