@@ -1,5 +1,5 @@
 -- What the metadata stores is read exactly: each field, and the whole.
-use Rattle.std.proofs.Common.{◌≡◌, ℕ, ◌^◌, ◌<◌, true, false, ◌&&◌, nat_eq, nat_le, int_le, List, [], ◌∷◌, ◌++◌, map, Option, Some, None, refl, sym, ap, subst, ◌∙◌, arith, append_assoc, ℤ}
+use Rattle.std.proofs.Common.{◌≡◌, ℕ, ◌^◌, ◌<◌, true, ◌&&◌, nat_eq, nat_le, int_le, List, [], ◌∷◌, ◌++◌, map, Option, Some, None, refl, sym, ap, subst, ◌∙◌, arith, append_assoc, ℤ}
 use Rattle.std.specs.List.{All, flat_map}
 use Rattle.std.specs.Option.{IsSomeAnd}
 use Rattle.std.proofs.lemmas.Bool.{and_parts, and_from, leb-true, eqb-true, eq-eqb}
@@ -126,13 +126,13 @@ FitsTiles frame attrs head x =
 abbrev tiles_text : ℕ × (List ColumnSize × Rooted) → List ℕ
 tiles_text x = number_bytes 4 x.0 ++ (flat_map (number_bytes 8) (sizes_of x.1.0) ++ tree_text x.1.1)
 
-tiles_exact : (frame : Frame) (attrs : List Attr) (frag : FragKey) (head : StoredHead) → frame.dense ≡ false → FitsHead frame frag head
+tiles_exact : (frame : Frame) (attrs : List Attr) (frag : FragKey) (head : StoredHead) → FitsHead frame frag head
     → Exact (FitsTiles frame attrs head) tiles_text (tiles_at frame attrs head)
 unfolding tiles_at
-tiles_exact frame attrs frag head sparse fits =
+tiles_exact frame attrs frag head fits =
     both_exact (count_exact frame.capacity head.cells) (λ tiles as_many.
     both_exact (sizes_exact head.cells tiles (column_forms frame.domain attrs head.consolidated)) (λ _ _.
-    tree_exact (box_of head.hull) tiles (tiles_some frame.capacity head.cells tiles (some_cell frame frag head sparse fits) as_many.1) (hull_rect frame.domain head.hull fits.hull)))
+    tree_exact (box_of head.hull) tiles (tiles_some frame.capacity head.cells tiles (some_cell frame frag head fits) as_many.1) (hull_rect frame.domain head.hull fits.hull)))
 
 -- what is stored of these parts
 abbrev footer_from : StoredHead × (ℕ × (List ColumnSize × Rooted)) → Footer
@@ -156,9 +156,9 @@ parts_of frame attrs frag footer (Some tree) is fits =
     )
 
 -- each spelling of what fits is read, and nothing else
-pub footer_exact : (frame : Frame) (attrs : List Attr) (frag : FragKey) → frame.dense ≡ false → Exact (FitsFooter frame attrs frag) footer_bytes (footer_at frame attrs frag)
+pub footer_exact : (frame : Frame) (attrs : List Attr) (frag : FragKey) → Exact (FitsFooter frame attrs frag) footer_bytes (footer_at frame attrs frag)
 unfolding footer_at layout_bytes
-footer_exact frame attrs frag sparse = mapped_exact (both_exact (head_exact frame frag) (λ head fits. tiles_exact frame attrs frag head sparse fits)) (record {
+footer_exact frame attrs frag = mapped_exact (both_exact (head_exact frame frag) (λ head fits. tiles_exact frame attrs frag head fits)) (record {
   there = λ x fits. (
     record {
       head = fits.0;

@@ -6,5 +6,6 @@ pub mod FooterReads
 pub mod Rects
 pub mod TreeExact
 pub mod FooterExact
+pub mod TreeLeaves
 pub mod MetaObjects
 pub mod Writes

@@ -36,31 +36,39 @@ use Rattle.std.proofs.lemmas.Bool.{eq-eqb}
 -- ---- one object, one metadata
 
 -- what fits and is spelled is read
-stored_again : (frame : Frame) (attrs : List Attr) (frag : FragKey) (stored : Footer) → frame.dense ≡ false → FitsFooter frame attrs frag stored → length (footer_bytes stored) < 2 ^ 64
+pub stored_again : (frame : Frame) (attrs : List Attr) (frag : FragKey) (stored : Footer) → FitsFooter frame attrs frag stored → length (footer_bytes stored) < 2 ^ 64
     → footer_stored frame attrs frag (wrapped kind.Meta (footer_bytes stored)) ≡ Ok stored
 unfolding footer_stored
-stored_again frame attrs frag stored sparse fits few = object_only (footer_exact frame attrs frag sparse) kind.Meta stored few fits
+stored_again frame attrs frag stored fits few = object_only (footer_exact frame attrs frag) kind.Meta stored few fits
 
-object_again : (frame : Frame) (attrs : List Attr) (m : Meta) (bytes : List ℕ) → frame.dense ≡ false → (is : IsMetaObject frame attrs m bytes) → footer_stored frame attrs m.head.frag bytes ≡ Ok is.stored
-object_again frame attrs m bytes sparse is = ap (footer_stored frame attrs m.head.frag) is.spelled ∙ stored_again frame attrs m.head.frag is.stored sparse is.fits is.few
+-- what is read fits, and the object is its spelling
+pub stored_found : (frame : Frame) (attrs : List Attr) (frag : FragKey) (object : List ℕ) (footer : Footer) → IsBytes object → length object < 2 ^ 64 → footer_stored frame attrs frag object ≡ Ok footer
+    → FitsFooter frame attrs frag footer × (object ≡ wrapped kind.Meta (footer_bytes footer)) × (length (footer_bytes footer) < 2 ^ 64)
+unfolding footer_stored
+stored_found frame attrs frag object footer all few read =
+    let was = object_found (footer_exact frame attrs frag) kind.Meta object footer all read in
+    let room : length (footer_bytes footer) < 2 ^ 64 = omega (arith, few, ap length was.1, length-wrapped kind.Meta (footer_bytes footer)) in
+    (was.0, was.1, room)
+
+object_again : (frame : Frame) (attrs : List Attr) (m : Meta) (bytes : List ℕ) → (is : IsMetaObject frame attrs m bytes) → footer_stored frame attrs m.head.frag bytes ≡ Ok is.stored
+object_again frame attrs m bytes is = ap (footer_stored frame attrs m.head.frag) is.spelled ∙ stored_again frame attrs m.head.frag is.stored is.fits is.few
 
 -- the object of metadata is read as that metadata
-pub meta_again : (frame : Frame) (attrs : List Attr) (m : Meta) (bytes : List ℕ) → frame.dense ≡ false → IsMetaObject frame attrs m bytes → meta_in frame attrs m.head.frag bytes ≡ Ok m
+pub meta_again : (frame : Frame) (attrs : List Attr) (m : Meta) (bytes : List ℕ) → IsMetaObject frame attrs m bytes → meta_in frame attrs m.head.frag bytes ≡ Ok m
 unfolding meta_in
-meta_again frame attrs m bytes sparse is =
-    goes_on (footer_stored frame attrs m.head.frag bytes) (λ stored. Ok (meta_of m.head.frag stored)) is.stored (Ok m) (object_again frame attrs m bytes sparse is) (ap Ok (sym is.same))
+meta_again frame attrs m bytes is =
+    goes_on (footer_stored frame attrs m.head.frag bytes) (λ stored. Ok (meta_of m.head.frag stored)) is.stored (Ok m) (object_again frame attrs m bytes is) (ap Ok (sym is.same))
 
 -- what is read is the metadata that the object holds, under its name
-pub meta_found : (frame : Frame) (attrs : List Attr) (frag : FragKey) (bytes : List ℕ) (m : Meta) → frame.dense ≡ false → IsBytes bytes → length bytes < 2 ^ 64
+pub meta_found : (frame : Frame) (attrs : List Attr) (frag : FragKey) (bytes : List ℕ) (m : Meta) → IsBytes bytes → length bytes < 2 ^ 64
     → meta_in frame attrs frag bytes ≡ Ok m → IsMetaObject frame attrs m bytes × (m.head.frag ≡ frag)
-unfolding meta_in footer_stored meta_of head_of
-meta_found frame attrs frag bytes m sparse all few h =
+unfolding meta_in meta_of head_of
+meta_found frame attrs frag bytes m all few h =
     let step = bound (footer_stored frame attrs frag bytes) (λ stored. Ok (meta_of frag stored)) m h in
-    let was = object_found (footer_exact frame attrs frag sparse) kind.Meta bytes step.first all step.was in
-    let room : length (footer_bytes step.first) < 2 ^ 64 = omega (arith, ap length was.1, length-wrapped kind.Meta (footer_bytes step.first)) in
+    let was = stored_found frame attrs frag bytes step.first all few step.was in
     let same : meta_of frag step.first ≡ m = same_ok (Ok (meta_of frag step.first)) (meta_of frag step.first) m refl step.next in
     let P : Meta → Type 0 = λ n. IsMetaObject frame attrs n bytes × (n.head.frag ≡ frag) in
-    subst P same (record { stored = step.first; fits = was.0; few = room; spelled = was.1; same = refl }, refl)
+    subst P same (record { stored = step.first; fits = was.0; few = was.2; spelled = was.1; same = refl }, refl)
 
 -- ---- the head, read without the schema
 
@@ -179,17 +187,17 @@ sizes_back cells tiles (Var ∷ forms) (size ∷ sizes) some (first, others) =
     }
 
 -- metadata that fits has tiles
-has_tiles : (frame : Frame) (attrs : List Attr) (frag : FragKey) (footer : Footer) → frame.dense ≡ false → FitsFooter frame attrs frag footer → 1 ≤ footer.tiles
-has_tiles frame attrs frag footer sparse fits =
-    tiles_some frame.capacity footer.head.cells footer.tiles (some_cell frame frag footer.head sparse fits.head) (eq-eqb footer.tiles (tiles_for frame.capacity footer.head.cells) fits.tiles)
+has_tiles : (frame : Frame) (attrs : List Attr) (frag : FragKey) (footer : Footer) → FitsFooter frame attrs frag footer → 1 ≤ footer.tiles
+has_tiles frame attrs frag footer fits =
+    tiles_some frame.capacity footer.head.cells footer.tiles (some_cell frame frag footer.head fits.head) (eq-eqb footer.tiles (tiles_for frame.capacity footer.head.cells) fits.tiles)
 
 -- what is stored of the metadata that an object holds is what the object stores
-footer_back : (frame : Frame) (attrs : List Attr) (frag : FragKey) (footer : Footer) → frame.dense ≡ false → FitsFooter frame attrs frag footer → footer_for frame attrs (meta_of frag footer) ≡ footer
+footer_back : (frame : Frame) (attrs : List Attr) (frag : FragKey) (footer : Footer) → FitsFooter frame attrs frag footer → footer_for frame attrs (meta_of frag footer) ≡ footer
 unfolding meta_of head_of
-footer_back frame attrs frag footer sparse fits =
+footer_back frame attrs frag footer fits =
     let head = footer.head in
     let hull = hull_back head.hull in
-    let sizes = sizes_back head.cells footer.tiles (column_forms frame.domain attrs head.consolidated) footer.sizes (has_tiles frame attrs frag footer sparse fits) fits.sizes in
+    let sizes = sizes_back head.cells footer.tiles (column_forms frame.domain attrs head.consolidated) footer.sizes (has_tiles frame attrs frag footer fits) fits.sizes in
     λ i. record {
       head = record { schema = head.schema; dense = head.dense; consolidated = head.consolidated; hull = hull i; cells = head.cells; origins = head.origins };
       tiles = footer.tiles;
@@ -197,11 +205,11 @@ footer_back frame attrs frag footer sparse fits =
       tree = footer.tree;
     }
 
-footer_writable : (frame : Frame) (attrs : List Attr) (frag : FragKey) (footer : Footer) → frame.dense ≡ false → FitsFooter frame attrs frag footer → IsWritable frame attrs (meta_of frag footer)
+footer_writable : (frame : Frame) (attrs : List Attr) (frag : FragKey) (footer : Footer) → FitsFooter frame attrs frag footer → IsWritable frame attrs (meta_of frag footer)
 unfolding meta_of head_of
-footer_writable frame attrs frag footer sparse fits =
+footer_writable frame attrs frag footer fits =
     let head = footer.head in
-    let sizes = sizes_back head.cells footer.tiles (column_forms frame.domain attrs head.consolidated) footer.sizes (has_tiles frame attrs frag footer sparse fits) fits.sizes in
+    let sizes = sizes_back head.cells footer.tiles (column_forms frame.domain attrs head.consolidated) footer.sizes (has_tiles frame attrs frag footer fits) fits.sizes in
     record {
       corners = length-map head.hull (λ (side : Side). side.high) ∙ sym (length-map head.hull (λ (side : Side). side.low));
       few = fits.head.few_origins;
@@ -209,13 +217,13 @@ footer_writable frame attrs frag footer sparse fits =
     }
 
 -- metadata that some object holds can be written
-pub is_writable : (frame : Frame) (attrs : List Attr) (m : Meta) (bytes : List ℕ) → frame.dense ≡ false → IsMetaObject frame attrs m bytes → IsWritable frame attrs m
-is_writable frame attrs m bytes sparse is = subst (IsWritable frame attrs) (sym is.same) (footer_writable frame attrs m.head.frag is.stored sparse is.fits)
+pub is_writable : (frame : Frame) (attrs : List Attr) (m : Meta) (bytes : List ℕ) → IsMetaObject frame attrs m bytes → IsWritable frame attrs m
+is_writable frame attrs m bytes is = subst (IsWritable frame attrs) (sym is.same) (footer_writable frame attrs m.head.frag is.stored is.fits)
 
 -- what is stored of it is what each object that holds it stores
-stored_one : (frame : Frame) (attrs : List Attr) (m : Meta) (bytes : List ℕ) → frame.dense ≡ false → IsMetaObject frame attrs m bytes → wrapped kind.Meta (footer_bytes (footer_for frame attrs m)) ≡ bytes
-stored_one frame attrs m bytes sparse is =
-    let same : footer_for frame attrs m ≡ is.stored = ap (footer_for frame attrs) is.same ∙ footer_back frame attrs m.head.frag is.stored sparse is.fits in
+stored_one : (frame : Frame) (attrs : List Attr) (m : Meta) (bytes : List ℕ) → IsMetaObject frame attrs m bytes → wrapped kind.Meta (footer_bytes (footer_for frame attrs m)) ≡ bytes
+stored_one frame attrs m bytes is =
+    let same : footer_for frame attrs m ≡ is.stored = ap (footer_for frame attrs) is.same ∙ footer_back frame attrs m.head.frag is.stored is.fits in
     ap (λ stored. wrapped kind.Meta (footer_bytes stored)) same ∙ sym is.spelled
 
 -- ---- what the calls say
@@ -226,34 +234,44 @@ answered answer x (Ok found) was h = same_ok answer found x h was
 answered answer x (Err (fault.Damaged damaged)) was h = not_both answer x damaged.at was h
 answered answer x (Err fault.OutOfMemory) was h = tt
 
-pub found_in : (frame : Frame) (attrs : List Attr) (frag : FragKey) (object : List ℕ) (result : Result Meta ReadFault) → frame.dense ≡ false → IsBytes object → length object < 2 ^ 64
-    → DecodesOr (λ m. m) (meta_in frame attrs frag object) result → IfOk result (λ m. IsMetaObject frame attrs m object × (m.head.frag ≡ frag))
-found_in frame attrs frag object (Ok m) sparse all few h = meta_found frame attrs frag object m sparse all few h
-found_in frame attrs frag object (Err e) sparse all few h = tt
+pub stored_fits : (frame : Frame) (attrs : List Attr) (frag : FragKey) (object : List ℕ) (result : Result Footer ReadFault) → IsBytes object → length object < 2 ^ 64
+    → DecodesOr (λ footer. footer) (footer_stored frame attrs frag object) result → IfOk result (FitsFooter frame attrs frag)
+stored_fits frame attrs frag object (Ok footer) all few h = (stored_found frame attrs frag object footer all few h).0
+stored_fits frame attrs frag object (Err e) all few h = tt
 
-pub writable_in : (frame : Frame) (attrs : List Attr) (frag : FragKey) (object : List ℕ) (result : Result Meta ReadFault) → frame.dense ≡ false → IsBytes object → length object < 2 ^ 64
+pub stored_spells : (frame : Frame) (attrs : List Attr) (frag : FragKey) (object : List ℕ) (result : Result Footer ReadFault) → IsBytes object → length object < 2 ^ 64
+    → DecodesOr (λ footer. footer) (footer_stored frame attrs frag object) result → IfOk result (λ footer. object ≡ wrapped kind.Meta (footer_bytes footer))
+stored_spells frame attrs frag object (Ok footer) all few h = (stored_found frame attrs frag object footer all few h).1
+stored_spells frame attrs frag object (Err e) all few h = tt
+
+pub found_in : (frame : Frame) (attrs : List Attr) (frag : FragKey) (object : List ℕ) (result : Result Meta ReadFault) → IsBytes object → length object < 2 ^ 64
+    → DecodesOr (λ m. m) (meta_in frame attrs frag object) result → IfOk result (λ m. IsMetaObject frame attrs m object × (m.head.frag ≡ frag))
+found_in frame attrs frag object (Ok m) all few h = meta_found frame attrs frag object m all few h
+found_in frame attrs frag object (Err e) all few h = tt
+
+pub writable_in : (frame : Frame) (attrs : List Attr) (frag : FragKey) (object : List ℕ) (result : Result Meta ReadFault) → IsBytes object → length object < 2 ^ 64
     → DecodesOr (λ m. m) (meta_in frame attrs frag object) result → IfOk result (IsWritable frame attrs)
-writable_in frame attrs frag object (Ok m) sparse all few h = is_writable frame attrs m object sparse (meta_found frame attrs frag object m sparse all few h).0
-writable_in frame attrs frag object (Err e) sparse all few h = tt
+writable_in frame attrs frag object (Ok m) all few h = is_writable frame attrs m object (meta_found frame attrs frag object m all few h).0
+writable_in frame attrs frag object (Err e) all few h = tt
 
 -- what is spelled is read
-pub only_in : (frame : Frame) (attrs : List Attr) (m : Meta) (frag : FragKey) (object : List ℕ) (result : Result Meta ReadFault) → frame.dense ≡ false → m.head.frag ≡ frag
+pub only_in : (frame : Frame) (attrs : List Attr) (m : Meta) (frag : FragKey) (object : List ℕ) (result : Result Meta ReadFault) → m.head.frag ≡ frag
     → IsMetaObject frame attrs m object → DecodesOr (λ p. p) (meta_in frame attrs frag object) result → IsRead (λ p. p) m result
-only_in frame attrs m frag object result sparse named is h =
-    answered (meta_in frame attrs frag object) m result (ap (λ f. meta_in frame attrs f object) (sym named) ∙ meta_again frame attrs m object sparse is) h
+only_in frame attrs m frag object result named is h =
+    answered (meta_in frame attrs frag object) m result (ap (λ f. meta_in frame attrs f object) (sym named) ∙ meta_again frame attrs m object is) h
 
 -- the head of what is spelled is read
-head_again : (frame : Frame) (attrs : List Attr) (m : Meta) (bytes : List ℕ) → frame.dense ≡ false → IsMetaObject frame attrs m bytes → head_in frame m.head.frag bytes ≡ Ok m.head
+head_again : (frame : Frame) (attrs : List Attr) (m : Meta) (bytes : List ℕ) → IsMetaObject frame attrs m bytes → head_in frame m.head.frag bytes ≡ Ok m.head
 unfolding head_in meta_of
-head_again frame attrs m bytes sparse is =
+head_again frame attrs m bytes is =
     let frag = m.head.frag in
     let same : head_of frag is.stored.head ≡ m.head = sym (ap (λ q. q.head) is.same) in
-    goes_on (head_stored frame frag bytes) (λ head. Ok (head_of frag head)) is.stored.head (Ok m.head) (head_read frame attrs frag bytes is.stored (object_again frame attrs m bytes sparse is)) (ap Ok same)
+    goes_on (head_stored frame frag bytes) (λ head. Ok (head_of frag head)) is.stored.head (Ok m.head) (head_read frame attrs frag bytes is.stored (object_again frame attrs m bytes is)) (ap Ok same)
 
-pub only_head : (frame : Frame) (attrs : List Attr) (m : Meta) (frag : FragKey) (object : List ℕ) (result : Result Head ReadFault) → frame.dense ≡ false → m.head.frag ≡ frag
+pub only_head : (frame : Frame) (attrs : List Attr) (m : Meta) (frag : FragKey) (object : List ℕ) (result : Result Head ReadFault) → m.head.frag ≡ frag
     → IsMetaObject frame attrs m object → DecodesOr (λ p. p) (head_in frame frag object) result → IsRead (λ p. p) m.head result
-only_head frame attrs m frag object result sparse named is h =
-    answered (head_in frame frag object) m.head result (ap (λ f. head_in frame f object) (sym named) ∙ head_again frame attrs m object sparse is) h
+only_head frame attrs m frag object result named is h =
+    answered (head_in frame frag object) m.head result (ap (λ f. head_in frame f object) (sym named) ∙ head_again frame attrs m object is) h
 
 -- what is broken in the head is broken in the whole, whatever the attributes are
 pub broken_head : (frame : Frame) (attrs : List Attr) (frag : FragKey) (object : List ℕ) (result : Result Head ReadFault)
@@ -269,24 +287,24 @@ broken_head frame attrs frag object (Err (fault.Damaged damaged)) h =
     by_head (Err there) e = let same : there ≡ damaged.at = cc in ap Err same
 
 -- metadata that some object holds is written as that object
-pub one_meta : {E : Type 0} (frame : Frame) (attrs : List Attr) (m : Meta) (object : List ℕ) (result : Result (List ℕ) E) → frame.dense ≡ false → IsMetaObject frame attrs m object
+pub one_meta : {E : Type 0} (frame : Frame) (attrs : List Attr) (m : Meta) (object : List ℕ) (result : Result (List ℕ) E) → IsMetaObject frame attrs m object
     → IfOk result (λ bytes. bytes ≡ wrapped kind.Meta (footer_bytes (footer_for frame attrs m))) → IfOk result (λ bytes. bytes ≡ object)
-one_meta frame attrs m object result sparse is =
-    IfOk-weaker result (λ bytes. bytes ≡ wrapped kind.Meta (footer_bytes (footer_for frame attrs m))) (λ bytes. bytes ≡ object) (λ bytes h. h ∙ stored_one frame attrs m object sparse is)
+one_meta frame attrs m object result is =
+    IfOk-weaker result (λ bytes. bytes ≡ wrapped kind.Meta (footer_bytes (footer_for frame attrs m))) (λ bytes. bytes ≡ object) (λ bytes h. h ∙ stored_one frame attrs m object is)
 
 -- so it gives such an object
-pub meta_written : {E : Type 0} (frame : Frame) (attrs : List Attr) (m : Meta) (result : Result (List ℕ) E) → frame.dense ≡ false → HasMetaObject frame attrs m
+pub meta_written : {E : Type 0} (frame : Frame) (attrs : List Attr) (m : Meta) (result : Result (List ℕ) E) → HasMetaObject frame attrs m
     → IfOk result (λ bytes. bytes ≡ wrapped kind.Meta (footer_bytes (footer_for frame attrs m))) → IfOk result (IsMetaObject frame attrs m)
-meta_written frame attrs m result sparse has written =
+meta_written frame attrs m result has written =
     IfOk-weaker result (λ bytes. bytes ≡ has.bytes) (IsMetaObject frame attrs m) (λ bytes h. subst (IsMetaObject frame attrs m) (sym h) has.spelled)
-    (one_meta frame attrs m has.bytes result sparse has.spelled written)
+    (one_meta frame attrs m has.bytes result has.spelled written)
 
 -- what is written so is read again
-pub meta_undone : {E : Type 0} (frame : Frame) (attrs : List Attr) (m : Meta) (result : Result (List ℕ) E) → frame.dense ≡ false → HasMetaObject frame attrs m
+pub meta_undone : {E : Type 0} (frame : Frame) (attrs : List Attr) (m : Meta) (result : Result (List ℕ) E) → HasMetaObject frame attrs m
     → IfOk result (λ bytes. bytes ≡ wrapped kind.Meta (footer_bytes (footer_for frame attrs m))) → IfOk result (λ bytes. meta_in frame attrs m.head.frag bytes ≡ Ok m)
-meta_undone frame attrs m result sparse has written =
-    IfOk-weaker result (IsMetaObject frame attrs m) (λ bytes. meta_in frame attrs m.head.frag bytes ≡ Ok m) (λ bytes is. meta_again frame attrs m bytes sparse is)
-    (meta_written frame attrs m result sparse has written)
+meta_undone frame attrs m result has written =
+    IfOk-weaker result (IsMetaObject frame attrs m) (λ bytes. meta_in frame attrs m.head.frag bytes ≡ Ok m) (λ bytes is. meta_again frame attrs m bytes is)
+    (meta_written frame attrs m result has written)
 
 -- an object that is cut behind its envelope is broken at its length
 pub cut_in : (frame : Frame) (attrs : List Attr) (frag : FragKey) (object body : List ℕ) (result : Result Meta ReadFault) → DecodesOr (λ m. m) (meta_in frame attrs frag object) result

@@ -49,7 +49,7 @@ attr_forms attr = value_forms attr.ty ++ validity_forms attr.nullable
 abbrev pub origin_forms : Bool → List ColumnForm
 origin_forms consolidated = if consolidated then Fixed 4 ∷ [] else []
 
--- the objects of a sparse fragment in their order
+-- the objects of a fragment whose coordinates are stored, in their order
 unfoldable pub column_forms : List Dim → List Attr → Bool → List ColumnForm
 column_forms dims attrs consolidated = map dim_form dims ++ (flat_map attr_forms attrs ++ origin_forms consolidated)
 

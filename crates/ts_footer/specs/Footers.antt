@@ -1,4 +1,4 @@
--- The metadata of a sparse fragment: what its object stores, and how that is spelled and read.
+-- The metadata of a fragment whose coordinates are stored: what its object stores, and how that is spelled and read.
 use Rattle.std.specs.Prelude.{◌≡◌, ℕ, ◌^◌, ◌<◌, true, List, [], ◌++◌, length, Option, Some, None, Result, Ok}
 use Rattle.std.specs.List.{All, flat_map}
 use Rattle.std.specs.Option.{IsSomeAnd}

@@ -1,4 +1,4 @@
--- The metadata of a sparse fragment as callers see it.
+-- The metadata of a fragment whose coordinates are stored, as callers see it.
 use Rattle.std.specs.Prelude.{◌≡◌, ℕ, ◌^◌, ◌<◌, List, [], ◌∷◌, length, map, Result, Ok}
 use Rattle.ts_base.specs.declared.keys.FragKey.{FragKey}
 use Rattle.ts_base.specs.declared.heads.Head.{Head}

@@ -1,6 +1,6 @@
--- How the tree over the tiles of a sparse fragment is read.
+-- How the tree over the tiles of a fragment is read.
 use Rattle.ts_plain.specs.Writes.{box_of}
-use Rattle.std.specs.Prelude.{◌≤ℤ◌, ℕ, ℤ, Bool, true, ◌&&◌, nat_eq, int_le, if◌then◌else◌, List, [], ◌∷◌, map, zip, length}
+use Rattle.std.specs.Prelude.{◌≤ℤ◌, ℕ, ℤ, Bool, true, ◌&&◌, nat_eq, int_le, if◌then◌else◌, List, [], ◌∷◌, zip, length}
 use Rattle.std.specs.List.{flat_map}
 use Rattle.std.specs.Cmp.Lexicographic.{pointwise}
 use Rattle.ts_domain.specs.declared.boxes.SubBox.{SubBox}

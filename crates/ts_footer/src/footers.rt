@@ -1,13 +1,15 @@
 //! Reading what the metadata of a fragment stores.
-ghost use Rattle.std.specs.Prelude.{◌≡◌, ◌≤◌, false, IfOk};
+ghost use Rattle.std.specs.Prelude.{◌≡◌, ◌≤◌, IfOk};
 ghost use Rattle.ts_domain.specs.Boxes.{IsBox};
+ghost use Rattle.ts_wire.specs.declared.kinds.Kind.TheVariants as kind;
+ghost use Rattle.ts_wire.specs.Envelope.{wrapped};
 ghost use Rattle.ts_wire.specs.Exact.{IsBytes};
 ghost use Rattle.ts_wire.specs.Place.{whole};
 ghost use Rattle.ts_wire.specs.Reading.{ReadsOr, DecodesOr};
 ghost use Rattle.ts_plain.specs.Insides.{IsHull};
 ghost use Rattle.ts_plain.specs.Plain.{head_at};
 ghost use Rattle.ts_plain.specs.Writes.{box_of};
-ghost use Rattle.ts_footer.specs.Footers.{tiles_at, footer_at, footer_stored, head_stored};
+ghost use Rattle.ts_footer.specs.Footers.{tiles_at, footer_at, footer_stored, head_stored, footer_bytes, FitsFooter};
 
 use crate::columns::{SizeList, column_forms};
 use crate::sizes::{read_sizes, read_tile_count};
@@ -29,7 +31,7 @@ pub struct Footer {
     pub tiles: u32,
     /// What is said of the object of each column.
     pub sizes: SizeList,
-    /// The tree over the boxes of the tiles, which a sparse fragment has.
+    /// The tree over the boxes of the tiles, which a fragment with stored coordinates has.
     pub tree: Option<Tree>,
 }
 
@@ -73,14 +75,13 @@ fn are_bytes(bytes: &[u8])
     ensures { IsBytes bytes.now }
 {}
 
-// The fields that all objects of fragments begin with, of a sparse array.
-fn read_sparse_head(
+// The fields that all objects of fragments begin with. A fragment has a cell.
+fn read_some_head(
     alloc: Global,
     frame: &Frame,
     frag: FragKey,
     cursor: &mut Cursor,
 ) -> Result<StoredHead, ReadFault>
-    requires sparse { frame.now.dense ≡ false }
     ensures reads { ReadsOr (λ head. head) (head_at frame.now frag) cursor.old cursor.new result }
     ensures inside { IfOk result (λ head. IsHull frame.now.domain head.hull) }
     ensures some { IfOk result (λ head. 1 ≤ head.cells) }
@@ -98,11 +99,10 @@ fn read_body(
     frag: FragKey,
     cursor: &mut Cursor,
 ) -> Result<Footer, ReadFault>
-    requires sparse { frame.now.dense ≡ false }
     ensures reads { ReadsOr (λ footer. footer) (footer_at frame.now attrs.now frag) cursor.old cursor.new result }
     ensures inside { IfOk result (λ footer. IsHull frame.now.domain footer.head.hull) }
 {
-    let head = read_sparse_head(alloc, frame, frag, cursor)?;
+    let head = read_some_head(alloc, frame, frag, cursor)?;
     let (tiles, sizes, tree) = read_tiles(alloc, frame, attrs, &head, cursor)?;
     Ok(Footer {
         head,
@@ -121,7 +121,6 @@ fn read_whole(
     frag: FragKey,
     cursor: &mut Cursor,
 ) -> Result<Footer, ReadFault>
-    requires sparse { frame.now.dense ≡ false }
     ensures reads { DecodesOr (λ footer. footer) (whole (footer_at frame.now attrs.now frag) cursor.old) result }
     ensures inside { IfOk result (λ footer. IsHull frame.now.domain footer.head.hull) }
 {
@@ -130,22 +129,44 @@ fn read_whole(
     Ok(footer)
 }
 
-/// What the metadata of a fragment stores.
+// What an object stores: its envelope is taken off, and its body is read whole.
 #[tactic(auto, unfolding(crate::specs::Footers::footer_stored, ts_wire::specs::Envelope::object_at))]
-pub(crate) fn read_footer(
+fn read_object(
     alloc: Global,
     frame: &Frame,
     attrs: &[Attr],
     frag: FragKey,
     object: &[u8],
 ) -> Result<Footer, ReadFault>
-    requires sparse { frame.now.dense ≡ false }
     ensures reads { DecodesOr (λ footer. footer) (footer_stored frame.now attrs.now frag object.now) result }
     ensures inside { IfOk result (λ footer. IsHull frame.now.domain footer.head.hull) }
 {
     let body = unwrap_body(Kind::Meta, object)?;
     let mut cursor = Cursor::new(body, 14);
     read_whole(alloc, frame, attrs, frag, &mut cursor)
+}
+
+/// What the whole object of the metadata of a fragment stores, under the fragment's name, in an array of
+/// this frame, whose cells have these attributes. The frame may be any; the fragment is one whose
+/// coordinates are stored.
+///
+/// It is as [`Meta::decode`](crate::Meta::decode) reads it, but in the order of the layout. There is an
+/// answer exactly where the object is one that spells it (`reads`, `found`, `spelled`). Else `Damaged` tells
+/// the offset in bytes, from the object's start, of the first field that the object ends within or that
+/// breaks its rule. `OutOfMemory` may come for any object, and then nothing is known of it.
+pub fn read_footer(
+    alloc: Global,
+    frame: &Frame,
+    attrs: &[Attr],
+    frag: FragKey,
+    object: &[u8],
+) -> Result<Footer, ReadFault>
+    ensures reads { DecodesOr (λ footer. footer) (footer_stored frame.now attrs.now frag object.now) result }
+    ensures inside { IfOk result (λ footer. IsHull frame.now.domain footer.head.hull) }
+    ensures found { IfOk result (λ footer. FitsFooter frame.now attrs.now frag footer) }
+    ensures spelled { IfOk result (λ footer. object.now ≡ wrapped kind.Meta (footer_bytes footer)) }
+{
+    read_object(alloc, frame, attrs, frag, object)
 }
 
 /// What the metadata of a fragment stores before the number of tiles.

@@ -5,13 +5,15 @@ ghost use Rattle.ts_domain.specs.Rects.{IsLike};
 ghost use Rattle.ts_wire.specs.Place.{items_at};
 ghost use Rattle.ts_wire.specs.Reading.{Reads, ReadsOr};
 ghost use Rattle.ts_plain.specs.Writes.{sides_of};
+ghost use Rattle.ts_footer.specs.Footers.{FitsRect};
 ghost use Rattle.ts_footer.specs.TreeTexts.{IsSpan, bounds_at, leaf_at, leaves_at};
 
 use arrayvec::ArrayVec;
 use std::alloc::Global;
-use ts_base::Coords;
+use ts_base::{Coords, OutOfMemory};
 use ts_domain::{BoxList, SubBox};
 use ts_plain::Side;
+use ts_rtree::Tree;
 use ts_wire::{Cursor, Damaged, ReadFault, kept};
 
 #[tactic(auto, unfolding(crate::specs::TreeTexts::bounds_at))]
@@ -85,4 +87,29 @@ pub(crate) fn read_leaves(
         leaves.push(leaf)?;
     }
     Ok(leaves)
+}
+
+/// The boxes of the tiles, which are the leaves of the tree, read from the tree's spelling.
+///
+/// There are `tiles` of them, in the order of the tiles. Each has as many dimensions as `hull`, and its
+/// bounds have room in 16 bytes, as in a tree that was read with that hull. The tree is not looked into.
+pub fn leaves_of(
+    alloc: Global,
+    hull: &SubBox,
+    tiles: u32,
+    tree: &Tree,
+) -> Result<BoxList, OutOfMemory>
+    requires many { length tree.now.leaves ≡ tiles }
+    requires fits { All (FitsRect hull.now) tree.now.leaves }
+    ensures { IfOk result (λ leaves. leaves ≡ tree.now.leaves) }
+{
+    let bytes = tree.bytes(alloc)?;
+    // The text is shorter than 2^64.
+    let _size = bytes.len();
+    let mut cursor = Cursor::new(bytes.as_slice(), 0);
+    match read_leaves(alloc, hull, tiles, &mut cursor) {
+        Ok(leaves) => Ok(leaves),
+        Err(ReadFault::OutOfMemory) => Err(OutOfMemory),
+        Err(ReadFault::Damaged(_)) => unreachable!(),
+    }
 }

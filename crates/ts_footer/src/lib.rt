@@ -11,5 +11,6 @@ mod trees;
 mod writing;
 
 pub use columns::{ColumnForm, ColumnSize, FormList, SizeList};
-pub use footers::Footer;
+pub use footers::{Footer, read_footer};
+pub use leaves::leaves_of;
 pub use metas::{Meta, read_head};

@@ -1,5 +1,5 @@
 //! The metadata of fragments in tiles.
-ghost use Rattle.std.specs.Prelude.{◌≡◌, ℕ, ◌^◌, ◌<◌, false, List, [], ◌++◌, length, map, Ok, IfOk, OnOk};
+ghost use Rattle.std.specs.Prelude.{◌≡◌, ℕ, ◌^◌, ◌<◌, List, [], ◌++◌, length, map, Ok, IfOk, OnOk};
 ghost use Rattle.ts_wire.specs.declared.kinds.Kind.TheVariants as kind;
 ghost use Rattle.ts_wire.specs.Envelope.{wrapped, IsCut};
 ghost use Rattle.ts_wire.specs.Reading.{DecodesOr, IsRead, IsDamagedAt};
@@ -34,15 +34,16 @@ pub struct Meta {
     pub var_starts: StartList,
     /// The number of tiles.
     pub tiles: u32,
-    /// The tree over the boxes of the tiles, which a sparse fragment has.
+    /// The tree over the boxes of the tiles, which a fragment with stored coordinates has.
     pub tree: Option<Tree>,
 }
 
 impl Meta {
-    /// The metadata that an object holds, under the name of its fragment, in a sparse array of this
-    /// frame. The cells are in this schema.
+    /// The metadata that an object holds, under the name of its fragment, in an array of this frame. The
+    /// frame may be any. The cells are in this schema.
     ///
-    /// The layout is that of the file FORMATS.md, "The metadata of a fragment". The answer is metadata
+    /// The layout is that of the file FORMATS.md, "The metadata of a fragment", which is of fragments whose
+    /// coordinates are stored. The answer is metadata
     /// exactly where the object is one that spells metadata of this fragment. Else the offset in bytes,
     /// from the object's start, is that of the first field in the order of the layout that the object
     /// ends within or that breaks its rule. A body that goes on after its layout is broken at the first
@@ -55,7 +56,6 @@ impl Meta {
         frag: FragKey,
         object: &[u8],
     ) -> Result<Meta, ReadFault>
-        requires sparse { frame.now.dense ≡ false }
         ensures exact { DecodesOr (λ meta. meta) (meta_in frame.now schema.now.attrs frag object.now) result }
         ensures found { IfOk result (λ meta. IsMetaObject frame.now schema.now.attrs meta object.now × (meta.head.frag ≡ frag)) }
         ensures only { (meta : AnyMeta) → meta.head.frag ≡ frag → IsMetaObject frame.now schema.now.attrs meta object.now → IsRead (λ found. found) meta result }
@@ -65,8 +65,8 @@ impl Meta {
         read_meta(alloc, frame, schema.attrs.as_slice(), frag, object)
     }
 
-    /// The object of the metadata, in the layout of FORMATS.md, "The metadata of a fragment", for a sparse
-    /// array of this frame.
+    /// The object of the metadata, in the layout of FORMATS.md, "The metadata of a fragment", for an array
+    /// of this frame, which may be any. The layout is that of fragments whose coordinates are stored.
     ///
     /// Something has to be said of each object that the frame and the schema ask for. Where some object
     /// holds the metadata, this one does (`spelled`), and no other (`one`), and [`Meta::decode`] gives
@@ -77,7 +77,6 @@ impl Meta {
         frame: &Frame,
         schema: &Schema,
     ) -> Result<ByteList, OutOfMemory>
-        requires sparse { frame.now.dense ≡ false }
         requires writable { IsWritable frame.now schema.now.attrs self.now }
         ensures stored { IfOk result (λ object. object ≡ wrapped kind.Meta (footer_bytes (footer_for frame.now schema.now.attrs self.now))) }
         ensures spelled { HasMetaObject frame.now schema.now.attrs self.now → IfOk result (IsMetaObject frame.now schema.now.attrs self.now) }
@@ -88,8 +87,8 @@ impl Meta {
     }
 }
 
-/// The head of the fragment whose metadata an object holds, under the name of the fragment, in a sparse
-/// array of this frame. No schema is needed, and what stands behind the origins is not read.
+/// The head of the fragment whose metadata an object holds, under the name of the fragment, in an array
+/// of this frame, which may be any. No schema is needed, and what stands behind the origins is not read.
 ///
 /// Where the object holds metadata, whatever its schema is, the answer is its head. Where the answer is
 /// an offset, the object is broken there first, as [`Meta::decode`] says.
@@ -99,7 +98,6 @@ pub fn read_head(
     frag: FragKey,
     object: &[u8],
 ) -> Result<Head, ReadFault>
-    requires sparse { frame.now.dense ≡ false }
     ensures exact { DecodesOr (λ head. head) (head_in frame.now frag object.now) result }
     ensures only { (attrs : List AnyAttr) (meta : AnyMeta) → meta.head.frag ≡ frag → IsMetaObject frame.now attrs meta object.now → IsRead (λ found. found) meta.head result }
     ensures broken { (attrs : List AnyAttr) → BreaksSo (meta_in frame.now attrs frag object.now) result }
@@ -128,7 +126,6 @@ fn read_meta(
     frag: FragKey,
     object: &[u8],
 ) -> Result<Meta, ReadFault>
-    requires sparse { frame.now.dense ≡ false }
     ensures { DecodesOr (λ meta. meta) (meta_in frame.now attrs.now frag object.now) result }
 {
     let stored = read_footer(alloc, frame, attrs, frag, object)?;

@@ -1,4 +1,4 @@
-//! Reading the tree over the tiles of a sparse fragment.
+//! Reading the tree over the tiles of a fragment.
 ghost use Rattle.std.specs.Prelude.{◌≡◌, ◌≤◌, ◌<◌, ◌*◌, ◌^◌, length, zip, IfOk, All};
 ghost use Rattle.std.specs.Simd.{first_chunks};
 ghost use Rattle.ts_domain.specs.Boxes.{IsBox};

@@ -45,9 +45,9 @@ use Rattle.ts_footer.specs.declared.columns.ColumnForm.{ColumnForm}
 use Rattle.ts_footer.specs.declared.columns.ColumnForm.TheVariants.{Fixed, Var}
 use Rattle.ts_footer.specs.declared.columns.ColumnSize.{ColumnSize}
 use Rattle.ts_footer.specs.Columns.{rounded_up, tiles_for, dim_form, value_forms, validity_forms, attr_forms, origin_forms, column_forms, may_start, sizes_of as told_sizes, FitsStart, FitsForm, FitsSize}
-use Rattle.ts_footer.specs.Footers.{layout_bytes, footer_bytes, FitsRect, FitsFooter}
+use Rattle.ts_footer.specs.Footers.{footer_stored, layout_bytes, footer_bytes, FitsRect, FitsFooter}
 use Rattle.ts_footer.specs.Metas.{meta_of, meta_in, starts_of, IsMetaObject}
-use Rattle.ts_footer.proofs.MetaObjects.{meta_again}
+use Rattle.ts_footer.proofs.MetaObjects.{stored_again, meta_again}
 use Rattle.ts_footer.proofs.Rects.{hulls_fit}
 use Rattle.ts_sparse.specs.Tilings.{tiles_of, tile_starts, starts_in}
 use Rattle.ts_sparse.specs.Sparse.{coord_column, value_column, origin_column, Object, dim_objects, fixed_objects, validity_objects, attr_objects, origin_objects, objects_of, sizes_of, cell_box, leaf_of, leaves_of, meta_bytes, column_part, meta_part, parts_of, FitsSparse, IsThere, IsStored}
@@ -242,7 +242,7 @@ named frame attrs frag s = refl
 
 module _ (frame : Frame) (attrs : List Attr) where
   -- what the metadata stores keeps each rule of the reader
-  footer_fits : (frag : FragKey) (s : StoredPiece) → FitsSparse frame attrs frag s → All (λ (p : PartBytes). length p.bytes < 2 ^ 64) (parts_of frame attrs s) → FitsFooter frame attrs frag (footer_of frame attrs s)
+  pub footer_fits : (frag : FragKey) (s : StoredPiece) → FitsSparse frame attrs frag s → All (λ (p : PartBytes). length p.bytes < 2 ^ 64) (parts_of frame attrs s) → FitsFooter frame attrs frag (footer_of frame attrs s)
   unfolding parts_of
   footer_fits frag s fits short =
       let count = (fits.plain).count in
@@ -261,28 +261,40 @@ module _ (frame : Frame) (attrs : List Attr) where
         };
       }
 
-  -- so its object is one that the reader knows
-  is_object : (frag : FragKey) (s : StoredPiece) → FitsSparse frame attrs frag s → All (λ (p : PartBytes). length p.bytes < 2 ^ 64) (parts_of frame attrs s) → IsMetaObject frame attrs (meta_for frame attrs frag s) (meta_part frame attrs s).bytes
+  -- its spelling is as short as its part
+  short_footer : (s : StoredPiece) → All (λ (p : PartBytes). length p.bytes < 2 ^ 64) (parts_of frame attrs s) → length (footer_bytes (footer_of frame attrs s)) < 2 ^ 64
   unfolding parts_of
-  is_object frag s fits short =
+  short_footer s short =
       let last = all_parts (λ (p : PartBytes). length p.bytes < 2 ^ 64) (map column_part (objects_of frame attrs s)) (meta_part frame attrs s ∷ []) short in
       let here = All-head (λ (p : PartBytes). length p.bytes < 2 ^ 64) (meta_part frame attrs s) [] last.1 in
       let body : length (meta_bytes frame attrs s) < 2 ^ 64 = omega (arith, here, length-wrapped kind.Meta (meta_bytes frame attrs s)) in
+      subst (λ bytes. length bytes < 2 ^ 64) (bytes_same frame attrs s) body
+
+  -- so its object is one that the reader knows
+  is_object : (frag : FragKey) (s : StoredPiece) → FitsSparse frame attrs frag s → All (λ (p : PartBytes). length p.bytes < 2 ^ 64) (parts_of frame attrs s) → IsMetaObject frame attrs (meta_for frame attrs frag s) (meta_part frame attrs s).bytes
+  is_object frag s fits short =
       let name = sym (named frame attrs frag s) in
       record {
         stored = footer_of frame attrs s;
         fits = subst (λ f. FitsFooter frame attrs f (footer_of frame attrs s)) name (footer_fits frag s fits short);
-        few = subst (λ bytes. length bytes < 2 ^ 64) (bytes_same frame attrs s) body;
+        few = short_footer s short;
         spelled = ap (wrapped kind.Meta) (bytes_same frame attrs s);
         same = meta_same frame attrs frag s ∙ ap (λ f. meta_of f (footer_of frame attrs s)) name;
       }
 
   -- and it is read as what it tells
-  pub read_back : (frag : FragKey) (s : StoredPiece) → frame.dense ≡ false → FitsSparse frame attrs frag s → All (λ (p : PartBytes). length p.bytes < 2 ^ 64) (parts_of frame attrs s)
+  pub read_back : (frag : FragKey) (s : StoredPiece) → FitsSparse frame attrs frag s → All (λ (p : PartBytes). length p.bytes < 2 ^ 64) (parts_of frame attrs s)
       → meta_in frame attrs frag (meta_part frame attrs s).bytes ≡ Ok (meta_for frame attrs frag s)
-  read_back frag s sparse fits short =
+  read_back frag s fits short =
       ap (λ f. meta_in frame attrs f (meta_part frame attrs s).bytes) (sym (named frame attrs frag s))
-      ∙ meta_again frame attrs (meta_for frame attrs frag s) (meta_part frame attrs s).bytes sparse (is_object frag s fits short)
+      ∙ meta_again frame attrs (meta_for frame attrs frag s) (meta_part frame attrs s).bytes (is_object frag s fits short)
+
+  -- the object stores what is told
+  pub footer_back : (frag : FragKey) (s : StoredPiece) → FitsSparse frame attrs frag s → All (λ (p : PartBytes). length p.bytes < 2 ^ 64) (parts_of frame attrs s)
+      → footer_stored frame attrs frag (meta_part frame attrs s).bytes ≡ Ok (footer_of frame attrs s)
+  footer_back frag s fits short =
+      ap (λ body. footer_stored frame attrs frag (wrapped kind.Meta body)) (bytes_same frame attrs s)
+      ∙ stored_again frame attrs frag (footer_of frame attrs s) (footer_fits frag s fits short) (short_footer s short)
 
   -- ---- of a piece whose parts are there
 
@@ -295,13 +307,22 @@ module _ (frame : Frame) (attrs : List Attr) where
       let last = all_parts (IsThere look) (map column_part (objects_of frame attrs s)) (meta_part frame attrs s ∷ []) there in
       (All-head (IsThere look) (meta_part frame attrs s) [] last.1).there
 
-  pub piece_told : (piece : Piece) (look : Part → Option (List ℕ)) → frame.dense ≡ false → IsStored frame attrs piece look
+  pub piece_told : (piece : Piece) (look : Part → Option (List ℕ)) → IsStored frame attrs piece look
       → IsSomeAnd (look part.Meta) (λ object. meta_in frame attrs piece.head.frag object ≡ Ok (meta_for frame attrs piece.head.frag (stored_for piece)))
-  piece_told piece look sparse is =
+  piece_told piece look is =
       let frag = piece.head.frag in
       let P : List ℕ → Type 0 = λ object. meta_in frame attrs frag object ≡ Ok (meta_for frame attrs frag (stored_for piece)) in
-      let read = read_back frag is.stored sparse is.fits (short_parts look is.stored is.parts) in
+      let read = read_back frag is.stored is.fits (short_parts look is.stored is.parts) in
       subst (λ object. IsSomeAnd object P) (sym (there_last look is.stored is.parts)) (read ∙ ap (λ s. Ok (meta_for frame attrs frag s)) (form_of frame attrs piece look is))
+
+  -- the object that is there stores what is told of the piece
+  pub footer_told : (piece : Piece) (look : Part → Option (List ℕ)) → IsStored frame attrs piece look
+      → IsSomeAnd (look part.Meta) (λ object. footer_stored frame attrs piece.head.frag object ≡ Ok (footer_of frame attrs (stored_for piece)))
+  footer_told piece look is =
+      let frag = piece.head.frag in
+      let P : List ℕ → Type 0 = λ object. footer_stored frame attrs frag object ≡ Ok (footer_of frame attrs (stored_for piece)) in
+      let read = footer_back frag is.stored is.fits (short_parts look is.stored is.parts) in
+      subst (λ object. IsSomeAnd object P) (sym (there_last look is.stored is.parts)) (read ∙ ap (λ s. Ok (footer_of frame attrs s)) (form_of frame attrs piece look is))
 
   pub head_told : (piece : Piece) (look : Part → Option (List ℕ)) → IsStored frame attrs piece look → (meta_for frame attrs piece.head.frag (stored_for piece)).head ≡ piece.head
   unfolding meta_for piece_of

@@ -1,5 +1,5 @@
 //! What holds of sparse fragments, whatever a store does. The calls do nothing.
-ghost use Rattle.std.specs.Prelude.{◌≡◌, ◌+◌, ◌*◌, ◌^◌, ◌<◌, ◌≤◌, ℕ, List, [], ◌∷◌, Option, Some, None, Ok, false, length, map, take, drop, get_or, All};
+ghost use Rattle.std.specs.Prelude.{◌≡◌, ◌+◌, ◌*◌, ◌^◌, ◌<◌, ◌≤◌, ℕ, List, [], ◌∷◌, Option, Some, None, Ok, length, map, take, drop, get_or, All};
 ghost use Rattle.std.specs.Option.{IsSomeAnd};
 ghost use Rattle.ts_base.specs.declared.heads.Piece.{Piece as AnyPiece};
 ghost use Rattle.ts_base.specs.declared.keys.FragKey.{FragKey as AnyFragKey};
@@ -73,8 +73,8 @@ pub fn the_last_box_is_the_hull()
 /// that of the piece (`head`).
 #[tactic(auto, using(crate::proofs::ToldLaws::read_back, crate::proofs::ToldLaws::piece_told))]
 pub fn metadata_is_read_back()
-    ensures object { (frame : AnyFrame) (attrs : List AnyAttr) (frag : AnyFragKey) (s : AnyStoredPiece) → frame.dense ≡ false → FitsSparse frame attrs frag s → All (λ (p : AnyPartBytes). length p.bytes < 2 ^ 64) (parts_of frame attrs s) → meta_in frame attrs frag (meta_part frame attrs s).bytes ≡ Ok (meta_for frame attrs frag s) }
-    ensures piece { (frame : AnyFrame) (schema : AnySchema) (piece : AnyPiece) (look : AnyPart → Option (List ℕ)) → frame.dense ≡ false → IsSparse frame schema piece look → IsSomeAnd (look part.Meta) (λ object. meta_in frame schema.attrs piece.head.frag object ≡ Ok (meta_for frame schema.attrs piece.head.frag (stored_for piece))) }
+    ensures object { (frame : AnyFrame) (attrs : List AnyAttr) (frag : AnyFragKey) (s : AnyStoredPiece) → FitsSparse frame attrs frag s → All (λ (p : AnyPartBytes). length p.bytes < 2 ^ 64) (parts_of frame attrs s) → meta_in frame attrs frag (meta_part frame attrs s).bytes ≡ Ok (meta_for frame attrs frag s) }
+    ensures piece { (frame : AnyFrame) (schema : AnySchema) (piece : AnyPiece) (look : AnyPart → Option (List ℕ)) → IsSparse frame schema piece look → IsSomeAnd (look part.Meta) (λ object. meta_in frame schema.attrs piece.head.frag object ≡ Ok (meta_for frame schema.attrs piece.head.frag (stored_for piece))) }
     ensures head { (frame : AnyFrame) (schema : AnySchema) (piece : AnyPiece) (look : AnyPart → Option (List ℕ)) → IsSparse frame schema piece look → (meta_for frame schema.attrs piece.head.frag (stored_for piece)).head ≡ piece.head }
 {}
 

@@ -6,16 +6,16 @@ use Rattle.ts_footer.proofs.metas.Meta.decode.Goals as goal
 pub returns-clause-found : goal.returns-clause-found
 returns-clause-found c =
     let few : length c.args.object.now < 2 ^ 64 = search rules in
-    found_in c.args.frame.now c.args.schema.now.attrs c.args.frag c.args.object.now _ c.requires.sparse (λ i. omega (arith, c.type_inv.object i)) few (rw c.as_slice.ensures at c.read_meta.ensures)
+    found_in c.args.frame.now c.args.schema.now.attrs c.args.frag c.args.object.now _ (λ i. omega (arith, c.type_inv.object i)) few (rw c.as_slice.ensures at c.read_meta.ensures)
 
 pub returns-clause-writable : goal.returns-clause-writable
 returns-clause-writable c =
     let few : length c.args.object.now < 2 ^ 64 = search rules in
-    writable_in c.args.frame.now c.args.schema.now.attrs c.args.frag c.args.object.now _ c.requires.sparse (λ i. omega (arith, c.type_inv.object i)) few (rw c.as_slice.ensures at c.read_meta.ensures)
+    writable_in c.args.frame.now c.args.schema.now.attrs c.args.frag c.args.object.now _ (λ i. omega (arith, c.type_inv.object i)) few (rw c.as_slice.ensures at c.read_meta.ensures)
 
 pub returns-clause-only : goal.returns-clause-only
 returns-clause-only c meta named is =
-    only_in c.args.frame.now c.args.schema.now.attrs meta c.args.frag c.args.object.now _ c.requires.sparse named is (rw c.as_slice.ensures at c.read_meta.ensures)
+    only_in c.args.frame.now c.args.schema.now.attrs meta c.args.frag c.args.object.now _ named is (rw c.as_slice.ensures at c.read_meta.ensures)
 
 pub returns-clause-cut : goal.returns-clause-cut
 returns-clause-cut c body few cut =
