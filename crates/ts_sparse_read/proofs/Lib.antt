@@ -1,0 +1,12 @@
+pub mod UsedLaws
+pub mod RangeLaws
+pub mod SpanLaws
+pub mod CellSteps
+pub mod ColumnSteps
+pub mod OrderSteps
+pub mod TileSteps
+pub mod WalkLaws
+pub mod BoundLaws
+pub mod TileLaws
+pub mod PieceParts
+pub mod OpenLaws

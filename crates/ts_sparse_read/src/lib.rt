@@ -1,0 +1,29 @@
+//! Reading sparse fragments in tiles: which tiles of which columns a fetch gets, and what they hold.
+#![tactic(auto)]
+
+mod bounds;
+mod cells;
+mod columns;
+mod faults;
+mod forms;
+mod judging;
+mod laws;
+mod opened;
+mod opening;
+mod ordering;
+mod pieces;
+mod planning;
+mod ranges;
+mod reading;
+mod spans;
+mod tiles;
+mod used;
+mod versions;
+
+pub use laws::{
+    fetches_get_the_tiles_that_meet_their_box, fetches_take_cells_in_order,
+    fragments_in_tiles_are_read_again, what_is_refused_is_broken,
+};
+pub use opened::{Opened, Span, SpanList, UsedColumn, UsedList, WantedTile, WantedTiles};
+pub use opening::open;
+pub use pieces::SparsePieces;
