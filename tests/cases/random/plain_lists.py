@@ -115,6 +115,8 @@ class Array:
         dims = [{"name": n, "type": types[n], "domain": [low, high], "extent": extent} for n, low, high, extent in self.dims]
         said = {"cmd": "create", "at": 0, "kind": "dense" if self.dense else "sparse", "dims": dims}
         said["attrs"] = [it.declared(self.chance) for it in self.schemas[0][1]]
+        if self.chance.random() < 0.8:
+            said["capacity"] = self.chance.randrange(1, 5)
         return {**said, "cell_order": self.cell_order, "tile_order": self.tile_order}
 
     def schema_there(self, at):
