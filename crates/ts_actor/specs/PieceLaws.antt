@@ -1,5 +1,5 @@
 -- What the grammar of the parts says of one piece, and of the objects that are refused; and where the versions lie that a fetch takes.
-use Rattle.std.specs.Prelude.{◌≡◌, ℕ, ◌+◌, ◌≤◌, true, List, [], ◌∷◌, ◌++◌, length, take, nat_lt, Some, Ok, Err, IsTrue, All, ◌⊎◌}
+use Rattle.std.specs.Prelude.{◌≡◌, ℕ, ◌≤◌, true, List, [], ◌∷◌, ◌++◌, length, take, nat_lt, Some, Ok, Err, IsTrue, All, ◌⊎◌}
 use Rattle.ts_base.specs.declared.names.Name.TheVariants as name
 use Rattle.ts_store.specs.declared.call.Call.TheVariants as call
 use Rattle.ts_store.specs.declared.call.Reply.TheVariants as reply
@@ -28,6 +28,7 @@ use Rattle.ts_schema.specs.FrameTexts.{IsFrame}
 use Rattle.ts_schema.specs.SchemaTexts.{AreAttrs}
 use Rattle.ts_model.specs.Consolidated.{IsStorable}
 use Rattle.ts_model.specs.States.{all_of}
+pub use Rattle.ts_model.specs.Gets.{gets_of, AsksBounded}
 
 -- what was got of the parts, and the sizes that were told, break the grammar first in a part at an offset
 abbrev pub Off : Type 1
@@ -143,16 +144,3 @@ pub record IsSettled {F : Type 0} (codec : Codec F) (off : Off) (frame : Frame) 
 -- a head that is read is settled, so none is read of an object that is broken within it
 abbrev pub SettlesHeads : {F : Type 0} → Codec F → Off → Type 0
 SettlesHeads {F} codec off = (frame : Frame) (frag : FragKey) (object : List ℕ) (head : Head) → IsBytes object → codec.head frame frag object ≡ Ok head → IsSettled codec off frame frag object head
-
--- ---- how many gets a fetch makes
-
--- one for a get, none for another call
-abbrev pub gets_of : Call → ℕ
-gets_of (call.Get n from len) = 1
-gets_of _ = 0
-
--- each get takes one of those that the fetch may make, and a fetch of a piece may make so many
-pub record AsksBounded {F : Type 0} (codec : Codec F) (spelled : Spelled) (gets : F → ℕ) (most : Frame → Schema → Piece → Want → ℕ) : Type 0 where
-  pub pays : (f g : F) (r : Reply) (c : Call) → codec.steps f r ≡ Asks g c → gets g + gets_of c ≤ gets f
-  pub fair : (frame : Frame) (s : Schema) (p : Piece) (look : Look) (want : Want) (object : List ℕ) (f : F) → spelled frame s p look → look (codec.head_part frame) ≡ Some object
-      → codec.opens frame s p.head.frag object want ≡ Ok f → gets f ≤ most frame s p want

@@ -1,25 +1,27 @@
 -- What a job was told before some calls it was told before more of them too.
 use Rattle.std.proofs.Common.{◌≡◌, ℕ, List, [], ◌∷◌, ◌++◌, None, Result, Ok, inl, inr, sym, ◌∙◌, ap, append_assoc}
-use Rattle.std.specs.Prelude.{Contains}
+use Rattle.std.specs.Prelude.{Contains, filter}
 use Rattle.std.proofs.lemmas.List.Elements.{Contains-append_left}
 use Rattle.std.proofs.lemmas.Option.{none-some}
 use Rattle.ts_base.specs.declared.keys.Key.{Key}
 use Rattle.ts_base.specs.declared.keys.FragKey.{FragKey}
 use Rattle.ts_base.specs.declared.names.Name.{Name}
 use Rattle.ts_schema.specs.declared.schemas.Schema.{Schema}
+use Rattle.ts_schema.specs.declared.wants.Want.{Want}
 use Rattle.ts_store.specs.declared.call.Call.{Call}
 use Rattle.ts_store.specs.declared.call.Reply.{Reply}
 use Rattle.ts_model.specs.declared.commands.Job.{Job}
 use Rattle.ts_model.specs.Codecs.{Codec}
-use Rattle.ts_model.specs.States.{Exchange}
+use Rattle.ts_model.specs.States.{Exchange, deletes_in, meets}
 use Rattle.ts_base.specs.declared.heads.Head.{Head}
 use Rattle.ts_base.specs.declared.heads.Version.{Version}
 use Rattle.ts_commit.specs.declared.vacs.Planned.{Planned}
 use Rattle.ts_commit.specs.declared.vacs.Planned.TheVariants as planned
 use Rattle.ts_model.specs.declared.commands.Command.{Command}
 use Rattle.ts_model.specs.declared.commands.Command.TheVariants.{Create, Evolve, Write, Read, Delete, Consolidate, Vacuum, Unlock, Fragments}
+use Rattle.ts_model.specs.declared.deeds.Deletion.{Deletion}
 use Rattle.ts_model.specs.declared.states.Opened.{Opened}
-use Rattle.ts_law.specs.Courses.{Found, Merge, MergesFound, GotHead, GotNames, GotSchema, HasOpened, HasTaken, EachTaken, IsFramed, IsKeyThere, IsGot, IsNamedFor, IsOpened, IsFetched, IsUnderWay, IsListedIn, IsListedInside, IsCountingIn, IsMergeBy, PlansBy}
+use Rattle.ts_law.specs.Courses.{AreDeletesOf, Found, GotDelete, IsWantOf, Merge, MergesFound, GotHead, GotNames, GotSchema, HasOpened, HasTaken, EachTaken, IsFramed, IsKeyThere, IsGot, IsNamedFor, IsOpened, IsFetched, IsUnderWay, IsListedIn, IsListedInside, IsCountingIn, IsMergeBy, PlansBy}
 
 -- the calls of the first list are calls of the second
 abbrev pub AreAmong : List Exchange → List Exchange → Type 0
@@ -67,6 +69,45 @@ inside_stays a b from to f among (names, told, has, in_time) = (names, among _ t
 pub names_stay : (a b : List Exchange) (f : FragKey) (names : List FragKey) → AreAmong a b → GotNames a f names → GotNames b f names
 names_stay a b f names among (bytes, told, is) = (bytes, among _ told, is)
 
+-- the deletes that a read was told
+pub deletes_stay : (a b : List Exchange) (names : List FragKey) (erased : List Deletion) → AreAmong a b → AreDeletesOf a names erased → AreDeletesOf b names erased
+deletes_stay a b [] [] among are = are
+deletes_stay a b [] (e ∷ erased) among are = absurd are
+deletes_stay a b (f ∷ names) [] among are = absurd are
+deletes_stay a b (f ∷ names) (e ∷ erased) among ((bytes, condition, told, spells, is), are) = ((bytes, condition, among _ told, spells, is), deletes_stay a b names erased among are)
+
+-- one more of them
+pub deletes_more : (a : List Exchange) (names : List FragKey) (erased : List Deletion) (f : FragKey) (e : Deletion) → AreDeletesOf a names erased → GotDelete a f e → AreDeletesOf a (names ++ f ∷ []) (erased ++ e ∷ [])
+deletes_more a [] [] f e are got = (got, tt)
+deletes_more a [] (d ∷ erased) f e are got = absurd are
+deletes_more a (g ∷ names) [] f e are got = absurd are
+deletes_more a (g ∷ names) (d ∷ erased) f e are got = (are.0, deletes_more a names erased f e are.1 got)
+
+-- what is wanted of a fragment
+pub want_stays : (found : Found) (a b : List Exchange) (command : Command) (s : Schema) (want : Want) → AreAmong a b → IsWantOf found a command s want → IsWantOf found b command s want
+want_stays found a b (Read from to query) s want among (r, by, is) = (
+  r,
+  record {
+    from_is = by.from_is;
+    to_is = by.to_is;
+    frame_is = by.frame_is;
+    there_is = by.there_is;
+    is_ready = by.is_ready;
+    names = by.names;
+    listed = among _ by.listed;
+    deletes = deletes_stay a b (filter (meets from to) (deletes_in by.names)) r.deletions among by.deletes;
+  },
+  is,
+)
+want_stays found a b (Consolidate from to limits) s want among is = is
+want_stays found a b (Create f) s want among is = is
+want_stays found a b (Evolve change) s want among is = is
+want_stays found a b (Write w) s want among is = is
+want_stays found a b (Delete text) s want among is = is
+want_stays found a b Vacuum s want among is = is
+want_stays found a b (Unlock seed lane) s want among is = is
+want_stays found a b Fragments s want among is = is
+
 module _ {F : Type 0} (codec : Codec F) where
   -- the head of a fragment
   pub head_stays : (found : Found) (a b : List Exchange) (f : FragKey) (head : Head) → AreAmong a b → GotHead codec found a f head → GotHead codec found b f head
@@ -95,7 +136,7 @@ module _ {F : Type 0} (codec : Codec F) where
     schema_got = schema_stays a b is.schema among is.schema_got;
     named = named_stays job.command found a b is.head is.schema among is.named;
     want = is.want;
-    wants = is.wants;
+    wants = want_stays found a b job.command is.schema is.want among is.wants;
     opens = is.opens;
   }
 

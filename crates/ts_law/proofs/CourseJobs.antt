@@ -38,7 +38,7 @@ use Rattle.ts_model.specs.Commands.{laid, piece_of}
 use Rattle.ts_model.specs.Jobs.{key_of, frag_of_job, written_as, refused_before}
 use Rattle.ts_model.specs.Stages.{first_stage, goes_on, lease_of, stage_from, stage_of}
 use Rattle.ts_model.specs.Stops.{cuts}
-use Rattle.ts_model.specs.States.{Exchange, goes, begins, begun, refuse, unless_refused, get_schema, get_frame, list_schemas, list_commits, looked_into, committed_in, deletes_in, meets, commit_of, put_of, putting, puts_cells, schema_object_of, write_objects, frame_put, is_own_frame, nothing_listed, asks_for, reading_of, puts_delete, delete_object_of}
+use Rattle.ts_model.specs.States.{Exchange, goes, begins, begun, refuse, unless_refused, get_schema, get_frame, list_schemas, list_commits, looked_into, committed_in, meets, commit_of, put_of, putting, puts_cells, schema_object_of, write_objects, frame_put, is_own_frame, nothing_listed, asks_for, reading_of, puts_delete, delete_object_of}
 use Rattle.ts_model.specs.Driven.{AskedFrom, EndsBy, MayAsk}
 use Rattle.ts_law.specs.Courses.{EndsUnder, IsCutAlong, IsCutOff, Found, cell_puts, evolve_puts, course_of, IsSchemaIn, IsFrameIn, SaysThere, IsGot, AreFound, LooksThere, IsLookOf, lets_on, refused_in, IsCause, EndsAlong, MayEndAs, delete_puts}
 use Rattle.ts_model.proofs.ListLemmas.{Contains-nil, Contains-here, Contains-only, filter-Contains}
@@ -192,7 +192,10 @@ module _ {F : Type 0} (codec : Codec F) (any : Job) where
         got = got;
         fragments = λ f at. let kept = filter-Contains (meets from to) (committed_in names) f at in (names, among_more seen x _ told, kept.0, kept.1);
         merged = λ f at. (names, among_more seen x _ told, at);
-        dead = λ f at. let kept = filter-Contains (meets from to) (deletes_in names) f at in (names, among_more seen x _ told, kept.0, kept.1);
+        names = names;
+        listed = among_more seen x _ told;
+        dead = refl;
+        told = tt;
         objects = λ o at. absurd (Contains-nil o at);
         further = λ s at. absurd (Contains-nil s at);
       })

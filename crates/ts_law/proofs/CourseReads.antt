@@ -1,13 +1,15 @@
 -- The gets and sizes of a read, once it has the schema there and the frame.
 use Rattle.std.proofs.Common.{length, ◌≡◌, ℕ, suc, Bool, true, false, cond, ◌⊎◌, List, [], ◌∷◌, ◌++◌, drop, Option, Some, None, Result, Ok, Err, IsTrue, refl, sym, ◌∙◌, ap, inl, inr, subst, slice_get}
-use Rattle.std.specs.Prelude.{Contains, find, not, option_map, nat_lt}
-use Rattle.std.proofs.lemmas.Bool.{true≢false}
+use Rattle.std.specs.Prelude.{Contains, filter, find, not, option_map, nat_lt, take}
+use Rattle.std.proofs.lemmas.Bool.{true≢false, ltb-false}
+use Rattle.std.proofs.lemmas.List.{length_push, take_all}
 use Rattle.std.specs.Result.{result_err}
 use Rattle.std.proofs.lemmas.Option.{same_Some, none-some}
 use Rattle.std.proofs.lemmas.List.Elements.{Contains-push, Contains-push_cases}
 use Rattle.ts_base.specs.declared.keys.Key.{Key}
 use Rattle.ts_base.specs.Keys.{key_eq}
 use Rattle.ts_base.specs.declared.keys.FragKey.{FragKey}
+use Rattle.ts_base.specs.declared.names.Name.{Name}
 use Rattle.ts_base.specs.declared.names.Part.{Part}
 use Rattle.ts_base.specs.declared.heads.Head.{Head}
 use Rattle.ts_base.specs.declared.heads.Version.{Version}
@@ -25,10 +27,10 @@ use Rattle.ts_model.specs.declared.states.State.TheVariants.{Collects}
 use Rattle.ts_model.specs.declared.states.Collecting.TheVariants.{GetsVacs, GetsHeads, GetsSchemas, GetsDeletes, Fetches}
 use Rattle.ts_model.specs.declared.commands.Command.TheVariants.{Read}
 use Rattle.ts_model.specs.Codecs.{Codec, Stepped, Asks, Takes, Breaks, is_look, AsksLooks}
-use Rattle.ts_model.specs.States.{Exchange, get_all, get_head, get_schema, on_bytes, after_fetched, opening, gathering, fetching, fetches_one, fetch_leads, fetch_begins, after_head, after_schema, known_schema, keys_named, want_of, answer_of, on_read, getting_deletes, with_deletion, deletion_named, get_delete, after_delete, get_vac, after_vac, getting_vacs, heads_of, loaded_of, loads, opened_among, vac_of, with_clipped, with_vac, wanted, committed_in, deletes_in}
-use Rattle.ts_law.specs.Courses.{Found, SaysThere, GotSchema, IsGot, IsOpened, IsFetched, IsUnderWay, IsListedIn, IsCountingIn, IsLookedInto, LooksInside, MayFetch, AtVac, AtHead, AtSchema, AtDelete, InFetch, IsLookBy, IsLookOf, IsNamedFor, wanted_in, wants_of, BreaksPart, IsNext, lets_on, refused_in}
+use Rattle.ts_model.specs.States.{Exchange, get_all, get_head, get_schema, on_bytes, after_fetched, opening, gathering, fetching, fetches_one, fetch_leads, fetch_begins, after_head, after_schema, known_schema, keys_named, want_of, answer_of, on_read, getting_deletes, with_deletion, deletion_named, get_delete, after_delete, get_vac, after_vac, getting_vacs, heads_of, loaded_of, loads, opened_among, vac_of, with_clipped, with_vac, committed_in, deletes_in, list_commits, meets}
+use Rattle.ts_law.specs.Courses.{Found, SaysThere, GotSchema, IsGot, IsOpened, IsFetched, IsUnderWay, IsListedIn, IsCountingIn, IsLookedInto, LooksInside, MayFetch, AtVac, AtHead, AtSchema, AtDelete, InFetch, IsLookBy, IsLookOf, IsNamedFor, AreDeletesOf, GotDelete, IsWantOf, BreaksPart, IsNext, lets_on, refused_in}
 use Rattle.ts_model.proofs.KeyLemmas.{key_same, key_itself}
-use Rattle.ts_model.proofs.ListLemmas.{Contains-here, Contains-there, filter-Contains, find-Some}
+use Rattle.ts_model.proofs.ListLemmas.{Contains-here, Contains-there, filter-Contains, find-Some, take_next}
 use Rattle.ts_model.specs.declared.deeds.Deletion.{Deletion}
 use Rattle.ts_model.specs.declared.queries.Ready.{Ready}
 use Rattle.ts_cond.specs.declared.query.Query.{Query}
@@ -39,9 +41,8 @@ use Rattle.ts_commit.specs.Vacs.{names_of}
 use Rattle.ts_cond.specs.Tests.{Condition}
 use Rattle.ts_base.specs.declared.names.CommitKind.TheVariants.{Del}
 use Rattle.ts_model.specs.Queries.{ready_in}
-use Rattle.ts_model.proofs.Referred.{ready_box}
 use Rattle.ts_law.proofs.CourseCalls.{lets_bytes, lets_length, look_leaves, dropped, item_in, Goes, Follows, follows_on, follows_over, follows_none, follows_refused, follows_ended, goes_none, goes_by}
-use Rattle.ts_law.proofs.CourseGrows.{counting_stays, among_more, schema_stays, got_stays, listed_stays, way_stays}
+use Rattle.ts_law.proofs.CourseGrows.{counting_stays, deletes_more, deletes_stay, among_more, schema_stays, got_stays, listed_stays, way_stays}
 use Rattle.ts_law.proofs.ReadSteps.{named_apart}
 use Rattle.ts_base.specs.declared.names.Name.TheVariants as name
 use Rattle.ts_store.specs.declared.call.Reply.TheVariants as reply
@@ -81,9 +82,19 @@ module _ {F : Type 0} (codec : Codec F) (job : Job) where
       pub got : IsGot job found seen
       pub fragments : (f : FragKey) → Contains r.fragments f → IsLookedInto seen from to f
       pub merged : (f : FragKey) → Contains r.counting f → IsCountingIn seen f
-      pub dead : (f : FragKey) → Contains r.delete_names f → IsListedIn deletes_in seen from to f
+      -- its deletes are the first of those that it listed in the interval
+      pub names : List Name
+      pub listed : Contains seen (record { call = list_commits; reply = reply.Names names })
+      pub dead : r.delete_names ≡ filter (meets from to) (deletes_in names)
+      pub told : AreDeletesOf seen (take (length r.deletions) r.delete_names) r.deletions
       pub objects : (o : Opened) → Contains opened o → WasOpened seen r o
       pub further : (s : Schema) → Contains schemas s → GotSchema seen s
+
+    -- a name of a delete was listed
+    dead_listed : (seen : List Exchange) (r : Reading) (opened : List Opened) (schemas : List Schema) → HasGot seen r opened schemas → (f : FragKey) → Contains r.delete_names f → IsListedIn deletes_in seen from to f
+    dead_listed seen r opened schemas has f at =
+        let kept = filter-Contains (meets from to) (deletes_in has.names) f (subst (λ l. Contains l f) has.dead at) in
+        (has.names, has.listed, kept.0, kept.1)
 
     -- so it has after a call more
     has_more : (seen : List Exchange) (x : Exchange) (r : Reading) (opened : List Opened) (schemas : List Schema) → HasGot seen r opened schemas → HasGot (seen ++ x ∷ []) r opened schemas
@@ -92,7 +103,10 @@ module _ {F : Type 0} (codec : Codec F) (job : Job) where
       got = got_stays job found seen (seen ++ x ∷ []) (among_more seen x) has.got;
       fragments = λ f at. listed_stays committed_in seen (seen ++ x ∷ []) from to f (among_more seen x) (has.fragments f at);
       merged = λ f at. counting_stays seen (seen ++ x ∷ []) f (among_more seen x) (has.merged f at);
-      dead = λ f at. listed_stays deletes_in seen (seen ++ x ∷ []) from to f (among_more seen x) (has.dead f at);
+      names = has.names;
+      listed = among_more seen x _ has.listed;
+      dead = has.dead;
+      told = deletes_stay seen (seen ++ x ∷ []) (take (length r.deletions) r.delete_names) r.deletions (among_more seen x) has.told;
       objects = λ o at. let was = has.objects o at in (listed_stays committed_in seen (seen ++ x ∷ []) from to o.frag (among_more seen x) was.0, among_more seen x _ was.1, was.2);
       further = λ s at. schema_stays seen (seen ++ x ∷ []) s (among_more seen x) (has.further s at);
     }
@@ -117,15 +131,18 @@ module _ {F : Type 0} (codec : Codec F) (job : Job) where
             let (there, test_s) = find-Some (λ t. key_eq t.key k) schemas s one in
             (has.further s there, key_same s.key k test_s)
 
+    -- it was told all deletes that it listed in the interval
+    abbrev HasAll : List Exchange → Reading → Type 0
+    HasAll seen r = AreDeletesOf seen r.delete_names r.deletions
+
     -- how the fetch of a fragment began that the read opened in a schema that it knows
-    opens_so : (seen : List Exchange) (r : Reading) (opened : List Opened) (schemas : List Schema) (o : Opened) (s : Schema) (begun : Result F ℕ) → HasGot seen r opened schemas → Contains opened o → known_schema r schemas (o.head).schema ≡ Some s
+    opens_so : (seen : List Exchange) (r : Reading) (opened : List Opened) (schemas : List Schema) (o : Opened) (s : Schema) (begun : Result F ℕ) → HasGot seen r opened schemas → HasAll seen r → Contains opened o → known_schema r schemas (o.head).schema ≡ Some s
         → codec.opens r.frame s o.frag o.object (want_of r s.attrs) ≡ begun → IsOpened codec job found seen o.frag begun
-    opens_so seen r opened schemas o s begun has among knows is_begun =
+    opens_so seen r opened schemas o s begun has all among knows is_begun =
         let was = has.objects o among in
         let known = known_got seen r opened schemas (o.head).schema s has knows in
         let Got : Reading → Type 0 = λ q. Contains seen (record { call = get_all (name.Part o.frag (codec.head_part q.frame)); reply = reply.Bytes o.object }) in
         let Heads : Reading → Type 0 = λ q. codec.head q.frame o.frag o.object ≡ Ok o.head in
-        let Opens : Reading → Type 0 = λ q. codec.opens q.frame s o.frag o.object (want_of q s.attrs) ≡ begun in
         record {
           object = o.object;
           got = subst Got has.finds was.1;
@@ -134,9 +151,22 @@ module _ {F : Type 0} (codec : Codec F) (job : Job) where
           schema = s;
           schema_got = known.0;
           named = subst (λ k. IsNamedFor codec found seen k o.head s) (sym is) known.1;
-          want = wanted_in found from to query s;
-          wants = ap (λ k. wants_of found k s) is;
-          opens = ap (λ sub. codec.opens found.frame s o.frag o.object (wanted sub from to s.attrs)) (sym (ready_box found.frame (found.there).attrs query ready is_ready)) ∙ subst Opens has.finds is_begun;
+          want = want_of r s.attrs;
+          wants = subst (λ k. IsWantOf found seen k s (want_of r s.attrs)) (sym is) (
+            r,
+            record {
+              from_is = ap (λ q. q.from) has.finds;
+              to_is = ap (λ q. q.to) has.finds;
+              frame_is = ap (λ q. q.frame) has.finds;
+              there_is = ap (λ q. q.there) has.finds;
+              is_ready = is_ready ∙ ap (λ q. Ok q.ready) (sym has.finds);
+              names = has.names;
+              listed = has.listed;
+              deletes = subst (λ l. AreDeletesOf seen l r.deletions) has.dead all;
+            },
+            refl,
+          );
+          opens = ap (λ q. codec.opens q.frame s o.frag o.object (want_of r s.attrs)) (sym has.finds) ∙ is_begun;
         }
 
     -- each of the keys is named by the head of one of these fragments
@@ -149,7 +179,7 @@ module _ {F : Type 0} (codec : Codec F) (job : Job) where
       heads : (r : Reading) (opened : List Opened) → HasGot seen r opened [] → Goes codec job seen found [] xs end (Collects (GetsHeads r opened))
       gets : (r : Reading) (opened : List Opened) (named : List Key) (schemas : List Schema) → AreNamed r opened named → HasGot seen r opened schemas → Goes codec job seen found [] xs end (Collects (GetsSchemas r opened named schemas))
       deletes : (r : Reading) (opened : List Opened) (schemas : List Schema) → HasGot seen r opened schemas → Goes codec job seen found [] xs end (Collects (GetsDeletes r opened schemas))
-      fetches : (r : Reading) (opened : List Opened) (schemas : List Schema) (next : ℕ) (frag : FragKey) (got : List Version) (f : F) (c : Call) → HasGot seen r opened schemas → IsLookedInto seen from to frag → IsUnderWay codec job found seen frag f c → IsTrue (is_look c)
+      fetches : (r : Reading) (opened : List Opened) (schemas : List Schema) (next : ℕ) (frag : FragKey) (got : List Version) (f : F) (c : Call) → HasGot seen r opened schemas → HasAll seen r → IsLookedInto seen from to frag → IsUnderWay codec job found seen frag f c → IsTrue (is_look c)
           → Goes codec job seen found [] xs end (Collects (Fetches r opened schemas next frag got f c))
 
     -- after a call that lets the read go on
@@ -160,46 +190,47 @@ module _ {F : Type 0} (codec : Codec F) (job : Job) where
 
       -- a step of a fetch
       follows_step : (r : Reading) (opened : List Opened) (schemas : List Schema) (next : ℕ) (frag : FragKey) (got : List Version) (then : List Version → State F) (f : F) (said : Reply) (step : Stepped F)
-          → HasGot now r opened schemas → IsLookedInto now from to frag → ((g : F) (c : Call) → codec.steps f said ≡ Asks g c → IsUnderWay codec job found now frag g c)
+          → HasGot now r opened schemas → HasAll now r → IsLookedInto now from to frag → ((g : F) (c : Call) → codec.steps f said ≡ Asks g c → IsUnderWay codec job found now frag g c)
           → ((part : Part) (at : ℕ) → codec.steps f said ≡ Breaks part at → BreaksPart codec job found now x frag part at)
           → codec.steps f said ≡ step → ((vs : List Version) → Follows codec job seen found course x xs end (then vs)) → Follows codec job seen found course x xs end (fetch_leads r opened schemas next frag got then step)
-      follows_step r opened schemas next frag got then f said (Asks g c) objects fragments waits breaks steps each =
-          follows_on codec job seen found course [] x xs end (Collects (Fetches r opened schemas next frag got g c)) (silent x.call x.reply) on following (later.fetches r opened schemas next frag got g c objects fragments (waits g c steps) (looks f said g c steps))
-      follows_step r opened schemas next frag got then f said (Takes vs) objects fragments waits breaks steps each = each vs
-      follows_step r opened schemas next frag got then f said (Breaks part at) objects fragments waits breaks steps each =
+      follows_step r opened schemas next frag got then f said (Asks g c) objects all fragments waits breaks steps each =
+          follows_on codec job seen found course [] x xs end (Collects (Fetches r opened schemas next frag got g c)) (silent x.call x.reply) on following (later.fetches r opened schemas next frag got g c objects all fragments (waits g c steps) (looks f said g c steps))
+      follows_step r opened schemas next frag got then f said (Takes vs) objects all fragments waits breaks steps each = each vs
+      follows_step r opened schemas next frag got then f said (Breaks part at) objects all fragments waits breaks steps each =
           follows_refused codec job seen found course [] x xs end (refusal.Damaged (name.Part frag part) at) (silent x.call x.reply) following (inr (frag, part, refl, may_fetch now frag objects.got, breaks part at steps))
 
       -- the fetch of one fragment
       follows_one : (r : Reading) (opened : List Opened) (schemas : List Schema) (next : ℕ) (o : Opened) (got : List Version) (then : List Version → State F) (s : Option Schema) → known_schema r schemas (o.head).schema ≡ s
-          → HasGot now r opened schemas → Contains opened o → ((vs : List Version) → Follows codec job seen found course x xs end (then vs)) → Follows codec job seen found course x xs end (fetches_one codec r opened schemas next o got then s)
-      follows_one r opened schemas next o got then None knows objects among each = follows_none codec job seen found course [] x xs end (silent x.call x.reply) following
-      follows_one r opened schemas next o got then (Some s) knows objects among each = by_opening (codec.opens r.frame s o.frag o.object (want_of r s.attrs)) refl
+          → HasGot now r opened schemas → HasAll now r → Contains opened o → ((vs : List Version) → Follows codec job seen found course x xs end (then vs)) → Follows codec job seen found course x xs end (fetches_one codec r opened schemas next o got then s)
+      follows_one r opened schemas next o got then None knows objects all among each = follows_none codec job seen found course [] x xs end (silent x.call x.reply) following
+      follows_one r opened schemas next o got then (Some s) knows objects all among each = by_opening (codec.opens r.frame s o.frag o.object (want_of r s.attrs)) refl
         where
           by_opening : (b : Result F ℕ) → codec.opens r.frame s o.frag o.object (want_of r s.attrs) ≡ b → Follows codec job seen found course x xs end (fetch_begins codec r opened schemas next o.frag got then b)
           by_opening (Ok f) is_begun =
-              let start = opens_so now r opened schemas o s (Ok f) objects among knows is_begun in
-              follows_step r opened schemas next o.frag got then f reply.Start (codec.steps f reply.Start) objects (objects.objects o among).0
+              let start = opens_so now r opened schemas o s (Ok f) objects all among knows is_begun in
+              follows_step r opened schemas next o.frag got then f reply.Start (codec.steps f reply.Start) objects all (objects.objects o among).0
               (λ g c steps. record { first = f; opened = start; begun = g; asked = c; begins = steps; replies = []; fetched = (refl, refl) }) (λ part at steps. inr (f, inl (start, steps))) refl each
           by_opening (Err at) is_begun =
               follows_refused codec job seen found course [] x xs end (refusal.Damaged (name.Part o.frag (codec.head_part r.frame)) at) (silent x.call x.reply) following
-              (inr (o.frag, codec.head_part r.frame, refl, may_fetch now o.frag objects.got, inl (ap (λ q. codec.head_part q.frame) objects.finds, opens_so now r opened schemas o s (Err at) objects among knows is_begun)))
+              (inr (o.frag, codec.head_part r.frame, refl, may_fetch now o.frag objects.got, inl (ap (λ q. codec.head_part q.frame) objects.finds, opens_so now r opened schemas o s (Err at) objects all among knows is_begun)))
 
       -- the fetches of the fragments that are left
       follows_fetching : (r : Reading) (opened : List Opened) (schemas : List Schema) (next : ℕ) (rest : List Opened) (got : List Version)
-          → HasGot now r opened schemas → ((o : Opened) → Contains rest o → Contains opened o) → Follows codec job seen found course x xs end (fetching codec r opened schemas next rest got)
-      follows_fetching r opened schemas next [] got objects among =
+          → HasGot now r opened schemas → HasAll now r → ((o : Opened) → Contains rest o → Contains opened o) → Follows codec job seen found course x xs end (fetching codec r opened schemas next rest got)
+      follows_fetching r opened schemas next [] got objects all among =
           follows_over codec job seen found course [] x xs end (outcome.Read (answer_of r schemas got)) (silent x.call x.reply) following ((on, ([], following, refl)), (from, to, query, is), objects.got, unrefused)
-      follows_fetching r opened schemas next (o ∷ rest) got objects among =
-          follows_one r opened schemas next o got (λ vs. fetching codec r opened schemas (suc next) rest (got ++ vs)) (known_schema r schemas o.head.schema) refl objects (among o (Contains-here o rest))
-          (λ vs. follows_fetching r opened schemas (suc next) rest (got ++ vs) objects (λ p at. among p (Contains-there o rest p at)))
+      follows_fetching r opened schemas next (o ∷ rest) got objects all among =
+          follows_one r opened schemas next o got (λ vs. fetching codec r opened schemas (suc next) rest (got ++ vs)) (known_schema r schemas o.head.schema) refl objects all (among o (Contains-here o rest))
+          (λ vs. follows_fetching r opened schemas (suc next) rest (got ++ vs) objects all (λ p at. among p (Contains-there o rest p at)))
 
       -- the gets of the deletes that are left
       follows_getting_deletes : (r : Reading) (opened : List Opened) (schemas : List Schema) → HasGot now r opened schemas → Follows codec job seen found course x xs end (getting_deletes codec r opened schemas)
-      follows_getting_deletes r opened schemas objects = by_count (nat_lt (length r.deletions) (length r.delete_names))
+      follows_getting_deletes r opened schemas objects = by_count (nat_lt (length r.deletions) (length r.delete_names)) refl
         where
-          by_count : (b : Bool) → Follows codec job seen found course x xs end (cond b (Collects (GetsDeletes r opened schemas)) (fetching codec r opened schemas 0 opened []))
-          by_count true = follows_on codec job seen found course [] x xs end (Collects (GetsDeletes r opened schemas)) (silent x.call x.reply) on following (later.deletes r opened schemas objects)
-          by_count false = follows_fetching r opened schemas 0 opened [] objects (λ o at. at)
+          by_count : (b : Bool) → nat_lt (length r.deletions) (length r.delete_names) ≡ b → Follows codec job seen found course x xs end (cond b (Collects (GetsDeletes r opened schemas)) (fetching codec r opened schemas 0 opened []))
+          by_count true more = follows_on codec job seen found course [] x xs end (Collects (GetsDeletes r opened schemas)) (silent x.call x.reply) on following (later.deletes r opened schemas objects)
+          by_count false done =
+              follows_fetching r opened schemas 0 opened [] objects (subst (λ l. AreDeletesOf now l r.deletions) (take_all (length r.deletions) r.delete_names (ltb-false (length r.deletions) (length r.delete_names) done)) objects.told) (λ o at. at)
 
       -- the gets of the further schemas that are left
       follows_gathering : (r : Reading) (opened : List Opened) (named : List Key) (schemas : List Schema) → AreNamed r opened named → HasGot now r opened schemas → Follows codec job seen found course x xs end (gathering codec r opened named schemas)
@@ -216,7 +247,10 @@ module _ {F : Type 0} (codec : Codec F) (job : Job) where
         got = has.got;
         fragments = has.fragments;
         merged = has.merged;
+        names = has.names;
+        listed = has.listed;
         dead = has.dead;
+        told = has.told;
         objects = λ o at. has.objects o (filter-Contains (λ x. is_among x.frag frags) opened o at).0;
         further = has.further;
       }
@@ -245,7 +279,7 @@ module _ {F : Type 0} (codec : Codec F) (job : Job) where
 
     -- one object more
     object_pushed : (seen : List Exchange) (r : Reading) (opened : List Opened) (o : Opened) → HasGot seen r opened [] → WasOpened seen r o → HasGot seen r (opened ++ o ∷ []) []
-    object_pushed seen r opened o has was = record { finds = has.finds; got = has.got; fragments = has.fragments; merged = has.merged; dead = has.dead; objects = λ p at. by_case p (Contains-push_cases opened o p at); further = has.further }
+    object_pushed seen r opened o has was = record { finds = has.finds; got = has.got; fragments = has.fragments; merged = has.merged; names = has.names; listed = has.listed; dead = has.dead; told = has.told; objects = λ p at. by_case p (Contains-push_cases opened o p at); further = has.further }
       where
         by_case : (p : Opened) → Contains opened p ⊎ (o ≡ p) → WasOpened seen r p
         by_case p (inl old) = has.objects p old
@@ -253,19 +287,32 @@ module _ {F : Type 0} (codec : Codec F) (job : Job) where
 
     -- one schema more
     schema_pushed : (seen : List Exchange) (r : Reading) (opened : List Opened) (schemas : List Schema) (s : Schema) → HasGot seen r opened schemas → GotSchema seen s → HasGot seen r opened (schemas ++ s ∷ [])
-    schema_pushed seen r opened schemas s has got = record { finds = has.finds; got = has.got; fragments = has.fragments; merged = has.merged; dead = has.dead; objects = has.objects; further = λ t at. by_case t (Contains-push_cases schemas s t at) }
+    schema_pushed seen r opened schemas s has got = record { finds = has.finds; got = has.got; fragments = has.fragments; merged = has.merged; names = has.names; listed = has.listed; dead = has.dead; told = has.told; objects = has.objects; further = λ t at. by_case t (Contains-push_cases schemas s t at) }
       where
         by_case : (t : Schema) → Contains schemas t ⊎ (s ≡ t) → GotSchema seen t
         by_case t (inl old) = has.further t old
         by_case t (inr new) = subst (GotSchema seen) new got
 
     -- one delete more
-    delete_pushed : (seen : List Exchange) (r : Reading) (opened : List Opened) (schemas : List Schema) (e : Deletion) → HasGot seen r opened schemas → HasGot seen (with_deletion r e) opened schemas
-    delete_pushed seen r opened schemas e has = record { finds = ap (λ q. with_deletion q e) has.finds; got = has.got; fragments = has.fragments; merged = has.merged; dead = has.dead; objects = has.objects; further = has.further }
+    delete_pushed : (seen : List Exchange) (r : Reading) (opened : List Opened) (schemas : List Schema) (f : FragKey) (e : Deletion) → slice_get r.delete_names (length r.deletions) ≡ Some f → GotDelete seen f e → HasGot seen r opened schemas
+        → HasGot seen (with_deletion r e) opened schemas
+    delete_pushed seen r opened schemas f e next got has = record {
+      finds = ap (λ q. with_deletion q e) has.finds;
+      got = has.got;
+      fragments = has.fragments;
+      merged = has.merged;
+      names = has.names;
+      listed = has.listed;
+      dead = has.dead;
+      told = subst (λ l. AreDeletesOf seen l (r.deletions ++ e ∷ [])) (sym (take_next r.delete_names (length r.deletions) f next) ∙ ap (λ n. take n r.delete_names) (sym (length_push r.deletions e)))
+          (deletes_more seen (take (length r.deletions) r.delete_names) r.deletions f e has.told got);
+      objects = has.objects;
+      further = has.further;
+    }
 
     -- one `.vac` more
     vac_pushed : (seen : List Exchange) (r : Reading) (f : FragKey) (names : List FragKey) → HasGot seen r [] [] → HasGot seen (with_vac r f names) [] []
-    vac_pushed seen r f names has = record { finds = ap (λ q. with_vac q f names) has.finds; got = has.got; fragments = has.fragments; merged = has.merged; dead = has.dead; objects = has.objects; further = has.further }
+    vac_pushed seen r f names has = record { finds = ap (λ q. with_vac q f names) has.finds; got = has.got; fragments = has.fragments; merged = has.merged; names = has.names; listed = has.listed; dead = has.dead; told = has.told; objects = has.objects; further = has.further }
 
     -- a `.vac`
     vacs_go : (seen : List Exchange) (x : Exchange) (xs : List Exchange) (end : Outcome) → ((y : Exchange) → ReadsOn (seen ++ y ∷ []) xs end) → (r : Reading) → HasGot seen r [] [] → Goes codec job seen found [] (x ∷ xs) end (Collects (GetsVacs r))
@@ -365,13 +412,14 @@ module _ {F : Type 0} (codec : Codec F) (job : Job) where
         by_item (Some f) there = goes_by codec job seen found [] x xs end (Collects (GetsDeletes r opened schemas)) (get_delete f) (ap (option_map get_delete) there) (λ same. rw there (by_reply x.reply))
           where
             look : IsLookOf codec job found seen (get_delete f)
-            look = looks_inside seen (get_delete f) objects.got (AtDelete f (objects.dead f (item_in r.delete_names (length r.deletions) f there)) refl)
+            look = looks_inside seen (get_delete f) objects.got (AtDelete f (dead_listed seen r opened schemas objects f (item_in r.delete_names (length r.deletions) f there)) refl)
 
             by_condition : (bytes : List ℕ) (c : Result Condition ℕ) → cond_of bytes ≡ c
                 → Follows codec job seen found [] (record { call = get_delete f; reply = reply.Bytes bytes }) xs end (on_read (name.Commit f Del) (λ condition. getting_deletes codec (with_deletion r (deletion_named f condition)) opened schemas) c)
             by_condition bytes (Ok condition) reads =
                 let y : Exchange = record { call = get_delete f; reply = reply.Bytes bytes } in
-                follows_getting_deletes seen [] y xs end refl (inl (look, refl)) (later y) (with_deletion r (deletion_named f condition)) opened schemas (delete_pushed (seen ++ y ∷ []) r opened schemas (deletion_named f condition) (has_more seen y r opened schemas objects))
+                follows_getting_deletes seen [] y xs end refl (inl (look, refl)) (later y) (with_deletion r (deletion_named f condition)) opened schemas
+                (delete_pushed (seen ++ y ∷ []) r opened schemas f (deletion_named f condition) there (bytes, condition, Contains-push seen y, reads, refl) (has_more seen y r opened schemas objects))
             by_condition bytes (Err at) reads =
                 let y : Exchange = record { call = get_delete f; reply = reply.Bytes bytes } in
                 follows_refused codec job seen found [] [] y xs end (refusal.Damaged (name.Commit f Del) at) (silent (get_delete f) (reply.Bytes bytes)) (inl (look, refl)) (inl (bytes, Contains-push seen y, reads))
@@ -382,8 +430,8 @@ module _ {F : Type 0} (codec : Codec F) (job : Job) where
 
     -- a call of a fetch
     fetches_go : (seen : List Exchange) (x : Exchange) (xs : List Exchange) (end : Outcome) → ((y : Exchange) → ReadsOn (seen ++ y ∷ []) xs end) → (r : Reading) (opened : List Opened) (schemas : List Schema) (next : ℕ) (frag : FragKey) (got : List Version) (f : F) (c : Call)
-        → HasGot seen r opened schemas → IsLookedInto seen from to frag → IsUnderWay codec job found seen frag f c → IsTrue (is_look c) → Goes codec job seen found [] (x ∷ xs) end (Collects (Fetches r opened schemas next frag got f c))
-    fetches_go seen x xs end later r opened schemas next frag got f c objects fragments way looking = goes_by codec job seen found [] x xs end (Collects (Fetches r opened schemas next frag got f c)) c refl (λ same. by_reply x.reply)
+        → HasGot seen r opened schemas → HasAll seen r → IsLookedInto seen from to frag → IsUnderWay codec job found seen frag f c → IsTrue (is_look c) → Goes codec job seen found [] (x ∷ xs) end (Collects (Fetches r opened schemas next frag got f c))
+    fetches_go seen x xs end later r opened schemas next frag got f c objects all fragments way looking = goes_by codec job seen found [] x xs end (Collects (Fetches r opened schemas next frag got f c)) c refl (λ same. by_reply x.reply)
       where
         look : IsLookOf codec job found seen c
         look = looks_inside seen c objects.got (InFetch frag f fragments way looking)
@@ -396,7 +444,8 @@ module _ {F : Type 0} (codec : Codec F) (job : Job) where
             let y : Exchange = record { call = c; reply = r' } in
             let gone = way_stays codec job found seen (seen ++ y ∷ []) frag f c (among_more seen y) way in
             let has = has_more seen y r opened schemas objects in
-            follows_step seen [] y xs end on (inl (look, refl)) (later y) r opened schemas next frag got goes_on f r' (codec.steps f r') has (listed_stays committed_in seen (seen ++ y ∷ []) from to frag (among_more seen y) fragments)
+            let has_all = deletes_stay seen (seen ++ y ∷ []) r.delete_names r.deletions (among_more seen y) all in
+            follows_step seen [] y xs end on (inl (look, refl)) (later y) r opened schemas next frag got goes_on f r' (codec.steps f r') has has_all (listed_stays committed_in seen (seen ++ y ∷ []) from to frag (among_more seen y) fragments)
             (λ g b steps. record {
               first = gone.first;
               opened = gone.opened;
@@ -407,7 +456,7 @@ module _ {F : Type 0} (codec : Codec F) (job : Job) where
               fetched = fetched_on codec (seen ++ y ∷ []) gone.begun gone.asked gone.replies f c r' g b gone.fetched (Contains-push seen y) steps;
             })
             (λ part at steps. inr (f, inr (gone, steps))) refl
-            (λ vs. follows_fetching seen [] y xs end on (inl (look, refl)) (later y) r opened schemas (suc next) (drop (suc next) opened) (got ++ vs) has (λ o at. dropped opened (suc next) o at))
+            (λ vs. follows_fetching seen [] y xs end on (inl (look, refl)) (later y) r opened schemas (suc next) (drop (suc next) opened) (got ++ vs) has has_all (λ o at. dropped opened (suc next) o at))
 
         by_reply : (r' : Reply) → Follows codec job seen found [] (record { call = c; reply = r' }) xs end (after_fetched codec r opened schemas next frag got f c r')
         by_reply (reply.Bytes bytes) = told (reply.Bytes bytes) (lets_bytes c bytes looking)
@@ -421,7 +470,7 @@ module _ {F : Type 0} (codec : Codec F) (job : Job) where
       heads = λ r opened objects. goes_none codec job seen found [] end (Collects (GetsHeads r opened)) (λ e q. cc);
       gets = λ r opened named schemas names objects. goes_none codec job seen found [] end (Collects (GetsSchemas r opened named schemas)) (λ e q. cc);
       deletes = λ r opened schemas objects. goes_none codec job seen found [] end (Collects (GetsDeletes r opened schemas)) (λ e q. cc);
-      fetches = λ r opened schemas next frag got f c objects fragments way look. goes_none codec job seen found [] end (Collects (Fetches r opened schemas next frag got f c)) (λ e q. cc);
+      fetches = λ r opened schemas next frag got f c objects all fragments way look. goes_none codec job seen found [] end (Collects (Fetches r opened schemas next frag got f c)) (λ e q. cc);
     }
     reads_on seen (x ∷ xs) end =
         let later : (y : Exchange) → ReadsOn (seen ++ y ∷ []) xs end = λ y. reads_on (seen ++ y ∷ []) xs end in

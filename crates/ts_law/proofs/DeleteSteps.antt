@@ -37,12 +37,12 @@ use Rattle.ts_law.proofs.Stays.{getting_deletes_stays}
 use Rattle.ts_model.proofs.Traces.{history_told_grows}
 
 -- the object of a condition is read as that condition
-cond_again : (c : Condition) → IsCond c → IsShort (cond_object c) → cond_of (cond_object c) ≡ Ok c
+pub cond_again : (c : Condition) → IsCond c → IsShort (cond_object c) → cond_of (cond_object c) ≡ Ok c
 unfolding cond_of cond_object
 cond_again c is short = object_only cond_exact kind.Delete c (short_body kind.Delete (cond_bytes c) short) is
 
 -- a delete is the one of its name and its condition
-deletion_again : (x : Deletion) (f : FragKey) → frag_of x.key ≡ f → deletion_named f x.cond ≡ x
+pub deletion_again : (x : Deletion) (f : FragKey) → frag_of x.key ≡ f → deletion_named f x.cond ≡ x
 deletion_again x f named = ap (λ g. deletion_named g x.cond) (sym named)
 
 module _ {F : Type 0} (codec : Codec F) (spelled : Spelled) (tracks : Tracking F) (opening : Held) (past : History) (jobs : List Job) (seen : List Told) (e : Told) (m : Held) (number : ℕ) (job : Job) where

@@ -3,6 +3,7 @@ use Rattle.std.proofs.Common.{◌≡◌, ℕ, suc, zero, ◌+◌, ◌-◌, ◌�
 use Rattle.std.specs.Prelude.{Contains, slice_get, option_map, map as list_map}
 use Rattle.std.specs.Cmp.{both_ways}
 use Rattle.std.specs.List.{list_any}
+use Rattle.std.specs.Option.{option_map_or}
 use Rattle.std.specs.FinMap as map
 use Rattle.std.proofs.lemmas.Bool.{true≢false}
 use Rattle.std.proofs.lemmas.Option.{none-some, same_Some, slice_get-map}
@@ -45,9 +46,10 @@ use Rattle.ts_model.specs.Codecs.Stepped.{Asks, Takes, Breaks}
 use Rattle.ts_model.specs.Jobs.{looks_at}
 use Rattle.ts_commit.specs.Selections.{has_origin, is_clipped, is_usable, usable}
 use Rattle.ts_law.specs.Stands.{HoldsIn}
-use Rattle.ts_model.specs.States.{answer_of, heads_of, known_schema, known_attrs, want_of, ended, fetch_leads, fetch_begins, fetches_one, fetching, after_fetched}
-use Rattle.ts_law.specs.Kept.{AreGot, Clean, GettingDeletes, Gathering, Fetching, Claims}
+use Rattle.ts_model.specs.States.{answer_of, heads_of, known_schema, known_attrs, want_of, wanted, ended, fetch_leads, fetch_begins, fetches_one, fetching, after_fetched}
+use Rattle.ts_law.specs.Kept.{Clean, GettingDeletes, Gathering, GotUsed, Fetching, Claims}
 use Rattle.ts_model.specs.Told.{Told, IsReplied, after_told, held_told, history_told}
+use Rattle.ts_law.specs.Origins.{newest_at}
 use Rattle.ts_law.specs.Ends.{IsAnswerOver, IsTrueRefusal, without_clipped}
 use Rattle.ts_law.specs.Steps.{Comes, Advances}
 use Rattle.ts_model.proofs.ListLemmas.{Contains-slice_get, filter-Contains, take_next}
@@ -58,9 +60,9 @@ use Rattle.ts_law.proofs.Effects.{IsLook, look_stays, look_history, look_leads}
 use Rattle.ts_law.proofs.Stays.{clean_look, fetching_stays}
 use Rattle.ts_law.proofs.Clipped.{unclipped_same}
 use Rattle.ts_law.proofs.Unclipped.{own_unclipped, sparse_unclipped}
-use Rattle.ts_law.proofs.Fetches.{Contains-map, got_more, knows, knows_attrs, map-Contains, one_head}
+use Rattle.ts_law.proofs.Fetches.{Contains-map, got_more, knows, knows_attrs, map-Contains, one_head, used_more}
 use Rattle.ts_law.proofs.OriginLaws.{any_member, member_any}
-use Rattle.ts_law.proofs.TakenLaws.{newest_taken, none_taken}
+use Rattle.ts_law.proofs.TakenLaws.{newest_taken, newest_used, none_taken}
 use Rattle.ts_law.proofs.ReadingLaw.{answer_left}
 
 -- ---- where a list is dropped up to a place
@@ -112,9 +114,9 @@ module _ {F : Type 0} (codec : Codec F) (spelled : Spelled) (tracks : Tracking F
   abbrev frags : List FragKey
   frags = list_map (λ o. o.frag) opened
 
-  -- the versions in the fragments before the next one were got
+  -- what the read uses of the versions in the fragments before the next one was got
   abbrev IsFound : ℕ → List Version → Type 0
-  IsFound next got = AreGot g r.from r.to (r.ready).sub (heads_of (take next opened)) got
+  IsFound next got = GotUsed g r schemas (heads_of (take next opened)) got
 
   -- the fragment's parts spell a piece, which the read can use
   pub record IsUsed (frag : FragKey) : Type 0 where
@@ -218,15 +220,15 @@ module _ {F : Type 0} (codec : Codec F) (spelled : Spelled) (tracks : Tracking F
     later = history_told jobs past (((((gathers).reads).at).works).schemas).before
 
     -- what was got of all fragments is the answer over the objects at the listing
-    answer_over : (got : List Version) → AreGot g r.from r.to (r.ready).sub (heads_of opened) got → IsAnswerOver spelled g then later r.from r.to ((gathers).reads).query (answered got)
-    answer_over got are =
+    answer_over : (got : List Version) → GotUsed g r schemas (heads_of opened) got → IsAnswerOver spelled g then later r.from r.to ((gathers).reads).query (answered got)
+    answer_over got found =
         let reads = (gathers).reads in
         let one = one_head codec spelled tracks laws g then in
         let stands = (((reads.at).listed).since).stands in
         let are_heads = (gathers.chosen).are_heads in
         let clipped_is = (gathers.chosen).clipped_is in
         let is : IsAnswer (without_clipped r.from r.to heads g) later r.from r.to reads.query (answered got) =
-        answer_left g r.from r.to heads (heads_of opened) headed (r.ready).sub got are r schemas refl known_to
+        answer_left g r.from r.to heads (heads_of opened) headed (r.ready).sub found.whole found.are r schemas got found.uses refl known_to
         (deleted_in spelled opening past jobs seen m number r.from r.to r.fragments r.counting r.delete_names (reads.at).listed is_h deletions_grow r.deletions deletes_found.deletions all_deletes)
         (all_deletions spelled opening past jobs seen m number r.from r.to r.fragments r.counting r.delete_names (reads.at).listed is_h deletions_grow r.deletions deletes_found.deletions all_deletes)
         later reads.query reads.framed
@@ -248,12 +250,12 @@ module _ {F : Type 0} (codec : Codec F) (spelled : Spelled) (tracks : Tracking F
         let reads = (gathers).reads in
         let past_end = drop_none opened next none in
         let whole : take next opened ≡ opened = take_all next opened past_end in
-        let are : AreGot g r.from r.to (r.ready).sub (heads_of opened) got = subst (λ os. AreGot g r.from r.to (r.ready).sub (heads_of os) got) whole found in (
+        let all : GotUsed g r schemas (heads_of opened) got = subst (λ os. GotUsed g r schemas (heads_of os) got) whole found in (
           r.from,
           r.to,
           reads.query,
           reads.reads,
-          record { commits = ((reads.at).listed).since.commits; schemas = ((reads.at).works).schemas; between = (reads.at).between; order = (reads.at).order; answers = answer_over got are },
+          record { commits = ((reads.at).listed).since.commits; schemas = ((reads.at).works).schemas; between = (reads.at).between; order = (reads.at).order; answers = answer_over got all },
         )
 
     -- a fragment in its schema, which the read knows, is opened
@@ -273,7 +275,7 @@ module _ {F : Type 0} (codec : Codec F) (spelled : Spelled) (tracks : Tracking F
         (subst (λ x. Holds (fetch_begins codec r opened schemas next o.frag got on x)) (sym begins)
         (step_claims next o.frag got on (frag_at next o at) (used_open o there) found rest (codec.steps well.fetch reply.Start) well.starts))
 
-    -- with one fragment more, what is wanted of it was got
+    -- with one fragment more, what is used of it was got
     found_more : (next : ℕ) (o : Opened) (got : List Version) → slice_get opened next ≡ Some o → (one : IsUsed o.frag) → IsFound next got → (vs : List Version) → vs ≡ wanted_of o.frag one → IsFound (suc next) (got ++ vs)
     found_more next o got at one found vs all =
         let one_more : next + 1 ≡ suc next = omega arith in
@@ -283,11 +285,19 @@ module _ {F : Type 0} (codec : Codec F) (spelled : Spelled) (tracks : Tracking F
         ap (λ n. heads_of (take n opened)) (sym one_more) ∙ ap heads_of (take_next opened next o at) ∙ map-append (λ x. x.head) (take next opened) (o ∷ [])
         ∙ ap (λ x. heads_of (take next opened) ++ x ∷ []) (sym same) in
         let framed = (one.holds).framed ∙ ap Some one.same_frame in
-        subst (λ hs. AreGot g r.from r.to (r.ready).sub hs (got ++ vs)) (sym heads)
-        (subst (λ us. AreGot g r.from r.to (r.ready).sub (heads_of (take next opened) ++ (one.piece).head ∷ []) (got ++ us)) (sym all)
-        (got_more g r.from r.to (r.ready).sub is_g (heads_of (take next opened)) (one.piece).head got (wanted_of o.frag one) found
-        (newest_taken g is_g r.frame framed (one.holds).schema one.piece (one.holds).declared (one.holds).holds (r.ready).sub r.from r.to one.usable)
-        (none_taken g is_g r.frame framed (one.holds).schema one.piece (one.holds).declared (one.holds).holds (r.ready).sub r.from r.to)))
+        let schema : known_attrs r schemas (one.piece).head.schema ≡ ((one.holds).schema).attrs =
+        ap (λ (x : Head). known_attrs r schemas x.schema) same ∙ ap (λ t. option_map_or (λ t. t.attrs) t []) (knows codec spelled g h then r opened schemas grows ((((gathers).reads).at).works).declared (gathers.chosen).each gathers.gathered deletes_found.all_schemas o (Contains-slice_get opened next o at))
+        ∙ ap (λ (t : Schema). t.attrs) (same_Some (opens.holds).schema (one.holds).schema (sym (opens.holds).declared ∙ ap (λ (x : Head). schema_with g x.schema) (sym opens.head ∙ sym same) ∙ (one.holds).declared)) in
+        let ws = taken (wanted (r.ready).sub r.from r.to ((one.holds).schema).attrs) (one.piece).versions in
+        subst (λ hs. GotUsed g r schemas hs (got ++ vs)) (sym heads)
+        (record {
+          whole = found.whole ++ ws;
+          are = got_more g r.from r.to (r.ready).sub is_g (heads_of (take next opened)) (one.piece).head found.whole ws found.are
+              (newest_taken g is_g r.frame framed (one.holds).schema one.piece (one.holds).declared (one.holds).holds (r.ready).sub r.from r.to one.usable)
+              (none_taken g is_g r.frame framed (one.holds).schema one.piece (one.holds).declared (one.holds).holds (r.ready).sub r.from r.to);
+          uses = used_more r schemas got vs found.whole ws found.uses
+              (λ c. ap (λ us. newest_at us c) all ∙ newest_used g is_g r.frame framed (one.holds).schema one.piece (one.holds).declared (one.holds).holds r schemas schema c);
+        })
 
     -- the fragments from a place on are fetched
     rest_claims : (rest : List Opened) (next : ℕ) (got : List Version) → drop next opened ≡ rest → IsFound next got → Holds (fetching codec r opened schemas next rest got)

@@ -1,6 +1,6 @@
 -- What a read got, fragment by fragment, and the schemas that it knows.
 use Rattle.std.proofs.Common.{◌≡◌, ℕ, ℤ, Bool, true, false, cond, not, ◌&&◌, ◌⊎◌, inl, inr, List, [], ◌∷◌, ◌++◌, Option, Some, None, Ok, Result, length, arith, take, refl, sym, ◌∙◌, ap, subst}
-use Rattle.std.specs.Prelude.{Contains, filter, find, option_and_then, map as list_map}
+use Rattle.std.specs.Prelude.{Contains, filter, find, option_and_then, option_map, map as list_map}
 use Rattle.std.specs.List.{list_any}
 use Rattle.std.specs.Option.{is_some, option_map_or}
 use Rattle.std.specs.FinMap as map
@@ -34,7 +34,7 @@ use Rattle.ts_model.specs.Pieces.{version_of}
 use Rattle.ts_law.specs.Origins.{origins_of, wrote_in, last_of, last_version, newest_at}
 use Rattle.ts_law.specs.Stands.{HoldsIn}
 use Rattle.ts_model.specs.States.{keys_named, known_schema, known_attrs}
-use Rattle.ts_law.specs.Kept.{AreGot, AreSchemas, IsOpen}
+use Rattle.ts_law.specs.Kept.{AreGot, AreSchemas, GotUsed, IsOpen, used_version}
 use Rattle.ts_model.proofs.ListLemmas.{Contains-nil, Contains-cons, Contains-here, Contains-there, Contains-filter, filter-Contains, find-Some, find_member}
 use Rattle.ts_model.proofs.KeyLemmas.{key_same, key_itself, greatest-None, greatest-Some, same_from_both}
 use Rattle.ts_model.proofs.HistoryLaws.{one_write}
@@ -150,7 +150,7 @@ module _ (h : History) (is : IsHistory h) (ws us all : List Written) (c : List �
 
 module _ (h : History) (from to : ℕ) (sub : SubBox) where
   -- before the first fetch nothing was got
-  pub got_none : AreGot h from to sub [] []
+  got_none : AreGot h from to sub [] []
   got_none = record {
     inside = λ c inside. sym (ap (λ ws. last_version ws c) (filter_none (λ w. is_within from to w.key && false) (writes h) (λ w at. never (is_within from to w.key))));
     outside = λ c outside. refl;
@@ -217,6 +217,23 @@ module _ (h : History) (from to : ℕ) (sub : SubBox) where
           ∙ last_joined h is before own all c of_before of_own either_of;
       outside = λ c outside. newest-append got vs c ∙ ap (λ o. greater version_key o (newest_at vs c)) (are.outside c outside) ∙ ap (greater version_key None) (none c outside);
     }
+
+-- before the first fetch a read got nothing of it
+pub used_none : (h : History) (r : Reading) (schemas : List Schema) → GotUsed h r schemas [] []
+used_none h r schemas = record { whole = []; are = got_none h r.from r.to r.ready.sub; uses = λ c. refl }
+
+module _ (r : Reading) (schemas : List Schema) where
+  -- of two versions the same one is newer where values are left out
+  newer_used : (a b : Option Version) → greater version_key (option_map (used_version r schemas) a) (option_map (used_version r schemas) b) ≡ option_map (used_version r schemas) (greater version_key a b)
+  newer_used None b = refl
+  newer_used (Some v) None = refl
+  newer_used (Some v) (Some w) = elim (key_lt v.key w.key) as (λ t. Some (cond t (used_version r schemas w) (used_version r schemas v)) ≡ option_map (used_version r schemas) (Some (cond t w v))) [ true ↦ refl | false ↦ refl ]
+
+  -- what a read got of two lists of whole versions it got of both together
+  pub used_more : (got vs whole ws : List Version) → ((c : List ℤ) → newest_at got c ≡ option_map (used_version r schemas) (newest_at whole c)) → ((c : List ℤ) → newest_at vs c ≡ option_map (used_version r schemas) (newest_at ws c))
+      → (c : List ℤ) → newest_at (got ++ vs) c ≡ option_map (used_version r schemas) (newest_at (whole ++ ws) c)
+  used_more got vs whole ws first second c =
+      newest-append got vs c ∙ (λ i. greater version_key (first c i) (second c i)) ∙ newer_used (newest_at whole c) (newest_at ws c) ∙ ap (option_map (used_version r schemas)) (sym (newest-append whole ws c))
 
 -- ---- heads
 

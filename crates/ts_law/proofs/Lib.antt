@@ -27,6 +27,8 @@ pub mod CreateSteps
 pub mod PutSteps
 pub mod TakenLaws
 pub mod MapValues
+pub mod UsedLaws
+pub mod UsedCells
 pub mod ReadingLaw
 pub mod Fetches
 pub mod DeletesGot
@@ -92,6 +94,11 @@ pub mod NoSweeps
 pub mod RunLaw
 pub mod Alone
 pub mod FirstStands
+pub mod ReadBounds
+pub mod ReadGets
+pub mod ReadStages
+pub mod WorkedBounds
 pub mod WorkedRows
 pub mod WorkedSweeps
 pub mod WorkedOrigins
+pub mod WorkedUsed

@@ -11,7 +11,7 @@ use Rattle.std.proofs.lemmas.Bool.{true≢false, and_parts, and_from, cond-true,
 use Rattle.std.proofs.lemmas.Float.{T_from_true}
 
 -- a test that holds is true
-true_from_T : (b : Bool) → T b → b ≡ true
+pub true_from_T : (b : Bool) → T b → b ≡ true
 true_from_T true holds = refl
 true_from_T false holds = absurd holds
 

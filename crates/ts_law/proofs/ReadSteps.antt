@@ -64,7 +64,7 @@ use Rattle.ts_law.proofs.Declaring.{frame_again, attrs_again}
 use Rattle.ts_law.proofs.Effects.{got}
 use Rattle.ts_law.proofs.PutSteps.{works_delete, works_evolve, works_write}
 use Rattle.ts_law.proofs.QueryRefusals.{FailsByQuery, query_true, ready_fails}
-use Rattle.ts_law.proofs.Fetches.{Contains-map, got_none, map-Contains, one_head}
+use Rattle.ts_law.proofs.Fetches.{Contains-map, map-Contains, one_head, used_none}
 use Rattle.ts_law.proofs.Loading.{OneHead, loaded_usable, loaded_with}
 use Rattle.ts_law.proofs.OriginLaws.{any_member, member_any}
 use Rattle.ts_model.proofs.KeyLemmas.{frag_itself, frag_same}
@@ -158,7 +158,7 @@ module _ {F : Type 0} (codec : Codec F) (spelled : Spelled) (tracks : Tracking F
             (record {
               deletes_found = deletions;
               all_deletes = as_many (λ x. frag_of x.key) r.deletions r.delete_names deletions.deletions.names_are (ltb-false (length r.deletions) (length r.delete_names) end);
-              found = got_none (history_told jobs past ((((((deletions.gathers)).reads).at).listed).since.commits).before) r.from r.to (r.ready).sub;
+              found = used_none (history_told jobs past ((((((deletions.gathers)).reads).at).listed).since.commits).before) r schemas;
             })
             (history_at ((((deletions.gathers).reads).at).listed).since.commits is) is
       ] refl

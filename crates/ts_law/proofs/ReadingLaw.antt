@@ -1,10 +1,9 @@
 -- The law of reading: what a read gets from the fragments of its listing shows what the history shows without its clipped writes.
-use Rattle.std.proofs.Common.{◌≡◌, ℕ, ℤ, Bool, true, false, cond, not, ◌&&◌, List, [], ◌∷◌, length, Option, Some, None, Ok, int_cmp, refl, sym, ◌∙◌, ap, subst}
-use Rattle.std.specs.Prelude.{Contains, filter, find, option_map, option_and_then, map as list_map}
+use Rattle.std.proofs.Common.{◌≡◌, ℕ, ℤ, Bool, true, false, cond, not, ◌&&◌, List, [], ◌∷◌, length, Option, Some, None, Ok, refl, sym, ◌∙◌, ap, subst}
+use Rattle.std.specs.Prelude.{Contains, filter, find, option_map, option_and_then}
 use Rattle.std.specs.List.{list_any}
 use Rattle.std.specs.Option.{option_map_or, option_or}
 use Rattle.std.specs.Cmp.{both_ways}
-use Rattle.std.specs.Cmp.Lexicographic.{slice_cmp}
 use Rattle.std.specs.FinMap as map
 use Rattle.std.proofs.lemmas.Bool.{and_parts, and_from}
 use Rattle.std.proofs.lemmas.List.{length-map}
@@ -27,18 +26,17 @@ use Rattle.ts_model.specs.declared.deeds.Written.{Written}
 use Rattle.ts_model.specs.declared.states.Reading.{Reading}
 use Rattle.ts_model.specs.Deeds.{History, writes, deletions, schemas as schemas_in, row_at, has_cell, last_write, attrs_with, frame_in, schema_there}
 use Rattle.ts_model.specs.Answers.{Cells, erases_cell, is_erased, shown_in, shown_at, shown_inside, fills_of, unwritten, IsAnswer}
-use Rattle.ts_model.specs.Pieces.{version_of, newest_of}
+use Rattle.ts_model.specs.Pieces.{version_of}
 use Rattle.ts_model.specs.Queries.{low_of, high_of, ready_in, selected}
-use Rattle.ts_model.specs.States.{known_attrs, is_erased_by, cell_shown, cells_left, version_left, row_or_fill, cells_filled, cells_shown, answer_of}
+use Rattle.ts_model.specs.States.{known_attrs, cells_left, cells_filled, cells_shown, answer_of}
 use Rattle.ts_law.specs.Ends.{without_clipped}
-use Rattle.ts_law.specs.Kept.{AreGot}
+use Rattle.ts_law.specs.Kept.{AreGot, used_version}
 use Rattle.ts_law.specs.Origins.{last_version, newest_at, wrote_in}
 use Rattle.ts_model.proofs.ListLemmas.{filter-Contains}
 use Rattle.ts_model.proofs.KeyLemmas.{greatest-Some}
 use Rattle.ts_model.proofs.Referred.{ready_box}
 use Rattle.ts_model.proofs.Filled.{box_map, entries_box, get_box, or_fill, left_alone}
-use Rattle.ts_law.proofs.MapValues.{left_of, left_values, entries_left, get_left}
-use Rattle.ts_model.proofs.Newest.{get_newest_of, OwnCoords, own_newest, coords_exact}
+use Rattle.ts_law.proofs.UsedCells.{erased_whole, shown_whole, left_whole, whole_or_fill, whole_left, whole_at, sparse_rows, dense_rows}
 use Rattle.ts_law.proofs.NewestBy.{version_with}
 
 -- a test that a member passes is passed by one
@@ -104,22 +102,15 @@ module _ (from to : ℕ) (heads : List Head) where
 
 -- ---- the law
 
--- in the box the newest version of a coordinate is that of its last write, and outside there is none
-module _ (h : History) (from to : ℕ) (sub : SubBox) (got : List Version)
-    (newest_is : (c : List ℤ) → is_in_box sub c ≡ true → newest_at got c ≡ option_and_then (λ w. version_of w c) (last_write h from to c))
-    (none_outside : (c : List ℤ) → is_in_box sub c ≡ false → newest_at got c ≡ None) where
-  module _ (r : Reading) (schemas : List Schema) (box : (r.ready).sub ≡ sub)
+-- in the box the newest whole version of a coordinate is that of its last write, and outside there is none
+module _ (h : History) (from to : ℕ) (sub : SubBox) (whole : List Version)
+    (newest_is : (c : List ℤ) → is_in_box sub c ≡ true → newest_at whole c ≡ option_and_then (λ w. version_of w c) (last_write h from to c))
+    (none_outside : (c : List ℤ) → is_in_box sub c ≡ false → newest_at whole c ≡ None) where
+  -- a read got what it uses of them
+  module _ (r : Reading) (schemas : List Schema) (got : List Version) (uses : (c : List ℤ) → newest_at got c ≡ option_map (used_version r schemas) (newest_at whole c)) (box : (r.ready).sub ≡ sub)
       (known : (w : Written) → Contains (writes h) w → is_within from to w.key ≡ true → known_attrs r schemas w.schema ≡ attrs_with h w.schema)
       (deleted_in : (x : Deletion) → Contains r.deletions x → Contains (deletions h) x × (is_within from to x.key ≡ true))
       (all_deletions : (x : Deletion) → Contains (deletions h) x → is_within from to x.key ≡ true → Contains r.deletions x) where
-    -- the row of a version, as a read shows it
-    abbrev shown_version : Version → List Val
-    shown_version v = shown_row (known_attrs r schemas v.schema) v.row r.there.attrs
-
-    -- a version is left where no delete erases it
-    abbrev is_left : Version → Bool
-    is_left v = not (is_erased_by r schemas r.deletions v)
-
     -- the deletes that were got erase what those of the history in the interval do
     same_erased : (p : Deletion → Bool) → list_any p r.deletions ≡ list_any (λ x. is_within from to x.key && p x) (deletions h)
     same_erased p = both_ways (list_any p r.deletions) (list_any (λ x. is_within from to x.key && p x) (deletions h))
@@ -134,13 +125,13 @@ module _ (h : History) (from to : ℕ) (sub : SubBox) (got : List Version)
 
     -- the version of a write is left where its cell is
     left_cell : (c : List ℤ) (w : Written) (row : List Val) → known_attrs r schemas w.schema ≡ attrs_with h w.schema
-        → version_left r schemas (version_with w c row) ≡ option_map (λ row. shown_row (attrs_with h w.schema) row r.there.attrs) (cond (is_erased h from to c w row) None (Some row))
+        → left_whole r schemas (version_with w c row) ≡ option_map (λ row. shown_row (attrs_with h w.schema) row r.there.attrs) (cond (is_erased h from to c w row) None (Some row))
     left_cell c w row same =
-        ap (λ b. cond (not b) (Some (shown_version (version_with w c row))) None) is_same
+        ap (λ b. cond (not b) (Some (shown_whole r schemas (version_with w c row))) None) is_same
         ∙ ap (λ attrs. cond (not (is_erased h from to c w row)) (Some (shown_row attrs row r.there.attrs)) None) same
         ∙ by_test (is_erased h from to c w row)
       where
-        is_same : is_erased_by r schemas r.deletions (version_with w c row) ≡ is_erased h from to c w row
+        is_same : erased_whole r schemas (version_with w c row) ≡ is_erased h from to c w row
         is_same = ap (λ attrs. list_any (erases_cell w attrs c row) r.deletions) same ∙ same_erased (erases_cell w (attrs_with h w.schema) c row)
 
         by_test : (b : Bool) → cond (not b) (Some (shown_row (attrs_with h w.schema) row r.there.attrs)) None
@@ -149,16 +140,16 @@ module _ (h : History) (from to : ℕ) (sub : SubBox) (got : List Version)
         by_test false = refl
 
     -- the version of a write shows what is left of its cell
-    shows_cell : (c : List ℤ) (w : Written) (v : Version) → known_attrs r schemas w.schema ≡ attrs_with h w.schema → version_of w c ≡ Some v → version_left r schemas v ≡ shown_in h r.there from to c w
+    shows_cell : (c : List ℤ) (w : Written) (v : Version) → known_attrs r schemas w.schema ≡ attrs_with h w.schema → version_of w c ≡ Some v → left_whole r schemas v ≡ shown_in h r.there from to c w
     shows_cell c w v same = elim (row_at c w.cells) as (λ o. option_map (version_with w c) o ≡ Some v
-        → version_left r schemas v ≡ option_map (λ row. shown_row (attrs_with h w.schema) row r.there.attrs) (option_and_then (λ row. cond (is_erased h from to c w row) None (Some row)) o)) [
+        → left_whole r schemas v ≡ option_map (λ row. shown_row (attrs_with h w.schema) row r.there.attrs) (option_and_then (λ row. cond (is_erased h from to c w row) None (Some row)) o)) [
           | None ↦ λ e. absurd (none-some v e)
-          | Some row ↦ λ e. ap (version_left r schemas) (sym (same_Some (version_with w c row) v e)) ∙ left_cell c w row same
+          | Some row ↦ λ e. ap (left_whole r schemas) (sym (same_Some (version_with w c row) v e)) ∙ left_cell c w row same
         ]
 
     -- what is newest at a coordinate of the box shows what the history shows there
-    shows : (c : List ℤ) → is_in_box sub c ≡ true → option_and_then (version_left r schemas) (newest_at got c) ≡ shown_at h r.there from to c
-    shows c inside = ap (option_and_then (version_left r schemas)) (newest_is c inside) ∙ by_write (last_write h from to c) refl
+    shows : (c : List ℤ) → is_in_box sub c ≡ true → option_and_then (left_whole r schemas) (newest_at whole c) ≡ shown_at h r.there from to c
+    shows c inside = ap (option_and_then (left_whole r schemas)) (newest_is c inside) ∙ by_write (last_write h from to c) refl
       where
         nothing_there : (w : Written) → version_of w c ≡ None → None ≡ shown_in h r.there from to c w
         nothing_there w none = by_row (row_at c w.cells) none
@@ -168,97 +159,85 @@ module _ (h : History) (from to : ℕ) (sub : SubBox) (got : List Version)
             by_row None e = refl
             by_row (Some row) e = absurd (none-some (version_with w c row) (sym e))
 
-        by_version : (w : Written) → Contains (writes h) w → is_within from to w.key ≡ true → (o : Option Version) → version_of w c ≡ o → option_and_then (version_left r schemas) o ≡ shown_in h r.there from to c w
+        by_version : (w : Written) → Contains (writes h) w → is_within from to w.key ≡ true → (o : Option Version) → version_of w c ≡ o → option_and_then (left_whole r schemas) o ≡ shown_in h r.there from to c w
         by_version w at within None none = nothing_there w none
         by_version w at within (Some v) made = shows_cell c w v (known w at within) made
 
         by_write : (o : Option Written) → last_write h from to c ≡ o
-            → option_and_then (version_left r schemas) (option_and_then (λ w. version_of w c) o) ≡ option_and_then (shown_in h r.there from to c) o
+            → option_and_then (left_whole r schemas) (option_and_then (λ w. version_of w c) o) ≡ option_and_then (shown_in h r.there from to c) o
         by_write None last = refl
         by_write (Some w) last =
             let parts = filter-Contains _ (writes h) w (greatest-Some (λ u. u.key) (filter (λ u. is_within from to u.key && has_cell c u) (writes h)) w last).member in
             by_version w parts.0 (and_parts (is_within from to w.key) (has_cell c w) parts.1).0 (version_of w c) refl
 
     -- so it is at each coordinate, if nothing is shown outside the box
-    shows_inside : (c : List ℤ) (b : Bool) → is_in_box sub c ≡ b → option_and_then (version_left r schemas) (newest_at got c) ≡ cond b (shown_at h r.there from to c) None
+    shows_inside : (c : List ℤ) (b : Bool) → is_in_box sub c ≡ b → option_and_then (left_whole r schemas) (newest_at whole c) ≡ cond b (shown_at h r.there from to c) None
     shows_inside c true inside = shows c inside
-    shows_inside c false outside = ap (option_and_then (version_left r schemas)) (none_outside c outside)
+    shows_inside c false outside = ap (option_and_then (left_whole r schemas)) (none_outside c outside)
 
-    -- so it is of what is newest in the map
-    left_there : (c : List ℤ) (b : Bool) → is_in_box sub c ≡ b → option_and_then (version_left r schemas) (map.get (newest_of got) c) ≡ cond b (shown_at h r.there from to c) None
-    left_there c b is = ap (option_and_then (version_left r schemas)) (get_newest_of got c) ∙ shows_inside c b is
+    -- the rows that are selected of cells
+    abbrev rows_of : List (List ℤ × List Val) → List (List Val)
+    rows_of cells = selected r.frame r.there.attrs r.ready cells
 
-    -- the cells that are left, as a map
-    abbrev map_left : Cells
-    map_left = left_values (slice_cmp int_cmp) coords_exact is_left shown_version (newest_of got)
+    -- outside the box of what is ready there is none
+    outside : (c : List ℤ) → is_in_box r.ready.sub c ≡ false → newest_at whole c ≡ None
+    outside c apart = none_outside c (subst (λ s. is_in_box s c ≡ false) box apart)
 
-    -- versions that are left, at their own coordinates
-    cells_are : (es : List (List ℤ × Version)) → OwnCoords es
-        → list_map (cell_shown r schemas) (filter is_left (list_map (λ e. e.1) es)) ≡ left_of (slice_cmp int_cmp) coords_exact is_left shown_version es
-    cells_are [] own = refl
-    cells_are (e ∷ es) own =
-        elim (is_left e.1) as (λ b. list_map (cell_shown r schemas) (cond b (e.1 ∷ filter is_left (list_map (λ x. x.1) es)) (filter is_left (list_map (λ x. x.1) es)))
-        ≡ cond b ((e.0, shown_version e.1) ∷ left_of (slice_cmp int_cmp) coords_exact is_left shown_version es) (left_of (slice_cmp int_cmp) coords_exact is_left shown_version es)) [
-          | true ↦ λ i. (own.0 i, shown_version e.1) ∷ cells_are es own.1 i
-          | false ↦ cells_are es own.1
-        ]
-
-    -- they are the entries of that map
-    entries_of_left : cells_left r schemas got ≡ map.entries map_left
-    entries_of_left = cells_are (map.entries (newest_of got)) (own_newest got) ∙ sym (entries_left (slice_cmp int_cmp) coords_exact is_left shown_version (newest_of got))
-
-    -- a map with the cells that a read shows has at each coordinate what the history shows
+    -- of a map that has at each coordinate what the history shows the rows are selected with which a read answers
     abbrev ShowsAll : Type 0
-    ShowsAll = (cells : Cells) × (cells_shown r schemas got ≡ map.entries cells) × ((c : List ℤ) → map.get cells c ≡ shown_inside h r.frame r.there r.ready from to c)
+    ShowsAll = (cells : Cells) × (rows_of (cells_shown r schemas got) ≡ rows_of (map.entries cells)) × ((c : List ℤ) → map.get cells c ≡ shown_inside h r.frame r.there r.ready from to c)
 
-    -- the cells that are shown of each kind of array
-    abbrev of_kind : Bool → List (List ℤ × List Val)
-    of_kind dense = cond dense (cells_filled r schemas got) (cells_left r schemas got)
+    -- the rows that are selected in each kind of array
+    abbrev of_kind : Bool → List (List Val)
+    of_kind dense = rows_of (cond dense (cells_filled r schemas got) (cells_left r schemas got))
 
     -- what is shown where no write is left, in each kind of array
     abbrev fill_of_kind : Bool → Option (List Val)
     fill_of_kind dense = cond dense (Some (fills_of r.there.attrs)) None
 
-    -- a sparse array shows what is left
-    shows_sparse : r.frame.dense ≡ false → ShowsAll
-    shows_sparse sparse = (
-      map_left,
-      ap of_kind sparse ∙ entries_of_left,
-      λ c. get_left (slice_cmp int_cmp) coords_exact is_left shown_version (newest_of got) c ∙ left_there c (is_in_box sub c) refl
-          ∙ ap (λ s. cond (is_in_box s c) (shown_at h r.there from to c) None) (sym box)
-          ∙ left_alone (is_in_box r.ready.sub c) (shown_at h r.there from to c) (unwritten r.frame r.there.attrs) (ap fill_of_kind sparse),
-    )
+    module _ (low : length r.ready.sub.low ≡ length r.frame.domain) (high : length r.ready.sub.high ≡ length r.ready.sub.low) where
+      -- a sparse array shows what is left
+      shows_sparse : r.frame.dense ≡ false → ShowsAll
+      shows_sparse sparse = (
+        whole_left r schemas got whole uses outside low high,
+        ap of_kind sparse ∙ sparse_rows r schemas got whole uses outside low high,
+        λ c. whole_at r schemas got whole uses outside low high c ∙ shows_inside c (is_in_box sub c) refl
+            ∙ ap (λ s. cond (is_in_box s c) (shown_at h r.there from to c) None) (sym box)
+            ∙ left_alone (is_in_box r.ready.sub c) (shown_at h r.there from to c) (unwritten r.frame r.there.attrs) (ap fill_of_kind sparse),
+      )
 
-    -- a dense array shows that, or else the fill, at each coordinate of the box
-    shows_dense : r.frame.dense ≡ true → length r.ready.sub.high ≡ length r.ready.sub.low → ShowsAll
-    shows_dense dense long = (
-      box_map r.ready.sub.low r.ready.sub.high long row_there,
-      ap of_kind dense ∙ sym (entries_box r.ready.sub.low r.ready.sub.high long row_there),
-      λ c. get_box r.ready.sub.low r.ready.sub.high long row_there c ∙ each c (is_in_box r.ready.sub c) refl,
-    )
-      where
-        row_there : List ℤ → List Val
-        row_there = λ c. row_or_fill r schemas (map.get (newest_of got) c)
+      -- a dense array shows that, or else the fill, at each coordinate of the box
+      shows_dense : r.frame.dense ≡ true → ShowsAll
+      shows_dense dense = (
+        box_map r.ready.sub.low r.ready.sub.high high row_there,
+        ap of_kind dense ∙ dense_rows r schemas got whole uses outside low high ∙ ap rows_of (sym (entries_box r.ready.sub.low r.ready.sub.high high row_there)),
+        λ c. get_box r.ready.sub.low r.ready.sub.high high row_there c ∙ each c (is_in_box r.ready.sub c) refl,
+      )
+        where
+          row_there : List ℤ → List Val
+          row_there = λ c. whole_or_fill r schemas (newest_at whole c)
 
-        each : (c : List ℤ) (t : Bool) → is_in_box r.ready.sub c ≡ t → cond t (Some (row_there c)) None ≡ cond t (option_or (shown_at h r.there from to c) (unwritten r.frame r.there.attrs)) None
-        each c true inside =
-            or_fill (option_and_then (version_left r schemas) (map.get (newest_of got) c)) (fills_of r.there.attrs)
-            ∙ ap (λ o. option_or o (Some (fills_of r.there.attrs))) (left_there c true (subst (λ s. is_in_box s c ≡ true) box inside))
-            ∙ ap (option_or (shown_at h r.there from to c)) (sym (ap fill_of_kind dense))
-        each c false outside = refl
+          each : (c : List ℤ) (t : Bool) → is_in_box r.ready.sub c ≡ t → cond t (Some (row_there c)) None ≡ cond t (option_or (shown_at h r.there from to c) (unwritten r.frame r.there.attrs)) None
+          each c true inside =
+              or_fill (option_and_then (left_whole r schemas) (newest_at whole c)) (fills_of r.there.attrs)
+              ∙ ap (λ o. option_or o (Some (fills_of r.there.attrs))) (shows_inside c true (subst (λ s. is_in_box s c ≡ true) box inside))
+              ∙ ap (option_or (shown_at h r.there from to c)) (sym (ap fill_of_kind dense))
+          each c false apart = refl
 
-    -- so each array shows what its history shows
-    shows_all : (dense : Bool) → r.frame.dense ≡ dense → length r.ready.sub.high ≡ length r.ready.sub.low → ShowsAll
-    shows_all true dense long = shows_dense dense long
-    shows_all false sparse long = shows_sparse sparse
+      -- so each array shows what its history shows
+      shows_all : (dense : Bool) → r.frame.dense ≡ dense → ShowsAll
+      shows_all true dense = shows_dense dense
+      shows_all false sparse = shows_sparse sparse
 
     -- the answer of a read that got these versions is that of the history
     answer_is : (later : History) (query : Query) → frame_in later ≡ Some r.frame → schema_there later to ≡ Some r.there → ready_in r.frame (r.there).attrs query ≡ Ok r.ready
         → IsAnswer h later from to query (answer_of r schemas got)
     answer_is later query framed there is_ready =
         let dims = r.frame.domain in
-        let long = subst (λ (s : SubBox). length s.high ≡ length s.low) (sym (ready_box r.frame r.there.attrs query r.ready is_ready)) (length-map dims (high_of query.sub) ∙ sym (length-map dims (low_of query.sub))) in
-        let found = shows_all r.frame.dense refl long in
+        let asked = sym (ready_box r.frame r.there.attrs query r.ready is_ready) in
+        let low = subst (λ (s : SubBox). length s.low ≡ length dims) asked (length-map dims (low_of query.sub)) in
+        let high = subst (λ (s : SubBox). length s.high ≡ length s.low) asked (length-map dims (high_of query.sub) ∙ sym (length-map dims (low_of query.sub))) in
+        let found = shows_all low high r.frame.dense refl in
         record {
           frame = r.frame;
           framed = framed;
@@ -268,20 +247,21 @@ module _ (h : History) (from to : ℕ) (sub : SubBox) (got : List Version)
           is_ready = is_ready;
           cells = found.0;
           each = found.2;
-          rows = ap (selected r.frame r.there.attrs r.ready) found.1;
+          rows = found.1;
           types = refl;
         }
 
 -- a read that got what it wants of fragments answers by the history without its clipped writes, where just the writes in the interval that are not clipped went into these
 module _ (h : History) (from to : ℕ) (heads loads : List Head) (loaded_is : (k : Key) → is_within from to k ≡ true → list_any (has_origin k) loads ≡ not (is_clipped from to heads k))
-    (sub : SubBox) (got : List Version) (are : AreGot h from to sub loads got) (r : Reading) (schemas : List Schema) (box : (r.ready).sub ≡ sub)
+    (sub : SubBox) (whole : List Version) (are : AreGot h from to sub loads whole) (r : Reading) (schemas : List Schema) (got : List Version)
+    (uses : (c : List ℤ) → newest_at got c ≡ option_map (used_version r schemas) (newest_at whole c)) (box : (r.ready).sub ≡ sub)
     (known : (w : Written) → Contains (writes h) w → is_within from to w.key ≡ true → is_clipped from to heads w.key ≡ false → known_attrs r schemas w.schema ≡ attrs_with h w.schema)
     (deleted_in : (x : Deletion) → Contains r.deletions x → Contains (deletions h) x × (is_within from to x.key ≡ true))
     (all_deletions : (x : Deletion) → Contains (deletions h) x → is_within from to x.key ≡ true → Contains r.deletions x) where
   pub answer_left : (later : History) (query : Query) → frame_in later ≡ Some r.frame → schema_there later to ≡ Some r.there → ready_in r.frame (r.there).attrs query ≡ Ok r.ready
       → IsAnswer (without_clipped from to heads h) later from to query (answer_of r schemas got)
   answer_left =
-      answer_is (without_clipped from to heads h) from to sub got (λ c inside. are.inside c inside ∙ last_is_left from to heads loads loaded_is c h) are.outside r schemas box known_left
+      answer_is (without_clipped from to heads h) from to sub whole (λ c inside. are.inside c inside ∙ last_is_left from to heads loads loaded_is c h) are.outside r schemas got uses box known_left
       (λ x at. let is = deleted_in x at in (subst (λ xs. Contains xs x) (sym (same_deletions from to heads h)) is.0, is.1))
       (λ x at within. all_deletions x (subst (λ xs. Contains xs x) (same_deletions from to heads h) at) within)
     where

@@ -25,7 +25,7 @@ use Rattle.ts_law.specs.Ends.{AreInside, FindsNoArray, FindsNothing, HasDeclared
 use Rattle.ts_model.specs.Codecs.{Codec, Spelled, Tracking}
 use Rattle.ts_law.specs.Fresh.{IsHeldId, IsNewId, IsSpent, id_in}
 use Rattle.ts_model.specs.Jobs.{AreApart, IsFit, deletion_as, job_with, key_of, looked_at, written_as}
-use Rattle.ts_law.specs.Kept.{Aims, AimsToMerge, AreDeletions, AreGot, AreOpen, AreSchemas, AreSourcesIn, ChoosesFrom, Chooses, Claims, Clean, AreChosen, GettingDeletes, GettingVacs, Fetching, Gathering, HasListed, HasLooked, HasSources, IsFetched, IsOfJobs, Kept, Learns, LooksInto, MergeClaims, Merges, OnWay, Opening, Opens, Putting, ReadsAt, ReadsIn, Since, StageClaims, Surveys, SweepClaims, Unlocking, Works}
+use Rattle.ts_law.specs.Kept.{Aims, AimsToMerge, AreDeletions, GotUsed, AreOpen, AreSchemas, AreSourcesIn, ChoosesFrom, Chooses, Claims, Clean, AreChosen, GettingDeletes, GettingVacs, Fetching, Gathering, HasListed, HasLooked, HasSources, IsFetched, IsOfJobs, Kept, Learns, LooksInto, MergeClaims, Merges, OnWay, Opening, Opens, Putting, ReadsAt, ReadsIn, Since, StageClaims, Surveys, SweepClaims, Unlocking, Works}
 use Rattle.ts_law.specs.Stands.{HoldsIn, Stands}
 use Rattle.ts_law.specs.Removals.{AreCoveredOutside}
 use Rattle.ts_law.specs.Sweeps.{GetsNames, ListsAll, SweepsFrom, Vacuuming}
@@ -352,7 +352,7 @@ module _ (jobs : List Job) (job : Job) where
     fetching_more r opened schemas next got is = record {
       deletes_found = getting_deletes_more r opened schemas is.deletes_found;
       all_deletes = is.all_deletes;
-      found = subst (λ g. AreGot g r.from r.to (r.ready).sub (heads_of (take next opened)) got) (listed_more Commits ((((((is.deletes_found).gathers)).reads).at).listed).since.commits) is.found;
+      found = subst (λ g. GotUsed g r schemas (heads_of (take next opened)) got) (listed_more Commits ((((((is.deletes_found).gathers)).reads).at).listed).since.commits) is.found;
     }
 
     -- ---- consolidations

@@ -1,5 +1,5 @@
 -- What a fetch takes of a piece: its versions in the interval and in the box, each with its whole row; the newest of a coordinate is that of the last origin there.
-use Rattle.std.proofs.Common.{◌≡◌, ℕ, suc, zero, ℤ, Bool, true, false, cond, ◌&&◌, List, [], ◌∷◌, ◌++◌, Option, Some, None, length, refl, sym, ◌∙◌, ap, subst}
+use Rattle.std.proofs.Common.{◌≡◌, ℕ, suc, zero, ℤ, Bool, true, false, cond, ◌&&◌, List, [], ◌∷◌, ◌++◌, Option, Some, None, length, refl, sym, ◌∙◌, ap, subst, arith}
 use Rattle.std.specs.Prelude.{Contains, All, filter, find, option_map, map as list_map}
 use Rattle.std.proofs.lemmas.Bool.{and_parts, and_from}
 use Rattle.std.proofs.lemmas.List.Elements.{All-contains}
@@ -9,7 +9,7 @@ use Rattle.ts_base.specs.declared.heads.Cell.{Cell}
 use Rattle.ts_base.specs.declared.heads.Piece.{Piece}
 use Rattle.ts_base.specs.declared.heads.Version.{Version}
 use Rattle.ts_base.specs.declared.values.Val.{Val}
-use Rattle.ts_base.specs.Keys.{key_eq, is_within}
+use Rattle.ts_base.specs.Keys.{key_eq, key_lt, greater, greatest, is_within}
 use Rattle.ts_base.specs.Coords.{coords_eq}
 use Rattle.ts_domain.specs.Boxes.{is_in_box}
 use Rattle.ts_schema.specs.declared.attrs.Attr.{Attr}
@@ -24,12 +24,15 @@ use Rattle.ts_model.specs.declared.deeds.Deed.TheVariants.{Wrote}
 use Rattle.ts_model.specs.Deeds.{History, IsHistory, row_at, RowFits, CellFits, frame_in, schema_with, writes}
 use Rattle.ts_model.specs.Pieces.{version_at, version_of}
 use Rattle.ts_model.specs.Queries.{places_from}
-use Rattle.ts_model.specs.States.{wanted}
+use Rattle.ts_model.specs.declared.states.Reading.{Reading}
+use Rattle.ts_model.specs.States.{known_attrs, want_of, wanted}
+use Rattle.ts_model.specs.Used.{places_used, used_row, uses_name}
+use Rattle.ts_law.specs.Kept.{used_version}
 use Rattle.ts_law.specs.Origins.{origins_of, last_of, last_version, newest_at, HoldsWrites}
 use Rattle.ts_model.proofs.ListLemmas.{Contains-here, Contains-there, filter-Contains, find-filter}
 use Rattle.ts_model.proofs.KeyLemmas.{key_same}
 use Rattle.ts_model.proofs.HistoryLaws.{one_write, write_follows, frame_in-append, schema_with-append}
-use Rattle.ts_model.proofs.Newest.{coords_same}
+use Rattle.ts_model.proofs.Newest.{coords_same, version_key}
 use Rattle.ts_law.proofs.NewestBy.{key_of_version, last_is, newest_by, newest_is_at}
 use Rattle.ts_law.proofs.OriginLaws.{kept_of-is, key_there, reads_own, reads_last}
 
@@ -82,18 +85,69 @@ find_both p q t (x ∷ xs) same = by_tests (find_both p q t xs same) (p x) refl
 
 -- ---- what is taken
 
--- a version is taken where its key lies in the interval and its coordinates in the box
-version_taken : (want : Want) (vs : List Version) (k : Key) (c : List ℤ)
-    → version_at (taken want vs) k c ≡ option_map (cut want) (cond (is_within want.a want.b k && is_in_box want.sub c) (version_at vs k c) None)
-version_taken want vs k c =
-    find-map (λ v. key_eq v.key k && coords_eq v.coords c) (cut want) (filter (is_wanted want) vs)
-    ∙ ap (option_map (cut want)) (find-filter (λ v. key_eq v.key k && coords_eq v.coords c) (is_wanted want) vs
-    ∙ find_both (λ v. key_eq v.key k && coords_eq v.coords c) (is_wanted want) (is_within want.a want.b k && is_in_box want.sub c) vs same)
+-- a version is wanted where its key lies in the interval and its coordinates in the box
+version_wanted : (want : Want) (vs : List Version) (k : Key) (c : List ℤ) → version_at (filter (is_wanted want) vs) k c ≡ cond (is_within want.a want.b k && is_in_box want.sub c) (version_at vs k c) None
+version_wanted want vs k c =
+    find-filter (λ v. key_eq v.key k && coords_eq v.coords c) (is_wanted want) vs ∙ find_both (λ v. key_eq v.key k && coords_eq v.coords c) (is_wanted want) (is_within want.a want.b k && is_in_box want.sub c) vs same
   where
     same : (v : Version) → (key_eq v.key k && coords_eq v.coords c) ≡ true → is_wanted want v ≡ (is_within want.a want.b k && is_in_box want.sub c)
     same v passes =
         let parts = and_parts (key_eq v.key k) (coords_eq v.coords c) passes in
         λ i. is_within want.a want.b (key_same v.key k parts.0 i) && is_in_box want.sub (coords_same v.coords c parts.1 i)
+
+-- so it is taken there
+version_taken : (want : Want) (vs : List Version) (k : Key) (c : List ℤ)
+    → version_at (taken want vs) k c ≡ option_map (cut want) (cond (is_within want.a want.b k && is_in_box want.sub c) (version_at vs k c) None)
+version_taken want vs k c =
+    find-map (λ v. key_eq v.key k && coords_eq v.coords c) (cut want) (filter (is_wanted want) vs) ∙ ap (option_map (cut want)) (version_wanted want vs k c)
+
+-- the coordinates of versions that are cut are theirs
+coords_cut : (want : Want) (vs : List Version) (c : List ℤ) → filter (λ v. coords_eq v.coords c) (list_map (cut want) vs) ≡ list_map (cut want) (filter (λ v. coords_eq v.coords c) vs)
+coords_cut want [] c = refl
+coords_cut want (v ∷ vs) c =
+    ap (λ l. cond (coords_eq v.coords c) (cut want v ∷ l) l) (coords_cut want vs c)
+    ∙ elim (coords_eq v.coords c) as (λ t. cond t (cut want v ∷ list_map (cut want) (filter (λ v. coords_eq v.coords c) vs)) (list_map (cut want) (filter (λ v. coords_eq v.coords c) vs))
+    ≡ list_map (cut want) (cond t (v ∷ filter (λ v. coords_eq v.coords c) vs) (filter (λ v. coords_eq v.coords c) vs))) [ true ↦ refl | false ↦ refl ]
+
+-- of two versions that are cut the same one is newer
+newer_cut : (want : Want) (a b : Option Version) → greater version_key (option_map (cut want) a) (option_map (cut want) b) ≡ option_map (cut want) (greater version_key a b)
+newer_cut want None b = refl
+newer_cut want (Some v) None = refl
+newer_cut want (Some v) (Some w) = elim (key_lt v.key w.key) as (λ t. Some (cond t (cut want w) (cut want v)) ≡ option_map (cut want) (Some (cond t w v))) [ true ↦ refl | false ↦ refl ]
+
+-- so is the same one the greatest
+greatest_cut : (want : Want) (vs : List Version) → greatest version_key (list_map (cut want) vs) ≡ option_map (cut want) (greatest version_key vs)
+greatest_cut want [] = refl
+greatest_cut want (v ∷ vs) = ap (greater version_key (Some (cut want v))) (greatest_cut want vs) ∙ newer_cut want (Some v) (greatest version_key vs)
+
+-- and the newest at a coordinate
+newest_cut : (want : Want) (vs : List Version) (c : List ℤ) → newest_at (list_map (cut want) vs) c ≡ option_map (cut want) (newest_at vs c)
+newest_cut want vs c = ap (greatest version_key) (coords_cut want vs c) ∙ greatest_cut want (filter (λ v. coords_eq v.coords c) vs)
+
+-- ---- the values that are used
+
+module _ (r : Reading) where
+  -- the values behind the first one stand one place further
+  used_further : (x : Val) (row : List Val) (attrs : List Attr) (first : ℕ) → list_map (value_of (x ∷ row)) (places_used r (suc first) attrs) ≡ list_map (value_of row) (places_used r first attrs)
+  used_further x row [] first = refl
+  used_further x row (a ∷ attrs) first =
+      by_use (used_further x row attrs (suc first)) (uses_name r a.name)
+    where
+      by_use : list_map (value_of (x ∷ row)) (places_used r (suc (suc first)) attrs) ≡ list_map (value_of row) (places_used r (suc first) attrs) → (u : Bool)
+          → list_map (value_of (x ∷ row)) (cond u (suc first ∷ places_used r (suc (suc first)) attrs) (places_used r (suc (suc first)) attrs)) ≡ list_map (value_of row) (cond u (first ∷ places_used r (suc first) attrs) (places_used r (suc first) attrs))
+      by_use rest true = ap (λ vs. value_of row first ∷ vs) rest
+      by_use rest false = rest
+
+  -- the values at the places that are used are those that are used
+  at_used : (attrs : List Attr) (row : List Val) → length attrs ≡ length row → cut_row (places_used r 0 attrs) row ≡ used_row r attrs row
+  at_used [] row long = refl
+  at_used (a ∷ attrs) [] long = absurd (omega (arith, long))
+  at_used (a ∷ attrs) (v ∷ row) long = by_use (used_further v row attrs 0 ∙ at_used attrs row (omega (arith, long))) (uses_name r a.name)
+    where
+      by_use : list_map (value_of (v ∷ row)) (places_used r 1 attrs) ≡ used_row r attrs row → (u : Bool)
+          → list_map (value_of (v ∷ row)) (cond u (0 ∷ places_used r 1 attrs) (places_used r 1 attrs)) ≡ cond u (v ∷ used_row r attrs row) (used_row r attrs row)
+      by_use rest true = ap (λ vs. v ∷ vs) rest
+      by_use rest false = rest
 
 -- the cell of a row
 cell_of_row : (c : List ℤ) (cells : List Cell) (row : List Val) → row_at c cells ≡ Some row → (cell : Cell) × Contains cells cell × (cell.coords ≡ c) × (cell.row ≡ row)
@@ -128,15 +182,21 @@ module _ (h : History) (is : IsHistory h) (frame : Frame) (framed : frame_in h �
   abbrev want : Want
   want = wanted sub a b s.attrs
 
-  -- a version of the piece is left whole
-  whole_version : (k : Key) (c : List ℤ) (v : Version) → version_at p.versions k c ≡ Some v → cut want v ≡ v
-  whole_version k c v found =
+  -- a version of the piece is that of a write in its schema, whose cells fit
+  written_at : (k : Key) (c : List ℤ) (v : Version) → version_at p.versions k c ≡ Some v → (w : Written) × (w.schema ≡ p.head.schema) × All (CellFits frame.domain s.attrs) w.cells × (version_of w c ≡ Some v)
+  written_at k c v found =
       let of = kept_of-is (keeps_last p.head) (origins_of h p.head) k c v (sym (holds.versions k c) ∙ found) in
       let w = of.0 in
       let at = filter-Contains (λ u. has_origin u.key p.head) (writes h) w of.1 in
       let own = holds.origins w.key (key_there w.key p.head.origins at.1) in
       let schema : w.schema ≡ p.head.schema = ap (λ (u : Written). u.schema) (sym (one_write h own.0 w is own.1 at.0 own.2)) ∙ own.3 in
-      by_row w (cells_fit h w frame s is at.0 framed (ap (schema_with h) schema ∙ declared)) (row_at c w.cells) refl of.2
+      (w, schema, cells_fit h w frame s is at.0 framed (ap (schema_with h) schema ∙ declared), of.2)
+
+  -- a version of the piece is left whole
+  whole_version : (k : Key) (c : List ℤ) (v : Version) → version_at p.versions k c ≡ Some v → cut want v ≡ v
+  whole_version k c v found =
+      let of = written_at k c v found in
+      by_row of.0 of.2 (row_at c of.0.cells) refl of.3
     where
       by_row : (w : Written) → All (CellFits frame.domain s.attrs) w.cells → (o : Option (List Val)) → row_at c w.cells ≡ o → option_map (made w c) o ≡ Some v → cut want v ≡ v
       by_row w fit None there is_made = absurd (none-some v is_made)
@@ -194,3 +254,42 @@ module _ (h : History) (is : IsHistory h) (frame : Frame) (framed : frame_in h �
 
     pub newest_taken : newest_at (taken want p.versions) c ≡ last_version wrote c
     newest_taken = newest_by (taken want p.versions) wrote c of_write has_last
+
+-- ---- what a read takes
+
+module _ (h : History) (is : IsHistory h) (frame : Frame) (framed : frame_in h ≡ Some frame) (s : Schema) (p : Piece) (declared : schema_with h p.head.schema ≡ Some s) (holds : HoldsWrites h p)
+    (r : Reading) (schemas : List Schema) (known : known_attrs r schemas p.head.schema ≡ s.attrs) where
+  -- the versions that it wants, with all their values
+  abbrev all : Want
+  all = wanted r.ready.sub r.from r.to s.attrs
+
+  -- a version of the piece has the values that the read wants where it has those that it uses
+  used_cut : (k : Key) (c : List ℤ) (v : Version) → version_at p.versions k c ≡ Some v → cut (want_of r s.attrs) v ≡ used_version r schemas v
+  used_cut k c v found =
+      let of = written_at h is frame framed s p declared holds r.ready.sub r.from r.to k c v found in
+      by_row of.0 of.1 of.2 (row_at c of.0.cells) refl of.3
+    where
+      by_row : (w : Written) → w.schema ≡ p.head.schema → All (CellFits frame.domain s.attrs) w.cells → (o : Option (List Val)) → row_at c w.cells ≡ o → option_map (made w c) o ≡ Some v → cut (want_of r s.attrs) v ≡ used_version r schemas v
+      by_row w schema fit None there is_made = absurd (none-some v is_made)
+      by_row w schema fit (Some row) there is_made =
+          let cell = cell_of_row c w.cells row there in
+          let fits = All-contains (CellFits frame.domain s.attrs) w.cells cell.0 fit cell.1 in
+          let attrs : known_attrs r schemas w.schema ≡ s.attrs = ap (known_attrs r schemas) schema ∙ known in
+          let same : cut (want_of r s.attrs) (made w c row) ≡ used_version r schemas (made w c row) =
+          ap (made w c) (at_used r s.attrs row (fits_long s.attrs row (subst (RowFits s.attrs) cell.3 fits.row)) ∙ ap (λ l. used_row r l row) (sym attrs)) in
+          subst (λ x. cut (want_of r s.attrs) x ≡ used_version r schemas x) (same_Some (made w c row) v is_made) same
+
+  -- so it takes of the newest version what it uses
+  pub newest_used : (c : List ℤ) → newest_at (taken (want_of r s.attrs) p.versions) c ≡ option_map (used_version r schemas) (newest_at (taken all p.versions) c)
+  newest_used c =
+      newest_cut (want_of r s.attrs) (filter (is_wanted all) p.versions) c ∙ by (newest_at (filter (is_wanted all) p.versions) c) refl ∙ ap (option_map (used_version r schemas)) (sym (newest_cut all (filter (is_wanted all) p.versions) c))
+    where
+      there : (v : Version) (t : Bool) → cond t (version_at p.versions v.key c) None ≡ Some v → version_at p.versions v.key c ≡ Some v
+      there v true e = e
+      there v false e = absurd (none-some v e)
+
+      by : (o : Option Version) → newest_at (filter (is_wanted all) p.versions) c ≡ o → option_map (cut (want_of r s.attrs)) o ≡ option_map (used_version r schemas) (option_map (cut all) o)
+      by None newest = refl
+      by (Some v) newest =
+          let at = there v (is_within r.from r.to v.key && is_in_box r.ready.sub c) (sym (version_wanted all p.versions v.key c) ∙ newest_is_at (filter (is_wanted all) p.versions) c v newest) in
+          ap Some (used_cut v.key c v at ∙ ap (used_version r schemas) (sym (whole_version h is frame framed s p declared holds r.ready.sub r.from r.to v.key c v at)))

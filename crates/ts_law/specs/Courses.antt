@@ -26,15 +26,17 @@ use Rattle.ts_schema.specs.FrameTexts.{frame_of}
 use Rattle.ts_schema.specs.SchemaTexts.{schema_of}
 use Rattle.ts_model.specs.declared.commands.Command.TheVariants.{Create, Evolve, Write, Read, Delete, Consolidate, Vacuum, Unlock, Fragments}
 use Rattle.ts_model.specs.Stops.{cuts, Uncut}
+use Rattle.ts_model.specs.declared.deeds.Deletion.{Deletion}
 use Rattle.ts_model.specs.declared.states.Opened.{Opened}
-use Rattle.ts_model.specs.States.{frags_of, heads_of, opened_among, schemas_in, place_of, get_all, put_of, frame_put, schema_object_of, write_objects, is_own_frame, get_frame, list_schemas, list_commits, list_leases, list_parts, leases_unlocked, names_removed, get_schema, get_delete, get_vac, counting_in, committed_in, deletes_in, meets, delete_object_of, wanted, all_of, merge_objects, Exchange}
+use Rattle.ts_model.specs.declared.states.Reading.{Reading}
+use Rattle.ts_model.specs.States.{frags_of, heads_of, opened_among, schemas_in, place_of, get_all, put_of, frame_put, schema_object_of, write_objects, is_own_frame, get_frame, list_schemas, list_commits, list_leases, list_parts, leases_unlocked, names_removed, get_schema, get_delete, get_vac, counting_in, committed_in, deletes_in, meets, delete_object_of, deletion_named, want_of, all_of, merge_objects, Exchange}
 use Rattle.ts_model.specs.Stages.{lease_of, put_lease, released}
 use Rattle.ts_lease.specs.Leases.{verdict_in}
 use Rattle.ts_lease.specs.declared.verdicts.Verdict.TheVariants.{Held}
 use Rattle.ts_model.specs.Codecs.{Codec, Asks, Breaks, Takes, is_look}
 use Rattle.ts_model.specs.Jobs.{key_of, frag_of_job, refused_before, looked_at}
 use Rattle.ts_model.specs.Commands.{laid}
-use Rattle.ts_model.specs.Queries.{box_of, delete_condition}
+use Rattle.ts_model.specs.Queries.{delete_condition, ready_in}
 use Rattle.ts_cond.specs.CondTexts.{cond_of}
 use Rattle.ts_cond.specs.Tests.{Condition}
 use Rattle.ts_cond.specs.declared.query.Query.{Query}
@@ -187,15 +189,34 @@ AreFound job found trace = All (λ x. SaysThere found job.command x.call x.reply
 
 -- ---- the fetches of a job
 
--- what a read wants of a fragment whose attributes are those of a schema, in the array that it found
-abbrev pub wanted_in : Found → ℕ → ℕ → Query → Schema → Want
-wanted_in found from to query s = wanted (box_of query.sub (found.frame).domain) from to s.attrs
+-- a read was told the condition of the delete under a name
+abbrev pub GotDelete : List Exchange → FragKey → Deletion → Type 0
+GotDelete trace f e = (bytes : List ℕ) × (condition : Condition) × Contains trace (record { call = get_delete f; reply = reply.Bytes bytes }) × (cond_of bytes ≡ Ok condition) × (e ≡ deletion_named f condition)
 
--- what a command wants of a fragment in a schema: a read what it asks for, a consolidation all
-abbrev pub wants_of : Found → Command → Schema → Option Want
-wants_of found (Read from to query) s = Some (wanted_in found from to query s)
-wants_of found (Consolidate from to limits) s = Some (all_of found.frame s.attrs)
-wants_of found _ s = None
+-- these are the deletes under these names, in order, as a read was told them
+abbrev pub AreDeletesOf : List Exchange → List FragKey → List Deletion → Type 0
+AreDeletesOf trace [] [] = ⊤
+AreDeletesOf trace (f ∷ names) (e ∷ erased) = GotDelete trace f e × AreDeletesOf trace names erased
+AreDeletesOf trace _ _ = ⊥
+
+-- a read of a query over an interval, in the array that it found, that has all deletes that it listed in the interval
+pub record ReadsBy (found : Found) (trace : List Exchange) (from to : ℕ) (query : Query) (r : Reading) : Type 0 where
+  pub from_is : r.from ≡ from
+  pub to_is : r.to ≡ to
+  pub frame_is : r.frame ≡ found.frame
+  pub there_is : r.there ≡ found.there
+  pub is_ready : ready_in found.frame (found.there).attrs query ≡ Ok r.ready
+  -- it listed these with the commits
+  pub names : List Name
+  pub listed : Contains trace (record { call = list_commits; reply = reply.Names names })
+  -- its deletes are those of them in the interval
+  pub deletes : AreDeletesOf trace (filter (meets from to) (deletes_in names)) r.deletions
+
+-- what a command wants of a fragment in a schema: a read the values that it uses of the cells that it asks for, a consolidation all
+abbrev pub IsWantOf : Found → List Exchange → Command → Schema → Want → Type 0
+IsWantOf found trace (Read from to query) s want = (r : Reading) × ReadsBy found trace from to query r × (want ≡ want_of r s.attrs)
+IsWantOf found trace (Consolidate from to limits) s want = want ≡ all_of found.frame s.attrs
+IsWantOf found trace _ s want = ⊥
 
 -- a job got the head of a fragment in an array of the frame that it found
 abbrev pub GotHead : {F : Type 0} → Codec F → Found → List Exchange → FragKey → Head → Type 0
@@ -217,7 +238,7 @@ pub record IsOpened {F : Type 0} (codec : Codec F) (job : Job) (found : Found) (
   pub schema_got : GotSchema trace schema
   pub named : IsNamedFor codec found trace job.command head schema
   pub want : Want
-  pub wants : wants_of found job.command schema ≡ Some want
+  pub wants : IsWantOf found trace job.command schema want
   pub opens : codec.opens found.frame schema frag object want ≡ opening
 
 -- a fetch that waited for the reply to a call came by these replies, each to the call that it asked for, to wait for the reply to another

@@ -1,5 +1,5 @@
 -- What every call of a job keeps: the objects stand for the history, and what each job found so far is true of both.
-use Rattle.std.specs.Prelude.{◌≡◌, ℕ, ℤ, ◌<◌, ◌≤◌, true, false, List, [], ◌∷◌, ◌++◌, Some, None, length, slice_get, Ok, IsSome, All, Contains, ⊤, ◌⊎◌, take, filter, map as list_map}
+use Rattle.std.specs.Prelude.{◌≡◌, ℕ, ℤ, ◌<◌, ◌≤◌, true, false, List, [], ◌∷◌, ◌++◌, Some, None, length, slice_get, Ok, IsSome, All, Contains, ⊤, ◌⊎◌, take, filter, option_map, map as list_map}
 use Rattle.ts_base.specs.declared.keys.Key.{Key}
 use Rattle.ts_base.specs.declared.keys.FragKey.{FragKey}
 use Rattle.ts_base.specs.declared.names.Name.{Name}
@@ -61,8 +61,9 @@ use Rattle.ts_cond.specs.Tests.{Condition}
 use Rattle.ts_domain.specs.declared.boxes.SubBox.{SubBox}
 use Rattle.ts_domain.specs.Boxes.{is_in_box}
 use Rattle.ts_model.specs.Queries.{ready_in, delete_condition}
+use Rattle.ts_model.specs.Used.{used_row}
 use Rattle.ts_model.specs.Driven.{MayAsk}
-use Rattle.ts_model.specs.States.{delete_object_of, schema_object_of, write_objects, keys_named, want_of, begun, committed_in, counting_in, deletes_in, heads_of, meets, vac_of, all_of, frags_of, schemas_named, piece_merged, can_be_named, merge_objects}
+use Rattle.ts_model.specs.States.{delete_object_of, schema_object_of, write_objects, keys_named, known_attrs, want_of, begun, committed_in, counting_in, deletes_in, heads_of, meets, vac_of, all_of, frags_of, schemas_named, piece_merged, can_be_named, merge_objects}
 use Rattle.ts_model.specs.Stages.{lease_of, stage_of}
 use Rattle.ts_model.specs.Codecs.{Codec, Spelled, Tracking}
 use Rattle.ts_model.specs.Jobs.{key_of, frag_of_job, AreFit, AreApart, looked_at, job_with}
@@ -160,12 +161,23 @@ pub record AreSchemas (h : History) (keys : List Key) (schemas : List Schema) : 
   pub keys_are : list_map (λ s. s.key) schemas ≡ take (length schemas) keys
   pub each : (s : Schema) → Contains schemas s → schema_with h s.key ≡ Some s
 
--- what is wanted of the fragments with these heads was got
+-- a version with the values alone that a read uses
+abbrev pub used_version : Reading → List Schema → Version → Version
+used_version r schemas v = record { key = v.key; schema = v.schema; coords = v.coords; row = used_row r (known_attrs r schemas v.schema) v.row }
+
+-- these are the whole versions of which a read in a box and an interval gets its part, in the fragments with these heads
 pub record AreGot (g : History) (from to : ℕ) (sub : SubBox) (heads : List Head) (got : List Version) : Type 0 where
   -- at each coordinate of the box the newest version is that of the last write in the interval that went into one of them
   pub inside : (c : List ℤ) → is_in_box sub c ≡ true → newest_at got c ≡ last_version (wrote_in g from to heads) c
   -- elsewhere there is none
   pub outside : (c : List ℤ) → is_in_box sub c ≡ false → newest_at got c ≡ None
+
+-- of the whole versions a read got what it uses
+pub record GotUsed (g : History) (r : Reading) (schemas : List Schema) (heads : List Head) (got : List Version) : Type 0 where
+  pub whole : List Version
+  pub are : AreGot g r.from r.to r.ready.sub heads whole
+  -- at each coordinate it got the newest one, with the values that it uses
+  pub uses : (c : List ℤ) → newest_at got c ≡ option_map (used_version r schemas) (newest_at whole c)
 
 -- the deletes that a read got are those under the first of these names, and each is a deed
 pub record AreDeletions (h : History) (delete_names : List FragKey) (erased : List Deletion) : Type 0 where
@@ -199,7 +211,7 @@ pub record GettingDeletes {F : Type 0} (codec : Codec F) (spelled : Spelled) (op
 pub record Fetching {F : Type 0} (codec : Codec F) (spelled : Spelled) (opening : Held) (past : History) (jobs : List Job) (seen : List Told) (m : Held) (number : ℕ) (job : Job) (r : Reading) (opened : List Opened) (schemas : List Schema) (next : ℕ) (got : List Version) : Type 0 where
   pub deletes_found : GettingDeletes codec spelled opening past jobs seen m number job r opened schemas
   pub all_deletes : length r.deletions ≡ length r.delete_names
-  pub found : AreGot (history_told jobs past ((((((deletes_found.gathers)).reads).at).listed).since.commits).before) r.from r.to (r.ready).sub (heads_of (take next opened)) got
+  pub found : GotUsed (history_told jobs past ((((((deletes_found.gathers)).reads).at).listed).since.commits).before) r schemas (heads_of (take next opened)) got
 
 -- the fetch of a fragment, which the read can use, has come so far on its parts
 pub record OnWay {F : Type 0} (spelled : Spelled) (tracks : Tracking F) (g : History) (m : Held) (r : Reading) (frag : FragKey) (fetch : F) (c : Call) : Type 0 where

@@ -17,3 +17,4 @@ pub mod Changes
 pub mod Kept
 pub mod Shared
 pub mod Steps
+pub mod Bounds

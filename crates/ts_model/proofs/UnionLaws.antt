@@ -83,7 +83,7 @@ put_all {R = R} exact Q k v (e ∷ es) all new =
     ] refl
 
 -- the map of nothing has no entry
-entries_empty : {K X : Type 0} (R : K → K → Ordering) → map.entries (map.empty {X = X} {R = R}) ≡ []
+pub entries_empty : {K X : Type 0} (R : K → K → Ordering) → map.entries (map.empty {X = X} {R = R}) ≡ []
 entries_empty {X = X} R = nil_from_length (map.entries (map.empty {R = R})) (sym (map.len-entries (map.empty {R = R})) ∙ map.len-empty R X)
 
 -- what holds of each entry of a list holds of each entry of its map

@@ -9,6 +9,8 @@ pub mod Queries
 pub mod Places
 pub mod Selections
 pub mod Codecs
+pub mod Used
+pub mod Gets
 pub mod States
 pub mod Stages
 pub mod Stops

@@ -74,6 +74,7 @@ use Rattle.ts_model.specs.Deeds.{schemas, keys}
 use Rattle.ts_model.specs.Answers.{fills_of}
 use Rattle.ts_model.specs.Commands.{frame_made, laid, piece_of}
 use Rattle.ts_model.specs.Queries.{attr_fields, places_from, delete_condition, ready_in, selected, types_shown}
+use Rattle.ts_model.specs.Used.{used_attrs, places_used}
 use Rattle.ts_base.specs.declared.names.Name.TheVariants as name
 use Rattle.ts_base.specs.declared.names.Place.TheVariants as place
 use Rattle.ts_store.specs.declared.call.Call.TheVariants as call
@@ -259,17 +260,21 @@ known_schema r schemas k = if key_eq k r.there.key then Some r.there else find (
 abbrev pub known_attrs : Reading → List Schema → Key → List Attr
 known_attrs r schemas k = option_map_or (λ s. s.attrs) (known_schema r schemas k) []
 
+-- of the schema of a key, the attributes whose values a read gets: those that it uses
+abbrev pub attrs_got : Reading → List Schema → Key → List Attr
+attrs_got r schemas k = used_attrs r (known_attrs r schemas k)
+
 -- the keys of the further schemas that these heads name, ascending and each once
 abbrev pub keys_named : Reading → List Opened → List Key
 keys_named r opened = map.keys (map.from_entries {R = key_cmp} (list_map (λ o. (o.head.schema, o.head.schema)) (filter (λ o. not (key_eq o.head.schema r.there.key)) opened)))
 
--- a version is erased by these deletes: one with a greater key matches it, under the version's own schema
+-- a version of which the used values were got is erased by these deletes: one with a greater key matches it, under the version's own schema
 abbrev pub is_erased_by : Reading → List Schema → List Deletion → Version → Bool
-is_erased_by r schemas erased v = list_any (λ e. key_lt v.key e.key && matches e.cond v.coords (attr_fields (known_attrs r schemas v.schema)) v.row) erased
+is_erased_by r schemas erased v = list_any (λ e. key_lt v.key e.key && matches e.cond v.coords (attr_fields (attrs_got r schemas v.schema)) v.row) erased
 
--- a version's coordinates, and its row as it shows through the schema there
+-- a version's coordinates, and its row as it shows through the schema there; an attribute that the read does not use shows its fill
 abbrev pub cell_shown : Reading → List Schema → Version → List ℤ × List Val
-cell_shown r schemas v = (v.coords, shown_row (known_attrs r schemas v.schema) v.row r.there.attrs)
+cell_shown r schemas v = (v.coords, shown_row (attrs_got r schemas v.schema) v.row r.there.attrs)
 
 -- what is left of the versions that a read got: the newest of each cell, unless it is erased
 abbrev pub cells_left : Reading → List Schema → List Version → List (List ℤ × List Val)
@@ -277,7 +282,7 @@ cells_left r schemas got = list_map (cell_shown r schemas) (filter (λ v. not (i
 
 -- the row of a version as it shows through the schema there, unless it is erased
 abbrev pub version_left : Reading → List Schema → Version → Option (List Val)
-version_left r schemas v = cond (not (is_erased_by r schemas r.deletions v)) (Some (shown_row (known_attrs r schemas v.schema) v.row r.there.attrs)) None
+version_left r schemas v = cond (not (is_erased_by r schemas r.deletions v)) (Some (shown_row (attrs_got r schemas v.schema) v.row r.there.attrs)) None
 
 -- the row that a dense array shows where this is the newest version, if there is one: what is left of it, or else the fill
 abbrev pub row_or_fill : Reading → List Schema → Option Version → List Val
@@ -303,9 +308,9 @@ answer_of r schemas got = record {
 abbrev pub wanted : SubBox → ℕ → ℕ → List Attr → Want
 wanted sub a b attrs = record { sub = sub; attrs = places_from 0 (length attrs); a = a; b = b }
 
--- what a read wants of a fragment
+-- what a read wants of a fragment: the cells of its box that are stamped in its interval, with the values that it uses
 abbrev pub want_of : Reading → List Attr → Want
-want_of r attrs = wanted (r.ready).sub r.from r.to attrs
+want_of r attrs = record { sub = r.ready.sub; attrs = places_used r 0 attrs; a = r.from; b = r.to }
 
 -- where a step of a fetch leads: to a call, on with the versions, or to an end
 abbrev pub fetch_leads : {F : Type 0} → Reading → List Opened → List Schema → ℕ → FragKey → List Version → (List Version → State F) → Stepped F → State F

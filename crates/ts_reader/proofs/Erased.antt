@@ -15,20 +15,21 @@ use Rattle.ts_model.specs.declared.states.Reading.{Reading}
 use Rattle.ts_model.specs.Selections.{placed}
 use Rattle.ts_schema.specs.Attrs.{shown_row}
 use Rattle.ts_model.specs.Answers.{fills_of}
-use Rattle.ts_model.specs.States.{cell_shown, is_erased_by, known_attrs, row_or_fill}
+use Rattle.ts_model.specs.States.{attrs_got, cell_shown, is_erased_by, known_attrs, row_or_fill}
+use Rattle.ts_model.specs.Used.{used_attrs}
 use Rattle.ts_model.proofs.KeyLemmas.{key_itself}
 use Rattle.ts_reader.specs.Deletes.{all_shown, erases, one_shown}
 
 -- what one more version shows
-one_more : (r : Reading) (schemas : List Schema) (v : Version) → all_shown r schemas (v ∷ []) ≡ one_shown r (known_attrs r schemas v.schema) v
-one_more r schemas v = by_test (list_any (erases (known_attrs r schemas v.schema) v) r.deletions)
+one_more : (r : Reading) (schemas : List Schema) (v : Version) → all_shown r schemas (v ∷ []) ≡ one_shown r (attrs_got r schemas v.schema) v
+one_more r schemas v = by_test (list_any (erases (attrs_got r schemas v.schema) v) r.deletions)
   where
     by_test : (b : Bool) → map (cell_shown r schemas) (cond (not b) (v ∷ []) []) ≡ cond b [] (cell_shown r schemas v ∷ [])
     by_test true = refl
     by_test false = refl
 
 -- the cells of one version more
-pub shown_more : (r : Reading) (schemas : List Schema) (vs : List Version) (v : Version) → all_shown r schemas (vs ++ v ∷ []) ≡ all_shown r schemas vs ++ one_shown r (known_attrs r schemas v.schema) v
+pub shown_more : (r : Reading) (schemas : List Schema) (vs : List Version) (v : Version) → all_shown r schemas (vs ++ v ∷ []) ≡ all_shown r schemas vs ++ one_shown r (attrs_got r schemas v.schema) v
 shown_more r schemas vs v =
     ap (map (cell_shown r schemas)) (filter-append (λ w. not (is_erased_by r schemas r.deletions w)) vs (v ∷ []))
     ∙ map-append (cell_shown r schemas) (filter (λ w. not (is_erased_by r schemas r.deletions w)) vs) _
@@ -56,14 +57,14 @@ placed_so P cells es are all =
     All-from_recursion Q cells (unplaced P cells (subst (AllByRecursion W) (sym are) all))
 
 -- the row that a dense array shows of its newest version
-pub filled_row : (r : Reading) (schemas : List Schema) (v : Version) (b : Bool) → list_any (erases (known_attrs r schemas v.schema) v) r.deletions ≡ b
-    → row_or_fill r schemas (Some v) ≡ cond b (fills_of (r.there).attrs) (shown_row (known_attrs r schemas v.schema) v.row (r.there).attrs)
+pub filled_row : (r : Reading) (schemas : List Schema) (v : Version) (b : Bool) → list_any (erases (attrs_got r schemas v.schema) v) r.deletions ≡ b
+    → row_or_fill r schemas (Some v) ≡ cond b (fills_of (r.there).attrs) (shown_row (attrs_got r schemas v.schema) v.row (r.there).attrs)
 filled_row r schemas v b is = ap row is ∙ by_test b
   where
     row : Bool → List Val
-    row e = option_map_or (λ vals. vals) (cond (not e) (Some (shown_row (known_attrs r schemas v.schema) v.row (r.there).attrs)) None) (fills_of (r.there).attrs)
+    row e = option_map_or (λ vals. vals) (cond (not e) (Some (shown_row (attrs_got r schemas v.schema) v.row (r.there).attrs)) None) (fills_of (r.there).attrs)
 
-    by_test : (e : Bool) → row e ≡ cond e (fills_of (r.there).attrs) (shown_row (known_attrs r schemas v.schema) v.row (r.there).attrs)
+    by_test : (e : Bool) → row e ≡ cond e (fills_of (r.there).attrs) (shown_row (attrs_got r schemas v.schema) v.row (r.there).attrs)
     by_test true = refl
     by_test false = refl
 
@@ -100,5 +101,9 @@ known_further r schemas k o other found =
     ∙ ap (λ (p : Option Schema). option_map_or (λ s. s.attrs) p []) found
 
 -- the attributes of the schema that holds are known
-pub known_there : (r : Reading) (schemas : List Schema) (k : Key) → k ≡ (r.there).key → known_attrs r schemas k ≡ (r.there).attrs
+known_there : (r : Reading) (schemas : List Schema) (k : Key) → k ≡ (r.there).key → known_attrs r schemas k ≡ (r.there).attrs
 known_there r schemas k same = ap (λ b. option_map_or (λ s. s.attrs) (if b then Some r.there else find (λ s. key_eq s.key k) schemas) []) (ap (λ l. key_eq l (r.there).key) same ∙ key_itself (r.there).key)
+
+-- of the schema that holds a read got the values that it uses
+pub got_there : (r : Reading) (schemas : List Schema) (k : Key) → k ≡ (r.there).key → attrs_got r schemas k ≡ used_attrs r (r.there).attrs
+got_there r schemas k same = ap (used_attrs r) (known_there r schemas k same)

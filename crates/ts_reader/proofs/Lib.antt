@@ -5,4 +5,5 @@ pub mod Leads
 pub mod Newer
 pub mod Ordered
 pub mod QueryLaws
+pub mod UsedNames
 pub mod Whole

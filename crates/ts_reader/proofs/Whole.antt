@@ -1,6 +1,6 @@
 -- A row under some attributes shows through the same attributes as it is.
-use Rattle.std.proofs.Common.{◌≡◌, ℕ, Bool, true, false, not, ◌&&◌, cond, List, [], ◌∷◌, ◌++◌, length, refl, sym, ap, ◌∙◌, arith}
-use Rattle.std.specs.Prelude.{IsTrue}
+use Rattle.std.proofs.Common.{◌≡◌, ℕ, ◌≤◌, suc, Bool, true, false, not, ◌&&◌, cond, List, [], ◌∷◌, ◌++◌, length, refl, sym, ap, ◌∙◌, arith}
+use Rattle.std.specs.Prelude.{IsTrue, filter}
 use Rattle.std.specs.Bool.{beq}
 use Rattle.std.proofs.lemmas.Cmp.{nat_list_eq_equiv}
 use Rattle.std.proofs.lemmas.Bool.{or_parts}
@@ -13,6 +13,8 @@ use Rattle.ts_wire.specs.Exact.{InTurn}
 use Rattle.ts_schema.specs.declared.attrs.Attr.{Attr}
 use Rattle.ts_schema.specs.Attrs.{agrees, has_attr, same_name, shown_row, shown_val}
 use Rattle.ts_schema.specs.SchemaTexts.{AreAttrs, FitsAttr}
+use Rattle.ts_model.specs.declared.states.Reading.{Reading}
+use Rattle.ts_model.specs.Used.{used_attrs, uses_name}
 
 name_itself : (name : List ℕ) → same_name name name ≡ true
 name_itself name = nat_list_eq_equiv.refl name
@@ -62,3 +64,24 @@ shows_itself front (a ∷ attrs) (val ∷ row) fits long =
 -- a row with a value for each attribute shows through these as it is
 pub row_itself : (attrs : List Attr) (row : List Val) → AreAttrs attrs → length row ≡ length attrs → shown_row attrs row attrs ≡ row
 row_itself attrs row are long = shows_itself [] attrs row are.each long
+
+-- no more items pass a test than there are
+shorter : {X : Type 0} (p : X → Bool) (xs : List X) → length (filter p xs) ≤ length xs
+shorter p [] = omega arith
+shorter p (x ∷ xs) = let rest = shorter p xs in elim (p x) as (λ b. length (cond b (x ∷ filter p xs) (filter p xs)) ≤ suc (length xs)) [
+  | true ↦ omega (arith, rest)
+  | false ↦ omega (arith, rest)
+]
+
+-- where as many pass all do
+all_pass : {X : Type 0} (p : X → Bool) (xs : List X) → length (filter p xs) ≡ length xs → filter p xs ≡ xs
+all_pass p [] long = refl
+all_pass {X} p (x ∷ xs) long = by_test (all_pass p xs) (shorter p xs) (p x) long
+  where
+    by_test : (length (filter p xs) ≡ length xs → filter p xs ≡ xs) → length (filter p xs) ≤ length xs → (b : Bool) → length (cond b (x ∷ filter p xs) (filter p xs)) ≡ suc (length xs) → cond b (x ∷ filter p xs) (filter p xs) ≡ x ∷ xs
+    by_test rest few true long = ap (λ l. x ∷ l) (rest (omega (arith, long)))
+    by_test rest few false long = absurd (omega (arith, long, few))
+
+-- where a read uses so many attributes as there are it uses all
+pub all_used : (r : Reading) (attrs : List Attr) → length (used_attrs r attrs) ≡ length attrs → used_attrs r attrs ≡ attrs
+all_used r attrs long = all_pass (λ a. uses_name r a.name) attrs long

@@ -13,6 +13,7 @@ use Rattle.ts_model.specs.declared.deeds.Deletion.{Deletion}
 use Rattle.ts_model.specs.declared.states.Reading.{Reading}
 use Rattle.ts_model.specs.Queries.{attr_fields}
 use Rattle.ts_model.specs.States.{cell_shown, is_erased_by}
+use Rattle.ts_model.specs.Used.{used_attrs}
 use Rattle.ts_reader.specs.declared.bindings.Binding.{Binding}
 use Rattle.ts_reader.specs.declared.bindings.Bindings.{Bindings}
 
@@ -28,9 +29,9 @@ erases attrs v e = key_lt v.key e.key && matches e.cond v.coords (attr_fields at
 abbrev pub binding_of : List Deletion → List Attr → Binding
 binding_of erased attrs = record { attrs = attrs; picks = picks_under attrs erased }
 
--- the rows of each schema that a read knows, and of those that it does not know
+-- the rows of each schema that a read knows, and of those that it does not know, with the values that it uses
 abbrev pub bindings_of : Reading → List Schema → Bindings
-bindings_of r schemas = record { there = binding_of r.deletions (r.there).attrs; further = list_map (λ s. binding_of r.deletions s.attrs) schemas; unknown = binding_of r.deletions [] }
+bindings_of r schemas = record { there = binding_of r.deletions (used_attrs r (r.there).attrs); further = list_map (λ s. binding_of r.deletions (used_attrs r s.attrs)) schemas; unknown = binding_of r.deletions [] }
 
 -- the version's cell, unless it is erased
 abbrev pub one_shown : Reading → List Attr → Version → List (List ℤ × List Val)

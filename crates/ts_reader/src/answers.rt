@@ -6,6 +6,7 @@ ghost use Rattle.ts_base.specs.declared.heads.Version.{Version as AnyVersion};
 ghost use Rattle.ts_schema.specs.Attrs.{shown_row};
 ghost use Rattle.ts_schema.specs.SchemaTexts.{AreAttrs};
 ghost use Rattle.ts_model.specs.Selections.{placed};
+ghost use Rattle.ts_model.specs.Used.{used_attrs};
 ghost use Rattle.ts_model.specs.States.{answer_of, cells_filled, cells_left, cells_shown, row_or_fill};
 ghost use Rattle.ts_reader.specs.Deletes.{one_shown, picks_under, bindings_of};
 ghost use Rattle.ts_reader.specs.Reading.{IsReading};
@@ -141,8 +142,8 @@ fn row_left(
     }
 }
 
-// The row of a version as it shows through the schema that holds. A row of that schema is not
-// copied.
+// The row of a version as it shows through the schema that holds. A row of that schema is not copied
+// where all its values are used.
 fn row_shown(
     alloc: Global,
     reading: &Reading,
@@ -150,10 +151,14 @@ fn row_shown(
     version: Version,
 ) -> Result<Row, OutOfMemory>
     requires attrs { AreAttrs reading.now.there.attrs }
-    requires own { version.schema ≡ reading.now.there.key → binding.now.attrs ≡ reading.now.there.attrs }
+    requires own { version.schema ≡ reading.now.there.key → binding.now.attrs ≡ used_attrs reading.now reading.now.there.attrs }
     ensures { IfOk result (λ shown. shown ≡ shown_row binding.now.attrs version.row reading.now.there.attrs) }
 {
-    if version.schema == reading.there.key && version.row.len() == reading.there.attrs.len() {
+    let count = reading.there.attrs.len();
+    if version.schema == reading.there.key
+        && binding.attrs.len() == count
+        && version.row.len() == count
+    {
         return Ok(version.row);
     }
     show_row(alloc, &binding.attrs, &version.row, &reading.there.attrs)
@@ -216,7 +221,7 @@ fn add_shown(
 ) -> Result<(), OutOfMemory>
     requires attrs { AreAttrs reading.now.there.attrs }
     requires picks { binding.now.picks ≡ picks_under binding.now.attrs reading.now.deletions }
-    requires own { version.schema ≡ reading.now.there.key → binding.now.attrs ≡ reading.now.there.attrs }
+    requires own { version.schema ≡ reading.now.there.key → binding.now.attrs ≡ used_attrs reading.now reading.now.there.attrs }
     ensures { OnOk result (map placed cells.new ≡ map placed cells.old ++ one_shown reading.now binding.now.attrs version) }
 {
     if is_erased(&reading.deletions, binding, &version) {

@@ -1,16 +1,18 @@
 //! Where deletes find their fields in the rows of each schema that a read knows.
 ghost use Rattle.std.specs.Prelude.{◌≡◌, ◌<◌, ◌^◌, List, length, map, IfOk};
 ghost use Rattle.ts_model.specs.Queries.{attr_fields};
-ghost use Rattle.ts_model.specs.States.{known_attrs};
+ghost use Rattle.ts_model.specs.States.{attrs_got};
+ghost use Rattle.ts_model.specs.Used.{used_attrs};
 ghost use Rattle.ts_reader.specs.Deletes.{erases, picks_under, binding_of, bindings_of};
 ghost use Rattle.ts_actor.specs.Known.{AreRising};
 ghost use Rattle.std.specs.List.{list_any};
 ghost use Rattle.ts_cond.specs.Picks.{picks_of};
 ghost use Rattle.ts_schema.specs.declared.attrs.Attr.{Attr as AnyAttr};
 
+use crate::used::used_attrs;
 use std::alloc::Global;
 use ts_actor::search_schemas;
-use ts_base::{Duplicate, Key, OutOfMemory, Sequence, Version};
+use ts_base::{Key, OutOfMemory, Sequence, Version};
 use ts_cond::{CondFieldList, PickList};
 use ts_model::{Deletion, DeletionList, Reading, attr_fields};
 use ts_schema::{AttrList, Schema, SchemaList};
@@ -41,7 +43,8 @@ pub(crate) struct Bindings {
     pub unknown: Binding,
 }
 
-/// The rows of each schema that a read knows. Each delete is bound once for each schema.
+/// The rows of each schema that a read knows, with the values that it uses. Each delete is bound once
+/// for each schema.
 pub(crate) fn bindings_of(
     alloc: Global,
     reading: &Reading,
@@ -50,40 +53,45 @@ pub(crate) fn bindings_of(
     ensures { IfOk result (λ bindings. bindings ≡ bindings_of reading.now schemas.now) }
 {
     Ok(Bindings {
-        there: binding_of(alloc, &reading.deletions, &reading.there.attrs)?,
-        further: further_bindings(alloc, &reading.deletions, schemas.as_slice())?,
-        unknown: binding_of(alloc, &reading.deletions, &AttrList::new(alloc))?,
+        there: used_binding(alloc, reading, &reading.there.attrs)?,
+        further: further_bindings(alloc, reading, schemas.as_slice())?,
+        unknown: binding_of(alloc, &reading.deletions, AttrList::new(alloc))?,
     })
 }
 
 // The rows of each further schema.
 fn further_bindings(
     alloc: Global,
-    erased: &DeletionList,
+    reading: &Reading,
     schemas: &[Schema],
 ) -> Result<BindingList, OutOfMemory>
-    ensures { IfOk result (λ bindings. bindings ≡ map (λ s. binding_of erased.now s.attrs) schemas.now) }
+    ensures { IfOk result (λ bindings. bindings ≡ map (λ s. binding_of reading.now.deletions (used_attrs reading.now s.attrs)) schemas.now) }
 {
     let mut bindings = BindingList::new(alloc);
     for schema in schemas {
-        bindings.push(binding_of(alloc, erased, &schema.attrs)?)?;
+        bindings.push(used_binding(alloc, reading, &schema.attrs)?)?;
     }
     Ok(bindings)
 }
 
-// Rows of these attributes.
-fn binding_of(
-    alloc: Global,
-    erased: &DeletionList,
-    attrs: &AttrList,
-) -> Result<Binding, OutOfMemory>
-    ensures { IfOk result (λ binding. binding ≡ binding_of erased.now attrs.now) }
+// Rows of those of these attributes that the read uses.
+fn used_binding(alloc: Global, reading: &Reading, attrs: &AttrList) -> Result<Binding, OutOfMemory>
+    ensures { IfOk result (λ binding. binding ≡ binding_of reading.now.deletions (used_attrs reading.now attrs.now)) }
 {
-    let fields = bound_fields(alloc, attrs)?;
-    Ok(Binding {
-        attrs: attrs.copy(alloc)?,
-        picks: picks_of(alloc, erased.as_slice(), &fields)?,
-    })
+    binding_of(
+        alloc,
+        &reading.deletions,
+        used_attrs(alloc, reading, attrs)?,
+    )
+}
+
+// Rows of these attributes.
+fn binding_of(alloc: Global, erased: &DeletionList, attrs: AttrList) -> Result<Binding, OutOfMemory>
+    ensures { IfOk result (λ binding. binding ≡ binding_of erased.now attrs) }
+{
+    let fields = bound_fields(alloc, &attrs)?;
+    let picks = picks_of(alloc, erased.as_slice(), &fields)?;
+    Ok(Binding { attrs, picks })
 }
 
 // The fields of rows of these attributes. More than 2^32 of them have no memory.
@@ -123,7 +131,7 @@ pub(crate) fn binding_at<'a>(
 ) -> &'a Binding
     requires rise { AreRising schemas.now }
     requires are { bindings.now ≡ bindings_of reading.now schemas.now }
-    ensures { result.now ≡ binding_of reading.now.deletions (known_attrs reading.now schemas.now key) }
+    ensures { result.now ≡ binding_of reading.now.deletions (attrs_got reading.now schemas.now key) }
 {
     if key == reading.there.key {
         return &bindings.there;

@@ -4,8 +4,9 @@ ghost use Rattle.std.specs.Option.{option_copied};
 ghost use Rattle.ts_model.specs.States.{known_schema, want_of};
 ghost use Rattle.ts_actor.specs.Known.{AreRising};
 
+use crate::used::places_used;
 use std::alloc::Global;
-use ts_actor::{schema_among, wanted};
+use ts_actor::schema_among;
 use ts_base::{Key, OutOfMemory};
 use ts_model::Reading;
 use ts_schema::{AttrList, Schema, SchemaList, Want};
@@ -26,7 +27,7 @@ pub(crate) fn known_schema<'a>(
 }
 
 /// What is wanted of a fragment with these attributes: all cells of the box that are stamped in the
-/// interval, with all their values.
+/// interval, with the values that the read uses.
 pub(crate) fn want_of(
     alloc: Global,
     reading: &Reading,
@@ -34,5 +35,10 @@ pub(crate) fn want_of(
 ) -> Result<Want, OutOfMemory>
     ensures { IfOk result (λ want. want ≡ want_of reading.now attrs.now) }
 {
-    wanted(alloc, reading.ready.sub, reading.from, reading.to, attrs)
+    Ok(Want {
+        sub: reading.ready.sub,
+        attrs: places_used(alloc, reading, attrs)?,
+        a: reading.from,
+        b: reading.to,
+    })
 }

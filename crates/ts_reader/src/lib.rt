@@ -16,6 +16,7 @@ mod opening;
 mod reader;
 mod slots;
 mod steps;
+mod used;
 
 pub use reader::Reader;
 pub use steps::Reads;

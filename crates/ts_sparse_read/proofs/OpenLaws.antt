@@ -1,6 +1,6 @@
 -- A fetch begins with a plan whose parts have names, over tiles whose spans have room.
-use Rattle.std.proofs.Common.{◌≡◌, ℕ, zero, suc, ◌+◌, ◌<◌, ◌≤◌, Bool, true, false, cond, List, [], ◌∷◌, ◌++◌, length, map, filter, Option, Some, None, refl, sym, ap, subst, ◌∙◌, arith}
-use Rattle.std.specs.Prelude.{IsTrue, max, ⊤, IfSome, if◌then◌else◌}
+use Rattle.std.proofs.Common.{◌≡◌, ℕ, suc, ◌+◌, ◌≤◌, Bool, true, false, List, [], ◌∷◌, ◌++◌, length, map, Option, Some, None, refl, sym, ap, subst, ◌∙◌, arith}
+use Rattle.std.specs.Prelude.{max, IfSome, if◌then◌else◌}
 use Rattle.std.specs.List.{All, flat_map}
 use Rattle.std.specs.Option.{IsSomeAnd}
 use Rattle.std.proofs.lemmas.List.Elements.{All-nil, All-cons, All-head, All-tail, All-append, All-weaker}
@@ -24,17 +24,16 @@ use Rattle.ts_footer.specs.declared.columns.ColumnForm.{ColumnForm}
 use Rattle.ts_footer.specs.declared.columns.ColumnForm.TheVariants.{Fixed, Var}
 use Rattle.ts_footer.specs.declared.columns.ColumnSize.{ColumnSize}
 use Rattle.ts_footer.specs.declared.footers.Footer.{Footer}
-use Rattle.ts_footer.specs.Columns.{column_forms, tiles_for, FitsSize}
+use Rattle.ts_footer.specs.Columns.{column_forms, FitsSize}
 use Rattle.ts_footer.specs.Footers.{leaves_in, FitsRect, FitsTree, FitsFooter}
 use Rattle.ts_fetch.specs.declared.planned.Planned.{Planned}
 use Rattle.ts_fetch.specs.Plans.{Going, begun, IsSpelledPlanned}
 use Rattle.ts_sparse_read.specs.declared.opened.Opened.{Opened}
 use Rattle.ts_sparse_read.specs.declared.opened.UsedColumn.{UsedColumn}
-use Rattle.ts_sparse_read.specs.declared.opened.Span.{Span}
 use Rattle.ts_sparse_read.specs.declared.opened.WantedTile.{WantedTile}
 use Rattle.ts_sparse_read.specs.Used.{dim_parts, value_parts, validity_parts, attr_parts, origin_parts, column_parts, no_size, columns_told, is_used, used_among, span_by, span_of}
 use Rattle.ts_sparse_read.specs.Opens.{used_in, size_call, span_call, tile_calls, calls_for, fetch_for}
-use Rattle.ts_sparse_read.specs.Fits.{HasLength, HasCells, FitsLeaf, tile_over, tiles_over}
+use Rattle.ts_sparse_read.specs.Fits.{HasCells, FitsLeaf, tile_over, tiles_over}
 
 -- ---- what is taken among columns
 

@@ -1,10 +1,9 @@
 -- Sparse fragments in tiles as a way to write fragments and to read them.
-use Rattle.std.specs.Prelude.{◌≡◌, ◌≢◌, ℕ, ◌*◌, ◌≤◌, min, true, List, [], ◌∷◌, length, filter, Contains, Ok, Err, None, IsTrue}
+use Rattle.std.specs.Prelude.{◌≡◌, ◌≢◌, ℕ, ◌*◌, ◌≤◌, min, true, List, length, filter, Contains, Ok, Err, None, IsTrue}
 use Rattle.ts_base.specs.declared.keys.FragKey.{FragKey}
 use Rattle.ts_base.specs.declared.names.Part.{Part}
 use Rattle.ts_base.specs.declared.names.Part.TheVariants as part
 use Rattle.ts_base.specs.declared.names.PartBytes.{PartBytes}
-use Rattle.ts_base.specs.declared.heads.Version.{Version}
 use Rattle.ts_base.specs.declared.heads.Piece.{Piece}
 use Rattle.ts_store.specs.declared.call.Call.{Call}
 use Rattle.ts_schema.specs.declared.attrs.Attr.{Attr}

@@ -1,5 +1,5 @@
 -- How a fetch of a sparse fragment begins: the tiles that it reads, and the calls of its plan.
-use Rattle.std.specs.Prelude.{◌≡◌, ℕ, nat_le, nat_eq, ◌&&◌, Bool, if◌then◌else◌, List, [], ◌∷◌, ◌++◌, length, map, get_or, Result, Ok}
+use Rattle.std.specs.Prelude.{ℕ, nat_le, nat_eq, ◌&&◌, Bool, if◌then◌else◌, List, [], ◌++◌, length, map, get_or, Result, Ok}
 use Rattle.std.specs.List.{flat_map, list_all}
 use Rattle.ts_base.specs.declared.keys.FragKey.{FragKey}
 use Rattle.ts_base.specs.Values.{is_integer}

@@ -1,8 +1,7 @@
 -- The objects of columns that a fetch reads, and where tiles stand in them.
-use Rattle.std.specs.Prelude.{ℕ, suc, ◌+◌, ◌-◌, ◌*◌, min, max, Bool, true, false, if◌then◌else◌, List, [], ◌∷◌, ◌++◌, length, map, filter, get_or}
+use Rattle.std.specs.Prelude.{ℕ, suc, ◌+◌, ◌-◌, ◌*◌, min, max, Bool, true, false, List, [], ◌∷◌, ◌++◌, length, filter, get_or}
 use Rattle.ts_base.specs.declared.names.Part.{Part}
 use Rattle.ts_base.specs.declared.names.Part.TheVariants as part
-use Rattle.ts_base.specs.declared.values.ValType.{ValType}
 use Rattle.ts_base.specs.Values.{is_integer}
 use Rattle.ts_domain.specs.declared.dims.Dim.{Dim}
 use Rattle.ts_schema.specs.declared.attrs.Attr.{Attr}

@@ -1,11 +1,11 @@
 -- One version more is looked at, and in the end all of them.
 use Rattle.std.proofs.Common.{◌∙◌, sym, ap, ◌++◌}
 use Rattle.ts_reader.specs.Deletes.{all_shown, one_shown}
-use Rattle.ts_reader.proofs.Erased.{known_there, shown_more}
+use Rattle.ts_reader.proofs.Erased.{got_there, shown_more}
 use Rattle.ts_reader.proofs.answers.cells_left.Goals as goal
 
 pub add_shown-requires-clause-own : goal.add_shown-requires-clause-own
-add_shown-requires-clause-own c = λ same. ap (λ binding. binding.attrs) c.binding_at-binding.ensures ∙ known_there c.args.reading.now c.args.schemas.now c.in-Some.version.schema same
+add_shown-requires-clause-own c = λ same. ap (λ binding. binding.attrs) c.binding_at-binding.ensures ∙ got_there c.args.reading.now c.args.schemas.now c.in-Some.version.schema same
 
 pub loop-version-preserved : goal.loop-version-preserved
 loop-version-preserved c =

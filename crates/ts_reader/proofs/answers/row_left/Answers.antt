@@ -4,11 +4,11 @@ use Rattle.std.specs.List.{list_any}
 use Rattle.std.proofs.lemmas.Result.{IfOk-weaker}
 use Rattle.ts_schema.specs.Attrs.{shown_row}
 use Rattle.ts_reader.specs.Deletes.{erases}
-use Rattle.ts_reader.proofs.Erased.{filled_row, known_there}
+use Rattle.ts_reader.proofs.Erased.{filled_row, got_there}
 use Rattle.ts_reader.proofs.answers.row_left.Goals as goal
 
 pub row_shown-requires-clause-own : goal.row_shown-requires-clause-own
-row_shown-requires-clause-own c = λ same. ap (λ binding. binding.attrs) c.binding_at-binding.ensures ∙ known_there c.args.reading.now c.args.schemas.now c.args.version.schema same
+row_shown-requires-clause-own c = λ same. ap (λ binding. binding.attrs) c.binding_at-binding.ensures ∙ got_there c.args.reading.now c.args.schemas.now c.args.version.schema same
 
 pub returns-then-is_erased : goal.returns-then-is_erased
 returns-then-is_erased c =

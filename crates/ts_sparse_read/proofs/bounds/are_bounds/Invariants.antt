@@ -1,5 +1,5 @@
 -- The bounds before are no reason.
-use Rattle.std.proofs.Common.{◌≡◌, drop, length}
+use Rattle.std.proofs.Common.{◌≡◌, drop}
 use Rattle.ts_domain.specs.Bounds.{are_bounds}
 use Rattle.ts_sparse_read.proofs.bounds.are_bounds.Given as goal
 

@@ -1,5 +1,5 @@
 -- The cells so far, with those of the tiles that are left behind them, are those of all tiles.
-use Rattle.std.proofs.Common.{◌≡◌, ◌≤◌, [], length, drop}
+use Rattle.std.proofs.Common.{◌≡◌, ◌≤◌, length, drop}
 use Rattle.std.specs.Prelude.{None}
 use Rattle.ts_sparse_read.specs.Judges.{cells_of_tiles}
 use Rattle.ts_sparse_read.specs.Walks.{with_tiles}

@@ -1,5 +1,5 @@
 -- The plan is on parts that have names, and the fetch is the one that is defined.
-use Rattle.std.proofs.Common.{◌≡◌, ◌≤◌, List, length, ap, ◌∙◌, arith}
+use Rattle.std.proofs.Common.{◌≡◌, ◌≤◌, length, ap, ◌∙◌, arith}
 use Rattle.std.specs.Prelude.{max}
 use Rattle.ts_footer.specs.Footers.{leaves_in}
 use Rattle.ts_sparse_read.specs.Opens.{used_in, calls_for}

@@ -1,5 +1,5 @@
 -- What is wanted of the cells is answered.
-use Rattle.std.proofs.Common.{◌≡◌, ap, ◌∙◌}
+use Rattle.std.proofs.Common.{ap, ◌∙◌}
 use Rattle.std.specs.Prelude.{List, None}
 use Rattle.ts_schema.specs.Wants.{taken}
 use Rattle.ts_plain.specs.declared.stored.StoredCell.{StoredCell}
