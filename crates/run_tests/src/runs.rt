@@ -2,6 +2,7 @@
 //! stands in tests/cases.
 mod consolidations;
 mod deletes;
+mod tiles;
 mod vacuums;
 mod words;
 
@@ -126,10 +127,11 @@ fn frag(id: u128) -> FragKey
     }
 }
 
-fn part(id: u128) -> Name
+// The metadata of the fragment of a write, which is read first.
+fn meta(id: u128) -> Name
     ensures { IsSpelled result }
 {
-    Name::Part(frag(id), Part::Plain)
+    Name::Part(frag(id), Part::Meta)
 }
 
 fn wrt(id: u128) -> Name
@@ -138,6 +140,10 @@ fn wrt(id: u128) -> Name
     Name::Commit(frag(id), CommitKind::Wrt)
 }
 
+/// The puts of the parts of a write, by their places among the calls: the bytes of the object, and how
+/// many of these follow its length.
+const PUTS: [(u64, u64, u8); 3] = [(5, 22, 8), (6, 22, 8), (7, 160, 146)];
+
 #[test]
 fn the_journal_has_each_call(rt: HostRuntime) -> Result<(), Fail> {
     let script = format!(in rt.alloc(); "{C1}{WRITE}{READ}")?;
@@ -145,15 +151,18 @@ fn the_journal_has_each_call(rt: HostRuntime) -> Result<(), Fail> {
     let text = "0.1|create|ok\n0.2|write|ok|__1_1_<2>_1\n0.3|read|ok|1|0\n5|10\n";
     assert_eq!(rt; shown.status, 0);
     assert_eq!(rt; shown.printed, said(rt.alloc(), text)?);
-    // Two puts; two gets between a listing and two puts; three gets after two listings, and the put of
-    // a lease and a listing before them, its removal behind.
-    assert_eq!(rt; shown.journal.len(), 15);
-    match &shown.journal.at(5).call {
-        Call::Put(_, bytes) => {
-            assert_eq!(rt; bytes.len(), 145);
-            assert_eq!(rt; *bytes.at(6), 131);
+    // Two puts; two gets between a listing and four puts. Then the put of a lease and three listings;
+    // the gets of the schema, of the frame and of the metadata; a size and a get of each column, and the
+    // removal of the lease.
+    assert_eq!(rt; shown.journal.len(), 21);
+    for (place, size, follow) in PUTS {
+        match &shown.journal.at(place).call {
+            Call::Put(_, bytes) => {
+                assert_eq!(rt; bytes.len(), size, "{place}");
+                assert_eq!(rt; *bytes.at(6), follow, "{place}");
+            }
+            _ => assert!(rt; false, "the call puts a part of the fragment"),
         }
-        _ => assert!(rt; false, "the first put of the write puts the part"),
     }
     Ok(())
 }
@@ -184,13 +193,13 @@ fn failing_streams_lose_nothing(rt: HostRuntime) -> Result<(), Fail> {
     )?;
     assert_eq!(rt; unprinted.status, 5);
     assert_eq!(rt; unprinted.printed.len(), 0);
-    assert_eq!(rt; unprinted.journal.len(), 15);
+    assert_eq!(rt; unprinted.journal.len(), 21);
     Ok(())
 }
 
 /// Calls of a create, a write and a read that fail, each as a failed call that was done and as one
 /// that was not: what is printed behind the create.
-const FAILED: [(u64, bool, &str); 14] = [
+const FAILED: [(u64, bool, &str); 20] = [
     (
         2,
         true,
@@ -209,56 +218,93 @@ const FAILED: [(u64, bool, &str); 14] = [
     (
         5,
         true,
-        "0.2|write|refused|StoreFault|__fragments/__1_1_<2>_1/plain.tdb\n0.3|read|ok|0|0\n",
-    ),
-    (
-        6,
-        true,
-        "0.2|write|refused|StoreFault|__commits/__1_1_<2>_1.wrt\n0.3|read|ok|1|0\n5|10\n",
+        "0.2|write|refused|StoreFault|__fragments/__1_1_<2>_1/d0.tdb\n\
+        0.3|read|ok|0|0\n",
     ),
     (
         6,
         false,
-        "0.2|write|refused|StoreFault|__commits/__1_1_<2>_1.wrt\n0.3|read|ok|0|0\n",
+        "0.2|write|refused|StoreFault|__fragments/__1_1_<2>_1/a0.tdb\n\
+        0.3|read|ok|0|0\n",
     ),
     (
         7,
         true,
-        "0.2|write|ok|__1_1_<2>_1\n0.3|read|refused|StoreFault|__leases/__9_9_<3>.shr\n",
+        "0.2|write|refused|StoreFault|__fragments/__1_1_<2>_1/__fragment_metadata.tdb\n\
+        0.3|read|ok|0|0\n",
+    ),
+    (
+        8,
+        true,
+        "0.2|write|refused|StoreFault|__commits/__1_1_<2>_1.wrt\n0.3|read|ok|1|0\n5|10\n",
     ),
     (
         8,
         false,
-        "0.2|write|ok|__1_1_<2>_1\n0.3|read|refused|StoreFault|__leases/\n",
+        "0.2|write|refused|StoreFault|__commits/__1_1_<2>_1.wrt\n0.3|read|ok|0|0\n",
     ),
     (
         9,
         true,
-        "0.2|write|ok|__1_1_<2>_1\n0.3|read|refused|StoreFault|__commits/\n",
+        "0.2|write|ok|__1_1_<2>_1\n0.3|read|refused|StoreFault|__leases/__9_9_<3>.shr\n",
     ),
     (
         10,
         false,
-        "0.2|write|ok|__1_1_<2>_1\n0.3|read|refused|StoreFault|__schema/\n",
+        "0.2|write|ok|__1_1_<2>_1\n0.3|read|refused|StoreFault|__leases/\n",
+    ),
+    (
+        11,
+        true,
+        "0.2|write|ok|__1_1_<2>_1\n0.3|read|refused|StoreFault|__commits/\n",
     ),
     (
         12,
+        false,
+        "0.2|write|ok|__1_1_<2>_1\n0.3|read|refused|StoreFault|__schema/\n",
+    ),
+    (
+        14,
         true,
         "0.2|write|ok|__1_1_<2>_1\n0.3|read|refused|StoreFault|__domain.tdb\n",
     ),
     (
-        13,
+        15,
         true,
         "0.2|write|ok|__1_1_<2>_1\n\
-        0.3|read|refused|StoreFault|__fragments/__1_1_<2>_1/plain.tdb\n",
+        0.3|read|refused|StoreFault|__fragments/__1_1_<2>_1/__fragment_metadata.tdb\n",
     ),
     (
-        14,
+        16,
+        false,
+        "0.2|write|ok|__1_1_<2>_1\n\
+        0.3|read|refused|StoreFault|__fragments/__1_1_<2>_1/d0.tdb\n",
+    ),
+    (
+        17,
+        true,
+        "0.2|write|ok|__1_1_<2>_1\n\
+        0.3|read|refused|StoreFault|__fragments/__1_1_<2>_1/a0.tdb\n",
+    ),
+    (
+        18,
+        true,
+        "0.2|write|ok|__1_1_<2>_1\n\
+        0.3|read|refused|StoreFault|__fragments/__1_1_<2>_1/d0.tdb\n",
+    ),
+    (
+        19,
+        false,
+        "0.2|write|ok|__1_1_<2>_1\n\
+        0.3|read|refused|StoreFault|__fragments/__1_1_<2>_1/a0.tdb\n",
+    ),
+    (
+        20,
         true,
         "0.2|write|ok|__1_1_<2>_1\n0.3|read|refused|StoreFault|__leases/__9_9_<3>.shr\n",
     ),
     (
-        14,
+        20,
         false,
         "0.2|write|ok|__1_1_<2>_1\n0.3|read|refused|StoreFault|__leases/__9_9_<3>.shr\n",
     ),
@@ -358,7 +404,7 @@ fn objects_that_are_not_as_a_write_leaves_them_are_refused(rt: HostRuntime) -> R
     unparted.plant(wrt(7), ByteList::new(alloc))?;
     let missing = Second {
         script: READ,
-        text: "0.1|read|refused|Missing|__fragments/__1_1_<7>_1/plain.tdb\n",
+        text: "0.1|read|refused|Missing|__fragments/__1_1_<7>_1/__fragment_metadata.tdb\n",
     };
     assert!(rt;
         is_second(&rt, unparted, missing)?,
@@ -367,24 +413,24 @@ fn objects_that_are_not_as_a_write_leaves_them_are_refused(rt: HostRuntime) -> R
 
     let mut empty = with_array(&rt)?;
     empty.plant(wrt(7), ByteList::new(alloc))?;
-    empty.plant(part(7), ByteList::new(alloc))?;
+    empty.plant(meta(7), ByteList::new(alloc))?;
     let damaged = Second {
         script: READ,
-        text: "0.1|read|refused|Damaged|__fragments/__1_1_<7>_1/plain.tdb|0\n",
+        text: "0.1|read|refused|Damaged|__fragments/__1_1_<7>_1/__fragment_metadata.tdb|0\n",
     };
     assert!(rt; is_second(&rt, empty, damaged)?, "an empty part");
 
     let mut there = with_array(&rt)?;
-    there.plant(part(FIRST), ByteList::new(alloc))?;
+    there.plant(meta(FIRST), ByteList::new(alloc))?;
     let taken = Second {
         script: WRITE,
         text: "0.1|write|refused|Taken|\
-            __fragments/__1_1_00000000000000010000000000000001_1/plain.tdb\n",
+            __fragments/__1_1_00000000000000010000000000000001_1/__fragment_metadata.tdb\n",
     };
     assert!(rt; is_second(&rt, there, taken)?, "a part that is there");
 
     let mut uncommitted = with_array(&rt)?;
-    uncommitted.plant(part(7), ByteList::new(alloc))?;
+    uncommitted.plant(meta(7), ByteList::new(alloc))?;
     let unseen = Second {
         script: READ,
         text: "0.1|read|ok|0|0\n",

@@ -1,6 +1,6 @@
 -- A run keeps its promise.
 use Rattle.std.proofs.Common.{◌≡◌, ◌⊎◌, inl, inr, ℕ, zero, suc, ◌+◌, ◌<◌, ◌≤◌, ◌^◌, List, [], ◌∷◌, ◌++◌, Option, Some, None, Result, Ok, Err, Bool, true, false, cond, length, drop, nat_lt, append_assoc, refl, sym, ◌∙◌, ap, subst, arith}
-use Rattle.std.specs.Prelude.{slice_get, get_or, All, IfSome, option_map, option_and_then, option_to_list, Contains, ⊤}
+use Rattle.std.specs.Prelude.{slice_get, get_or, All, IfSome, option_map, option_and_then, option_to_list, Contains, ⊤, map as list_map}
 use Rattle.std.proofs.lemmas.Bool.{true≢false, ltb-true, ltb-false}
 use Rattle.std.proofs.lemmas.List.{append-nil}
 use Rattle.std.proofs.lemmas.Option.{none-some, same_Some, slice_get_within}
@@ -20,6 +20,7 @@ use Rattle.ts_schema.specs.declared.schemas.Schema.{Schema}
 use Rattle.ts_schema.specs.Evolutions.{evolved_attrs, evolution_fault}
 use Rattle.ts_schema.specs.declared.faults.SchemaFault.{SchemaFault}
 use Rattle.ts_cond.specs.Tests.{Condition}
+use Rattle.ts_cond.specs.declared.query.Query.{Query}
 use Rattle.ts_store.specs.declared.call.Call.{Call}
 use Rattle.ts_store.specs.declared.call.Call.TheVariants as call
 use Rattle.ts_store.specs.Journals.{held_after}
@@ -45,9 +46,10 @@ use Rattle.ts_model.specs.declared.deeds.Deletion.{Deletion}
 use Rattle.ts_model.specs.Commands.{create_refusal, frame_made, laid}
 use Rattle.ts_model.specs.Queries.{delete_condition}
 use Rattle.ts_model.specs.Deeds.{History, IsHistory, IsNewKey, frame_in, schemas, schema_there}
-use Rattle.ts_model.specs.Driven.{IsDriven}
+use Rattle.ts_model.specs.Driven.{AskedFrom, IsDriven}
 use Rattle.ts_base.specs.declared.names.Prefix.TheVariants.{Schemas}
 use Rattle.ts_model.specs.Jobs.{key_of, looked_at, looks_at, schema_of_job, written_as, deletion_as}
+use Rattle.ts_model.specs.Stages.{first_stage}
 use Rattle.ts_model.specs.Stops.{Uncut, cuts}
 use Rattle.ts_model.specs.States.{Exchange, frame_put, made_by}
 use Rattle.ts_model.specs.Told.{Told, entries_of, entry_of, exchange_of, held_told, trace_of, grown, deed_told, deed_in, deed_of, declared_by, written_by, written_in, deleted_by, deleted_in, schema_used, schemas_found, cells_of, condition_of, history_from, history_told, Replied, Suits}
@@ -55,6 +57,7 @@ use Rattle.ts_model.proofs.HistoryLaws.{schemas-append}
 use Rattle.ts_model.proofs.ListLemmas.{Contains-cons, Contains-slice_get, Contains-filter_map, Contains-here, Contains-nil, Contains-there, filter_map-Contains}
 use Rattle.ts_model.proofs.Traces.{exchange_of_other, exchange_of_own, history_told-append, trace_of-append}
 use Rattle.ts_law.specs.Ends.{FindsNoArray, IsTrueEnd, IsTrueOver, IsUndone, ListedAt}
+use Rattle.ts_law.specs.Bounds.{FewGets, gets_among}
 use Rattle.ts_law.specs.Changes.{IsOwn, OnlyLooks, RemovesNone}
 use Rattle.ts_law.specs.Refusals.{IsNoFault, IsRefusedFor}
 use Rattle.ts_law.specs.Fresh.{IsFreshSeed, IsJobOf, AreJobsOf, Numbered, command_at, id_of, in_lane_order, job_from, lanes_of, seed_in, lane_of as line_lane}
@@ -74,11 +77,8 @@ use Rattle.ts_law.proofs.NoSweeps.{no_sweeps, unclipped_run}
 use Rattle.ts_law.proofs.JournalHistories.{FitsIn}
 use Rattle.ts_law.proofs.LineJobs.{AreInOrder, IsFitItem, each_line, in_order, seed_of_id}
 use Rattle.ts_law.proofs.TrueRuns.{kept_first, right_where_put, true_run, works_where_used}
-use Rattle.ts_actor.specs.PlainCodec.{NeverWaits}
-use Rattle.ts_actor.specs.PlainLaws.{plain_laws}
-use Rattle.ts_top.specs.Ends.{ends_text}
 use Rattle.ts_top.specs.Promise.{CameOut, HasNoLease, HeldOnce, IsDone, IsDeedOf, IsLineDone, LeavesAll, LeavesOthers, Tells, IsStored, Promise, Began, Promised}
-use Rattle.ts_top.specs.Runners.{run_codec, run_spelled}
+use Rattle.ts_top.specs.Runners.{run_codec, run_most, run_spelled, run_tracks}
 use Rattle.ts_top.specs.Sweeps.{MaySweep, dead_leases}
 use Rattle.ts_script.specs.Script.{AreLimited}
 use Rattle.ts_script.specs.declared.words.Asked.{Asked}
@@ -86,7 +86,9 @@ use Rattle.ts_script.specs.Words.{asked}
 use Rattle.ts_script.specs.Meanings.{report_of}
 use Rattle.ts_top.specs.Reports.{report_text, status_printed}
 use Rattle.ts_top.specs.Seen.{Seen, Means, Stopped as HasStopped, Performed, PrintsEnds, whole, sink_failed, no_text, Plays, ended, ran_short}
+use Rattle.ts_top.proofs.RunCodec.{run_laws}
 use Rattle.ts_top.proofs.Places.{Early, Late, cancelled, fronts, goes_on, listed_after, made_after}
+use Rattle.ts_top.proofs.GetsTold.{gets_told}
 use Rattle.ts_top.proofs.LeasesTold.{EndsWell, no_lease}
 use Rattle.ts_top.proofs.MergesTold.{calls_in, merged_tells, schema_found}
 use Rattle.ts_top.proofs.Removed.{Replied-back}
@@ -484,7 +486,7 @@ short_cases (x ∷ rs) (suc n) zero r is = inl (omega arith, is)
 short_cases (x ∷ rs) (suc n) (suc i) r is = elim (short_cases rs n i r is) [ inl h ↦ inl (omega (arith, h.0), h.1) | inr h ↦ inr (omega (arith, h.0), h.1) ]
 
 -- a job that made none of the calls has no trace there
-no_trace : (number : ℕ) (told : List Told) → ((e : Told) → Contains told e → e.job ≡ Some number → ⊥) → trace_of number told ≡ []
+pub no_trace : (number : ℕ) (told : List Told) → ((e : Told) → Contains told e → e.job ≡ Some number → ⊥) → trace_of number told ≡ []
 no_trace number [] none = refl
 no_trace number (e ∷ told) none =
     ap (λ o. cons_option o (trace_of number told)) (exchange_of_other number e (none e (Contains-here e told))) ∙ no_trace number told (λ x at. none x (Contains-there e told x at))
@@ -503,7 +505,7 @@ short_driven job =
     subst (λ t. IsDriven run_codec job t (Done outcome.OutOfMemory)) (ap (trace_of 0) (none_made short.ran.told short.made_of)) short.ran.driven
 
 -- calls in turn, cut at the first one of a job from a number on
-cut : (n : ℕ) (told : List Told) → All IsOwned told → InTurn one_lane told → (a : List Told) × (b : List Told) × (told ≡ a ++ b) × Early n a × Late n b
+pub cut : (n : ℕ) (told : List Told) → All IsOwned told → InTurn one_lane told → (a : List Told) × (b : List Told) × (told ≡ a ++ b) × Early n a × Late n b
 cut n [] owned turn = ([], [], refl, λ e at. absurd (Contains-nil e at), λ e at. absurd (Contains-nil e at))
 cut n (e ∷ told) owned turn = by (cut n told (All-tail IsOwned e told owned) turn.1) (nat_lt number n) refl
   where
@@ -568,7 +570,7 @@ module _ (gives : ℕ → Bool) (seed : ℕ) (items : List Numbered) (jobs : Lis
   front_run : (n : ℕ) → IsTrueRun run_spelled one_lane jobs past m (calls_before n) (short_after results n)
   front_run n =
       let (a, b, parts, early, late) = cut n told owned in_turn in
-      true_run run_codec run_spelled NeverWaits plain_laws gives seed items one_lane jobs past m a (short_after results n) are order stands fresh seed_fits
+      true_run run_codec run_spelled run_tracks run_laws gives seed items one_lane jobs past m a (short_after results n) are order stands fresh seed_fits
       (Replied-front m a b (subst (Replied m) parts replied)) (all_front Suits a b (subst (All Suits) parts suit)) (all_front IsOwned a b (subst (All IsOwned) parts owned))
       (all_front (IsWithin jobs) a b (subst (All (IsWithin jobs)) parts within)) (turn_front one_lane a b (subst (InTurn one_lane) parts in_turn)) (front_driven n)
 
@@ -638,18 +640,18 @@ module _ (gives : ℕ → Bool) (seed : ℕ) (items : List Numbered) (jobs : Lis
       let deed : deed_in (history_told jobs past a ++ front) job (schemas_found (trace_of i seen)) e.call ≡ Some d =
       subst (λ k. deed_in (history_told jobs past a ++ front) job (schemas_found (trace_of k seen)) e.call ≡ Some d) at_i
       (subst (λ j. deed_in (history_told jobs past a ++ front) j (schemas_found (trace_of is.number seen)) e.call ≡ Some d) it is.deed) in
-      let begins = kept_first run_codec run_spelled NeverWaits gives seed items jobs past m are order stands fresh seed_fits in
+      let begins = kept_first run_codec run_spelled run_tracks gives seed items jobs past m are order stands fresh seed_fits in
       let no_lease : (n : Name) (bytes : List ℕ) → e.call ≡ call.Put n bytes → IsNoLease n = λ n bytes puts.
       deed_no_lease (history_told jobs past a ++ front) job (schemas_found (trace_of i seen)) n d (subst (λ x. deed_in (history_told jobs past a ++ front) job (schemas_found (trace_of i seen)) x ≡ Some d) puts deed) in
       let right : (n : Name) (bytes : List ℕ) → e.call ≡ call.Put n bytes → (made : FrameIn) → job.command ≡ Create made → (create_refusal made ≡ None) × ((n ≡ name.Domain → ⊥) → schemas (history_told jobs past a) ≡ []) = λ n bytes puts made creates.
-      let (sound, found) = right_where_put run_codec run_spelled NeverWaits plain_laws one_lane jobs past m told results begins replied suit owned within in_turn driven
+      let (sound, found) = right_where_put run_codec run_spelled run_tracks run_laws one_lane jobs past m told results begins replied suit owned within in_turn driven
       seen (is.late ++ b) e place i job mine is_job made creates n bytes puts (no_lease n bytes puts) in
       (sound, λ other. none_before jobs past a is.early seen refl i early made (found other)) in
       let held : (n : Name) (bytes : List ℕ) → e.call ≡ call.Put n bytes → WorksIn job.command → (there : Schema) → schema_used (history_told jobs past a ++ front) job (schemas_found (trace_of i seen)) ≡ Some there
       → HeldOnce (history_told jobs past a) (history_told jobs past a ++ front) (key_of job) there × FitsIn (history_told jobs past a ++ front) job.command there = λ n bytes puts works there used.
       let looks : looked_at job ≡ job.at = looks_here job job.command works in
       let uses : schema_used (history_told jobs past seen) job (schemas_found (trace_of i seen)) ≡ Some there = ap (λ h. schema_used h job (schemas_found (trace_of i seen))) now ∙ used in
-      let (found, fits) = works_where_used run_codec run_spelled NeverWaits plain_laws one_lane jobs past m told results begins replied suit owned within in_turn driven
+      let (found, fits) = works_where_used run_codec run_spelled run_tracks run_laws one_lane jobs past m told results begins replied suit owned within in_turn driven
       seen (is.late ++ b) e place i job mine is_job (no_create job.command works) (no_merge job.command works) looks n bytes puts (no_lease n bytes puts) there uses in
       subst (λ h. HeldOnce (history_told jobs past a) h (key_of job) there × FitsIn h job.command there) now (
         held_once jobs past a is.early seen refl i early found.schemas (key_of job) there found.undone (ap (schema_there (history_told jobs past (found.schemas).before)) (sym looks) ∙ found.holds),
@@ -736,8 +738,12 @@ module _ (gives : ℕ → Bool) (seed : ℕ) (items : List Numbered) (jobs : Lis
       leaves_but_own m jobs lane a c a' grows i job is_job mine ((front_run (i + 1)).puts i job is_job none) in
       let looks : OnlyLooks job.command → LeavesAll (calls_in m lane a c) (key_of job) job.command = λ only.
       leaves_all m jobs lane a c a' grows i job is_job mine ((front_run (i + 1)).looks i job is_job only) in
+      let gets : (from to : ℕ) (query : Query) → job.command ≡ Read from to query → FewGets run_spelled run_most (history_told jobs past a') (calls_in m lane a c).opening from to query (gets_among (list_map (λ (e : Entry). e.call) (calls_in m lane a c).entries)) = λ from to query reads.
+      let over : IsStored (held_told m a) (history_told jobs past a') = subst (IsStored (held_told m a)) (sym (still (subst DoesNone (sym reads) tt)).0) (stood a c grows) in
+      gets_told m lane a c a' grows i job mine replies ((front_run (i + 1)).looks i job is_job (subst OnlyLooks (sym reads) tt)) (history_told jobs past a') over from to query reads
+      (subst (AskedFrom run_codec job (first_stage job)) traced (driven.driven i job result is_job result_at).asked) in
       let done : IsDone (calls_in m lane a c) (history_told jobs past a) (history_told jobs past a') (key_of job) (item.line).stop result job.command =
-      record { deeds = deeds; goes_on = grows_by; own = of_job; tells = came; stays = keeps_held m jobs lane a c a' grows i job is_job mine stays; sweeps = sweeps; unlocks = unlocks; puts = puts; looks = looks; idle = idle } in
+      record { deeds = deeds; goes_on = grows_by; own = of_job; tells = came; stays = keeps_held m jobs lane a c a' grows i job is_job mine stays; sweeps = sweeps; unlocks = unlocks; puts = puts; looks = looks; gets = gets; idle = idle } in
       let small = All-contains IsFitItem items item order.fit (Contains-slice_get items i item is_item) in
       let seed_is : seed_in id ≡ seed = seed_of_id seed (item.line).lane item.number (omega (arith, (small.fit).lane)) small.few in
       let as_line : IsDone (calls_in m lane a c) (history_told jobs past a) (history_told jobs past a') (record { t = job.at; id = id }) (item.line).stop result (command_at (seed_in id) item.line job.at) =

@@ -1,16 +1,14 @@
 -- What a vacuum tells: the objects that it removed.
-use Rattle.std.proofs.Common.{◌≡◌, ◌⊎◌, inl, inr, ℕ, ◌-◌, ◌^◌, Bool, true, false, cond, not, List, [], ◌∷◌, ◌++◌, drop, get_or, Option, Some, None, Result, Ok, length, append_assoc, refl, sym, ◌∙◌, ap, subst, arith}
+use Rattle.std.proofs.Common.{◌≡◌, ◌⊎◌, inl, inr, ℕ, ◌-◌, ◌^◌, Bool, true, false, cond, not, List, [], ◌∷◌, ◌++◌, drop, get_or, Option, Some, None, Result, Ok, append_assoc, refl, sym, ◌∙◌, ap, subst, arith}
 use Rattle.std.specs.Prelude.{All, Contains, IfSome, IsTrue, filter, option_map, map as list_map}
 use Rattle.std.specs.FinMap as map
-use Rattle.std.specs.List.{list_any}
 use Rattle.std.specs.Ordering.{eq_by_cmp}
 use Rattle.std.proofs.lemmas.Bool.{true≢false}
 use Rattle.std.proofs.lemmas.List.{same_from_push, take_all}
-use Rattle.std.proofs.lemmas.List.Elements.{All-contains, Contains-append_cases, Contains-append_left, Contains-append_right, filter_map-append}
-use Rattle.std.proofs.lemmas.Option.{none-some, same_Some}
+use Rattle.std.proofs.lemmas.List.Elements.{Contains-append_cases, Contains-append_left, Contains-append_right}
+use Rattle.std.proofs.lemmas.Option.{same_Some}
 use Rattle.ts_base.specs.Exact.{name_total, name_exact}
 use Rattle.ts_base.specs.Held.{Held}
-use Rattle.ts_base.specs.Keys.{frag_eq}
 use Rattle.ts_base.specs.Names.{is_under, name_cmp, wrt_of}
 use Rattle.ts_base.specs.declared.keys.FragKey.{FragKey}
 use Rattle.ts_base.specs.declared.names.LeaseMode.TheVariants.{Exc}
@@ -32,14 +30,13 @@ use Rattle.ts_model.specs.declared.answers.Driven.TheVariants.{Done}
 use Rattle.ts_model.specs.declared.answers.Outcome.{Outcome}
 use Rattle.ts_model.specs.declared.answers.Outcome.TheVariants as outcome
 use Rattle.ts_model.specs.declared.answers.Refusal.TheVariants as refusal
-use Rattle.ts_model.specs.declared.commands.Command.TheVariants.{Vacuum}
 use Rattle.ts_model.specs.declared.commands.Job.{Job}
 use Rattle.ts_model.specs.declared.states.Sweep.{Sweep}
 use Rattle.ts_model.specs.Deeds.{History}
 use Rattle.ts_model.specs.Jobs.{key_of, refused_before}
 use Rattle.ts_model.specs.Stages.{lease_of, mode_of, put_lease, released}
-use Rattle.ts_model.specs.States.{Exchange, counting_in, get_vac, list_commits, list_leases, list_parts, list_schemas, names_of_all, names_of_one, names_removed, vac_of, vacs_beside, where_among}
-use Rattle.ts_model.specs.Told.{IsReplied, Replied, Suits, Told, after_told, entries_of, entry_of, held_told, history_told, trace_of}
+use Rattle.ts_model.specs.States.{Exchange, counting_in, get_vac, list_commits, list_leases, list_parts, list_schemas, names_of_all, names_of_one, vac_of, vacs_beside, where_among}
+use Rattle.ts_model.specs.Told.{IsReplied, Replied, Suits, Told, after_told, entries_of, held_told, history_told, trace_of}
 use Rattle.ts_model.proofs.KeyLemmas.{frag_itself, frag_same, same_from_tie, tie_itself}
 use Rattle.ts_model.proofs.ListLemmas.{Contains-cons, Contains-here, Contains-nil, Contains-there, filter-Contains}
 use Rattle.ts_model.proofs.Traces.{held_told-append, trace_of-own}
@@ -48,8 +45,8 @@ use Rattle.ts_law.specs.Ends.{AreAllVacs, IsGone, IsVacuumed, up_to}
 use Rattle.ts_law.specs.Stands.{Names, Stands}
 use Rattle.ts_law.specs.Swept.{sweep_over}
 use Rattle.ts_law.proofs.Effects.{Added, PutWent, Still, got, listed, put_went}
-use Rattle.ts_law.proofs.Fetches.{Contains-map, map-Contains}
-use Rattle.ts_law.proofs.HeldLemmas.{Holds, Holds-from_get, Holds-from_listed, bytes_there, listed_from_Holds}
+use Rattle.ts_law.proofs.Fetches.{map-Contains}
+use Rattle.ts_law.proofs.HeldLemmas.{Holds, Holds-from_get, Holds-from_listed, listed_from_Holds}
 use Rattle.ts_law.proofs.Removals.{all_vacs_each}
 use Rattle.ts_law.proofs.Short.{replied_at}
 use Rattle.ts_top.specs.Merges.{held_by}
@@ -59,7 +56,7 @@ use Rattle.ts_top.specs.Sweeps.{IsObjectOf, IsSwept, Vacuumed}
 use Rattle.ts_top.proofs.LeasesTold.{last_of, no_last, told_removed}
 use Rattle.ts_top.proofs.MergesTold.{calls_in, divided, held_entered}
 use Rattle.ts_top.proofs.Places.{Early}
-use Rattle.ts_top.proofs.Removed.{Each, NextCall, PutsNot, RemovesNot, along_calls, call_among, did_it, exchange_among, gone_stays, held_before_them, held_same, next_call, same_names, told_names}
+use Rattle.ts_top.proofs.Removed.{Each, NextCall, PutsNot, RemovesNot, along_calls, call_among, exchange_among, gone_stays, held_before_them, held_same, next_call, same_names, told_names}
 use Rattle.ts_law.proofs.Journals.{journal_held}
 
 -- ---- lists

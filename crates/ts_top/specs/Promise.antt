@@ -1,5 +1,5 @@
 -- What a run promises: what its printed text and the end of each command mean, in words of the history.
-use Rattle.std.specs.Prelude.{◌≡◌, ◌≢◌, ℕ, ◌+◌, ◌≤◌, Bool, false, List, [], ◌∷◌, ◌++◌, Option, Some, None, Ok, option_map, length, slice_get, All, Contains, IfSome, ⊤, ◌⊎◌}
+use Rattle.std.specs.Prelude.{◌≡◌, ◌≢◌, ℕ, ◌+◌, ◌≤◌, Bool, false, List, [], ◌∷◌, ◌++◌, Option, Some, None, Ok, option_map, length, slice_get, All, Contains, IfSome, ⊤, ◌⊎◌, map as list_map}
 use Rattle.std.specs.Io.KnownBytes.{Appends}
 use Rattle.std.specs.FinMap as map
 use Rattle.ts_base.specs.Held.{Held}
@@ -37,6 +37,7 @@ use Rattle.ts_model.specs.Commands.{create_refusal, frame_made, laid}
 use Rattle.ts_model.specs.Queries.{delete_condition}
 use Rattle.ts_model.specs.Stages.{mode_of}
 use Rattle.ts_model.specs.Stops.{is_point}
+use Rattle.ts_law.specs.Bounds.{FewGets, gets_among}
 use Rattle.ts_law.specs.Changes.{IsOwn, OnlyLooks, RemovesNone}
 use Rattle.ts_law.specs.Ends.{IsAnswerOver}
 use Rattle.ts_law.specs.Fresh.{IsFreshSeed, IsStampOf, Numbered, command_at, id_of, in_lane_order}
@@ -50,7 +51,7 @@ use Rattle.ts_script.specs.Words.{asked}
 use Rattle.ts_script.specs.Meanings.{report_of}
 use Rattle.ts_top.specs.Reports.{report_text}
 use Rattle.ts_top.specs.Merges.{Calls, Merged, held_by}
-use Rattle.ts_top.specs.Runners.{run_spelled}
+use Rattle.ts_top.specs.Runners.{run_most, run_spelled}
 use Rattle.ts_top.specs.Seen.{Seen, Means}
 use Rattle.ts_top.specs.Sweeps.{MaySweep, Unlocked, Vacuumed, dead_leases}
 
@@ -147,6 +148,8 @@ pub record IsDone (calls : Calls) (before now : History) (k : Key) (stops : Stop
   pub puts : RemovesNone command → LeavesOthers calls k command (IsOwn k command)
   -- a read and a list of the commits, to their end or not, leave each object as it was, but a lease of their own
   pub looks : OnlyLooks command → LeavesAll calls k command
+  -- a read, to its end or not, makes few gets, by the fragments, the `.vac` objects and the deletes that were held before its calls
+  pub gets : (from to : ℕ) (query : Query) → command ≡ Read from to query → FewGets run_spelled run_most now calls.opening from to query (gets_among (list_map (λ e. e.call) calls.entries))
   -- one that is refused for no fault leaves each object as it was, but its lease
   pub idle : (r : Refusal) → result ≡ Done (outcome.Refused r) → IsNoFault r → LeavesAll calls k command
 

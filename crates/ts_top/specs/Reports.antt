@@ -6,7 +6,7 @@ use Rattle.ts_model.specs.declared.answers.Outcome.{Outcome}
 use Rattle.ts_model.specs.declared.answers.Outcome.TheVariants.{Refused, OutOfMemory}
 use Rattle.ts_law.specs.Fresh.{Numbered}
 use Rattle.ts_script.specs.declared.words.Report.{Report}
-use Rattle.ts_script.specs.declared.words.Report.TheVariants.{Script, Single, Summary}
+use Rattle.ts_script.specs.declared.words.Report.TheVariants.{Single, Summary}
 use Rattle.ts_top.specs.Ends.{ends_text}
 use Rattle.ts_top.specs.Summaries.{generated_text, status_generated}
 

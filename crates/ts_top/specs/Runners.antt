@@ -11,13 +11,19 @@ use Rattle.ts_store.specs.Journals.{failures}
 use Rattle.ts_model.specs.declared.answers.Driven.{Driven}
 use Rattle.ts_model.specs.declared.answers.Outcome.{Outcome}
 use Rattle.ts_model.specs.declared.commands.Job.{Job}
-use Rattle.ts_model.specs.Codecs.{Codec, Spelled}
+use Rattle.ts_model.specs.Codecs.{Codec, Spelled, Tracking}
+use Rattle.ts_model.specs.Gets.{MostGets}
 use Rattle.ts_model.specs.States.{Exchange}
 use Rattle.ts_law.specs.Doing.{AllRan, RanOver}
 use Rattle.ts_law.specs.Fresh.{AreJobsOf, IsStampOf, Numbered, id_of, job_from}
 use Rattle.ts_plain.specs.Pieces.{IsPlain}
 use Rattle.ts_actor.specs.Drives.{Called, MadeOf}
-use Rattle.ts_actor.specs.PlainCodec.{plain_codec}
+use Rattle.ts_actor.specs.PlainCodec.{plain_codec, NeverWaits}
+use Rattle.ts_fetch.specs.Plans.{Going}
+use Rattle.ts_kinds.specs.declared.either_fetch.EitherFetch.{EitherFetch}
+use Rattle.ts_kinds.specs.Kinds.{either_codec, either_most, either_spelled, either_tracks}
+use Rattle.ts_sparse_read.specs.declared.opened.Opened.{Opened}
+use Rattle.ts_sparse_read.specs.Codecs.{sparse_codec, sparse_gets, SparseTracks, IsSparseIn}
 
 -- where a store's count of faults kept up with the failed calls of the journal before, it does so now
 abbrev pub KeepsCount : ℕ → ℕ → List Entry → List Entry → Type 0
@@ -27,13 +33,25 @@ KeepsCount before now journal longer = (base : ℕ) → capped (base + failures 
 abbrev pub JustMade : {S : Type 0} → (S → Option Held) → (S → Fate) → (S → ℕ) → (S → Call → Reply → S → Type 0) → S → List Exchange → S → Type 0
 JustMade held last faults notes before calls later = MadeOf (Called held last faults notes) before calls later
 
--- the functions of the program's way to write fragments
-abbrev pub run_codec : Codec (List Version)
-run_codec = plain_codec
+-- how far a fetch of the program has come: in a dense array it found all versions at once, in a sparse one it goes through the tiles of its plan
+abbrev pub RunFetch : Type 0
+RunFetch = EitherFetch (List Version) (Going Opened)
 
--- how fragments that are written so spell their pieces
+-- the functions of the program's way to write fragments: those of dense arrays are one object, those of sparse arrays stand in tiles
+abbrev pub run_codec : Codec RunFetch
+run_codec = either_codec plain_codec sparse_codec
+
+-- which pieces the parts of fragments spell that are written so
 abbrev pub run_spelled : Spelled
-run_spelled = IsPlain
+run_spelled = either_spelled IsPlain IsSparseIn
+
+-- what a fetch of the program waits for
+abbrev pub run_tracks : Tracking RunFetch
+run_tracks = either_tracks NeverWaits SparseTracks
+
+-- the most gets that a fetch of the program may make: in a dense array none, since all is in the object with the head; in a sparse one so many as `sparse_gets` says
+abbrev pub run_most : MostGets
+run_most = either_most (λ _ _ _ _. 0) sparse_gets
 
 -- the command of a line was done, as a job of it in its lane, at a stamp of the line
 pub record RanLine {S : Type 0} (held : S → Option Held) (made : S → List Exchange → S → Type 0) (gives : ℕ → Bool) (seed : ℕ) (item : Numbered) (store later : S) (before after : List Entry) (result : Driven Outcome) : Type 0 where

@@ -9,10 +9,13 @@ use Rattle.ts_model.specs.declared.commands.Line.{Line}
 use Rattle.ts_model.specs.declared.answers.Driven.{Driven}
 use Rattle.ts_model.specs.declared.answers.Outcome.{Outcome}
 use Rattle.ts_model.specs.declared.commands.Job.{Job}
+use Rattle.ts_model.specs.Deeds.{History}
 use Rattle.ts_model.specs.States.{Exchange}
-use Rattle.ts_law.specs.Fresh.{AreJobsOf, in_lane_order, lanes_of}
+use Rattle.ts_law.specs.Bounds.{ReadsFew}
+use Rattle.ts_law.specs.Fresh.{AreJobsOf, IsFreshSeed, in_lane_order, lanes_of}
 use Rattle.ts_law.specs.Lanes.{InTurn, one_lane}
 use Rattle.ts_law.specs.Runs.{IsRun}
+use Rattle.ts_law.specs.Stands.{Stands}
 use Rattle.ts_top.specs.declared.top.Prepared.{Prepared}
 use Rattle.ts_top.specs.declared.top.Stop.{Stop}
 use Rattle.ts_top.specs.declared.top.Stop.TheVariants.{Usage, BadScript, ReadFault, OutOfMemory}
@@ -20,7 +23,7 @@ use Rattle.ts_script.specs.declared.words.Asked.{Asked}
 use Rattle.ts_script.specs.declared.words.Asked.TheVariants.{Command as Alone, Generate}
 use Rattle.ts_script.specs.declared.words.Report.{Report}
 use Rattle.ts_script.specs.Generator.{generated}
-use Rattle.ts_top.specs.Runners.{run_codec, run_spelled}
+use Rattle.ts_top.specs.Runners.{run_codec, run_most, run_spelled}
 use Rattle.ts_script.specs.Words.{asked}
 use Rattle.ts_script.specs.Script.{Fault, Bad}
 use Rattle.ts_script.specs.Meanings.{has_input, meaning, report_of}
@@ -150,6 +153,8 @@ pub record Performed {S : Type 0} (held : S → Option Held) (made : S → List 
   pub of_lines : AreJobsOf seen.gives seen.seed (in_lane_order lines) jobs
   pub run : IsRun run_codec run_spelled held made seen.seed (lanes_of (in_lane_order lines)) jobs seen.store seen.later seen.journal results
   pub in_turn : InTurn one_lane run.told
+  -- over a store that told what it held, where that stands for a history that the seed is fresh over, each read makes few gets
+  pub few_gets : IfSome (held seen.store) (λ m. (h : History) → Stands run_spelled m h → IsFreshSeed m h seen.seed → ReadsFew run_spelled run_most jobs h m run.told)
 
 -- the commands were done and their ends printed, or there was no memory to begin with them
 pub data Plays {S : Type 0} (held : S → Option Held) (made : S → List Exchange → S → Type 0) (seen : Seen S) (report : Report) (lines : List Line) : Type 0 where

@@ -6,6 +6,7 @@ mod items;
 mod notices;
 mod runner;
 mod summaries;
+mod tiled;
 mod top;
 
 pub use top::{Ran, run};

@@ -8,9 +8,10 @@ ghost use Rattle.ts_top.specs.Items.{numbered, numbered_line};
 ghost use Rattle.ts_top.specs.Runners.{RanLines, RanLine, JustMade, KeepsCount, run_codec};
 
 use crate::items::Item;
+use crate::tiled::Tiled;
 use std::alloc::Global;
 use std::thread::Threads;
-use ts_actor::{Driven, PlainPieces, drive};
+use ts_actor::{Driven, drive};
 use ts_base::{Duplicate, OutOfMemory};
 use ts_commands::AnyActor;
 use ts_model::{Command, Job, Line, Outcome};
@@ -29,7 +30,7 @@ pub(crate) fn run_job<R: Threads + Sync, S: Store>(
     ensures counted { KeepsCount (S.faults recorder.old.store) (S.faults recorder.new.store) recorder.old.book.journal recorder.new.book.journal }
 {
     let stop = job.stop;
-    let mut actor: AnyActor<PlainPieces> = AnyActor::of(job);
+    let mut actor: AnyActor<Tiled> = AnyActor::of(job);
     drive(rt, alloc, &mut actor, recorder, &stop)
 }
 

@@ -36,8 +36,9 @@ fn a_consolidation_names_its_sources_and_leaves_no_lease(rt: HostRuntime) -> Res
     let text = format!(in alloc; "{WRITTEN}0.4|consolidate|ok|__1_1_<4>_1|2\n")?;
     assert_eq!(rt; status, 0);
     assert_eq!(rt; printed, said(alloc, text.as_str())?);
-    // The put of a lease and three listings, four gets and three puts; its removal behind.
-    assert_eq!(rt; journal.len(), 24);
+    // The put of a lease and three listings, four gets, two sizes and two gets of each source, and six
+    // puts; its removal behind.
+    assert_eq!(rt; journal.len(), 39);
     match store.get(alloc, vac(4), 14, 100) {
         Ok(Some(bytes)) => assert_eq!(rt; bytes, said(alloc, "__1_1_<2>_1\n__1_1_<3>_1\n")?),
         _ => assert!(rt; false, "there is the object that names the sources"),
@@ -49,21 +50,30 @@ fn a_consolidation_names_its_sources_and_leaves_no_lease(rt: HostRuntime) -> Res
     Ok(())
 }
 
-/// The calls of a consolidation, by their places among those of a script, with the object or prefix
-/// that each speaks of.
-const CALLS: [(u64, &str); 12] = [
-    (12, "__leases/__6_6_<4>.shr"),
-    (13, "__leases/"),
-    (14, "__commits/"),
-    (15, "__schema/"),
-    (16, "__domain.tdb"),
-    (17, "__fragments/__1_1_<2>_1/plain.tdb"),
-    (18, "__fragments/__1_1_<3>_1/plain.tdb"),
-    (19, "__schema/__0_0_<1>"),
-    (20, "__fragments/__1_1_<4>_1/plain.tdb"),
-    (21, "__commits/__1_1_<4>_1.vac"),
-    (22, "__commits/__1_1_<4>_1.wrt"),
-    (23, "__leases/__6_6_<4>.shr"),
+/// Calls of a consolidation, by their places among those of a script, with the object or prefix that
+/// each speaks of.
+const CALLS: [(u64, &str); 21] = [
+    (16, "__leases/__6_6_<4>.shr"),
+    (17, "__leases/"),
+    (18, "__commits/"),
+    (19, "__schema/"),
+    (20, "__domain.tdb"),
+    (21, "__fragments/__1_1_<2>_1/__fragment_metadata.tdb"),
+    (22, "__fragments/__1_1_<3>_1/__fragment_metadata.tdb"),
+    (23, "__schema/__0_0_<1>"),
+    (24, "__fragments/__1_1_<2>_1/d0.tdb"),
+    (25, "__fragments/__1_1_<2>_1/a0.tdb"),
+    (26, "__fragments/__1_1_<2>_1/d0.tdb"),
+    (27, "__fragments/__1_1_<2>_1/a0.tdb"),
+    (28, "__fragments/__1_1_<3>_1/d0.tdb"),
+    (31, "__fragments/__1_1_<3>_1/a0.tdb"),
+    (32, "__fragments/__1_1_<4>_1/d0.tdb"),
+    (33, "__fragments/__1_1_<4>_1/a0.tdb"),
+    (34, "__fragments/__1_1_<4>_1/o.tdb"),
+    (35, "__fragments/__1_1_<4>_1/__fragment_metadata.tdb"),
+    (36, "__commits/__1_1_<4>_1.vac"),
+    (37, "__commits/__1_1_<4>_1.wrt"),
+    (38, "__leases/__6_6_<4>.shr"),
 ];
 
 // Whether a call of a consolidation that fails is told, and a read behind it shows what was written.

@@ -46,7 +46,7 @@ fn a_delete_puts_its_condition(rt: HostRuntime) -> Result<(), Fail> {
     } = play_well(&rt, script.as_str())?;
     assert_eq!(rt; status, 0);
     // A listing, two gets and a put.
-    assert_eq!(rt; journal.len(), 16);
+    assert_eq!(rt; journal.len(), 20);
     match store.get(alloc, del(4), 0, 100) {
         Ok(Some(bytes)) => assert_eq!(rt; bytes.as_slice(), OBJECT.as_slice()),
         _ => assert!(rt; false, "there is the object of the delete"),
@@ -61,38 +61,38 @@ const DELETE: &str = "{'cmd':'delete','at':2,'where':'v = 10'}\n";
 /// and as one that was not: what is printed behind the write.
 const FAILED: [(u64, bool, &str); 7] = [
     (
-        7,
+        9,
         true,
         "0.3|delete|refused|StoreFault|__schema/\n0.4|read|ok|1|0\n5|10\n",
     ),
     (
-        8,
+        10,
         true,
         "0.3|delete|refused|StoreFault|__schema/__0_0_<1>\n0.4|read|ok|1|0\n5|10\n",
     ),
     (
-        9,
+        11,
         false,
         "0.3|delete|refused|StoreFault|__domain.tdb\n0.4|read|ok|1|0\n5|10\n",
     ),
     (
-        10,
+        12,
         true,
         "0.3|delete|refused|StoreFault|__commits/__2_2_<3>_1.del\n0.4|read|ok|0|0\n",
     ),
     (
-        10,
+        12,
         false,
         "0.3|delete|refused|StoreFault|__commits/__2_2_<3>_1.del\n0.4|read|ok|1|0\n5|10\n",
     ),
     (
-        17,
+        19,
         false,
         "0.3|delete|ok|__2_2_<3>_1\n\
-        0.4|read|refused|StoreFault|__fragments/__1_1_<2>_1/plain.tdb\n",
+        0.4|read|refused|StoreFault|__fragments/__1_1_<2>_1/__fragment_metadata.tdb\n",
     ),
     (
-        18,
+        20,
         false,
         "0.3|delete|ok|__2_2_<3>_1\n\
         0.4|read|refused|StoreFault|__commits/__2_2_<3>_1.del\n",

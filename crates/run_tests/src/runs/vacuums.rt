@@ -35,30 +35,33 @@ fn a_vacuum_leaves_the_merged_fragment_alone(rt: HostRuntime) -> Result<(), Fail
     let text = format!(in alloc; "{DONE}0.5|vacuum|ok|2\n0.6|read|ok|2|0\n5|10\n6|11\n")?;
     assert_eq!(rt; status, 0);
     assert_eq!(rt; printed, said(alloc, text.as_str())?);
-    // The put of a lease and three listings, a get and two listings more, and five removals before
-    // that of the lease; the read behind makes eight calls.
-    assert_eq!(rt; journal.len(), 45);
-    // The frame, the schema, and the part and the commit of the merged fragment.
-    assert_eq!(rt; store.names(alloc)?.len(), 4);
+    // The put of a lease and three listings, a get and two listings more, and nine removals before
+    // that of the lease; the read behind makes fourteen calls.
+    assert_eq!(rt; journal.len(), 70);
+    // The frame, the schema, and four parts and the commit of the merged fragment.
+    assert_eq!(rt; store.names(alloc)?.len(), 7);
     Ok(())
 }
 
-/// The calls of a vacuum, by their places among those of a script, with the object or prefix that each
+/// Calls of a vacuum, by their places among those of a script, with the object or prefix that each
 /// speaks of.
-const CALLS: [(u64, &str); 13] = [
-    (24, "__leases/__8_8_<5>.exc"),
-    (25, "__leases/"),
-    (26, "__commits/"),
-    (27, "__schema/"),
-    (28, "__commits/__1_1_<4>_1.vac"),
-    (29, "__fragments/__1_1_<2>_1/"),
-    (30, "__fragments/__1_1_<3>_1/"),
-    (31, "__commits/__1_1_<2>_1.wrt"),
-    (32, "__fragments/__1_1_<2>_1/plain.tdb"),
-    (33, "__commits/__1_1_<3>_1.wrt"),
-    (34, "__fragments/__1_1_<3>_1/plain.tdb"),
-    (35, "__commits/__1_1_<4>_1.vac"),
-    (36, "__leases/__8_8_<5>.exc"),
+const CALLS: [(u64, &str); 16] = [
+    (39, "__leases/__8_8_<5>.exc"),
+    (40, "__leases/"),
+    (41, "__commits/"),
+    (42, "__schema/"),
+    (43, "__commits/__1_1_<4>_1.vac"),
+    (44, "__fragments/__1_1_<2>_1/"),
+    (45, "__fragments/__1_1_<3>_1/"),
+    (46, "__commits/__1_1_<2>_1.wrt"),
+    (47, "__fragments/__1_1_<2>_1/__fragment_metadata.tdb"),
+    (48, "__fragments/__1_1_<2>_1/a0.tdb"),
+    (49, "__fragments/__1_1_<2>_1/d0.tdb"),
+    (50, "__commits/__1_1_<3>_1.wrt"),
+    (51, "__fragments/__1_1_<3>_1/__fragment_metadata.tdb"),
+    (53, "__fragments/__1_1_<3>_1/d0.tdb"),
+    (54, "__commits/__1_1_<4>_1.vac"),
+    (55, "__leases/__8_8_<5>.exc"),
 ];
 
 // Whether a call of a vacuum that fails is told, and a read behind it shows what was written. An unlock
@@ -73,7 +76,7 @@ fn is_told<R: Threads + Sync + AllocGlobal>(
     let script = format!(in alloc; "{C1}{MERGED}{VACUUM}{UNLOCK}{READ}")?;
     let store = MemStore::new(alloc, fails_at(alloc, call, whole)?);
     let shown = play_over(rt, 0, script.as_str(), store)?;
-    let left = if call == 36 && !whole { "1" } else { "0" };
+    let left = if call == 55 && !whole { "1" } else { "0" };
     let end = format!(in alloc; "0.5|vacuum|refused|StoreFault|{object}\n0.6|unlock|ok|{left}\n")?;
     let text = format!(in alloc; "{DONE}{end}0.7|read|ok|2|0\n5|10\n6|11\n")?;
     Ok(shown.status == 0 && shown.printed == said(alloc, text.as_str())?)
@@ -112,8 +115,8 @@ fn an_unlock_takes_the_leases_of_other_runs(rt: HostRuntime) -> Result<(), Fail>
     let text = "0.1|create|ok\n0.2|write|ok|__1_1_<2>_1\n0.3|read|stopped\n";
     assert_eq!(rt; status, 0);
     assert_eq!(rt; printed, said(alloc, text)?);
-    // Seven calls, and two of the read.
-    assert_eq!(rt; journal.len(), 9);
+    // Nine calls, and two of the read.
+    assert_eq!(rt; journal.len(), 11);
     assert!(rt; is_second(&rt, store, HELD_UP)?, "the lease of this run");
     Ok(())
 }

@@ -1,4 +1,4 @@
-use Rattle.std.proofs.Common.{◌∙◌, sym, arith}
+use Rattle.std.proofs.Common.{◌∙◌, sym}
 use Rattle.ts_top.proofs.Refusing.{refusal_later}
 use Rattle.ts_top.proofs.summaries.print_refusal.Goals as goal
 

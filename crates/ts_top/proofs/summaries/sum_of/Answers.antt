@@ -1,6 +1,6 @@
-use Rattle.std.proofs.Common.{◌≡◌, ◌+◌, arith, ap, ◌∙◌, drop}
+use Rattle.std.proofs.Common.{◌≡◌, arith, ap, ◌∙◌}
 use Rattle.std.specs.Prelude.{slice_get}
-use Rattle.ts_top.specs.Summaries.{number_in, sum_of}
+use Rattle.ts_top.specs.Summaries.{number_in}
 use Rattle.ts_top.proofs.Refusing.{sum_later}
 use Rattle.ts_top.proofs.summaries.sum_of.Goals as goal
 
