@@ -3,16 +3,18 @@
 
     bench/sparse.py                   a million cells
     bench/sparse.py --cells N         so many
+    bench/sparse.py --capacity N      in tiles of so many cells, in place of a thousand
     bench/sparse.py --program FILE    another build of the program
 
 The cells have two dimensions of int32 and three attributes: an int64, an int16 that may be null, and a short text. Both stores are a folder or a
 file in memory, where the machine has that. Numbers are milliseconds of processors, medians of five runs.
 
 JSON and text are left out. What a write takes is what its script takes, less what the same script takes where the write is stopped before its first
-call: that reads the JSON and lays nothing. A read of all has a condition that no cell meets, so that it fetches and tests all and prints none; SQLite
-tests the same condition. A box of a thousandth of the cells prints them: in a process that makes two hundred such reads, each of another box, less one
-that makes a single one. SQLite has the index of its primary key, over both dimensions, and works through python's module, on rows that
-python holds already; it hands out the rows of a box.
+call: that reads the JSON and lays nothing. A read of all has a condition that no cell meets, so that it fetches and tests all and prints none. SQLite
+does the same in its own loop, which gives no row away; what it takes where python gets all rows stands in a line of its own, beside our read that
+prints them. A box of a thousandth of the cells is read in a process that makes two hundred such reads, each of another box, less one that makes
+a single one; these print their rows. SQLite has the index of its primary key, over both dimensions, and works through python's module, on rows that
+python holds already.
 """
 import argparse
 import json
@@ -42,10 +44,10 @@ def rows_of(cells):
     return [(place // SIDE, place % SIDE, i * 1_000_003, None if i % 10 == 0 else i % 30_000, "n%d" % (i % 1000)) for i, place in enumerate(places)]
 
 
-def create_line():
+def create_line(capacity):
     dims = [{"name": name, "type": "int32", "domain": [0, SIDE - 1], "extent": 1000} for name in ("x", "y")]
     attrs = [{"name": "sum", "type": "int64"}, {"name": "count", "type": "int16", "nullable": True}, {"name": "note", "type": "text"}]
-    return {"cmd": "create", "at": 0, "kind": "sparse", "dims": dims, "attrs": attrs}
+    return {"cmd": "create", "at": 0, "kind": "sparse", "capacity": capacity, "dims": dims, "attrs": attrs}
 
 
 def write_line(rows, **more):
@@ -76,14 +78,17 @@ def program_ms(program, store, lines):
     return (after.ru_utime - before.ru_utime + after.ru_stime - before.ru_stime) * 1000, done.stdout
 
 
-def of_program(program, rows, boxes, folder):
+def of_program(program, capacity, rows, boxes, folder):
+    create = create_line(capacity)
     store = os.path.join(folder, "store%d" % time.monotonic_ns())
-    stopped = program_ms(program, store + "-stopped", [create_line(), write_line(rows, stop=0)])[0]
-    write = program_ms(program, store, [create_line(), write_line(rows)])[0] - stopped
-    whole = program_ms(program, store, [{"cmd": "read", "at": 9, "where": NEVER}])[0]
+    stopped = program_ms(program, store + "-stopped", [create, write_line(rows, stop=0)])[0]
+    write = program_ms(program, store, [create, write_line(rows)])[0] - stopped
+    tested = program_ms(program, store, [{"cmd": "read", "at": 9, "where": NEVER}])[0]
+    printed = program_ms(program, store, [{"cmd": "read", "at": 9}])[0]
     one = program_ms(program, store, [read_line(*boxes[0])])[0]
     many, shown = program_ms(program, store, [read_line(*box) for box in boxes])
-    return {"write": write, "read of all": whole, "read of a box": (many - one) / (len(boxes) - 1)}, store, shown
+    took = {"write": write, "read of all, none shown": tested, "read of all, all shown": printed, "read of a box": (many - one) / (len(boxes) - 1)}
+    return took, store, shown
 
 
 def of_sqlite(rows, boxes, folder):
@@ -100,7 +105,11 @@ def of_sqlite(rows, boxes, folder):
     before = time.process_time()
     if base.execute("select * from cells where +%s" % NEVER).fetchall():
         sys.exit("SQLite has such a row")
-    took["read of all"] = (time.process_time() - before) * 1000
+    took["read of all, none shown"] = (time.process_time() - before) * 1000
+    before = time.process_time()
+    if len(base.execute("select * from cells order by x, y").fetchall()) != len(rows):
+        sys.exit("SQLite has other rows")
+    took["read of all, all shown"] = (time.process_time() - before) * 1000
     before = time.process_time()
     for low, high in boxes:
         found += base.execute("select * from cells where x between ? and ? and y between ? and ? order by x, y", (low[0], high[0], low[1], high[1])).fetchall()
@@ -120,13 +129,14 @@ def main():
     parser = argparse.ArgumentParser(description=__doc__, formatter_class=argparse.RawDescriptionHelpFormatter)
     parser.add_argument("--program", default=play.PROGRAM)
     parser.add_argument("--cells", type=int, default=1_000_000)
+    parser.add_argument("--capacity", type=int, default=1000)
     parser.add_argument("--runs", type=int, default=RUNS)
     chosen = parser.parse_args()
     rows, boxes = rows_of(chosen.cells), list(boxes_of(chosen.cells, BOXES))
     ours, theirs, sizes = [], [], {}
     for _ in range(chosen.runs):
         with tempfile.TemporaryDirectory(dir=MEMORY) as folder:
-            took, store, shown = of_program(chosen.program, rows, boxes, folder)
+            took, store, shown = of_program(chosen.program, chosen.capacity, rows, boxes, folder)
             ours.append(took)
             took, file, found = of_sqlite(rows, boxes, folder)
             theirs.append(took)
