@@ -5,7 +5,7 @@
 #![tactic(auto)]
 
 ghost use Rattle.std.specs.Prelude.{◌≡◌, ◌⊎◌, None};
-ghost use Rattle.ts_script.specs.Words.{asked, spelled};
+ghost use Rattle.ts_script.specs.Words.{asked, word_texts};
 
 mod clock;
 mod streams;
@@ -78,8 +78,8 @@ fn run_in_memory<R: Input + Print + AllocGlobal + Threads + Sync>(
     machine: HostRuntime,
     words: &[&str],
 ) -> u8
-    ensures usage { result ≡ 2 → asked (spelled words.entry.now) ≡ None }
-    ensures usage_there { asked (spelled words.entry.now) ≡ None → (result ≡ 2) ⊎ (result ≡ 7) }
+    ensures usage { result ≡ 2 → asked (word_texts words.entry.now) ≡ None }
+    ensures usage_there { asked (word_texts words.entry.now) ≡ None → (result ≡ 2) ⊎ (result ≡ 7) }
 {
     let alloc = rt.alloc();
     let store = MemStore::new(alloc, FaultList::new(alloc));
@@ -95,8 +95,8 @@ fn run_in_folder<R: Input + Print + AllocGlobal + Threads + Sync>(
     folder: &str,
     words: &[&str],
 ) -> u8
-    ensures usage { result ≡ 2 → asked (spelled words.entry.now) ≡ None }
-    ensures usage_there { asked (spelled words.entry.now) ≡ None → (result ≡ 2) ⊎ (result ≡ 7) }
+    ensures usage { result ≡ 2 → asked (word_texts words.entry.now) ≡ None }
+    ensures usage_there { asked (word_texts words.entry.now) ≡ None → (result ≡ 2) ⊎ (result ≡ 7) }
 {
     let Ok(root) = PathText::new(rt.alloc(), folder) else {
         return OUT_OF_MEMORY;
@@ -116,8 +116,8 @@ fn run_words<R: Input + Print + AllocGlobal + Threads + Sync, S: Store + Drop>(
     seed: u64,
     store: S,
 ) -> u8
-    ensures usage { result ≡ 2 → asked (spelled words.entry.now) ≡ None }
-    ensures usage_there { asked (spelled words.entry.now) ≡ None → (result ≡ 2) ⊎ (result ≡ 7) }
+    ensures usage { result ≡ 2 → asked (word_texts words.entry.now) ≡ None }
+    ensures usage_there { asked (word_texts words.entry.now) ≡ None → (result ≡ 2) ⊎ (result ≡ 7) }
 {
     let alloc: Global = rt.alloc();
     let mut input = StdSource::new(rt.reader());

@@ -8,15 +8,15 @@ use Rattle.ts_store.specs.declared.recorder.Recorder.{Recorder}
 use Rattle.ts_store.specs.Recorders.{Recorded, WasMade}
 use Rattle.ts_store.specs.Stores.{Answers}
 use Rattle.ts_model.specs.States.{Exchange}
-use Rattle.ts_actor.specs.Drives.{Called, Leads, MayBeMade, MadeOf}
+use Rattle.ts_actor.specs.Drives.{Exchanged, MadeInTurn, MayBeMade, MadeOf}
 
 module _ {S : Type 0} (held : S → Option Held) (last : S → Fate) (faults asked : S → ℕ) (notes : S → Call → Reply → S → Type 0) where
   -- a call of a store that enters it
   abbrev pub CalledAbove : Recorder S → Exchange → Recorder S → Type 0
-  CalledAbove = Called (λ r. held r.store) (λ r. r.book.last) (λ r. faults r.store) (WasMade (λ (r : Recorder S). r.book.asked) (λ (before : Recorder S) call said now. Recorded faults asked last notes before now call said))
+  CalledAbove = Exchanged (λ r. held r.store) (λ r. r.book.last) (λ r. faults r.store) (WasMade (λ (r : Recorder S). r.book.asked) (λ (before : Recorder S) call said now. Recorded faults asked last notes before now call said))
 
   -- the store below made it, unless there was no memory
-  made_below : (a b : Recorder S) (x : Exchange) → CalledAbove a x b → MayBeMade (Called held last faults notes) a.store x b.store
+  made_below : (a b : Recorder S) (x : Exchange) → CalledAbove a x b → MayBeMade (Exchanged held last faults notes) a.store x b.store
   made_below a b x called = elim (called.noted.0.noted) [
     | inl unmade ↦ inr unmade
     | inr made ↦
@@ -31,6 +31,6 @@ module _ {S : Type 0} (held : S → Option Held) (last : S → Fate) (faults ask
   ]
 
   -- so of all calls
-  pub leads_below : (a b : Recorder S) (xs : List Exchange) → Leads CalledAbove a xs b → MadeOf (Called held last faults notes) a.store xs b.store
+  pub leads_below : (a b : Recorder S) (xs : List Exchange) → MadeInTurn CalledAbove a xs b → MadeOf (Exchanged held last faults notes) a.store xs b.store
   leads_below a b [] is = ap (λ (r : Recorder S). r.store) is
   leads_below a b (x ∷ xs) (between, called, rest) = (between.store, made_below a between x called, leads_below between b xs rest)

@@ -9,10 +9,10 @@ use Rattle.ts_model.specs.declared.answers.Driven.TheVariants as driven
 use Rattle.ts_model.specs.States.{Exchange}
 use Rattle.ts_model.specs.Stops.{cuts, Uncut}
 use Rattle.ts_actor.specs.Traces.{Trace, Expects, CanCome, start, asking, filled}
-use Rattle.ts_actor.specs.Drives.{Leads, AreAsked, Drove}
+use Rattle.ts_actor.specs.Drives.{MadeInTurn, AreAsked, Drove}
 
 leads_push : {S : Type 0} (call : S → Exchange → S → Type 0) (before between after : S) (xs : List Exchange) (x : Exchange)
-    → Leads call before xs between → call between x after → Leads call before (xs ++ x ∷ []) after
+    → MadeInTurn call before xs between → call between x after → MadeInTurn call before (xs ++ x ∷ []) after
 leads_push {S} call before between after [] x is here = let P : S → Type 0 = λ s. call s x after in (after, subst P is here, refl)
 leads_push call before between after (y ∷ xs) x (s, first, rest) here = (s, first, leads_push call s between after xs x rest here)
 
@@ -42,7 +42,7 @@ pub record DrivenSoFar {A T S : Type 0} (task : A → T) (follows : A → Trace 
   pub can_come : CanCome trace.asked said
   pub spelled : IsSpelledReply said
   pub same : task now ≡ task first
-  pub calls : Leads call before (filled trace said) between
+  pub calls : MadeInTurn call before (filled trace said) between
   pub asked : AreAsked task follows (task first) [] (filled trace said)
   pub uncut : Uncut stop 0 (filled trace said)
   pub counted : made ≡ min (length (filled trace said)) (2 ^ 64 - 1)

@@ -15,7 +15,7 @@ use Rattle.ts_model.specs.Told.{IsShortCall}
 use Rattle.ts_actor.specs.Traces.{Trace, asking}
 
 -- a call was made of a store, from what it was before to what it is after; the store's own members say what that is
-pub record Called {S : Type 0} (held : S → Option Held) (last : S → Fate) (faults : S → ℕ) (notes : S → Call → Reply → S → Type 0) (before : S) (x : Exchange) (after : S) : Type 0 where
+pub record Exchanged {S : Type 0} (held : S → Option Held) (last : S → Fate) (faults : S → ℕ) (notes : S → Call → Reply → S → Type 0) (before : S) (x : Exchange) (after : S) : Type 0 where
   pub fits : FitsCall x.call x.reply
   pub short : IsShortCall x.call
   pub spelled : IsSpelledReply x.reply
@@ -24,9 +24,9 @@ pub record Called {S : Type 0} (held : S → Option Held) (last : S → Fate) (f
   pub noted : notes before x.call x.reply after
 
 -- these calls, one after the other, lead from one store to another
-abbrev pub Leads : {S : Type 0} → (S → Exchange → S → Type 0) → S → List Exchange → S → Type 0
-Leads call before [] after = after ≡ before
-Leads {S} call before (x ∷ xs) after = (between : S) × call before x between × Leads call between xs after
+abbrev pub MadeInTurn : {S : Type 0} → (S → Exchange → S → Type 0) → S → List Exchange → S → Type 0
+MadeInTurn call before [] after = after ≡ before
+MadeInTurn {S} call before (x ∷ xs) after = (between : S) × call before x between × MadeInTurn call between xs after
 
 -- a call was made of a store, or there was no memory for it and the store is as it was
 abbrev pub MayBeMade : {S : Type 0} → (S → Exchange → S → Type 0) → S → Exchange → S → Type 0
@@ -34,7 +34,7 @@ MayBeMade call before x after = call before x after ⊎ ((after ≡ before) × (
 
 -- these calls and no others were made of a store, but for such as found no memory
 abbrev pub MadeOf : {S : Type 0} → (S → Exchange → S → Type 0) → S → List Exchange → S → Type 0
-MadeOf call before xs after = Leads (MayBeMade call) before xs after
+MadeOf call before xs after = MadeInTurn (MayBeMade call) before xs after
 
 -- each call was asked for by a machine of the task that followed the calls before it
 abbrev pub AreAsked : {A T : Type 0} → (A → T) → (A → Trace → Type 0) → T → List Exchange → List Exchange → Type 0
@@ -49,7 +49,7 @@ EndsAs ends follows stop trace driven.Stopped = (c : Call) × follows (asking tr
 -- a machine was driven over a store: the calls that it made, and how that ended
 pub record Drove {A T O S : Type 0} (task : A → T) (follows : A → Trace → Type 0) (ends : T → List Exchange → O → Type 0) (call : S → Exchange → S → Type 0) (first last : A) (before after : S) (stop : Stop) (result : Driven O) : Type 0 where
   pub trace : List Exchange
-  pub calls : Leads call before trace after
+  pub calls : MadeInTurn call before trace after
   pub asked : AreAsked task follows (task first) [] trace
   pub uncut : Uncut stop 0 trace
   pub end : EndsAs (ends (task first)) (follows last) stop trace result

@@ -13,8 +13,8 @@ use Rattle.ts_model.specs.declared.states.State.TheVariants.{Creates, Seeks, Ove
 abbrev pub IsSeeking : (Listed → Type 0) → Seeking → Type 0
 IsSeeking knows ListsCommits = ⊤
 IsSeeking knows (ListsSchemas listed) = knows listed
-IsSeeking knows (GetsSchema listed there) = knows listed
-IsSeeking knows (GetsFrame listed there) = knows listed × AreAttrs there.attrs
+IsSeeking knows (GetsSchema listed current) = knows listed
+IsSeeking knows (GetsFrame listed current) = knows listed × AreAttrs current.attrs
 
 -- a job can be in the state that seeks so, and then may be in these states
 abbrev pub MaySeek : {F : Type 0} → (Listed → Type 0) → (State F → Type 0) → State F → Type 0
@@ -32,8 +32,8 @@ create_left ListsDeclared = 2 ^ 195
 abbrev pub seek_left : Seeking → ℕ
 seek_left ListsCommits = 2 ^ 195 + 3
 seek_left (ListsSchemas listed) = 2 ^ 195 + 2
-seek_left (GetsSchema listed there) = 2 ^ 195 + 1
-seek_left (GetsFrame listed there) = 2 ^ 195
+seek_left (GetsSchema listed current) = 2 ^ 195 + 1
+seek_left (GetsFrame listed current) = 2 ^ 195
 
 -- the most calls of a job from a state on, where it has so many left once it has what it sought
 abbrev pub state_left : {F : Type 0} → (State F → ℕ) → State F → ℕ

@@ -4,7 +4,7 @@ ghost use Rattle.ts_store.specs.Recorders.{WasMade};
 ghost use Rattle.ts_model.specs.Stops.{is_point, cuts};
 ghost use Rattle.ts_model.specs.Told.{IsShortCall};
 ghost use Rattle.ts_actor.specs.Traces.{start};
-ghost use Rattle.ts_actor.specs.Drives.{Called, Drove};
+ghost use Rattle.ts_actor.specs.Drives.{Exchanged, Drove};
 
 use crate::actor::{Actor, Step};
 use std::alloc::Global;
@@ -27,7 +27,7 @@ pub fn drive<R: Threads + Sync, A: Actor, S: Store>(
     stop: &Stop,
 ) -> Driven<A::Out>
     requires { A.follows actor.old start }
-    ensures drove { Drove A.task A.follows A.ends (Called S.held S.last S.faults (WasMade S.asked S.notes)) actor.old actor.new store.old store.new stop.now result }
+    ensures drove { Drove A.task A.follows A.ends (Exchanged S.held S.last S.faults (WasMade S.asked S.notes)) actor.old actor.new store.old store.new stop.now result }
     ensures task { A.task actor.new ≡ A.task actor.old }
 {
     let mut made: u64 = 0;

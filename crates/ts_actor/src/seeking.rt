@@ -64,14 +64,14 @@ pub trait Works {
         job: &Job,
         listed: Listed,
         frame: Frame,
-        there: Schema,
+        current: Schema,
     ) -> Result<State<Self::Fetch>, OutOfMemory>
         requires job { serves job.now }
         requires listed { knows listed }
         requires frame { IsFrame frame }
-        requires attrs { AreAttrs there.attrs }
+        requires attrs { AreAttrs current.attrs }
         requires sync { IsSync R.row }
-        ensures is { IfOk result (λ next. next ≡ works codec job.now job.now.command listed frame there) }
+        ensures is { IfOk result (λ next. next ≡ works codec job.now job.now.command listed frame current) }
         ensures may { IfOk result (MaySeek knows may) }
         ensures fewer { IfOk result (λ next. state_left left next < 2 ^ 195) };
 }
@@ -91,10 +91,14 @@ pub fn ask_seeking(seeking: &Seeking) -> Call
     match seeking {
         Seeking::ListsCommits => Call::List(Prefix::Commits),
         Seeking::ListsSchemas { listed: _ } => Call::List(Prefix::Schemas),
-        Seeking::GetsSchema { listed: _, there } => Call::Get(Name::Schema(*there), 0, u64::MAX),
+        Seeking::GetsSchema { listed: _, current } => Call::Get(
+            Name::Schema(*current),
+            0,
+            u64::MAX,
+        ),
         Seeking::GetsFrame {
             listed: _,
-            there: _,
+            current: _,
         } => Call::Get(Name::Domain, 0, u64::MAX),
     }
 }
@@ -120,9 +124,11 @@ pub fn go_seeking<W: Works, R: Threads + Sync>(
         Seeking::ListsSchemas { listed } => {
             after_schemas::<W>(alloc, listed, looked_at(job), reply)
         }
-        Seeking::GetsSchema { listed, there } => after_there::<W>(alloc, listed, there, reply),
-        Seeking::GetsFrame { listed, there } => {
-            after_frame::<W, R>(rt, alloc, job, listed, there, reply)
+        Seeking::GetsSchema { listed, current } => after_current::<W>(
+            alloc, listed, current, reply,
+        ),
+        Seeking::GetsFrame { listed, current } => {
+            after_frame::<W, R>(rt, alloc, job, listed, current, reply)
         }
     }
 }
@@ -175,7 +181,7 @@ fn after_schemas<W: Works>(
         Reply::Names(names) => {
             let keys = schemas_in(alloc, names.as_slice())?;
             match schema_at(&keys, at) {
-                Some(there) => Ok(State::Seeks(Seeking::GetsSchema { listed, there })),
+                Some(current) => Ok(State::Seeks(Seeking::GetsSchema { listed, current })),
                 None => Ok(State::Over(Outcome::Refused(Refusal::NoSchema { at }))),
             }
         }
@@ -205,26 +211,26 @@ fn add_schema(keys: &mut KeyList, name: Name) -> Result<(), OutOfMemory>
 }
 
 // Where the reply to the get of the schema leads: to the get of the frame.
-fn after_there<W: Works>(
+fn after_current<W: Works>(
     alloc: Global,
     listed: Listed,
-    there: Key,
+    current: Key,
     reply: Reply,
 ) -> Result<State<W::Fetch>, OutOfMemory>
     requires { W.knows listed }
-    ensures is { IfOk result (λ next. next ≡ on_bytes (get_schema there) (λ bytes. on_read (name.Schema there) (λ attrs. Seeks (seeking_state.GetsFrame listed (record { key = there; attrs = attrs }))) (schema_of bytes)) reply) }
+    ensures is { IfOk result (λ next. next ≡ on_bytes (get_schema current) (λ bytes. on_read (name.Schema current) (λ attrs. Seeks (seeking_state.GetsFrame listed (record { key = current; attrs = attrs }))) (schema_of bytes)) reply) }
     ensures may { IfOk result (MaySeek W.knows W.may) }
     ensures fewer { IfOk result (λ next. state_left W.left next < 2 ^ 195 + 1) }
 {
     match reply {
-        Reply::Bytes(bytes) => match Schema::decode(alloc, there, bytes.as_slice()) {
-            Ok(there) => Ok(State::Seeks(Seeking::GetsFrame { listed, there })),
+        Reply::Bytes(bytes) => match Schema::decode(alloc, current, bytes.as_slice()) {
+            Ok(current) => Ok(State::Seeks(Seeking::GetsFrame { listed, current })),
             Err(ReadFault::Damaged(fault)) => {
-                Ok(State::Over(end_damaged(Name::Schema(there), fault.at)))
+                Ok(State::Over(end_damaged(Name::Schema(current), fault.at)))
             }
             Err(ReadFault::OutOfMemory) => Err(OutOfMemory),
         },
-        other => Ok(State::Over(end_by(&get_all(Name::Schema(there)), &other))),
+        other => Ok(State::Over(end_by(&get_all(Name::Schema(current)), &other))),
     }
 }
 
@@ -234,20 +240,20 @@ fn after_frame<W: Works, R: Threads + Sync>(
     alloc: Global,
     job: &Job,
     listed: Listed,
-    there: Schema,
+    current: Schema,
     reply: Reply,
 ) -> Result<State<W::Fetch>, OutOfMemory>
     requires job { W.serves job.now }
     requires listed { W.knows listed }
-    requires attrs { AreAttrs there.attrs }
+    requires attrs { AreAttrs current.attrs }
     requires sync { IsSync R.row }
-    ensures is { IfOk result (λ next. next ≡ on_bytes get_frame (λ bytes. on_read name.Domain (λ frame. works W.codec job.now job.now.command listed frame there) (frame_of bytes)) reply) }
+    ensures is { IfOk result (λ next. next ≡ on_bytes get_frame (λ bytes. on_read name.Domain (λ frame. works W.codec job.now job.now.command listed frame current) (frame_of bytes)) reply) }
     ensures may { IfOk result (MaySeek W.knows W.may) }
     ensures fewer { IfOk result (λ next. state_left W.left next < 2 ^ 195) }
 {
     match reply {
         Reply::Bytes(bytes) => match Frame::decode(bytes.as_slice()) {
-            Ok(frame) => W::work(rt, alloc, job, listed, frame, there),
+            Ok(frame) => W::work(rt, alloc, job, listed, frame, current),
             Err(fault) => Ok(State::Over(end_damaged(Name::Domain, fault.at))),
         },
         other => Ok(State::Over(end_by(&get_all(Name::Domain), &other))),

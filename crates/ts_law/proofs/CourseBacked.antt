@@ -32,7 +32,7 @@ bytes_tell bytes e = cc
 abbrev chosen_stays : (job : Job) (a b : List Exchange) (set : List FragKey) → AreTold a b → ChoosesBy job a set → ChoosesBy job b set
 chosen_stays job a b set told is = record {
   key = is.key;
-  there = record { names = is.there.names; listed = told (record { call = list_schemas; reply = reply.Names is.there.names }) (names_tell is.there.names) is.there.listed; newest = is.there.newest };
+  current = record { names = is.current.names; listed = told (record { call = list_schemas; reply = reply.Names is.current.names }) (names_tell is.current.names) is.current.listed; newest = is.current.newest };
   names = is.names;
   listed = told (record { call = list_commits; reply = reply.Names is.names }) (names_tell is.names) is.listed;
   vacs = is.vacs;

@@ -24,7 +24,7 @@ use Rattle.ts_model.specs.declared.commands.Command.TheVariants.{Create, Evolve,
 use Rattle.ts_model.specs.Codecs.{Codec, is_look}
 use Rattle.ts_model.specs.Jobs.{key_of, frag_of_job}
 use Rattle.ts_model.specs.States.{Exchange, asks, goes, ended, list_commits, refuse, part_objects, place_of, put_of, putting, on_made}
-use Rattle.ts_law.specs.Courses.{Found, Merge, SaysThere, IsGot, IsMergeBy, AreFound, IsLookOf, Looks, IsNext, lets_on, Along, EndsAlong, EndsAt, refused_in, IsCause, RemovesBy}
+use Rattle.ts_law.specs.Courses.{Found, Merge, SaysFound, IsGot, IsMergeBy, AreFound, IsLookOf, Looks, IsNext, lets_on, Along, EndsAlong, EndsAt, refused_in, IsCause, RemovesBy}
 use Rattle.ts_law.proofs.CourseBacked.{removed_stays, told_among}
 use Rattle.ts_law.proofs.CourseGrows.{among_more, got_stays, merge_stays}
 use Rattle.ts_model.proofs.ListLemmas.{Contains-cons, Contains-here, Contains-there}
@@ -300,32 +300,32 @@ module _ {F : Type 0} (codec : Codec F) (job : Job) where
   Follows seen found course x xs end s = WorkAsks codec job s xs → WorkEnds codec job s xs end → AreFound job found (x ∷ xs) × Ends seen found course (x ∷ xs) end
 
   -- one that leads on
-  pub follows_on : (seen : List Exchange) (found : Found) (course rest : List Call) (x : Exchange) (xs : List Exchange) (end : Outcome) (s : State F) → SaysThere found job.command x.call x.reply → IsTrue (lets_on x.call x.reply) → Next seen found course x.call rest → Goes (seen ++ x ∷ []) found rest xs end s → Follows seen found course x xs end s
+  pub follows_on : (seen : List Exchange) (found : Found) (course rest : List Call) (x : Exchange) (xs : List Exchange) (end : Outcome) (s : State F) → SaysFound found job.command x.call x.reply → IsTrue (lets_on x.call x.reply) → Next seen found course x.call rest → Goes (seen ++ x ∷ []) found rest xs end s → Follows seen found course x xs end s
   follows_on seen found course rest x xs end s says on next goes_on a e =
       let h = goes_on a e in
-      (All-cons (λ y. SaysThere found job.command y.call y.reply) x xs says h.0, ends_cons seen found course rest x xs end on next h.1)
+      (All-cons (λ y. SaysFound found job.command y.call y.reply) x xs says h.0, ends_cons seen found course rest x xs end on next h.1)
 
   -- one by which the job ends
-  pub follows_over : (seen : List Exchange) (found : Found) (course rest : List Call) (x : Exchange) (xs : List Exchange) (end o : Outcome) → SaysThere found job.command x.call x.reply → Next seen found course x.call rest → Ends seen found course (x ∷ []) o → Follows seen found course x xs end (Over o)
+  pub follows_over : (seen : List Exchange) (found : Found) (course rest : List Call) (x : Exchange) (xs : List Exchange) (end o : Outcome) → SaysFound found job.command x.call x.reply → Next seen found course x.call rest → Ends seen found course (x ∷ []) o → Follows seen found course x xs end (Over o)
   follows_over seen found course rest x xs end o says next h a e =
       let over = over_ends o xs end a e in
       subst (λ ys. AreFound job found (x ∷ ys) × Ends seen found course (x ∷ ys) end) (sym over.0)
-      (All-cons (λ y. SaysThere found job.command y.call y.reply) x [] says (All-nil (λ y. SaysThere found job.command y.call y.reply)), by_end over.1)
+      (All-cons (λ y. SaysFound found job.command y.call y.reply) x [] says (All-nil (λ y. SaysFound found job.command y.call y.reply)), by_end over.1)
     where
       by_end : (end ≡ o) ⊎ (end ≡ outcome.OutOfMemory) → Ends seen found course (x ∷ []) end
       by_end (inl q) = subst (Ends seen found course (x ∷ [])) (sym q) h
       by_end (inr q) = subst (Ends seen found course (x ∷ [])) (sym q) (inr (x, at_last (IsLookOf codec job found) seen course rest x next))
 
   -- one by which it ends for want of memory
-  pub follows_none : (seen : List Exchange) (found : Found) (course rest : List Call) (x : Exchange) (xs : List Exchange) (end : Outcome) → SaysThere found job.command x.call x.reply → Next seen found course x.call rest → Follows seen found course x xs end (Over outcome.OutOfMemory)
+  pub follows_none : (seen : List Exchange) (found : Found) (course rest : List Call) (x : Exchange) (xs : List Exchange) (end : Outcome) → SaysFound found job.command x.call x.reply → Next seen found course x.call rest → Follows seen found course x xs end (Over outcome.OutOfMemory)
   follows_none seen found course rest x xs end says next = follows_over seen found course rest x xs end outcome.OutOfMemory says next (inr (x, at_last (IsLookOf codec job found) seen course rest x next))
 
   -- one whose refusal has its cause
-  pub follows_refused : (seen : List Exchange) (found : Found) (course rest : List Call) (x : Exchange) (xs : List Exchange) (end : Outcome) (r : Refusal) → SaysThere found job.command x.call x.reply → Next seen found course x.call rest → IsCause codec job found (seen ++ x ∷ []) x r → Follows seen found course x xs end (refuse r)
+  pub follows_refused : (seen : List Exchange) (found : Found) (course rest : List Call) (x : Exchange) (xs : List Exchange) (end : Outcome) (r : Refusal) → SaysFound found job.command x.call x.reply → Next seen found course x.call rest → IsCause codec job found (seen ++ x ∷ []) x r → Follows seen found course x xs end (refuse r)
   follows_refused seen found course rest x xs end r says next cause = follows_over seen found course rest x xs end (outcome.Refused r) says next (x, at_last (IsLookOf codec job found) seen course rest x next, cause)
 
   -- one whose reply does not let the job go on
-  pub follows_ended : (seen : List Exchange) (found : Found) (course rest : List Call) (c : Call) (r : Reply) (xs : List Exchange) (end : Outcome) → LeavesFrame c r → SaysThere found job.command c r → Next seen found course c rest → Follows seen found course (record { call = c; reply = r }) xs end (ended c r)
+  pub follows_ended : (seen : List Exchange) (found : Found) (course rest : List Call) (c : Call) (r : Reply) (xs : List Exchange) (end : Outcome) → LeavesFrame c r → SaysFound found job.command c r → Next seen found course c rest → Follows seen found course (record { call = c; reply = r }) xs end (ended c r)
   follows_ended seen found course rest c reply.Failed xs end leaves says next = follows_refused seen found course rest (record { call = c; reply = reply.Failed }) xs end (refusal.StoreFault (place_of c)) says next (refl, refl)
   follows_ended seen found course rest (call.Put n bytes) reply.Taken xs end leaves says next = follows_refused seen found course rest (record { call = call.Put n bytes; reply = reply.Taken }) xs end (refusal.Taken n) says next (taken_elsewhere n bytes leaves, bytes, refl)
   follows_ended seen found course rest (call.Get n from len) reply.Absent xs end leaves says next = follows_refused seen found course rest (record { call = call.Get n from len; reply = reply.Absent }) xs end (refusal.Missing n) says next (refl, refl)
@@ -339,7 +339,7 @@ module _ {F : Type 0} (codec : Codec F) (job : Job) where
   -- a job that makes no call, and is not over, ends for want of memory
   pub goes_none : (seen : List Exchange) (found : Found) (course : List Call) (end : Outcome) (s : State F) → ((o : Outcome) → s ≡ Over o → ⊥) → Goes seen found course [] end s
   goes_none seen found course end s not_over a (inl e) = absurd (not_over end e)
-  goes_none seen found course end s not_over a (inr e) = (All-nil (λ y. SaysThere found job.command y.call y.reply), subst (Ends seen found course []) (sym e) (inl (course, refl)))
+  goes_none seen found course end s not_over a (inr e) = (All-nil (λ y. SaysFound found job.command y.call y.reply), subst (Ends seen found course []) (sym e) (inl (course, refl)))
 
   -- a call that a state asks, and what follows from where it leads
   pub goes_by : (seen : List Exchange) (found : Found) (course : List Call) (x : Exchange) (xs : List Exchange) (end : Outcome) (s : State F) (c : Call) → asks codec job s ≡ Some c → (x.call ≡ c → Follows seen found course (record { call = c; reply = x.reply }) xs end (goes codec job s x.reply)) → Goes seen found course (x ∷ xs) end s
@@ -349,7 +349,7 @@ module _ {F : Type 0} (codec : Codec F) (job : Job) where
   -- ---- puts
 
   -- after a call, objects are put from a place on
-  pub follows_putting : (seen : List Exchange) (found : Found) (course : List Call) (x : Exchange) (xs : List Exchange) (end : Outcome) (objects : List NewObject) (next : ℕ) (o : Outcome) → Well (seen ++ x ∷ []) found o → SaysThere found job.command x.call x.reply → IsTrue (lets_on x.call x.reply) → Next seen found course x.call (list_map put_of (drop next objects))
+  pub follows_putting : (seen : List Exchange) (found : Found) (course : List Call) (x : Exchange) (xs : List Exchange) (end : Outcome) (objects : List NewObject) (next : ℕ) (o : Outcome) → Well (seen ++ x ∷ []) found o → SaysFound found job.command x.call x.reply → IsTrue (lets_on x.call x.reply) → Next seen found course x.call (list_map put_of (drop next objects))
       → Goes (seen ++ x ∷ []) found (list_map put_of (drop next objects)) xs end (Puts objects next o) → Follows seen found course x xs end (putting objects next o)
   follows_putting seen found course x xs end objects next o well says on following goes_on = by_count (nat_lt next (length objects)) refl
     where
@@ -360,7 +360,7 @@ module _ {F : Type 0} (codec : Codec F) (job : Job) where
           follows_over seen found course [] x xs end o says none (well_ended seen found course (x ∷ []) o well (on, ([], none, refl)))
 
   -- a job that puts objects goes along their puts
-  pub puts_go : (seen : List Exchange) (found : Found) (objects : List NewObject) (o : Outcome) → Well seen found o → ((ob : NewObject) → Contains objects ob → ob.name ≡ name.Domain → ⊥) → ((ob : NewObject) → Contains objects ob → (r : Reply) → SaysThere found job.command (put_of ob) r)
+  pub puts_go : (seen : List Exchange) (found : Found) (objects : List NewObject) (o : Outcome) → Well seen found o → ((ob : NewObject) → Contains objects ob → ob.name ≡ name.Domain → ⊥) → ((ob : NewObject) → Contains objects ob → (r : Reply) → SaysFound found job.command (put_of ob) r)
       → (xs : List Exchange) (end : Outcome) (next : ℕ) → Goes seen found (list_map put_of (drop next objects)) xs end (Puts objects next o)
   puts_go seen found objects o well elsewhere silent [] end next = goes_none seen found (list_map put_of (drop next objects)) end (Puts objects next o) (λ e q. cc)
   puts_go seen found objects o well elsewhere silent (x ∷ xs) end next = by_item (slice_get objects next) refl (λ y. puts_go (seen ++ y ∷ []) found objects o (well_stays seen found y o well) elsewhere silent xs end (suc next))

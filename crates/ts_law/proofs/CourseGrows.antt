@@ -21,7 +21,7 @@ use Rattle.ts_model.specs.declared.commands.Command.{Command}
 use Rattle.ts_model.specs.declared.commands.Command.TheVariants.{Create, Evolve, Write, Read, Delete, Consolidate, Vacuum, Unlock, Fragments}
 use Rattle.ts_model.specs.declared.deeds.Deletion.{Deletion}
 use Rattle.ts_model.specs.declared.states.Opened.{Opened}
-use Rattle.ts_law.specs.Courses.{AreDeletesOf, Found, GotDelete, IsWantOf, Merge, MergesFound, GotHead, GotNames, GotSchema, HasOpened, HasTaken, EachTaken, IsFramed, IsKeyThere, IsGot, IsNamedFor, IsOpened, IsFetched, IsUnderWay, IsListedIn, IsListedInside, IsCountingIn, IsMergeBy, PlansBy}
+use Rattle.ts_law.specs.Courses.{AreDeletesOf, Found, GotDelete, IsWantOf, Merge, MergesFound, GotHead, GotNames, GotSchema, HasOpened, HasTaken, EachTaken, IsFramed, IsCurrentKey, IsGot, IsNamedFor, IsOpened, IsFetched, IsUnderWay, IsListedIn, IsListedInside, IsCountingIn, IsMergeBy, PlansBy}
 
 -- the calls of the first list are calls of the second
 abbrev pub AreAmong : List Exchange → List Exchange → Type 0
@@ -36,14 +36,14 @@ pub schema_stays : (a b : List Exchange) (s : Schema) → AreAmong a b → GotSc
 schema_stays a b s among (bytes, got, is) = (bytes, among _ got, is)
 
 -- the key of the schema there
-pub key_stays : (job : Job) (a b : List Exchange) (k : Key) → AreAmong a b → IsKeyThere job a k → IsKeyThere job b k
+pub key_stays : (job : Job) (a b : List Exchange) (k : Key) → AreAmong a b → IsCurrentKey job a k → IsCurrentKey job b k
 key_stays job a b k among is = record { names = is.names; listed = among _ is.listed; newest = is.newest }
 
 -- all that a job found
 pub got_stays : (job : Job) (found : Found) (a b : List Exchange) → AreAmong a b → IsGot job found a → IsGot job found b
 got_stays job found a b among got = record {
-  key = key_stays job a b (found.there).key among got.key;
-  schema = schema_stays a b found.there among got.schema;
+  key = key_stays job a b (found.current).key among got.key;
+  schema = schema_stays a b found.current among got.schema;
   frame_bytes = got.frame_bytes;
   frame_got = among _ got.frame_got;
   frame_is = got.frame_is;

@@ -40,7 +40,7 @@ use Rattle.ts_model.specs.Stages.{first_stage, goes_on, lease_of, stage_from, st
 use Rattle.ts_model.specs.Stops.{cuts}
 use Rattle.ts_model.specs.States.{Exchange, goes, begins, begun, refuse, unless_refused, get_schema, get_frame, list_schemas, list_commits, looked_into, committed_in, meets, commit_of, put_of, putting, puts_cells, schema_object_of, write_objects, frame_put, is_own_frame, nothing_listed, asks_for, reading_of, puts_delete, delete_object_of}
 use Rattle.ts_model.specs.Driven.{AskedFrom, EndsBy, MayAsk}
-use Rattle.ts_law.specs.Courses.{EndsUnder, IsCutAlong, IsCutOff, Found, cell_puts, evolve_puts, course_of, IsSchemaIn, IsFrameIn, SaysThere, IsGot, AreFound, LooksThere, IsLookOf, lets_on, refused_in, IsCause, EndsAlong, MayEndAs, delete_puts}
+use Rattle.ts_law.specs.Courses.{EndsUnder, IsCutAlong, IsCutOff, Found, cell_puts, evolve_puts, course_of, IsSchemaIn, IsFrameIn, SaysFound, IsGot, AreFound, LooksForSchema, IsLookOf, lets_on, refused_in, IsCause, EndsAlong, MayEndAs, delete_puts}
 use Rattle.ts_model.proofs.ListLemmas.{Contains-nil, Contains-here, Contains-only, filter-Contains}
 use Rattle.ts_law.proofs.CourseBacked.{AreBacked, IsIdle, backed_idle}
 use Rattle.ts_law.proofs.CourseGrows.{among_more}
@@ -58,7 +58,7 @@ use Rattle.ts_law.proofs.CourseSweeps.{sweep_finds}
 use Rattle.ts_law.proofs.CourseUnlocks.{commits_finds, unlock_finds}
 use Rattle.ts_law.proofs.CutOff.{as_if, found_before, backed_before, no_calls, unmade_of}
 use Rattle.ts_law.proofs.CourseStages.{bare_asks, bare_from, same_work}
-use Rattle.ts_law.proofs.CourseThere.{no_schema, no_frame, found_as, OfBytes, schemas_found}
+use Rattle.ts_law.proofs.CourseSeeks.{no_schema, no_frame, found_as, OfBytes, schemas_found}
 use Rattle.ts_base.specs.declared.names.Name.TheVariants as name
 use Rattle.ts_store.specs.declared.call.Reply.TheVariants as reply
 use Rattle.ts_model.specs.declared.answers.Outcome.TheVariants as outcome
@@ -94,37 +94,37 @@ module _ {F : Type 0} (codec : Codec F) (any : Job) where
   with command = record any { command = command }
 
   -- what bytes of the schema there say to an evolve
-  evolve_schema : (change : Evolution) (found : Found) (k : Key) (r : Reply) → OfBytes (λ bytes. IsSchemaIn found.there k (schema_of bytes)) r → SaysThere found (Evolve change) (get_schema k) r
+  evolve_schema : (change : Evolution) (found : Found) (k : Key) (r : Reply) → OfBytes (λ bytes. IsSchemaIn found.current k (schema_of bytes)) r → SaysFound found (Evolve change) (get_schema k) r
   evolve_schema change found k (reply.Bytes bytes) is = is
   evolve_schema change found k _ is = tt
 
   -- what bytes of the frame say to an evolve
-  evolve_frame : (change : Evolution) (found : Found) (r : Reply) → OfBytes (λ bytes. IsFrameIn found.frame (frame_of bytes)) r → SaysThere found (Evolve change) get_frame r
+  evolve_frame : (change : Evolution) (found : Found) (r : Reply) → OfBytes (λ bytes. IsFrameIn found.frame (frame_of bytes)) r → SaysFound found (Evolve change) get_frame r
   evolve_frame change found (reply.Bytes bytes) is = is
   evolve_frame change found _ is = tt
 
   -- what bytes of the schema there say to a write
-  write_schema : (w : WriteIn) (found : Found) (k : Key) (r : Reply) → OfBytes (λ bytes. IsSchemaIn found.there k (schema_of bytes)) r → SaysThere found (Write w) (get_schema k) r
+  write_schema : (w : WriteIn) (found : Found) (k : Key) (r : Reply) → OfBytes (λ bytes. IsSchemaIn found.current k (schema_of bytes)) r → SaysFound found (Write w) (get_schema k) r
   write_schema w found k (reply.Bytes bytes) is = is
   write_schema w found k _ is = tt
 
   -- what bytes of the frame say to a write
-  write_frame : (w : WriteIn) (found : Found) (r : Reply) → OfBytes (λ bytes. IsFrameIn found.frame (frame_of bytes)) r → SaysThere found (Write w) get_frame r
+  write_frame : (w : WriteIn) (found : Found) (r : Reply) → OfBytes (λ bytes. IsFrameIn found.frame (frame_of bytes)) r → SaysFound found (Write w) get_frame r
   write_frame w found (reply.Bytes bytes) is = is
   write_frame w found _ is = tt
 
   -- what bytes of the schema there say to a delete
-  delete_schema : (text : List ℕ) (found : Found) (k : Key) (r : Reply) → OfBytes (λ bytes. IsSchemaIn found.there k (schema_of bytes)) r → SaysThere found (Delete text) (get_schema k) r
+  delete_schema : (text : List ℕ) (found : Found) (k : Key) (r : Reply) → OfBytes (λ bytes. IsSchemaIn found.current k (schema_of bytes)) r → SaysFound found (Delete text) (get_schema k) r
   delete_schema text found k (reply.Bytes bytes) is = is
   delete_schema text found k _ is = tt
 
   -- what bytes of the frame say to a delete
-  delete_frame : (text : List ℕ) (found : Found) (r : Reply) → OfBytes (λ bytes. IsFrameIn found.frame (frame_of bytes)) r → SaysThere found (Delete text) get_frame r
+  delete_frame : (text : List ℕ) (found : Found) (r : Reply) → OfBytes (λ bytes. IsFrameIn found.frame (frame_of bytes)) r → SaysFound found (Delete text) get_frame r
   delete_frame text found (reply.Bytes bytes) is = is
   delete_frame text found _ is = tt
 
   -- what an evolve does once it has the schema there and the frame
-  evolve_works : (change : Evolution) (there : Schema) (frame : Frame) (seen : List Exchange) (x : Exchange) (xs : List Exchange) (end : Outcome) → IsGot (with (Evolve change)) (found_as there frame) (seen ++ x ∷ []) → SaysThere (found_as there frame) (Evolve change) x.call x.reply → IsTrue (lets_on x.call x.reply) → LooksThere (with (Evolve change)) seen x.call
+  evolve_works : (change : Evolution) (there : Schema) (frame : Frame) (seen : List Exchange) (x : Exchange) (xs : List Exchange) (end : Outcome) → IsGot (with (Evolve change)) (found_as there frame) (seen ++ x ∷ []) → SaysFound (found_as there frame) (Evolve change) x.call x.reply → IsTrue (lets_on x.call x.reply) → LooksForSchema (with (Evolve change)) seen x.call
       → (fault : Option SchemaFault) → evolution_fault frame.domain there.attrs change ≡ fault
       → Follows codec (with (Evolve change)) seen (found_as there frame) (evolve_puts (with (Evolve change)) (found_as there frame) change fault) x xs end
       (unless_refused (putting (schema_object_of any (evolved_attrs there.attrs change) ∷ []) 0 (outcome.Evolved (key_of any))) (option_map refusal.SchemaBad fault))
@@ -146,7 +146,7 @@ module _ {F : Type 0} (codec : Codec F) (any : Job) where
   columns_cause w found seen x _ got is cause = absurd is
 
   -- what a write does then
-  write_works : (w : WriteIn) (there : Schema) (frame : Frame) (seen : List Exchange) (x : Exchange) (xs : List Exchange) (end : Outcome) → IsGot (with (Write w)) (found_as there frame) (seen ++ x ∷ []) → SaysThere (found_as there frame) (Write w) x.call x.reply → IsTrue (lets_on x.call x.reply) → LooksThere (with (Write w)) seen x.call
+  write_works : (w : WriteIn) (there : Schema) (frame : Frame) (seen : List Exchange) (x : Exchange) (xs : List Exchange) (end : Outcome) → IsGot (with (Write w)) (found_as there frame) (seen ++ x ∷ []) → SaysFound (found_as there frame) (Write w) x.call x.reply → IsTrue (lets_on x.call x.reply) → LooksForSchema (with (Write w)) seen x.call
       → (laying : Result (List Cell) Refusal) → laid frame there.attrs w ≡ laying → FailsByColumns laying
       → Follows codec (with (Write w)) seen (found_as there frame) (cell_puts codec (with (Write w)) (found_as there frame) laying) x xs end (puts_cells codec (with (Write w)) frame there laying)
   write_works w there frame seen x xs end got says on look (Ok cells) is fails =
@@ -168,7 +168,7 @@ module _ {F : Type 0} (codec : Codec F) (any : Job) where
   query_cause command found seen x _ got is cause = absurd is
 
   -- what a delete does then
-  delete_works : (text : List ℕ) (there : Schema) (frame : Frame) (seen : List Exchange) (x : Exchange) (xs : List Exchange) (end : Outcome) → IsGot (with (Delete text)) (found_as there frame) (seen ++ x ∷ []) → SaysThere (found_as there frame) (Delete text) x.call x.reply → IsTrue (lets_on x.call x.reply) → LooksThere (with (Delete text)) seen x.call
+  delete_works : (text : List ℕ) (there : Schema) (frame : Frame) (seen : List Exchange) (x : Exchange) (xs : List Exchange) (end : Outcome) → IsGot (with (Delete text)) (found_as there frame) (seen ++ x ∷ []) → SaysFound (found_as there frame) (Delete text) x.call x.reply → IsTrue (lets_on x.call x.reply) → LooksForSchema (with (Delete text)) seen x.call
       → (spelled : Result Condition Refusal) → delete_condition frame there.attrs text ≡ spelled → FailsByQuery spelled
       → Follows codec (with (Delete text)) seen (found_as there frame) (delete_puts (with (Delete text)) spelled) x xs end (puts_delete (with (Delete text)) spelled)
   delete_works text there frame seen x xs end got says on look (Ok condition) is fails =
@@ -206,7 +206,7 @@ module _ {F : Type 0} (codec : Codec F) (any : Job) where
   evolve_finds : (change : Evolution) (xs : List Exchange) (end : Outcome) → Finds (with (Evolve change)) xs end (Seeks (ListsSchemas nothing_listed))
   evolve_finds change xs end a e =
       let (there, frame, goes_on) =
-      schemas_found codec (with (Evolve change)) tt (λ found seen c look. look) (λ found r. tt) (evolve_schema change) (evolve_frame change) (λ found. evolve_puts (with (Evolve change)) found change (evolution_fault (found.frame).domain (found.there).attrs change)) [] nothing_listed
+      schemas_found codec (with (Evolve change)) tt (λ found seen c look. look) (λ found r. tt) (evolve_schema change) (evolve_frame change) (λ found. evolve_puts (with (Evolve change)) found change (evolution_fault (found.frame).domain (found.current).attrs change)) [] nothing_listed
       (λ there frame seen x xs end since got says on look. evolve_works change there frame seen x xs end got says on look (evolution_fault frame.domain there.attrs change) refl) [] xs end (λ x at. at) in
       (found_as there frame, goes_on a e, (refl, refl, refl))
 
@@ -214,7 +214,7 @@ module _ {F : Type 0} (codec : Codec F) (any : Job) where
   write_finds : (w : WriteIn) (xs : List Exchange) (end : Outcome) → Finds (with (Write w)) xs end (Seeks (ListsSchemas nothing_listed))
   write_finds w xs end a e =
       let (there, frame, goes_on) =
-      schemas_found codec (with (Write w)) tt (λ found seen c look. look) (λ found r. tt) (write_schema w) (write_frame w) (λ found. cell_puts codec (with (Write w)) found (laid found.frame (found.there).attrs w)) [] nothing_listed
+      schemas_found codec (with (Write w)) tt (λ found seen c look. look) (λ found r. tt) (write_schema w) (write_frame w) (λ found. cell_puts codec (with (Write w)) found (laid found.frame (found.current).attrs w)) [] nothing_listed
       (λ there frame seen x xs end since got says on look. write_works w there frame seen x xs end got says on look (laid frame there.attrs w) refl (laid_fails frame there.attrs w)) [] xs end (λ x at. at) in
       (found_as there frame, goes_on a e, (refl, refl, refl))
 
@@ -222,7 +222,7 @@ module _ {F : Type 0} (codec : Codec F) (any : Job) where
   delete_finds : (text : List ℕ) (xs : List Exchange) (end : Outcome) → Finds (with (Delete text)) xs end (Seeks (ListsSchemas nothing_listed))
   delete_finds text xs end a e =
       let (there, frame, goes_on) =
-      schemas_found codec (with (Delete text)) tt (λ found seen c look. look) (λ found r. tt) (delete_schema text) (delete_frame text) (λ found. delete_puts (with (Delete text)) (delete_condition found.frame (found.there).attrs text)) [] nothing_listed
+      schemas_found codec (with (Delete text)) tt (λ found seen c look. look) (λ found r. tt) (delete_schema text) (delete_frame text) (λ found. delete_puts (with (Delete text)) (delete_condition found.frame (found.current).attrs text)) [] nothing_listed
       (λ there frame seen x xs end since got says on look. delete_works text there frame seen x xs end got says on look (delete_condition frame there.attrs text) refl (delete_condition_fails frame there.attrs text)) [] xs end (λ x at. at) in
       (found_as there frame, goes_on a e, (refl, refl, refl))
 
@@ -267,17 +267,17 @@ module _ {F : Type 0} (codec : Codec F) (any : Job) where
 
     -- what a create found
     abbrev found_by : Bool → Found
-    found_by taken = record { taken = taken; there = no_schema; frame = no_frame; merged = None; leases = []; swept = []; removed = [] }
+    found_by taken = record { taken = taken; current = no_schema; frame = no_frame; merged = None; leases = []; swept = []; removed = [] }
 
     -- after a call, the first schema is put
-    first_follows : (taken : Bool) (seen : List Exchange) (course : List Call) (x : Exchange) (xs : List Exchange) (end : Outcome) → SaysThere (found_by taken) (Create f) x.call x.reply → IsTrue (lets_on x.call x.reply) → Next codec creating seen (found_by taken) course x.call (put_of first_object ∷ [])
+    first_follows : (taken : Bool) (seen : List Exchange) (course : List Call) (x : Exchange) (xs : List Exchange) (end : Outcome) → SaysFound (found_by taken) (Create f) x.call x.reply → IsTrue (lets_on x.call x.reply) → Next codec creating seen (found_by taken) course x.call (put_of first_object ∷ [])
         → Follows codec creating seen (found_by taken) course x xs end (putting (first_object ∷ []) 0 outcome.Created)
     first_follows taken seen course x xs end says on following =
         follows_putting codec creating seen (found_by taken) course x xs end (first_object ∷ []) 0 outcome.Created (f, refl) says on following
         (puts_go codec creating (seen ++ x ∷ []) (found_by taken) (first_object ∷ []) outcome.Created (f, refl) (schema_apart (key_of any) first_object.bytes) silent_put xs end 0)
       where
-        silent_put : (ob : NewObject) → Contains (first_object ∷ []) ob → (r : Reply) → SaysThere (found_by taken) (Create f) (put_of ob) r
-        silent_put ob at r = subst (λ o. SaysThere (found_by taken) (Create f) (put_of o) r) (Contains-only first_object ob at) tt
+        silent_put : (ob : NewObject) → Contains (first_object ∷ []) ob → (r : Reply) → SaysFound (found_by taken) (Create f) (put_of ob) r
+        silent_put ob at r = subst (λ o. SaysFound (found_by taken) (Create f) (put_of o) r) (Contains-only first_object ob at) tt
 
     -- the listing of the schemas
     declared_goes : (seen xs : List Exchange) (end : Outcome) → Goes codec creating seen (found_by true) (list_schemas ∷ put_of first_object ∷ []) xs end (Creates ListsDeclared)
@@ -360,7 +360,7 @@ module _ {F : Type 0} (codec : Codec F) (any : Job) where
           (found, told.0, backed_idle codec (with command) found whole merged, under found (ends_along codec (with command) found (course_of codec (with command) found) whole end told.1))
       by_refusal (Some r) a e =
           let over = over_ends codec (with command) (outcome.Refused r) whole end a e in
-          (found_as no_schema no_frame, subst (AreFound (with command) (found_as no_schema no_frame)) (sym over.0) (All-nil (λ x. SaysThere (found_as no_schema no_frame) command x.call x.reply)), backed_idle codec (with command) (found_as no_schema no_frame) whole (refl, refl, refl), over)
+          (found_as no_schema no_frame, subst (AreFound (with command) (found_as no_schema no_frame)) (sym over.0) (All-nil (λ x. SaysFound (found_as no_schema no_frame) command x.call x.reply)), backed_idle codec (with command) (found_as no_schema no_frame) whole (refl, refl, refl), over)
 
   -- how a job without a lease ended
   bare_by : (command : Command) (whole : List Exchange) (end : Outcome) → first_stage {F = F} (with command) ≡ Works (begun command) → EndsBy codec (with command) whole end

@@ -27,7 +27,7 @@ use Rattle.ts_model.specs.States.{Exchange, begun, end_by, list_leases, refuse}
 use Rattle.ts_model.specs.Stops.{cuts}
 use Rattle.ts_model.proofs.Lacks.{lacks-push, other_goes}
 use Rattle.ts_model.proofs.Asked.{gives_up_held}
-use Rattle.ts_law.specs.Courses.{Along, AreFound, EndsAlong, EndsUnder, FindsOpposed, Found, HasPut, HeedsLeases, IsCutOff, IsLookOf, LeaseEnds, MayEndAs, NotBegun, NotOwn, Removed, SaysThere, course_by, course_of, removal, under_lease}
+use Rattle.ts_law.specs.Courses.{Along, AreFound, EndsAlong, EndsUnder, FindsOpposed, Found, HasPut, HeedsLeases, IsCutOff, IsLookOf, LeaseEnds, MayEndAs, NotBegun, NotOwn, Removed, SaysFound, course_by, course_of, removal, under_lease}
 use Rattle.ts_law.proofs.CourseCalls.{Ends, WorkAsks, WorkEnds, ends_along, ends_cons, follows_ended, follows_refused, work_from}
 use Rattle.ts_law.proofs.CourseBacked.{AreBacked, IsIdle, backed_idle, backed_stays}
 use Rattle.ts_law.proofs.CourseStages.{Closed, IsWas, Open, OpenAsks, Split, open-push, open_from, releasing_asks, settled_leased, split, work_open, work_was}
@@ -45,7 +45,7 @@ not_taken : reply.NoMemory ≡ reply.Taken → ⊥
 not_taken e = cc
 
 -- a job that has a lease, says nothing of what it finds where it makes calls, and whose calls at its work go along its course
-module _ {F : Type 0} (codec : Codec F) (job : Job) (mode : LeaseMode) (leased : mode_of job.command ≡ Some mode) (unrefused : refused_before job.command ≡ None) (silent : (found : Found) (c : Call) (r : Reply) → SaysThere found job.command c r) (none_found : Found) (none_idle : IsIdle none_found)
+module _ {F : Type 0} (codec : Codec F) (job : Job) (mode : LeaseMode) (leased : mode_of job.command ≡ Some mode) (unrefused : refused_before job.command ≡ None) (silent : (found : Found) (c : Call) (r : Reply) → SaysFound found job.command c r) (none_found : Found) (none_idle : IsIdle none_found)
     (work_finds : (before xs : List Exchange) (end : Outcome) → WorkAsks codec job (begun job.command) xs → WorkEnds codec job (begun job.command) xs end → (found : Found) × (AreFound job found xs × Ends codec job before found (course_by codec job found job.command) xs end) × AreBacked codec job found (before ++ xs)) where
   -- its lease
   abbrev own_lease : Name
@@ -160,7 +160,7 @@ module _ {F : Type 0} (codec : Codec F) (job : Job) (mode : LeaseMode) (leased :
           let ends = work_was codec job own_lease some (begun job.command) ys was (subst (λ g. IsWas codec job own_lease some g was) leads is_was) in
           let (found, (said, ended), merged) = work_finds (lease_put reply.Made ∷ y ∷ []) ys was work ends in
           comes_to found (lease_put reply.Made ∷ y ∷ ys) was (
-            All-cons (λ z. SaysThere found job.command z.call z.reply) (lease_put reply.Made) (y ∷ ys) (silent found (put_lease own_lease) reply.Made) (All-cons (λ z. SaysThere found job.command z.call z.reply) y ys (silent found list_leases (reply.Names names)) said),
+            All-cons (λ z. SaysFound found job.command z.call z.reply) (lease_put reply.Made) (y ∷ ys) (silent found (put_lease own_lease) reply.Made) (All-cons (λ z. SaysFound found job.command z.call z.reply) y ys (silent found list_leases (reply.Names names)) said),
             ends_cons codec job [] found (leased_course found) (list_leases ∷ works_course found) (lease_put reply.Made) (y ∷ ys) was refl (inr refl)
                 (ends_cons codec job (lease_put reply.Made ∷ []) found (list_leases ∷ works_course found) (works_course found) y ys was refl (inr refl) ended),
           ) merged)
@@ -178,7 +178,7 @@ module _ {F : Type 0} (codec : Codec F) (job : Job) (mode : LeaseMode) (leased :
           let ends : WorkEnds codec job (refuse (refusal.Leased other)) [] was = of_was (outcome.Refused (refusal.Leased other)) was (subst (λ g. IsWas codec job own_lease some g was) at is_was) in
           let told = follows_refused codec job (lease_put reply.Made ∷ []) found (list_leases ∷ works_course found) (works_course found) y [] was (refusal.Leased other) (silent found list_leases (reply.Names names)) (inr refl) (own_lease, some, names, refl, is) tt ends in
           comes_to found (lease_put reply.Made ∷ y ∷ []) was (
-            All-cons (λ z. SaysThere found job.command z.call z.reply) (lease_put reply.Made) (y ∷ []) (silent found (put_lease own_lease) reply.Made) told.0,
+            All-cons (λ z. SaysFound found job.command z.call z.reply) (lease_put reply.Made) (y ∷ []) (silent found (put_lease own_lease) reply.Made) told.0,
             ends_cons codec job [] found (leased_course found) (list_leases ∷ works_course found) (lease_put reply.Made) (y ∷ []) was refl (inr refl) told.1,
           ) (backed_idle codec job found (lease_put reply.Made ∷ y ∷ []) none_idle))
           (λ more another (put, others, same, opposes).
@@ -195,7 +195,7 @@ module _ {F : Type 0} (codec : Codec F) (job : Job) (mode : LeaseMode) (leased :
       let found = none_found in
       let told = follows_ended codec job (lease_put reply.Made ∷ []) found (list_leases ∷ works_course found) (works_course found) list_leases r [] was tt (silent found list_leases r) (inr refl) tt (of_was (end_by list_leases r) was is_was) in
       comes_to found (lease_put reply.Made ∷ leases_listed r ∷ []) was (
-        All-cons (λ z. SaysThere found job.command z.call z.reply) (lease_put reply.Made) (leases_listed r ∷ []) (silent found (put_lease own_lease) reply.Made) told.0,
+        All-cons (λ z. SaysFound found job.command z.call z.reply) (lease_put reply.Made) (leases_listed r ∷ []) (silent found (put_lease own_lease) reply.Made) told.0,
         ends_cons codec job [] found (leased_course found) (list_leases ∷ works_course found) (lease_put reply.Made) (leases_listed r ∷ []) was refl (inr refl) told.1,
       ) (backed_idle codec job found (lease_put reply.Made ∷ leases_listed r ∷ []) none_idle))
       (none_listed (lease_put reply.Made ∷ leases_listed r ∷ [])
@@ -212,7 +212,7 @@ module _ {F : Type 0} (codec : Codec F) (job : Job) (mode : LeaseMode) (leased :
       let found = none_found in
       let none : was ≡ outcome.OutOfMemory = elim is_was [ inl is ↦ is | inr is ↦ is ] in
       comes_to found (lease_put reply.Made ∷ []) was (
-        All-cons (λ z. SaysThere found job.command z.call z.reply) (lease_put reply.Made) [] (silent found (put_lease own_lease) reply.Made) (All-nil (λ z. SaysThere found job.command z.call z.reply)),
+        All-cons (λ z. SaysFound found job.command z.call z.reply) (lease_put reply.Made) [] (silent found (put_lease own_lease) reply.Made) (All-nil (λ z. SaysFound found job.command z.call z.reply)),
         subst (Ends codec job [] found (leased_course found) (lease_put reply.Made ∷ [])) (sym none) (inl (list_leases ∷ works_course found, (refl, (list_leases ∷ works_course found, inr refl, refl)))),
       ) (backed_idle codec job found (lease_put reply.Made ∷ []) none_idle))
       (none_listed (lease_put reply.Made ∷ []) (λ put names more same. cc))
@@ -250,7 +250,7 @@ module _ {F : Type 0} (codec : Codec F) (job : Job) (mode : LeaseMode) (leased :
       → (found : Found) × AreFound job found (front ++ removal own_lease r ∷ []) × AreBacked codec job found (front ++ removal own_lease r ∷ []) × LeaseEnds codec job found own_lease (front ++ removal own_lease r ∷ []) end
   removed_ends front r was end put heeds (found, told, ended, merged) is = (
     found,
-    All-push (λ z. SaysThere found job.command z.call z.reply) front (removal own_lease r) told (silent found (call.Remove own_lease) r),
+    All-push (λ z. SaysFound found job.command z.call z.reply) front (removal own_lease r) told (silent found (call.Remove own_lease) r),
     backed_stays codec job found front (removal own_lease r ∷ []) merged,
     Removed front r was refl put heeds (subst (λ course. EndsAlong codec job found course front was) (sym (course_is found)) ended) is,
   )
@@ -286,8 +286,8 @@ module _ {F : Type 0} (codec : Codec F) (job : Job) (mode : LeaseMode) (leased :
       g_of front = open_from codec job own_lease some (PutsLease own_lease) front
 
       quiet : (xs : List Exchange) → AreFound job none_found xs
-      quiet [] = All-nil (λ z. SaysThere none_found job.command z.call z.reply)
-      quiet (x ∷ xs) = All-cons (λ z. SaysThere none_found job.command z.call z.reply) x xs (silent none_found x.call x.reply) (quiet xs)
+      quiet [] = All-nil (λ z. SaysFound none_found job.command z.call z.reply)
+      quiet (x ∷ xs) = All-cons (λ z. SaysFound none_found job.command z.call z.reply) x xs (silent none_found x.call x.reply) (quiet xs)
 
       one_end : (o e : Outcome) → ◌≡◌ {A = Stage F} (Works (Over o)) (Works (Over e)) → e ≡ o
       one_end o e same = cc

@@ -43,12 +43,12 @@ use Rattle.ts_model.specs.Jobs.{looked_at}
 use Rattle.ts_model.specs.States.{Exchange, asks, after_names, after_opened, after_source, after_surveyed, all_of, attributes_among, can_be_named, candidates_in, committed_in, counting_in, ended, frags_of, get_frame, get_head_in, get_schema, get_vac, getting_names, goes, heads_of, list_commits, list_schemas, merge_objects, merges_all, merges_in, merging_from, on_bytes, on_plan, on_read, opened_among, opening_next, piece_merged, plan_for, put_of, puts_piece, putting, refuse, schema_among, schemas_in, schemas_named, source_begins, source_leads, survey_with, surveying, vac_object_of, vac_of}
 use Rattle.ts_model.proofs.KeyLemmas.{key_itself, key_same}
 use Rattle.ts_model.proofs.ListLemmas.{Contains-cons, Contains-here, Contains-nil, Contains-only, Contains-there, filter-Contains, find-Some, find_member}
-use Rattle.ts_law.specs.Courses.{AreFound, AtFrame, AtNamed, AtNames, AtOpened, BreaksPart, EachTaken, Found, GotNames, GotSchema, HasOpened, HasTaken, InSource, IsCause, IsConsolidate, IsFramed, IsKeyThere, IsListedInside, IsLookBy, IsLookOf, IsMergeBy, IsNamedFor, IsOpened, IsUnderWay, LooksForSources, MayFetch, Merge, MergesFound, PlansBy, SaysThere, lets_on, merge_puts, IsWantOf}
+use Rattle.ts_law.specs.Courses.{AreFound, AtFrame, AtNamed, AtNames, AtOpened, BreaksPart, EachTaken, Found, GotNames, GotSchema, HasOpened, HasTaken, InSource, IsCause, IsConsolidate, IsFramed, IsCurrentKey, IsListedInside, IsLookBy, IsLookOf, IsMergeBy, IsNamedFor, IsOpened, IsUnderWay, LooksForSources, MayFetch, Merge, MergesFound, PlansBy, SaysFound, lets_on, merge_puts, IsWantOf}
 use Rattle.ts_law.proofs.CourseCalls.{Ends, Follows, Goes, Well, WorkAsks, WorkEnds, follows_ended, follows_none, follows_on, follows_putting, follows_refused, goes_by, goes_none, item_in, lets_bytes, lets_length, lets_memory, look_leaves, parts_apart, puts_go}
 use Rattle.ts_law.proofs.CourseBacked.{AreBacked}
 use Rattle.ts_law.proofs.CourseGrows.{AreAmong, among_more, each_stays, merged_nothing, names_stay, schema_stays, way_stays}
 use Rattle.ts_law.proofs.CourseReads.{fetched_on}
-use Rattle.ts_law.proofs.CourseThere.{no_frame, no_schema}
+use Rattle.ts_law.proofs.CourseSeeks.{no_frame, no_schema}
 use Rattle.ts_law.proofs.Fetches.{map-Contains}
 use Rattle.ts_law.proofs.MergeKnows.{schema_named_by, schemas_named_has}
 use Rattle.ts_law.proofs.MergePlans.{contains_from}
@@ -89,8 +89,8 @@ merged_by codec job found seen x xs s c asked merges a =
 
 module _ {F : Type 0} (codec : Codec F) (job : Job) (looks : AsksLooks codec) (from to : ℕ) (limits : Limits) (is : job.command ≡ Consolidate from to limits) where
   -- no reply to a consolidation says what it found
-  silent : (found : Found) (c : Call) (r : Reply) → SaysThere found job.command c r
-  silent found c r = subst (λ k. SaysThere found k c r) (sym is) tt
+  silent : (found : Found) (c : Call) (r : Reply) → SaysFound found job.command c r
+  silent found c r = subst (λ k. SaysFound found k c r) (sym is) tt
 
   -- the command is one
   consolidates : IsConsolidate job.command
@@ -98,7 +98,7 @@ module _ {F : Type 0} (codec : Codec F) (job : Job) (looks : AsksLooks codec) (f
 
   -- what a consolidation found in an array of a frame: what it merged is what it came to put
   abbrev found_in : Frame → Option Merge → Found
-  found_in frame merged = record { taken = false; there = no_schema; frame = frame; merged = merged; leases = []; swept = []; removed = [] }
+  found_in frame merged = record { taken = false; current = no_schema; frame = frame; merged = merged; leases = []; swept = []; removed = [] }
 
   -- a look for sources is one of the job
   for_sources : (found : Found) (seen : List Exchange) (c : Call) → LooksForSources codec job found seen from to c → IsLookOf codec job found seen c
@@ -664,14 +664,14 @@ module _ {F : Type 0} (codec : Codec F) (any : Job) (looks : AsksLooks codec) (f
 
   -- what it found
   abbrev found_so : Frame → Option Merge → Found
-  found_so frame merged = record { taken = false; there = no_schema; frame = frame; merged = merged; leases = []; swept = []; removed = [] }
+  found_so frame merged = record { taken = false; current = no_schema; frame = frame; merged = merged; leases = []; swept = []; removed = [] }
 
   -- where it came to no puts it merged nothing
   nothing_so : (trace : List Exchange) → MergesFound codec merging_job (found_so no_frame None) trace
   nothing_so trace = merged_nothing codec merging_job (found_so no_frame None) trace refl
 
   -- the get of the frame
-  frame_from : (names : List Name) (k : Key) (seen xs : List Exchange) (end : Outcome) → Contains seen (record { call = list_commits; reply = reply.Names names }) → IsKeyThere merging_job seen k
+  frame_from : (names : List Name) (k : Key) (seen xs : List Exchange) (end : Outcome) → Contains seen (record { call = list_commits; reply = reply.Names names }) → IsCurrentKey merging_job seen k
       → (frame : Frame) × (merged : Option Merge) × Goes codec merging_job seen (found_so frame merged) (merge_puts codec frame merged) xs end (Merges (merging.GetsFrame (candidates_in from to names))) × (WorkAsks codec merging_job (Merges (merging.GetsFrame (candidates_in from to names))) xs → MergesFound codec merging_job (found_so frame merged) (seen ++ xs))
   frame_from names k seen [] end listed there = (no_frame, None, goes_none codec merging_job seen (found_so no_frame None) [] end (Merges (merging.GetsFrame (candidates_in from to names))) (λ o q. cc), λ a. nothing_so (seen ++ []))
   frame_from names k seen (x ∷ xs) end listed there =

@@ -28,7 +28,7 @@ use Rattle.ts_model.specs.declared.states.Collecting.TheVariants.{GetsVacs, Gets
 use Rattle.ts_model.specs.declared.commands.Command.TheVariants.{Read}
 use Rattle.ts_model.specs.Codecs.{Codec, Stepped, Asks, Takes, Breaks, is_look, AsksLooks}
 use Rattle.ts_model.specs.States.{Exchange, get_all, get_head, get_schema, on_bytes, after_fetched, opening, gathering, fetching, fetches_one, fetch_leads, fetch_begins, after_head, after_schema, known_schema, keys_named, want_of, answer_of, on_read, getting_deletes, with_deletion, deletion_named, get_delete, after_delete, get_vac, after_vac, getting_vacs, heads_of, loaded_of, loads, opened_among, vac_of, with_clipped, with_vac, committed_in, deletes_in, list_commits, meets}
-use Rattle.ts_law.specs.Courses.{Found, SaysThere, GotSchema, IsGot, IsOpened, IsFetched, IsUnderWay, IsListedIn, IsCountingIn, IsLookedInto, LooksInside, MayFetch, AtVac, AtHead, AtSchema, AtDelete, InFetch, IsLookBy, IsLookOf, IsNamedFor, AreDeletesOf, GotDelete, IsWantOf, BreaksPart, IsNext, lets_on, refused_in}
+use Rattle.ts_law.specs.Courses.{Found, SaysFound, GotSchema, IsGot, IsOpened, IsFetched, IsUnderWay, IsListedIn, IsCountingIn, IsLookedInto, LooksInside, MayFetch, AtVac, AtHead, AtSchema, AtDelete, InFetch, IsLookBy, IsLookOf, IsNamedFor, AreDeletesOf, GotDelete, IsWantOf, BreaksPart, IsNext, lets_on, refused_in}
 use Rattle.ts_model.proofs.KeyLemmas.{key_same, key_itself}
 use Rattle.ts_model.proofs.ListLemmas.{Contains-here, Contains-there, filter-Contains, find-Some, take_next}
 use Rattle.ts_model.specs.declared.deeds.Deletion.{Deletion}
@@ -59,10 +59,10 @@ fetched_on codec trace f c (s ∷ replies) g d r h b (told_s, k, e, asks_e, more
 module _ {F : Type 0} (codec : Codec F) (job : Job) where
   -- ---- reads
 
-  module _ (looks : AsksLooks codec) (from to : ℕ) (query : Query) (is : job.command ≡ Read from to query) (found : Found) (ready : Ready) (is_ready : ready_in found.frame (found.there).attrs query ≡ Ok ready) where
+  module _ (looks : AsksLooks codec) (from to : ℕ) (query : Query) (is : job.command ≡ Read from to query) (found : Found) (ready : Ready) (is_ready : ready_in found.frame (found.current).attrs query ≡ Ok ready) where
     -- no reply to a read says what it found
-    silent : (c : Call) (r : Reply) → SaysThere found job.command c r
-    silent c r = subst (λ k. SaysThere found k c r) (sym is) tt
+    silent : (c : Call) (r : Reply) → SaysFound found job.command c r
+    silent c r = subst (λ k. SaysFound found k c r) (sym is) tt
 
     -- nothing stands against the read
     unrefused : refused_in found job.command ≡ None
@@ -70,7 +70,7 @@ module _ {F : Type 0} (codec : Codec F) (job : Job) where
 
     -- what the read asks of the interval in what it found
     abbrev reading : List FragKey → List FragKey → List VacOf → List FragKey → List FragKey → List Deletion → Reading
-    reading fragments counting vacs clipped delete_names erased = record { from = from; to = to; ready = ready; frame = found.frame; there = found.there; fragments = fragments; counting = counting; vacs = vacs; clipped = clipped; delete_names = delete_names; deletions = erased }
+    reading fragments counting vacs clipped delete_names erased = record { from = from; to = to; ready = ready; frame = found.frame; current = found.current; fragments = fragments; counting = counting; vacs = vacs; clipped = clipped; delete_names = delete_names; deletions = erased }
 
     -- the fragment is near, and the object of its part with the head was got, and has this head
     abbrev WasOpened : List Exchange → Reading → Opened → Type 0
@@ -121,12 +121,12 @@ module _ {F : Type 0} (codec : Codec F) (job : Job) where
 
     -- it got each schema that it knows
     known_got : (seen : List Exchange) (r : Reading) (opened : List Opened) (schemas : List Schema) (k : Key) (s : Schema) → HasGot seen r opened schemas → known_schema r schemas k ≡ Some s → GotSchema seen s × (s.key ≡ k)
-    known_got seen r opened schemas k s has is = by_test (key_eq k (r.there).key) refl is
+    known_got seen r opened schemas k s has is = by_test (key_eq k (r.current).key) refl is
       where
-        by_test : (b : Bool) → key_eq k (r.there).key ≡ b → cond b (Some r.there) (find (λ t. key_eq t.key k) schemas) ≡ Some s → GotSchema seen s × (s.key ≡ k)
+        by_test : (b : Bool) → key_eq k (r.current).key ≡ b → cond b (Some r.current) (find (λ t. key_eq t.key k) schemas) ≡ Some s → GotSchema seen s × (s.key ≡ k)
         by_test true test one =
-            let same : r.there ≡ s = same_Some r.there s one in
-            (subst (GotSchema seen) (sym (ap (λ q. q.there) has.finds) ∙ same) has.got.schema, sym (ap (λ t. t.key) same) ∙ sym (key_same k (r.there).key test))
+            let same : r.current ≡ s = same_Some r.current s one in
+            (subst (GotSchema seen) (sym (ap (λ q. q.current) has.finds) ∙ same) has.got.schema, sym (ap (λ t. t.key) same) ∙ sym (key_same k (r.current).key test))
         by_test false test one =
             let (there, test_s) = find-Some (λ t. key_eq t.key k) schemas s one in
             (has.further s there, key_same s.key k test_s)
@@ -158,7 +158,7 @@ module _ {F : Type 0} (codec : Codec F) (job : Job) where
               from_is = ap (λ q. q.from) has.finds;
               to_is = ap (λ q. q.to) has.finds;
               frame_is = ap (λ q. q.frame) has.finds;
-              there_is = ap (λ q. q.there) has.finds;
+              there_is = ap (λ q. q.current) has.finds;
               is_ready = is_ready ∙ ap (λ q. Ok q.ready) (sym has.finds);
               names = has.names;
               listed = has.listed;
@@ -171,7 +171,7 @@ module _ {F : Type 0} (codec : Codec F) (job : Job) where
 
     -- each of the keys is named by the head of one of these fragments
     abbrev AreNamed : Reading → List Opened → List Key → Type 0
-    AreNamed r opened named = (k : Key) → Contains named k → (o : Opened) × Contains opened o × (o.head.schema ≡ k) × (not (key_eq o.head.schema r.there.key) ≡ true)
+    AreNamed r opened named = (k : Key) → Contains named k → (o : Opened) × Contains opened o × (o.head.schema ≡ k) × (not (key_eq o.head.schema r.current.key) ≡ true)
 
     -- the calls of a read, from any of its states on, are looks, and end by it
     pub record ReadsOn (seen xs : List Exchange) (end : Outcome) : Type 0 where
@@ -384,9 +384,9 @@ module _ {F : Type 0} (codec : Codec F) (job : Job) where
                 let was = objects.objects o among in
                 let Got : Reading → Type 0 = λ q. Contains seen (record { call = get_all (name.Part o.frag (codec.head_part q.frame)); reply = reply.Bytes o.object }) in
                 let Heads : Reading → Type 0 = λ q. codec.head q.frame o.frag o.object ≡ Ok o.head in
-                let apart : o.head.schema ≡ r.there.key → ⊥ = λ same. true≢false (sym further ∙ ap not (subst (λ z. key_eq o.head.schema z ≡ true) same (key_itself o.head.schema))) in
+                let apart : o.head.schema ≡ r.current.key → ⊥ = λ same. true≢false (sym further ∙ ap not (subst (λ z. key_eq o.head.schema z ≡ true) same (key_itself o.head.schema))) in
                 looks_inside seen (get_schema k) objects.got (AtSchema o.frag o.head (o.object, subst Got objects.finds was.1, subst Heads objects.finds was.2)
-                (λ same. apart (same ∙ sym (ap (λ q. q.there.key) objects.finds))) (ap get_schema (sym names_it)))
+                (λ same. apart (same ∙ sym (ap (λ q. q.current.key) objects.finds))) (ap get_schema (sym names_it)))
 
             by_attrs : (bytes : List ℕ) (a : Result (List Attr) ℕ) → schema_of bytes ≡ a
                 → Follows codec job seen found [] (record { call = get_schema k; reply = reply.Bytes bytes }) xs end (on_read (name.Schema k) (λ attrs. gathering codec r opened named (schemas ++ record { key = k; attrs = attrs } ∷ [])) a)

@@ -10,14 +10,14 @@ use Rattle.ts_model.specs.declared.commands.Job.{Job}
 use Rattle.ts_model.specs.declared.states.State.TheVariants.{Removes, Over}
 use Rattle.ts_model.specs.Codecs.{Codec}
 use Rattle.ts_model.specs.States.{Exchange, goes, on_removed, removing}
-use Rattle.ts_law.specs.Courses.{Found, SaysThere, lets_on}
+use Rattle.ts_law.specs.Courses.{Found, SaysFound, lets_on}
 use Rattle.ts_law.proofs.CourseCalls.{Follows, Goes, Next, Well, drop_item, drop_past, follows_ended, follows_on, follows_over, goes_by, goes_none, well_ended, well_stays}
 use Rattle.ts_store.specs.declared.call.Call.TheVariants as call
 use Rattle.ts_store.specs.declared.call.Reply.TheVariants as reply
 
 module _ {F : Type 0} (codec : Codec F) (job : Job) where
   -- after a call, objects are removed from a place on
-  pub follows_removing : (seen : List Exchange) (found : Found) (course : List Call) (x : Exchange) (xs : List Exchange) (end : Outcome) (names : List Name) (next : ℕ) (o : Outcome) → Well codec job (seen ++ x ∷ []) found o → SaysThere found job.command x.call x.reply → IsTrue (lets_on x.call x.reply)
+  pub follows_removing : (seen : List Exchange) (found : Found) (course : List Call) (x : Exchange) (xs : List Exchange) (end : Outcome) (names : List Name) (next : ℕ) (o : Outcome) → Well codec job (seen ++ x ∷ []) found o → SaysFound found job.command x.call x.reply → IsTrue (lets_on x.call x.reply)
       → Next codec job seen found course x.call (list_map call.Remove (drop next names)) → Goes codec job (seen ++ x ∷ []) found (list_map call.Remove (drop next names)) xs end (Removes names next o)
       → Follows codec job seen found course x xs end (removing names next o)
   follows_removing seen found course x xs end names next o well says on following goes_on = by_count (nat_lt next (length names)) refl
@@ -29,7 +29,7 @@ module _ {F : Type 0} (codec : Codec F) (job : Job) where
           follows_over codec job seen found course [] x xs end o says none (well_ended codec job seen found course (x ∷ []) o well (on, ([], none, refl)))
 
   -- a job that removes objects goes along their removals
-  pub removes_go : (seen : List Exchange) (found : Found) (names : List Name) (o : Outcome) → Well codec job seen found o → ((n : Name) (r : Reply) → SaysThere found job.command (call.Remove n) r)
+  pub removes_go : (seen : List Exchange) (found : Found) (names : List Name) (o : Outcome) → Well codec job seen found o → ((n : Name) (r : Reply) → SaysFound found job.command (call.Remove n) r)
       → (xs : List Exchange) (end : Outcome) (next : ℕ) → Goes codec job seen found (list_map call.Remove (drop next names)) xs end (Removes names next o)
   removes_go seen found names o well silent [] end next = goes_none codec job seen found (list_map call.Remove (drop next names)) end (Removes names next o) (λ e q. cc)
   removes_go seen found names o well silent (x ∷ xs) end next = by_item (slice_get names next) refl (λ y. removes_go (seen ++ y ∷ []) found names o (well_stays codec job seen found y o well) silent xs end (suc next))

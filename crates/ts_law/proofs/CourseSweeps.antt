@@ -24,14 +24,14 @@ use Rattle.ts_model.specs.Codecs.{Codec}
 use Rattle.ts_model.specs.Jobs.{looked_at}
 use Rattle.ts_model.specs.States.{Exchange, after_swept, asks, counting_in, get_vac, goes, list_commits, list_parts, list_schemas, listing_parts, names_removed, on_bytes, on_names, on_read, removing, schemas_in, sweep_with, sweeping_vacs, vac_of, where_swept}
 use Rattle.ts_model.proofs.ListLemmas.{Contains-nil, take_next}
-use Rattle.ts_law.specs.Courses.{AreFound, ChoosesBy, EachListed, Found, GotNames, IsKeyThere, RemovesBy, SaysThere, SweepsFound, lets_on, sweep_calls}
+use Rattle.ts_law.specs.Courses.{AreFound, ChoosesBy, EachListed, Found, GotNames, IsCurrentKey, RemovesBy, SaysFound, SweepsFound, lets_on, sweep_calls}
 use Rattle.ts_law.specs.Swept.{sweep_over}
 use Rattle.ts_law.proofs.CourseBacked.{AreBacked, parts_stay, swept_stays, told_among}
 use Rattle.ts_law.proofs.CourseCalls.{Ends, Follows, Next, Well, WorkAsks, WorkEnds, drop_item, drop_past, ends_cons, follows_ended, follows_refused, goes_none, item_in}
 use Rattle.ts_law.proofs.CourseGrows.{AreAmong, among_more, key_stays, merged_nothing, names_stay}
 use Rattle.ts_law.proofs.CourseMerges.{all_of_them, one_longer}
 use Rattle.ts_law.proofs.CourseRemoves.{follows_removing, removes_go}
-use Rattle.ts_law.proofs.CourseThere.{no_frame, no_schema}
+use Rattle.ts_law.proofs.CourseSeeks.{no_frame, no_schema}
 use Rattle.ts_law.proofs.ReadSteps.{push_next}
 use Rattle.ts_store.specs.declared.call.Call.TheVariants as call
 use Rattle.ts_store.specs.declared.call.Reply.TheVariants as reply
@@ -41,7 +41,7 @@ use Rattle.ts_model.specs.declared.states.Sweeping.TheVariants as sweeping
 
 -- what a vacuum found that is to remove the fragments of a set, and these names
 abbrev pub found_swept : List FragKey → List Name → Found
-found_swept set removed = record { taken = false; there = no_schema; frame = no_frame; merged = None; leases = []; swept = set; removed = removed }
+found_swept set removed = record { taken = false; current = no_schema; frame = no_frame; merged = None; leases = []; swept = set; removed = removed }
 
 -- the listings of the parts of these fragments, and the removals of these names
 abbrev calls_left : List FragKey → List Name → List Call
@@ -82,7 +82,7 @@ module _ {F : Type 0} (codec : Codec F) (any : Job) where
     finds_on seen course rest x xs end s on next goes_on a e =
         let (i, (told, ended), swept) = goes_on a e in (
           i,
-          (All-cons (λ y. SaysThere (found_of i) Vacuum y.call y.reply) x xs tt told, ends_cons codec sweeping_job seen (found_of i) (course i) (rest i) x xs end on (next i) ended),
+          (All-cons (λ y. SaysFound (found_of i) Vacuum y.call y.reply) x xs tt told, ends_cons codec sweeping_job seen (found_of i) (course i) (rest i) x xs end on (next i) ended),
           subst (SweepsFound sweeping_job (found_of i)) (append_assoc seen (x ∷ []) xs) swept,
         )
 
@@ -106,7 +106,7 @@ module _ {F : Type 0} (codec : Codec F) (any : Job) where
     -- it knows a schema that holds at its stamp, listed the commits, and got these `.vac` objects, the first of those that count
     record HasSwept (seen : List Exchange) (vacs : List VacOf) : Type 0 where
       key : Key
-      there : IsKeyThere sweeping_job seen key
+      current : IsCurrentKey sweeping_job seen key
       listed : Contains seen (record { call = list_commits; reply = reply.Names names })
       vacs_are : list_map (λ v. v.frag) vacs ≡ take (length vacs) (counting_in names)
       each_vac : (v : VacOf) → Contains vacs v → GotNames seen v.frag v.names
@@ -115,7 +115,7 @@ module _ {F : Type 0} (codec : Codec F) (any : Job) where
     swept_on : (a b : List Exchange) (vacs : List VacOf) → AreAmong a b → HasSwept a vacs → HasSwept b vacs
     swept_on a b vacs among has = record {
       key = has.key;
-      there = key_stays sweeping_job a b has.key among has.there;
+      current = key_stays sweeping_job a b has.key among has.current;
       listed = among _ has.listed;
       vacs_are = has.vacs_are;
       each_vac = λ v at. names_stay a b v.frag v.names among (has.each_vac v at);
@@ -123,7 +123,7 @@ module _ {F : Type 0} (codec : Codec F) (any : Job) where
 
     -- with all of them it chose what to remove
     abbrev chosen : (seen : List Exchange) (vacs : List VacOf) → HasSwept seen vacs → list_map (λ v. v.frag) vacs ≡ counting_in names → ChoosesBy sweeping_job seen (removal_set vacs)
-    chosen seen vacs has all = record { key = has.key; there = has.there; names = names; listed = has.listed; vacs = vacs; all_vacs = all; each_vac = has.each_vac; is = refl }
+    chosen seen vacs has all = record { key = has.key; current = has.current; names = names; listed = has.listed; vacs = vacs; all_vacs = all; each_vac = has.each_vac; is = refl }
 
     module _ (vacs : List VacOf) (all : list_map (λ v. v.frag) vacs ≡ counting_in names) where
       -- the fragments that it removes
@@ -262,7 +262,7 @@ module _ {F : Type 0} (codec : Codec F) (any : Job) where
         → HasSwept (seen ++ record { call = get_vac f; reply = reply.Bytes bytes } ∷ []) (vacs ++ record { frag = f; names = told } ∷ [])
     vac_push seen vacs f bytes told at reads has = record {
       key = before.key;
-      there = before.there;
+      current = before.current;
       listed = before.listed;
       vacs_are = push_next (λ (v : VacOf). v.frag) vacs v (counting_in names) has.vacs_are at;
       each_vac = λ w among. elim (Contains-push_cases vacs v w among) [
@@ -297,7 +297,7 @@ module _ {F : Type 0} (codec : Codec F) (any : Job) where
         by_item (Some f) is later = finds_by found_pair seen calls_pair x xs end here (get_vac f) (ap (option_map get_vac) is) (rw is (by_reply x.reply))
           where
             look : (p : List FragKey × List Name) → Next codec sweeping_job seen (found_pair p) (calls_pair p) (get_vac f) (calls_pair p)
-            look p = inl ((has.key, has.there, f, (names, has.listed, item_in (counting_in names) (length vacs) f is), refl), refl)
+            look p = inl ((has.key, has.current, f, (names, has.listed, item_in (counting_in names) (length vacs) f is), refl), refl)
 
             by_names : (bytes : List ℕ) (told : Result (List FragKey) ℕ) → names_of bytes ≡ told
                 → FindsAfter found_pair seen calls_pair (record { call = get_vac f; reply = reply.Bytes bytes }) xs end (on_read (vac_of f) (λ told. sweeping_vacs (sweep_with (sweep_over names vacs) f told)) told)
@@ -332,7 +332,7 @@ module _ {F : Type 0} (codec : Codec F) (any : Job) where
             let y : Exchange = record { call = list_schemas; reply = reply.Names declared } in
             let has : HasSwept (seen ++ y ∷ []) [] = record {
               key = k;
-              there = record { names = declared; listed = Contains-push seen y; newest = holds };
+              current = record { names = declared; listed = Contains-push seen y; newest = holds };
               listed = among_more seen y _ listed;
               vacs_are = refl;
               each_vac = λ v at. absurd (Contains-nil v at);

@@ -16,14 +16,14 @@ use Rattle.ts_law.specs.Courses.{AreFound, Found}
 use Rattle.ts_law.proofs.CourseCalls.{Ends, Follows, Well, WorkAsks, WorkEnds, follows_ended, follows_over, goes_by, goes_none, well_ended}
 use Rattle.ts_law.proofs.CourseBacked.{IsIdle}
 use Rattle.ts_law.proofs.CourseRemoves.{follows_removing, removes_go}
-use Rattle.ts_law.proofs.CourseThere.{no_frame, no_schema}
+use Rattle.ts_law.proofs.CourseSeeks.{no_frame, no_schema}
 use Rattle.ts_store.specs.declared.call.Call.TheVariants as call
 use Rattle.ts_store.specs.declared.call.Reply.TheVariants as reply
 use Rattle.ts_model.specs.declared.answers.Outcome.TheVariants as outcome
 
 -- what a job found that makes a listing of its own: an unlock these leases
 abbrev pub found_leases : List Name → Found
-found_leases leases = record { taken = false; there = no_schema; frame = no_frame; merged = None; leases = leases; swept = []; removed = [] }
+found_leases leases = record { taken = false; current = no_schema; frame = no_frame; merged = None; leases = leases; swept = []; removed = [] }
 
 module _ {F : Type 0} (codec : Codec F) (any : Job) where
   -- a job found something, and its calls from a state on say so and go along the course; it merged nothing

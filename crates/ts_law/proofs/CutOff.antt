@@ -6,7 +6,7 @@ use Rattle.ts_store.specs.declared.call.Call.{Call}
 use Rattle.ts_model.specs.declared.commands.Job.{Job}
 use Rattle.ts_model.specs.Codecs.{Codec}
 use Rattle.ts_model.specs.States.{Exchange}
-use Rattle.ts_law.specs.Courses.{Found, MergesFound, SaysThere, AreFound, Looks, IsNext, Along, EndsAt}
+use Rattle.ts_law.specs.Courses.{Found, MergesFound, SaysFound, AreFound, Looks, IsNext, Along, EndsAt}
 use Rattle.ts_law.proofs.CourseBacked.{AreBacked, AreTold, swept_stays}
 use Rattle.ts_store.specs.declared.call.Reply.TheVariants as reply
 
@@ -59,7 +59,7 @@ no_calls (y ∷ trace) x e = cc
 
 -- what all replies say, those before the last say
 pub found_before : (job : Job) (found : Found) (trace : List Exchange) (x : Exchange) → AreFound job found (trace ++ x ∷ []) → AreFound job found trace
-found_before job found trace x all = (All-pop (λ y. SaysThere found job.command y.call y.reply) (trace ++ x ∷ []) trace (Some x) refl all).0
+found_before job found trace x all = (All-pop (λ y. SaysFound found job.command y.call y.reply) (trace ++ x ∷ []) trace (Some x) refl all).0
 
 -- a list with one last item falls apart before that, or at it
 last_apart : (trace front later : List Exchange) (x last : Exchange) → trace ++ x ∷ [] ≡ front ++ last ∷ later → (last ≡ x) ⊎ ((rest : List Exchange) × (trace ≡ front ++ last ∷ rest))

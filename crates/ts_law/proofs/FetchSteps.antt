@@ -39,7 +39,7 @@ use Rattle.ts_model.specs.declared.states.Reading.{Reading}
 use Rattle.ts_model.specs.declared.states.State.{State}
 use Rattle.ts_model.specs.declared.states.State.TheVariants.{Collects}
 use Rattle.ts_model.specs.declared.states.Collecting.TheVariants.{Fetches}
-use Rattle.ts_model.specs.Deeds.{History, IsHistory, deletions, writes, schema_with, schema_there, attrs_with}
+use Rattle.ts_model.specs.Deeds.{History, IsHistory, deletions, writes, schema_with, current_schema, attrs_with}
 use Rattle.ts_model.specs.Answers.{IsAnswer}
 use Rattle.ts_model.specs.Codecs.{Codec, Spelled, Tracking, CodecLaws, OpensWell, GoesWell, Stepped, IsToldOf, SpeaksOf}
 use Rattle.ts_model.specs.Codecs.Stepped.{Asks, Takes, Breaks}
@@ -232,7 +232,7 @@ module _ {F : Type 0} (codec : Codec F) (spelled : Spelled) (tracks : Tracking F
         (deleted_in spelled opening past jobs seen m number r.from r.to r.fragments r.counting r.delete_names (reads.at).listed is_h deletions_grow r.deletions deletes_found.deletions all_deletes)
         (all_deletions spelled opening past jobs seen m number r.from r.to r.fragments r.counting r.delete_names (reads.at).listed is_h deletions_grow r.deletions deletes_found.deletions all_deletes)
         later reads.query reads.framed
-        (subst (λ command. schema_there later (looks_at job command) ≡ Some r.there) reads.reads ((reads.at).works).holds)
+        (subst (λ command. current_schema later (looks_at job command) ≡ Some r.current) reads.reads ((reads.at).works).holds)
         reads.is_ready in
         record {
           heads = heads;

@@ -258,14 +258,14 @@ one_head codec spelled tracks laws g m f p q a b =
 module _ (r : Reading) (opened : List Opened) where
   -- the open fragments whose heads name another schema than the one there
   abbrev further : List Opened
-  further = filter (λ o. not (key_eq (o.head).schema (r.there).key)) opened
+  further = filter (λ o. not (key_eq (o.head).schema (r.current).key)) opened
 
   -- the keys that they name, as entries of a map
   abbrev named : List (Key × Key)
   named = list_map (λ o. ((o.head).schema, (o.head).schema)) further
 
   -- an open fragment whose head names another schema than the one there has it among the keys named
-  pub keys_named_has : (o : Opened) → Contains opened o → key_eq (o.head).schema (r.there).key ≡ false → Contains (keys_named r opened) (o.head).schema
+  pub keys_named_has : (o : Opened) → Contains opened o → key_eq (o.head).schema (r.current).key ≡ false → Contains (keys_named r opened) (o.head).schema
   keys_named_has o at other =
       Contains-from_any key_same (o.head).schema (keys_named r opened)
       (sym (map.contains_key-keys (map.from_entries {R = key_cmp} named) (o.head).schema) ∙ ap is_some (map.get-from_entries key_total named (o.head).schema)
@@ -274,7 +274,7 @@ module _ (r : Reading) (opened : List Opened) where
 
 module _ {F : Type 0} (codec : Codec F) (spelled : Spelled) (g h : History) (m : Held) (r : Reading) (opened : List Opened) (schemas : List Schema)
     (grows : (k : Key) (s : Schema) → schema_with g k ≡ Some s → schema_with h k ≡ Some s)
-    (there : schema_with h (r.there).key ≡ Some r.there)
+    (there : schema_with h (r.current).key ≡ Some r.current)
     (open_ones : (o : Opened) → Contains opened o → IsOpen codec spelled g m r.frame o) (gathered : AreSchemas h (keys_named r opened) schemas) (all_schemas : length schemas ≡ length (keys_named r opened)) where
   -- the schemas that were gathered have all keys that the heads name
   all_keys : list_map (λ s. s.key) schemas ≡ keys_named r opened
@@ -298,7 +298,7 @@ module _ {F : Type 0} (codec : Codec F) (spelled : Spelled) (g h : History) (m :
     is_declared = grows key own_schema (ap (λ x. schema_with g x.schema) open_at.head ∙ (open_at.holds).declared)
 
     -- where it is not the one there, it was gathered
-    is_further : key_eq key (r.there).key ≡ false → find (λ s. key_eq s.key key) schemas ≡ Some own_schema
+    is_further : key_eq key (r.current).key ≡ false → find (λ s. key_eq s.key key) schemas ≡ Some own_schema
     is_further other =
         let s = map-Contains (λ t. t.key) schemas key (subst (λ ks. Contains ks key) (sym all_keys) (keys_named_has r opened o at other)) in
         let found = find_member (λ t. key_eq t.key key) schemas s.0 s.1 (ap (λ k. key_eq k key) s.2 ∙ key_itself key) in
@@ -307,10 +307,10 @@ module _ {F : Type 0} (codec : Codec F) (spelled : Spelled) (g h : History) (m :
 
     -- a read knows the schema of each open fragment
     pub knows : known_schema r schemas (o.head).schema ≡ Some ((open_ones o at).holds).schema
-    knows = by_test (key_eq key (r.there).key) refl
+    knows = by_test (key_eq key (r.current).key) refl
       where
-        by_test : (b : Bool) → key_eq key (r.there).key ≡ b → cond b (Some r.there) (find (λ s. key_eq s.key key) schemas) ≡ Some own_schema
-        by_test true same = sym there ∙ ap (schema_with h) (sym (key_same key (r.there).key same)) ∙ is_declared
+        by_test : (b : Bool) → key_eq key (r.current).key ≡ b → cond b (Some r.current) (find (λ s. key_eq s.key key) schemas) ≡ Some own_schema
+        by_test true same = sym there ∙ ap (schema_with h) (sym (key_same key (r.current).key same)) ∙ is_declared
         by_test false other = is_further other
 
   -- a read knows the attributes of the schema of each write that went into an open fragment

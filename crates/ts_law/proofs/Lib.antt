@@ -67,7 +67,7 @@ pub mod CourseGrows
 pub mod CourseBacked
 pub mod CourseCalls
 pub mod CourseReads
-pub mod CourseThere
+pub mod CourseSeeks
 pub mod CourseLeased
 pub mod CourseMerges
 pub mod CourseRemoves

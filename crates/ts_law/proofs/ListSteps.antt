@@ -32,7 +32,7 @@ use Rattle.ts_model.specs.declared.states.Listed.{Listed}
 use Rattle.ts_model.specs.declared.states.State.{State}
 use Rattle.ts_model.specs.declared.states.State.TheVariants.{Seeks}
 use Rattle.ts_model.specs.declared.states.Seeking.TheVariants.{ListsCommits, ListsSchemas}
-use Rattle.ts_model.specs.Deeds.{History, IsHistory, deletions, deletion_of, schemas, schema_with, schema_there}
+use Rattle.ts_model.specs.Deeds.{History, IsHistory, deletions, deletion_of, schemas, schema_with, current_schema}
 use Rattle.ts_model.specs.Codecs.{Codec, CodecLaws, Spelled, Tracking}
 use Rattle.ts_model.specs.Jobs.{looked_at}
 use Rattle.ts_law.specs.Stands.{IsCommitted, WentInto, Stands}
@@ -47,7 +47,7 @@ use Rattle.ts_law.specs.Kept.{Clean, Works, HasLooked, HasListed, Claims}
 use Rattle.ts_law.specs.Steps.{Keeps, Leads, Advances, Comes}
 use Rattle.ts_model.proofs.ListLemmas.{Contains-here, Contains-nil, Contains-filter, filter-Contains, Contains-filter_map, filter_map-Contains}
 use Rattle.ts_law.proofs.HeldLemmas.{Holds, Holds-from_get, listed_from_Holds, Holds-from_listed}
-use Rattle.ts_model.proofs.HistoryLaws.{deletion_of-is, deletion_of_name, schema_with-is, schema_of_key, there_is_with, there_by_keys}
+use Rattle.ts_model.proofs.HistoryLaws.{deletion_of-is, deletion_of_name, schema_with-is, schema_of_key, current_is_with, there_by_keys}
 use Rattle.ts_model.proofs.Traces.{schemas_found-own}
 use Rattle.ts_law.proofs.Effects.{IsLook, look_stays, look_leads, look_history, listed}
 use Rattle.ts_law.proofs.StandsLaws.{free_from_get}
@@ -217,7 +217,7 @@ module _ (spelled : Spelled) (m : Held) (h : History) (stands : Stands spelled m
           absurd (Contains-nil s.key (subst (λ ns. Contains (schemas_in ns) s.key) none (listed_from_key s (subst (λ l. Contains l s) (sym is) (Contains-here s others)))))
 
   -- the listing tells the key of the schema there
-  pub there_from_listed : (b : ℕ) → schema_at (schemas_in (names_under Schemas m)) b ≡ option_map (λ s. s.key) (schema_there h b)
+  pub there_from_listed : (b : ℕ) → schema_at (schemas_in (names_under Schemas m)) b ≡ option_map (λ s. s.key) (current_schema h b)
   there_from_listed b = there_by_keys h (schemas_in (names_under Schemas m)) b key_from_listed listed_from_key
 
 -- ---- a look of a job
@@ -323,7 +323,7 @@ module _ {F : Type 0} (codec : Codec F) (spelled : Spelled) (tracks : Tracking F
 
   -- a job knows the schema there once it listed the schemas
   abbrev works_listed : Stands spelled m h → IsUndone h job → e.job ≡ Some number → e.call ≡ list_schemas → h' ≡ h → (names : List Name) → e.reply ≡ reply.Names names → names ≡ names_under Schemas m
-      → (s : Schema) → schema_there h (looked_at job) ≡ Some s → Works past jobs (seen ++ e ∷ []) number job s
+      → (s : Schema) → current_schema h (looked_at job) ≡ Some s → Works past jobs (seen ++ e ∷ []) number job s
   works_listed stands undone own is same_history names said all s there = record {
     schemas = listed_now seen e number Schemas own is;
     undone = undone;
@@ -331,7 +331,7 @@ module _ {F : Type 0} (codec : Codec F) (spelled : Spelled) (tracks : Tracking F
     found = schemas_in names;
     is_found = told_them own is names said;
     at = ap (λ ns. schema_at (schemas_in ns) (looked_at job)) all ∙ there_from_listed spelled m h stands (looked_at job) ∙ ap (option_map (λ x. x.key)) there;
-    declared = ap (λ g. schema_with g s.key) same_history ∙ there_is_with h (looked_at job) s stands.history there;
+    declared = ap (λ g. schema_with g s.key) same_history ∙ current_is_with h (looked_at job) s stands.history there;
   }
 
   -- what a job listed before goes on with the schema there
@@ -354,12 +354,12 @@ module _ {F : Type 0} (codec : Codec F) (spelled : Spelled) (tracks : Tracking F
 
   -- where the keys of the listing lead
   sought : (listing : Listed) → Stands spelled m h → Clean opening past jobs (seen ++ e ∷ []) m' job → (names : List Name) → names ≡ names_under Schemas m
-      → ((s : Schema) → schema_there h (looked_at job) ≡ Some s → HasListed spelled opening past jobs (seen ++ e ∷ []) m' number job job.command listing s)
+      → ((s : Schema) → current_schema h (looked_at job) ≡ Some s → HasListed spelled opening past jobs (seen ++ e ∷ []) m' number job job.command listing s)
       → ClaimedAfter (seeks listing (looked_at job) (schema_at (schemas_in names) (looked_at job)))
   sought listing stands clean names all with =
       subst (λ o. ClaimedAfter (seeks listing (looked_at job) o))
       (sym (ap (λ ns. schema_at (schemas_in ns) (looked_at job)) all ∙ there_from_listed spelled m h stands (looked_at job)))
-      (elim (schema_there h (looked_at job)) as (λ o. schema_there h (looked_at job) ≡ o → ClaimedAfter (seeks listing (looked_at job) (option_map (λ s. s.key) o))) [
+      (elim (current_schema h (looked_at job)) as (λ o. current_schema h (looked_at job) ≡ o → ClaimedAfter (seeks listing (looked_at job) (option_map (λ s. s.key) o))) [
         | None ↦ λ _. clean.undone
         | Some s ↦ λ there. (clean, (s, refl, with s there))
       ] refl)

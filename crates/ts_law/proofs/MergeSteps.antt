@@ -30,11 +30,11 @@ use Rattle.ts_model.specs.declared.states.State.{State}
 use Rattle.ts_model.specs.declared.states.State.TheVariants as states
 use Rattle.ts_model.specs.declared.states.Survey.{Survey}
 use Rattle.ts_model.specs.Codecs.{Codec, CodecLaws, Spelled, Tracking}
-use Rattle.ts_model.specs.Deeds.{History, frame_in, schema_there, schema_with}
+use Rattle.ts_model.specs.Deeds.{History, frame_in, current_schema, schema_with}
 use Rattle.ts_model.specs.Jobs.{looked_at}
 use Rattle.ts_model.specs.States.{after_names, after_opened, after_surveyed, candidates_of, committed_in, counting_in, get_frame, get_head_in, get_schema, get_vac, getting_names, list_commits, list_schemas, on_bytes, on_read, opening_next, schemas_in, schemas_named, survey_of, survey_with, surveying, surveys, vac_of, where_schema, with_item}
 use Rattle.ts_model.specs.Told.{Told, after_told, IsReplied, held_told, history_told}
-use Rattle.ts_model.proofs.HistoryLaws.{frame_facts, framed_by_schema, schema_with-is, there_is_with}
+use Rattle.ts_model.proofs.HistoryLaws.{frame_facts, framed_by_schema, schema_with-is, current_is_with}
 use Rattle.ts_model.proofs.ListLemmas.{Contains-nil, Contains-slice_get}
 use Rattle.ts_law.specs.Kept.{Chooses, Claims, IsOpen, Learns, Opens, Surveys}
 use Rattle.ts_law.specs.Stands.{HoldsIn, IsCommitted, Names, Stands}
@@ -124,11 +124,11 @@ module _ {F : Type 0} (codec : Codec F) (spelled : Spelled) (tracks : Tracking F
             (λ names said.
             subst (λ o. ClaimedAfter (where_schema c (looked_at job) o))
             (sym (ap (λ ns. schema_at (schemas_in ns) (looked_at job)) (listed m e Schemas names is comes.replied said) ∙ there_from_listed spelled m h comes.stands (looked_at job)))
-            (elim (schema_there h (looked_at job)) as (λ o. schema_there h (looked_at job) ≡ o → ClaimedAfter (where_schema c (looked_at job) (option_map (λ s. s.key) o))) [
+            (elim (current_schema h (looked_at job)) as (λ o. current_schema h (looked_at job) ≡ o → ClaimedAfter (where_schema c (looked_at job) (option_map (λ s. s.key) o))) [
               | None ↦ λ _. look.clean.undone
               | Some s ↦ λ there.
-                  let framed = framed_by_schema h s.key s comes.stands.history (there_is_with h (looked_at job) s comes.stands.history there) in
-                  (look.clean, chooses, (framed.0, ap frame_in look.same_history ∙ framed.1), record { schemas = listed_now seen e number Schemas comes.own is; there = s; holds = there })
+                  let framed = framed_by_schema h s.key s comes.stands.history (current_is_with h (looked_at job) s comes.stands.history there) in
+                  (look.clean, chooses, (framed.0, ap frame_in look.same_history ∙ framed.1), record { schemas = listed_now seen e number Schemas comes.own is; current = s; holds = there })
             ] refl))
             look.clean.undone;
       }

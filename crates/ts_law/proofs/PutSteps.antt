@@ -27,7 +27,7 @@ use Rattle.ts_schema.specs.declared.frames.Frame.{Frame}
 use Rattle.ts_schema.specs.declared.schemas.Schema.{Schema}
 use Rattle.ts_store.specs.declared.call.Reply.{Reply}
 use Rattle.ts_model.specs.Commands.{create_refusal, fits, frame_made, laid, piece_of}
-use Rattle.ts_model.specs.Deeds.{DeletionFollows, History, IsHistory, IsKey, SchemaFollows, WriteFollows, deletions, frame_in, has_cell, schema_there, schema_with, writes}
+use Rattle.ts_model.specs.Deeds.{DeletionFollows, History, IsHistory, IsKey, SchemaFollows, WriteFollows, deletions, frame_in, has_cell, current_schema, schema_with, writes}
 use Rattle.ts_law.specs.Ends.{FindsNoArray, HasDeclared, IsDeleted, IsTrueEnd, IsTrueRefusal, IsUndone, IsWritten, kind_of}
 use Rattle.ts_model.specs.Codecs.{Codec, CodecLaws, Spelled, Tracking}
 use Rattle.ts_model.specs.Jobs.{AreApart, IsFit, deletion_as, frag_of_job, key_of, looked_at, looks_at, schema_of_job, written_as}
@@ -59,7 +59,7 @@ use Rattle.ts_law.proofs.Declaring.{created_attrs, created_sound, evolved_are_at
 use Rattle.ts_law.proofs.Deletes.{delete_condition_sparse, delete_condition_spelled, schema_sound}
 use Rattle.ts_law.proofs.Effects.{Added, Still, put_went, still_leads}
 use Rattle.ts_law.proofs.HeldLemmas.{Holds, get_apart, get_put}
-use Rattle.ts_model.proofs.HistoryLaws.{deletions-append, frame_facts, schema_facts, schema_there-is, writes-append}
+use Rattle.ts_model.proofs.HistoryLaws.{deletions-append, frame_facts, schema_facts, current_schema-is, writes-append}
 use Rattle.ts_model.proofs.LaidLaws.{written_held, written_ordinary, written_close}
 use Rattle.ts_law.proofs.LaidRefusals.{FailsByColumns, columns_true, laid_fails}
 use Rattle.ts_model.proofs.Laying.{laid_follows}
@@ -236,9 +236,9 @@ module _ {F : Type 0} (codec : Codec F) (spelled : Spelled) (tracks : Tracking F
           change = change;
           evolves = evolves;
           schemas = listed_stays seen e number Schemas works.schemas;
-          there = there;
+          current = there;
           undone = works.undone;
-          holds = ap (schema_there (history_told jobs past (works.schemas).before)) (sym looks) ∙ works.holds;
+          holds = ap (current_schema (history_told jobs past (works.schemas).before)) (sym looks) ∙ works.holds;
           frame = frame;
           framed = frame_stays m m' h h' job.id keeps frame framed;
           sound = sound;
@@ -317,9 +317,9 @@ module _ {F : Type 0} (codec : Codec F) (spelled : Spelled) (tracks : Tracking F
           text = text;
           deletes = deletes;
           schemas = listed_stays seen e number Schemas works.schemas;
-          there = there;
+          current = there;
           undone = works.undone;
-          holds = ap (schema_there (history_told jobs past (works.schemas).before)) (sym delete_looks) ∙ works.holds;
+          holds = ap (current_schema (history_told jobs past (works.schemas).before)) (sym delete_looks) ∙ works.holds;
           frame = frame;
           framed = frame_stays m m' h h' job.id leads.leaves frame framed;
           condition = condition;
@@ -475,7 +475,7 @@ module _ {F : Type 0} (codec : Codec F) (spelled : Spelled) (tracks : Tracking F
           key = key_fits fit;
           schema = there;
           declared = works.declared;
-          in_time = ap (nat_le (there.key).t) (sym looks) ∙ (schema_there-is (history_told jobs past (works.schemas).before) (looked_at job) there works.holds).1;
+          in_time = ap (nat_le (there.key).t) (sym looks) ∙ (current_schema-is (history_told jobs past (works.schemas).before) (looked_at job) there works.holds).1;
           some_cell = follows.some_cell;
           few = let few = follows.few in omega (arith, few);
           apart = follows.apart;
@@ -531,9 +531,9 @@ module _ {F : Type 0} (codec : Codec F) (spelled : Spelled) (tracks : Tracking F
           cells_in = w;
           writes_them = writes_them;
           schemas = listed_stays seen e number Schemas works.schemas;
-          there = there;
+          current = there;
           undone = works.undone;
-          holds = ap (schema_there (history_told jobs past (works.schemas).before)) (sym looks) ∙ works.holds;
+          holds = ap (current_schema (history_told jobs past (works.schemas).before)) (sym looks) ∙ works.holds;
           frame = frame;
           framed = frame_stays m m' h h' job.id leads.leaves frame framed;
           cells = cells;

@@ -38,10 +38,10 @@ use Rattle.ts_model.specs.declared.queries.Ready.{Ready}
 use Rattle.ts_model.specs.declared.states.Reading.{Reading}
 use Rattle.ts_model.specs.Codecs.{Spelled}
 use Rattle.ts_model.specs.Gets.{MostGets}
-use Rattle.ts_model.specs.Deeds.{History, deletions, frame_in, schema_there}
+use Rattle.ts_model.specs.Deeds.{History, deletions, frame_in, current_schema}
 use Rattle.ts_model.specs.Queries.{ready_in}
 use Rattle.ts_model.specs.States.{counting_in, looked_into, reading_of, vac_of}
-use Rattle.ts_model.proofs.HistoryLaws.{framed_by_schema, there_is_with}
+use Rattle.ts_model.proofs.HistoryLaws.{framed_by_schema, current_is_with}
 use Rattle.ts_model.proofs.KeyLemmas.{key_same, key_itself, key_other}
 use Rattle.ts_model.proofs.ListLemmas.{Contains-cons, Contains-here, Contains-nil, Contains-there}
 use Rattle.ts_law.specs.Bounds.{AsksOver, FewGets, GetsTwo, GetsFew, heads_in, most_for, pieces_loaded, schema_count}
@@ -157,11 +157,11 @@ module _ (spelled : Spelled) (most : MostGets) (h : History) (m : Held) (stands 
 
   -- what a read that asks so knows in the end
   abbrev in_the_end : Reading → List VacOf → List Deletion → Reading
-  in_the_end r vacs erased = record { from = r.from; to = r.to; ready = r.ready; frame = r.frame; there = r.there; fragments = r.fragments; counting = r.counting; vacs = vacs; clipped = r.clipped; delete_names = r.delete_names; deletions = erased }
+  in_the_end r vacs erased = record { from = r.from; to = r.to; ready = r.ready; frame = r.frame; current = r.current; fragments = r.fragments; counting = r.counting; vacs = vacs; clipped = r.clipped; delete_names = r.delete_names; deletions = erased }
 
   -- so many gets are few: those that need no fetch, where the schemas are those that pieces name
   pub few_listed : (r : Reading) → AsksOver h m from to query r → (pieces : List Piece) → list_map (λ p. p.head.frag) pieces ≡ r.fragments → ((p : Piece) → Contains pieces p → HoldsIn spelled h m p.head.frag p)
-      → (count : ℕ) → count ≤ 1 + schema_count r.there.key (heads_in pieces) + length r.counting + length r.delete_names + length r.fragments → FewGets spelled most h m from to query count
+      → (count : ℕ) → count ≤ 1 + schema_count r.current.key (heads_in pieces) + length r.counting + length r.delete_names + length r.fragments → FewGets spelled most h m from to query count
   few_listed r asks pieces frags each count few =
       let vacs = vacs_there r asks in
       let erased = deletes_there r asks in
@@ -181,18 +181,18 @@ module _ (spelled : Spelled) (most : MostGets) (h : History) (m : Held) (stands 
   pub few_early : (r : Reading) → AsksOver h m from to query r → (count : ℕ) → count ≤ 2 + length r.counting + length r.fragments → FewGets spelled most h m from to query count
   few_early r asks count few =
       let there = pieces_there r asks in
-      let some = some_schema r.there.key (heads_in there.0) in
+      let some = some_schema r.current.key (heads_in there.0) in
       few_listed r asks there.0 there.1 there.2 count (omega (arith, few, some))
 
   -- what a read asks for that has the schema there and the frame
-  pub asks_there : (frame : Frame) (there : Schema) (ready : Ready) → frame_in h ≡ Some frame → schema_there h to ≡ Some there → ready_in frame there.attrs query ≡ Ok ready
+  pub asks_there : (frame : Frame) (there : Schema) (ready : Ready) → frame_in h ≡ Some frame → current_schema h to ≡ Some there → ready_in frame there.attrs query ≡ Ok ready
       → AsksOver h m from to query (reading_of from to (looked_into (Read from to query) (names_under Commits m)) frame there ready)
   asks_there frame there ready framed holds is = record { begins = refl; ends = refl; framed = framed; holds = holds; is_ready = is; fragments_are = refl; counting_are = refl; deletes_are = refl }
 
   -- two gets are few where a schema is there
-  pub few_first : (there : Schema) → schema_there h to ≡ Some there → (count : ℕ) → count ≤ 2 → FewGets spelled most h m from to query count
+  pub few_first : (there : Schema) → current_schema h to ≡ Some there → (count : ℕ) → count ≤ 2 → FewGets spelled most h m from to query count
   few_first there holds count few =
-      let framed = framed_by_schema h there.key there stands.history (there_is_with h to there stands.history holds) in
+      let framed = framed_by_schema h there.key there stands.history (current_is_with h to there stands.history holds) in
       by framed.0 framed.1 (ready_in framed.0 there.attrs query) refl
     where
       by : (frame : Frame) → frame_in h ≡ Some frame → (o : Result Ready Refusal) → ready_in frame there.attrs query ≡ o → FewGets spelled most h m from to query count

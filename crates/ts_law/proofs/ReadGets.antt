@@ -51,11 +51,11 @@ use Rattle.ts_model.specs.declared.states.Seeking.TheVariants.{ListsCommits, Lis
 use Rattle.ts_model.specs.declared.states.Collecting.TheVariants.{GetsVacs, GetsHeads, GetsSchemas, GetsDeletes, Fetches}
 use Rattle.ts_model.specs.Codecs.{Codec, CodecLaws, Spelled, Stepped, Asks, Takes, Breaks, Tracking}
 use Rattle.ts_model.specs.Gets.{AsksBounded, MostGets, gets_of}
-use Rattle.ts_model.specs.Deeds.{History, deletion_of, deletions, frame_in, schema_there, schema_with}
+use Rattle.ts_model.specs.Deeds.{History, deletion_of, deletions, frame_in, current_schema, schema_with}
 use Rattle.ts_model.specs.Jobs.{looked_at, looks_at}
 use Rattle.ts_model.specs.Queries.{ready_in}
 use Rattle.ts_model.specs.States.{after_delete, after_fetched, after_head, after_schema, after_vac, asks, asks_for, deletion_named, fetch_begins, fetch_leads, fetches_one, fetching, gathering, get_all, get_delete, get_frame, get_head, get_schema, get_vac, getting_deletes, getting_vacs, goes, heads_of, keys_named, known_schema, list_commits, list_schemas, loaded_of, loads, looked_into, on_bytes, on_names, on_read, opened_among, opening, reading_of, schemas_in, seeks, vac_of, want_of, with_clipped, with_deletion, with_item, with_vac, works}
-use Rattle.ts_model.proofs.HistoryLaws.{deletion_facts, deletion_of_name, frame_facts, framed_by_schema, schema_facts, schema_with-is, there_is_with}
+use Rattle.ts_model.proofs.HistoryLaws.{deletion_facts, deletion_of_name, frame_facts, framed_by_schema, schema_facts, schema_with-is, current_is_with}
 use Rattle.ts_model.proofs.KeyLemmas.{key_same}
 use Rattle.ts_model.proofs.ListLemmas.{Contains-here, Contains-nil, Contains-slice_get, Contains-there, filter-Contains, find-Some}
 use Rattle.ts_law.specs.Bounds.{AsksOver, FewGets, GetsFew, heads_in, most_for, pieces_loaded, schema_count}
@@ -131,11 +131,11 @@ module _ {F : Type 0} (codec : Codec F) (spelled : Spelled) (tracks : Tracking F
   AreDeclared schemas = (s : Schema) → Contains schemas s → schema_with h s.key ≡ Some s
 
   -- a schema that the read knows is that of the history
-  known_is : (r : Reading) → schema_there h to ≡ Some r.there → (schemas : List Schema) → AreDeclared schemas → (k : Key) (s : Schema) → known_schema r schemas k ≡ Some s → schema_with h k ≡ Some s
-  known_is r holds schemas each k s is = by_test (key_eq k r.there.key) refl is
+  known_is : (r : Reading) → current_schema h to ≡ Some r.current → (schemas : List Schema) → AreDeclared schemas → (k : Key) (s : Schema) → known_schema r schemas k ≡ Some s → schema_with h k ≡ Some s
+  known_is r holds schemas each k s is = by_test (key_eq k r.current.key) refl is
     where
-      by_test : (b : Bool) → key_eq k r.there.key ≡ b → cond b (Some r.there) (find (λ t. key_eq t.key k) schemas) ≡ Some s → schema_with h k ≡ Some s
-      by_test true tie one = ap (schema_with h) (key_same k r.there.key tie) ∙ there_is_with h to r.there stands.history holds ∙ one
+      by_test : (b : Bool) → key_eq k r.current.key ≡ b → cond b (Some r.current) (find (λ t. key_eq t.key k) schemas) ≡ Some s → schema_with h k ≡ Some s
+      by_test true tie one = ap (schema_with h) (key_same k r.current.key tie) ∙ current_is_with h to r.current stands.history holds ∙ one
       by_test false apart one =
           let found = find-Some (λ t. key_eq t.key k) schemas s one in
           ap (schema_with h) (sym (key_same s.key k found.1)) ∙ each s found.0
@@ -262,8 +262,8 @@ module _ {F : Type 0} (codec : Codec F) (spelled : Spelled) (tracks : Tracking F
   abbrev pub Known : ℕ → State F → Type 0
   Known count (Seeks ListsCommits) = count ≡ 0
   Known count (Seeks (ListsSchemas listed)) = (count ≡ 0) × (listed ≡ looked_into (Read from to query) (names_under Commits m))
-  Known count (Seeks (GetsSchema listed there)) = (count ≡ 0) × (listed ≡ looked_into (Read from to query) (names_under Commits m)) × ((s : Schema) × (s.key ≡ there) × (schema_there h to ≡ Some s))
-  Known count (Seeks (GetsFrame listed there)) = (count ≤ 1) × (listed ≡ looked_into (Read from to query) (names_under Commits m)) × (schema_there h to ≡ Some there)
+  Known count (Seeks (GetsSchema listed there)) = (count ≡ 0) × (listed ≡ looked_into (Read from to query) (names_under Commits m)) × ((s : Schema) × (s.key ≡ there) × (current_schema h to ≡ Some s))
+  Known count (Seeks (GetsFrame listed there)) = (count ≤ 1) × (listed ≡ looked_into (Read from to query) (names_under Commits m)) × (current_schema h to ≡ Some there)
   Known count (Collects (GetsVacs r)) = HasVacs count r
   Known count (Collects (GetsHeads r opened)) = HasHeads count r opened
   Known count (Collects (GetsSchemas r opened named schemas)) = (named ≡ keys_named r opened) × HasSchemas count r opened schemas
@@ -295,21 +295,21 @@ module _ {F : Type 0} (codec : Codec F) (spelled : Spelled) (tracks : Tracking F
     is_open o at = (filter-Contains (λ x. is_among x.frag (loaded_of r chooses.all)) chooses.all o (subst (λ l. Contains l o) chooses.chosen at)).0
 
     -- a further schema is not the one there, and is named by the head of a piece
-    further : (k : Key) → Contains (keys_named r opened) k → (key_eq k r.there.key ≡ false) × Contains (r.there.key ∷ list_map (λ head. head.schema) (heads_in found.0)) k
+    further : (k : Key) → Contains (keys_named r opened) k → (key_eq k r.current.key ≡ false) × Contains (r.current.key ∷ list_map (λ head. head.schema) (heads_in found.0)) k
     further k at =
         let named = named_apart r opened k at in
         let o = named.0 in
         let among : Contains (heads_in found.0) o.head = subst (λ l. Contains l o.head) same_heads (Contains-map (λ x. x.head) chooses.all o (is_open o named.1)) in (
-          not_true (key_eq k r.there.key) (ap (λ q. not (key_eq q r.there.key)) (sym named.2) ∙ named.3),
-          Contains-there r.there.key (list_map (λ head. head.schema) (heads_in found.0)) k (subst (Contains (list_map (λ head. head.schema) (heads_in found.0))) named.2 (Contains-map (λ head. head.schema) (heads_in found.0) o.head among)),
+          not_true (key_eq k r.current.key) (ap (λ q. not (key_eq q r.current.key)) (sym named.2) ∙ named.3),
+          Contains-there r.current.key (list_map (λ head. head.schema) (heads_in found.0)) k (subst (Contains (list_map (λ head. head.schema) (heads_in found.0))) named.2 (Contains-map (λ head. head.schema) (heads_in found.0) o.head among)),
         )
 
     -- there are no more of them than count, the one there aside
     abbrev named_map : map.FinMap key_cmp Key
-    named_map = map.from_entries {R = key_cmp} (list_map (λ o. (o.head.schema, o.head.schema)) (filter (λ o. not (key_eq o.head.schema r.there.key)) opened))
+    named_map = map.from_entries {R = key_cmp} (list_map (λ o. (o.head.schema, o.head.schema)) (filter (λ o. not (key_eq o.head.schema r.current.key)) opened))
 
-    enough : suc (length (keys_named r opened)) ≤ schema_count r.there.key (heads_in found.0)
-    enough = schemas_enough r.there.key (heads_in found.0) (map.entries named_map) (true_from_T (map.is_sorted key_cmp (map.entries named_map)) (map.entries_sorted named_map)) further
+    enough : suc (length (keys_named r opened)) ≤ schema_count r.current.key (heads_in found.0)
+    enough = schemas_enough r.current.key (heads_in found.0) (map.entries named_map) (true_from_T (map.is_sorted key_cmp (map.entries named_map)) (map.entries_sorted named_map)) further
 
     -- the gets before the first fetch are few
     few_chosen : (count : ℕ) → count ≤ first_gets r opened → Few count
@@ -331,7 +331,7 @@ module _ {F : Type 0} (codec : Codec F) (spelled : Spelled) (tracks : Tracking F
 
   -- a read that asks the same over the same listing
   asks_on : (r : Reading) (vacs : List VacOf) (clipped : List FragKey) (erased : List Deletion) → AsksSo r
-      → AsksSo (record { from = r.from; to = r.to; ready = r.ready; frame = r.frame; there = r.there; fragments = r.fragments; counting = r.counting; vacs = vacs; clipped = clipped; delete_names = r.delete_names; deletions = erased })
+      → AsksSo (record { from = r.from; to = r.to; ready = r.ready; frame = r.frame; current = r.current; fragments = r.fragments; counting = r.counting; vacs = vacs; clipped = clipped; delete_names = r.delete_names; deletions = erased })
   asks_on r vacs clipped erased asks = record { begins = asks.begins; ends = asks.ends; framed = asks.framed; holds = asks.holds; is_ready = asks.is_ready; fragments_are = asks.fragments_are; counting_are = asks.counting_are; deletes_are = asks.deletes_are }
 
   module _ (count : ℕ) (r : Reading) (opened : List Opened) (schemas : List Schema) (has : HasAll r opened schemas) where
@@ -509,7 +509,7 @@ module _ {F : Type 0} (codec : Codec F) (spelled : Spelled) (tracks : Tracking F
     )
 
     -- where the schemas of a listing lead
-    seeks_known : (count : ℕ) (listed : Listed) (at : ℕ) → count ≡ 0 → listed ≡ looked_into (Read from to query) (names_under Commits m) → (o : Option Schema) → schema_there h to ≡ o
+    seeks_known : (count : ℕ) (listed : Listed) (at : ℕ) → count ≡ 0 → listed ≡ looked_into (Read from to query) (names_under Commits m) → (o : Option Schema) → current_schema h to ≡ o
         → Known count (seeks listed at (option_map (λ s. s.key) o))
     seeks_known count listed at none same None lacks = tt
     seeks_known count listed at none same (Some s) there = (none, same, (s, refl, there))
@@ -520,12 +520,12 @@ module _ {F : Type 0} (codec : Codec F) (spelled : Spelled) (tracks : Tracking F
       names_lead (count + 0) list_schemas (λ names. seeks listed (looked_at job) (schema_at (schemas_in names) (looked_at job))) r (λ names said.
           subst (λ o. Known (count + 0) (seeks listed (looked_at job) o))
           (sym (ap (λ ns. schema_at (schemas_in ns) (looked_at job)) (agrees.lists Schemas names refl said (λ same. cc)) ∙ ap (λ c. schema_at (schemas_in (names_under Schemas m)) (looks_at job c)) is ∙ there_from_listed spelled m h stands to))
-          (seeks_known (count + 0) listed (looked_at job) (omega (arith, none)) same (schema_there h to) refl)),
+          (seeks_known (count + 0) listed (looked_at job) (omega (arith, none)) same (current_schema h to) refl)),
     )
 
     schema_led : (count : ℕ) (listed : Listed) (k : Key) (r : Reply) → Agrees m (get_schema k) r → Known count (Seeks (GetsSchema listed k)) → LedBy count (Seeks (GetsSchema listed k)) (get_schema k) r
     schema_led count listed k r agrees (none, same, (s, named, there)) =
-        let with : schema_with h k ≡ Some s = ap (schema_with h) (sym named) ∙ there_is_with h to s stands.history there in (
+        let with : schema_with h k ≡ Some s = ap (schema_with h) (sym named) ∙ current_is_with h to s stands.history there in (
           few_first spelled most h m stands from to query s there (count + 1) (omega (arith, none)),
           bytes_lead (count + 1) (get_schema k) (λ bytes. on_read (name.Schema k) (λ attrs. Seeks (GetsFrame listed (record { key = k; attrs = attrs }))) (schema_of bytes)) r (λ bytes said.
               read_lead (count + 1) (name.Schema k) (λ attrs. Seeks (GetsFrame listed (record { key = k; attrs = attrs }))) (schema_of bytes) (λ attrs spells.
@@ -534,7 +534,7 @@ module _ {F : Type 0} (codec : Codec F) (spelled : Spelled) (tracks : Tracking F
         )
 
     -- a read whose query is not refused gets its first `.vac`
-    asks_known : (count : ℕ) (frame : Frame) (there : Schema) → count ≤ 2 → frame_in h ≡ Some frame → schema_there h to ≡ Some there → (o : Result Ready Refusal) → ready_in frame there.attrs query ≡ o
+    asks_known : (count : ℕ) (frame : Frame) (there : Schema) → count ≤ 2 → frame_in h ≡ Some frame → current_schema h to ≡ Some there → (o : Result Ready Refusal) → ready_in frame there.attrs query ≡ o
         → Known count (asks_for codec from to (looked_into (Read from to query) (names_under Commits m)) frame there o)
     asks_known count frame there few framed holds (Err refused) ready = tt
     asks_known count frame there few framed holds (Ok found) ready =
@@ -548,7 +548,7 @@ module _ {F : Type 0} (codec : Codec F) (spelled : Spelled) (tracks : Tracking F
 
     frame_led : (count : ℕ) (listed : Listed) (there : Schema) (r : Reply) → Agrees m get_frame r → Known count (Seeks (GetsFrame listed there)) → LedBy count (Seeks (GetsFrame listed there)) get_frame r
     frame_led count listed there r agrees (few, same, holds) =
-        let framed = framed_by_schema h there.key there stands.history (there_is_with h to there stands.history holds) in (
+        let framed = framed_by_schema h there.key there stands.history (current_is_with h to there stands.history holds) in (
           few_first spelled most h m stands from to query there holds (count + 1) (omega (arith, few)),
           bytes_lead (count + 1) get_frame (λ bytes. on_read name.Domain (λ frame. works codec job job.command listed frame there) (frame_of bytes)) r (λ bytes said.
               read_lead (count + 1) name.Domain (λ frame. works codec job job.command listed frame there) (frame_of bytes) (λ frame spells.

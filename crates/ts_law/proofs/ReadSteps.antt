@@ -58,7 +58,7 @@ use Rattle.ts_model.specs.Queries.{ready_in}
 use Rattle.ts_law.specs.Steps.{Advances, Comes}
 use Rattle.ts_model.proofs.ListLemmas.{Contains-filter, Contains-nil, Contains-here, Contains-there, filter-Contains, Contains-slice_get, take_next}
 use Rattle.ts_model.proofs.KeyLemmas.{key_same}
-use Rattle.ts_model.proofs.HistoryLaws.{IsHistory-front, frame_facts, framed_by_schema, frame_in-append, schema_with-is, schema_with-append, there_is_with, schema_facts}
+use Rattle.ts_model.proofs.HistoryLaws.{IsHistory-front, frame_facts, framed_by_schema, frame_in-append, schema_with-is, schema_with-append, current_is_with, schema_facts}
 use Rattle.ts_model.proofs.Traces.{history_told_grows}
 use Rattle.ts_law.proofs.Declaring.{frame_again, attrs_again}
 use Rattle.ts_law.proofs.Effects.{got}
@@ -85,14 +85,14 @@ named_from_found k (o ∷ os) found = cond_both (key_eq k o.head.schema) (Some o
     (λ _ later. let rest = named_from_found k os later in (rest.0, Contains-there o os rest.0 rest.1, rest.2)) found
 
 -- a key that heads name is that of one of them, and not that of the schema there
-pub named_apart : (r : Reading) (opened : List Opened) (k : Key) → Contains (keys_named r opened) k → (o : Opened) × Contains opened o × (o.head.schema ≡ k) × (not (key_eq o.head.schema r.there.key) ≡ true)
+pub named_apart : (r : Reading) (opened : List Opened) (k : Key) → Contains (keys_named r opened) k → (o : Opened) × Contains opened o × (o.head.schema ≡ k) × (not (key_eq o.head.schema r.current.key) ≡ true)
 named_apart r opened k at =
-    let others = filter (λ o. not (key_eq o.head.schema r.there.key)) opened in
+    let others = filter (λ o. not (key_eq o.head.schema r.current.key)) opened in
     let pairs = list_map (λ o. (o.head.schema, o.head.schema)) others in
     let held : map.contains_key (map.from_entries {R = key_cmp} pairs) k ≡ true =
     map.contains_key-keys (map.from_entries {R = key_cmp} pairs) k ∙ list_any-from_Contains (eq_by_cmp_equiv key_total) k (keys_named r opened) at in
     let named = named_from_found k others (ap is_some (sym (map.get-from_entries key_total pairs k)) ∙ held) in
-    let among = filter-Contains (λ o. not (key_eq o.head.schema r.there.key)) opened named.0 named.1 in
+    let among = filter-Contains (λ o. not (key_eq o.head.schema r.current.key)) opened named.0 named.1 in
     (named.0, among.0, named.2, among.1)
 
 -- a key that heads name is that of one of them
@@ -142,10 +142,10 @@ module _ {F : Type 0} (codec : Codec F) (spelled : Spelled) (tracks : Tracking F
   schema_at_listing at k s with = let front = front_at at in ap (λ g. schema_with g k) front.1 ∙ schema_with-append (history_told jobs past at.before) front.0 k s with
 
   -- the history in which a job found its schema has a frame
-  framed_there : (there : Schema) (work : Works past jobs seen number job there) → IsHistory now → (frame : Frame) × (frame_in (history_told jobs past (work.schemas).before) ≡ Some frame)
-  framed_there there work is =
+  framed_current : (there : Schema) (work : Works past jobs seen number job there) → IsHistory now → (frame : Frame) × (frame_in (history_told jobs past (work.schemas).before) ≡ Some frame)
+  framed_current there work is =
       let then = history_at work.schemas is in
-      framed_by_schema (history_told jobs past (work.schemas).before) there.key there then (there_is_with (history_told jobs past (work.schemas).before) (looked_at job) there then work.holds)
+      framed_by_schema (history_told jobs past (work.schemas).before) there.key there then (current_is_with (history_told jobs past (work.schemas).before) (looked_at job) there then work.holds)
 
   -- a read gets the next delete, or begins to fetch
   pub getting_deletes_claims : CodecLaws codec spelled tracks → Clean opening past jobs seen m job → IsHistory now → (r : Reading) (opened : List Opened) (schemas : List Schema)
@@ -406,7 +406,7 @@ module _ {F : Type 0} (codec : Codec F) (spelled : Spelled) (tracks : Tracking F
   works_lead laws fit apart clean is (Write w) command listing frame there framed listed =
       works_write codec spelled tracks opening past jobs (seen ++ e ∷ []) m' number job w listing frame there laws fit apart clean listed framed is command
   works_lead laws fit apart clean is (Read from to query) command listing frame there framed listed =
-      let then = framed_there codec spelled tracks opening past jobs (seen ++ e ∷ []) m' number job there listed.works is in
+      let then = framed_current codec spelled tracks opening past jobs (seen ++ e ∷ []) m' number job there listed.works is in
       let same : then.0 ≡ frame = same_Some then.0 frame
       (sym (frame_at codec spelled tracks opening past jobs (seen ++ e ∷ []) m' number job ((listed.works).schemas) then.0 then.1) ∙ framed) in
       subst (λ c. ClaimedAfter (works codec job c listing frame there)) (sym command)

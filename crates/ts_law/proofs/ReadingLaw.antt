@@ -24,7 +24,7 @@ use Rattle.ts_model.specs.declared.deeds.Deletion.{Deletion}
 use Rattle.ts_model.specs.declared.deeds.Deed.TheVariants.{Framed, Declared, Wrote, Erased}
 use Rattle.ts_model.specs.declared.deeds.Written.{Written}
 use Rattle.ts_model.specs.declared.states.Reading.{Reading}
-use Rattle.ts_model.specs.Deeds.{History, writes, deletions, schemas as schemas_in, row_at, has_cell, last_write, attrs_with, frame_in, schema_there}
+use Rattle.ts_model.specs.Deeds.{History, writes, deletions, schemas as schemas_in, row_at, has_cell, last_write, attrs_with, frame_in, current_schema}
 use Rattle.ts_model.specs.Answers.{Cells, erases_cell, is_erased, shown_in, shown_at, shown_inside, fills_of, unwritten, IsAnswer}
 use Rattle.ts_model.specs.Pieces.{version_of}
 use Rattle.ts_model.specs.Queries.{low_of, high_of, ready_in, selected}
@@ -125,59 +125,59 @@ module _ (h : History) (from to : ℕ) (sub : SubBox) (whole : List Version)
 
     -- the version of a write is left where its cell is
     left_cell : (c : List ℤ) (w : Written) (row : List Val) → known_attrs r schemas w.schema ≡ attrs_with h w.schema
-        → left_whole r schemas (version_with w c row) ≡ option_map (λ row. shown_row (attrs_with h w.schema) row r.there.attrs) (cond (is_erased h from to c w row) None (Some row))
+        → left_whole r schemas (version_with w c row) ≡ option_map (λ row. shown_row (attrs_with h w.schema) row r.current.attrs) (cond (is_erased h from to c w row) None (Some row))
     left_cell c w row same =
         ap (λ b. cond (not b) (Some (shown_whole r schemas (version_with w c row))) None) is_same
-        ∙ ap (λ attrs. cond (not (is_erased h from to c w row)) (Some (shown_row attrs row r.there.attrs)) None) same
+        ∙ ap (λ attrs. cond (not (is_erased h from to c w row)) (Some (shown_row attrs row r.current.attrs)) None) same
         ∙ by_test (is_erased h from to c w row)
       where
         is_same : erased_whole r schemas (version_with w c row) ≡ is_erased h from to c w row
         is_same = ap (λ attrs. list_any (erases_cell w attrs c row) r.deletions) same ∙ same_erased (erases_cell w (attrs_with h w.schema) c row)
 
-        by_test : (b : Bool) → cond (not b) (Some (shown_row (attrs_with h w.schema) row r.there.attrs)) None
-            ≡ option_map (λ row. shown_row (attrs_with h w.schema) row r.there.attrs) (cond b None (Some row))
+        by_test : (b : Bool) → cond (not b) (Some (shown_row (attrs_with h w.schema) row r.current.attrs)) None
+            ≡ option_map (λ row. shown_row (attrs_with h w.schema) row r.current.attrs) (cond b None (Some row))
         by_test true = refl
         by_test false = refl
 
     -- the version of a write shows what is left of its cell
-    shows_cell : (c : List ℤ) (w : Written) (v : Version) → known_attrs r schemas w.schema ≡ attrs_with h w.schema → version_of w c ≡ Some v → left_whole r schemas v ≡ shown_in h r.there from to c w
+    shows_cell : (c : List ℤ) (w : Written) (v : Version) → known_attrs r schemas w.schema ≡ attrs_with h w.schema → version_of w c ≡ Some v → left_whole r schemas v ≡ shown_in h r.current from to c w
     shows_cell c w v same = elim (row_at c w.cells) as (λ o. option_map (version_with w c) o ≡ Some v
-        → left_whole r schemas v ≡ option_map (λ row. shown_row (attrs_with h w.schema) row r.there.attrs) (option_and_then (λ row. cond (is_erased h from to c w row) None (Some row)) o)) [
+        → left_whole r schemas v ≡ option_map (λ row. shown_row (attrs_with h w.schema) row r.current.attrs) (option_and_then (λ row. cond (is_erased h from to c w row) None (Some row)) o)) [
           | None ↦ λ e. absurd (none-some v e)
           | Some row ↦ λ e. ap (left_whole r schemas) (sym (same_Some (version_with w c row) v e)) ∙ left_cell c w row same
         ]
 
     -- what is newest at a coordinate of the box shows what the history shows there
-    shows : (c : List ℤ) → is_in_box sub c ≡ true → option_and_then (left_whole r schemas) (newest_at whole c) ≡ shown_at h r.there from to c
+    shows : (c : List ℤ) → is_in_box sub c ≡ true → option_and_then (left_whole r schemas) (newest_at whole c) ≡ shown_at h r.current from to c
     shows c inside = ap (option_and_then (left_whole r schemas)) (newest_is c inside) ∙ by_write (last_write h from to c) refl
       where
-        nothing_there : (w : Written) → version_of w c ≡ None → None ≡ shown_in h r.there from to c w
+        nothing_there : (w : Written) → version_of w c ≡ None → None ≡ shown_in h r.current from to c w
         nothing_there w none = by_row (row_at c w.cells) none
           where
             by_row : (o : Option (List Val)) → option_map (version_with w c) o ≡ None
-                → None ≡ option_map (λ row. shown_row (attrs_with h w.schema) row r.there.attrs) (option_and_then (λ row. cond (is_erased h from to c w row) None (Some row)) o)
+                → None ≡ option_map (λ row. shown_row (attrs_with h w.schema) row r.current.attrs) (option_and_then (λ row. cond (is_erased h from to c w row) None (Some row)) o)
             by_row None e = refl
             by_row (Some row) e = absurd (none-some (version_with w c row) (sym e))
 
-        by_version : (w : Written) → Contains (writes h) w → is_within from to w.key ≡ true → (o : Option Version) → version_of w c ≡ o → option_and_then (left_whole r schemas) o ≡ shown_in h r.there from to c w
+        by_version : (w : Written) → Contains (writes h) w → is_within from to w.key ≡ true → (o : Option Version) → version_of w c ≡ o → option_and_then (left_whole r schemas) o ≡ shown_in h r.current from to c w
         by_version w at within None none = nothing_there w none
         by_version w at within (Some v) made = shows_cell c w v (known w at within) made
 
         by_write : (o : Option Written) → last_write h from to c ≡ o
-            → option_and_then (left_whole r schemas) (option_and_then (λ w. version_of w c) o) ≡ option_and_then (shown_in h r.there from to c) o
+            → option_and_then (left_whole r schemas) (option_and_then (λ w. version_of w c) o) ≡ option_and_then (shown_in h r.current from to c) o
         by_write None last = refl
         by_write (Some w) last =
             let parts = filter-Contains _ (writes h) w (greatest-Some (λ u. u.key) (filter (λ u. is_within from to u.key && has_cell c u) (writes h)) w last).member in
             by_version w parts.0 (and_parts (is_within from to w.key) (has_cell c w) parts.1).0 (version_of w c) refl
 
     -- so it is at each coordinate, if nothing is shown outside the box
-    shows_inside : (c : List ℤ) (b : Bool) → is_in_box sub c ≡ b → option_and_then (left_whole r schemas) (newest_at whole c) ≡ cond b (shown_at h r.there from to c) None
+    shows_inside : (c : List ℤ) (b : Bool) → is_in_box sub c ≡ b → option_and_then (left_whole r schemas) (newest_at whole c) ≡ cond b (shown_at h r.current from to c) None
     shows_inside c true inside = shows c inside
     shows_inside c false outside = ap (option_and_then (left_whole r schemas)) (none_outside c outside)
 
     -- the rows that are selected of cells
     abbrev rows_of : List (List ℤ × List Val) → List (List Val)
-    rows_of cells = selected r.frame r.there.attrs r.ready cells
+    rows_of cells = selected r.frame r.current.attrs r.ready cells
 
     -- outside the box of what is ready there is none
     outside : (c : List ℤ) → is_in_box r.ready.sub c ≡ false → newest_at whole c ≡ None
@@ -185,7 +185,7 @@ module _ (h : History) (from to : ℕ) (sub : SubBox) (whole : List Version)
 
     -- of a map that has at each coordinate what the history shows the rows are selected with which a read answers
     abbrev ShowsAll : Type 0
-    ShowsAll = (cells : Cells) × (rows_of (cells_shown r schemas got) ≡ rows_of (map.entries cells)) × ((c : List ℤ) → map.get cells c ≡ shown_inside h r.frame r.there r.ready from to c)
+    ShowsAll = (cells : Cells) × (rows_of (cells_shown r schemas got) ≡ rows_of (map.entries cells)) × ((c : List ℤ) → map.get cells c ≡ shown_inside h r.frame r.current r.ready from to c)
 
     -- the rows that are selected in each kind of array
     abbrev of_kind : Bool → List (List Val)
@@ -193,7 +193,7 @@ module _ (h : History) (from to : ℕ) (sub : SubBox) (whole : List Version)
 
     -- what is shown where no write is left, in each kind of array
     abbrev fill_of_kind : Bool → Option (List Val)
-    fill_of_kind dense = cond dense (Some (fills_of r.there.attrs)) None
+    fill_of_kind dense = cond dense (Some (fills_of r.current.attrs)) None
 
     module _ (low : length r.ready.sub.low ≡ length r.frame.domain) (high : length r.ready.sub.high ≡ length r.ready.sub.low) where
       -- a sparse array shows what is left
@@ -202,8 +202,8 @@ module _ (h : History) (from to : ℕ) (sub : SubBox) (whole : List Version)
         whole_left r schemas got whole uses outside low high,
         ap of_kind sparse ∙ sparse_rows r schemas got whole uses outside low high,
         λ c. whole_at r schemas got whole uses outside low high c ∙ shows_inside c (is_in_box sub c) refl
-            ∙ ap (λ s. cond (is_in_box s c) (shown_at h r.there from to c) None) (sym box)
-            ∙ left_alone (is_in_box r.ready.sub c) (shown_at h r.there from to c) (unwritten r.frame r.there.attrs) (ap fill_of_kind sparse),
+            ∙ ap (λ s. cond (is_in_box s c) (shown_at h r.current from to c) None) (sym box)
+            ∙ left_alone (is_in_box r.ready.sub c) (shown_at h r.current from to c) (unwritten r.frame r.current.attrs) (ap fill_of_kind sparse),
       )
 
       -- a dense array shows that, or else the fill, at each coordinate of the box
@@ -217,11 +217,11 @@ module _ (h : History) (from to : ℕ) (sub : SubBox) (whole : List Version)
           row_there : List ℤ → List Val
           row_there = λ c. whole_or_fill r schemas (newest_at whole c)
 
-          each : (c : List ℤ) (t : Bool) → is_in_box r.ready.sub c ≡ t → cond t (Some (row_there c)) None ≡ cond t (option_or (shown_at h r.there from to c) (unwritten r.frame r.there.attrs)) None
+          each : (c : List ℤ) (t : Bool) → is_in_box r.ready.sub c ≡ t → cond t (Some (row_there c)) None ≡ cond t (option_or (shown_at h r.current from to c) (unwritten r.frame r.current.attrs)) None
           each c true inside =
-              or_fill (option_and_then (left_whole r schemas) (newest_at whole c)) (fills_of r.there.attrs)
-              ∙ ap (λ o. option_or o (Some (fills_of r.there.attrs))) (shows_inside c true (subst (λ s. is_in_box s c ≡ true) box inside))
-              ∙ ap (option_or (shown_at h r.there from to c)) (sym (ap fill_of_kind dense))
+              or_fill (option_and_then (left_whole r schemas) (newest_at whole c)) (fills_of r.current.attrs)
+              ∙ ap (λ o. option_or o (Some (fills_of r.current.attrs))) (shows_inside c true (subst (λ s. is_in_box s c ≡ true) box inside))
+              ∙ ap (option_or (shown_at h r.current from to c)) (sym (ap fill_of_kind dense))
           each c false apart = refl
 
       -- so each array shows what its history shows
@@ -230,18 +230,18 @@ module _ (h : History) (from to : ℕ) (sub : SubBox) (whole : List Version)
       shows_all false sparse = shows_sparse sparse
 
     -- the answer of a read that got these versions is that of the history
-    answer_is : (later : History) (query : Query) → frame_in later ≡ Some r.frame → schema_there later to ≡ Some r.there → ready_in r.frame (r.there).attrs query ≡ Ok r.ready
+    answer_is : (later : History) (query : Query) → frame_in later ≡ Some r.frame → current_schema later to ≡ Some r.current → ready_in r.frame (r.current).attrs query ≡ Ok r.ready
         → IsAnswer h later from to query (answer_of r schemas got)
     answer_is later query framed there is_ready =
         let dims = r.frame.domain in
-        let asked = sym (ready_box r.frame r.there.attrs query r.ready is_ready) in
+        let asked = sym (ready_box r.frame r.current.attrs query r.ready is_ready) in
         let low = subst (λ (s : SubBox). length s.low ≡ length dims) asked (length-map dims (low_of query.sub)) in
         let high = subst (λ (s : SubBox). length s.high ≡ length s.low) asked (length-map dims (high_of query.sub) ∙ sym (length-map dims (low_of query.sub))) in
         let found = shows_all low high r.frame.dense refl in
         record {
           frame = r.frame;
           framed = framed;
-          there = r.there;
+          current = r.current;
           holds = there;
           ready = r.ready;
           is_ready = is_ready;
@@ -258,7 +258,7 @@ module _ (h : History) (from to : ℕ) (heads loads : List Head) (loaded_is : (k
     (known : (w : Written) → Contains (writes h) w → is_within from to w.key ≡ true → is_clipped from to heads w.key ≡ false → known_attrs r schemas w.schema ≡ attrs_with h w.schema)
     (deleted_in : (x : Deletion) → Contains r.deletions x → Contains (deletions h) x × (is_within from to x.key ≡ true))
     (all_deletions : (x : Deletion) → Contains (deletions h) x → is_within from to x.key ≡ true → Contains r.deletions x) where
-  pub answer_left : (later : History) (query : Query) → frame_in later ≡ Some r.frame → schema_there later to ≡ Some r.there → ready_in r.frame (r.there).attrs query ≡ Ok r.ready
+  pub answer_left : (later : History) (query : Query) → frame_in later ≡ Some r.frame → current_schema later to ≡ Some r.current → ready_in r.frame (r.current).attrs query ≡ Ok r.ready
       → IsAnswer (without_clipped from to heads h) later from to query (answer_of r schemas got)
   answer_left =
       answer_is (without_clipped from to heads h) from to sub whole (λ c inside. are.inside c inside ∙ last_is_left from to heads loads loaded_is c h) are.outside r schemas got uses box known_left

@@ -44,12 +44,12 @@ use Rattle.ts_model.specs.declared.answers.Refusal.{Refusal}
 use Rattle.ts_model.specs.declared.answers.Refusal.TheVariants as refusal
 use Rattle.ts_model.specs.Codecs.{Codec, Spelled}
 use Rattle.ts_model.specs.Commands.{create_refusal, frame_made}
-use Rattle.ts_model.specs.Deeds.{History, frame_in, schema_there, schema_with}
+use Rattle.ts_model.specs.Deeds.{History, frame_in, current_schema, schema_with}
 use Rattle.ts_model.specs.Jobs.{looked_at, refused_before}
 use Rattle.ts_model.specs.Stages.{lease_of, released}
 use Rattle.ts_model.specs.States.{Exchange, get_all, get_frame, list_schemas, place_of, schema_key_in, schemas_in}
 use Rattle.ts_model.specs.Told.{IsReplied, Replied, Told, exchange_of, held_told, history_told, trace_of}
-use Rattle.ts_model.proofs.HistoryLaws.{frame_facts, frame_in-append, framed_by_schema, schema_facts, schema_with-append, there_is_with}
+use Rattle.ts_model.proofs.HistoryLaws.{frame_facts, frame_in-append, framed_by_schema, schema_facts, schema_with-append, current_is_with}
 use Rattle.ts_model.proofs.ListLemmas.{Contains-cons, Contains-filter_map, Contains-here, Contains-nil, filter_map-Contains}
 use Rattle.ts_model.proofs.Traces.{exchange_of_other, exchange_of_own, history_told_grows}
 use Rattle.ts_law.specs.Courses.{EndsAlong, EndsUnder, Found, IsCause, IsGot, IsSegment, IsThere, MayEndAs, NotBegun, NotOwn, Removed, course_of, removal}
@@ -189,7 +189,7 @@ module _ (spelled : Spelled) (opening : Held) (jobs : List Job) (past : History)
 
   -- the key of the schema there is that of the schema that held where a listing was made
   there_is : (names : List Name) (b : ℕ) (at : Placed (record { call = list_schemas; reply = reply.Names names }))
-      → schema_at (schemas_in names) b ≡ option_map (λ (s : Schema). s.key) (schema_there (after at.before) b)
+      → schema_at (schemas_in names) b ≡ option_map (λ (s : Schema). s.key) (current_schema (after at.before) b)
   there_is names b at =
       ap (λ ns. schema_at (schemas_in ns) b) (names_are Schemas names at)
       ∙ there_from_listed spelled (held_told opening at.before) (after at.before) at.stood b
@@ -238,9 +238,9 @@ module _ (spelled : Spelled) (opening : Held) (jobs : List Job) (past : History)
 
   module _ {F : Type 0} (codec : Codec F) (job : Job) (found : Found) where
     -- the schema that a job got held where it looks as it listed the schemas, in the array whose frame it got
-    fault_found : (trace : List Exchange) → ((x : Exchange) → Contains trace x → Contains (trace_of number told) x) → (r : Refusal) → IsGot job found trace → refusal_in found.frame (found.there).attrs job.command ≡ Some r
+    fault_found : (trace : List Exchange) → ((x : Exchange) → Contains trace x → Contains (trace_of number told) x) → (r : Refusal) → IsGot job found trace → refusal_in found.frame (found.current).attrs job.command ≡ Some r
         → FindsFault jobs past told number job r
-    fault_found trace among r is_got refused = by_there (schema_there h b) refl
+    fault_found trace among r is_got refused = by_there (current_schema h b) refl
       where
         b : ℕ
         b = looked_at job
@@ -251,26 +251,26 @@ module _ (spelled : Spelled) (opening : Held) (jobs : List Job) (past : History)
         h : History
         h = after at.before
 
-        key_is : option_map (λ (s : Schema). s.key) (schema_there h b) ≡ Some (found.there).key
+        key_is : option_map (λ (s : Schema). s.key) (current_schema h b) ≡ Some (found.current).key
         key_is = sym (there_is (is_got.key).names b at) ∙ (is_got.key).newest
 
-        by_there : (o : Option Schema) → schema_there h b ≡ o → FindsFault jobs past told number job r
+        by_there : (o : Option Schema) → current_schema h b ≡ o → FindsFault jobs past told number job r
         by_there None none = absurd (none-some _ (sym (ap (option_map (λ (s : Schema). s.key)) none) ∙ key_is))
         by_there (Some s) some =
             let (bytes, told_it, spells) = is_got.schema in
             let there_at = placed _ (among _ told_it) in
-            let (t, declared, reads) = schema_got (found.there).key bytes there_at in
+            let (t, declared, reads) = schema_got (found.current).key bytes there_at in
             let frame_at = placed _ (among _ is_got.frame_got) in
             let (frame, framed, object, frame_reads) = frame_got is_got.frame_bytes frame_at in
-            let same_key : s.key ≡ (found.there).key = same_Some _ _ (sym (ap (option_map (λ (s : Schema). s.key)) some) ∙ key_is) in
-            let with : schema_with h s.key ≡ Some s = there_is_with h b s (at.stood).history some in
-            let same : s ≡ t = same_Some s t (sym (at.declared s.key s with) ∙ ap (schema_with (after told)) same_key ∙ there_at.declared (found.there).key t declared) in
-            let attrs : (found.there).attrs ≡ s.attrs = same_ok (schema_of bytes) _ _ spells reads ∙ ap (λ (u : Schema). u.attrs) (sym same) in
+            let same_key : s.key ≡ (found.current).key = same_Some _ _ (sym (ap (option_map (λ (s : Schema). s.key)) some) ∙ key_is) in
+            let with : schema_with h s.key ≡ Some s = current_is_with h b s (at.stood).history some in
+            let same : s ≡ t = same_Some s t (sym (at.declared s.key s with) ∙ ap (schema_with (after told)) same_key ∙ there_at.declared (found.current).key t declared) in
+            let attrs : (found.current).attrs ≡ s.attrs = same_ok (schema_of bytes) _ _ spells reads ∙ ap (λ (u : Schema). u.attrs) (sym same) in
             let (own, own_framed) = framed_by_schema h s.key s (at.stood).history with in
             let one : found.frame ≡ own = same_ok (frame_of is_got.frame_bytes) _ _ is_got.frame_is frame_reads ∙ same_Some frame own (sym (frame_at.framed frame framed) ∙ at.framed own own_framed) in
             record {
               schemas = listed_at Schemas _ at;
-              there = s;
+              current = s;
               holds = some;
               frame = own;
               framed = own_framed;
@@ -305,7 +305,7 @@ module _ (spelled : Spelled) (opening : Held) (jobs : List Job) (past : History)
     cause_found trace among last at_last refusal.ArrayExists is_true (f, creates, there) = (f, creates, array_found trace among last at_last f there)
     cause_found trace among last at_last (refusal.NoSchema at) is_true (works, names, is, looks, none) =
         let placed_at = placed _ (among _ (subst (Contains trace) is at_last)) in
-        record { works = works; looks = looks; schemas = listed_at Schemas _ placed_at; none = no_schema (schema_there (after placed_at.before) at) (sym (there_is names at placed_at) ∙ none) }
+        record { works = works; looks = looks; schemas = listed_at Schemas _ placed_at; none = no_schema (current_schema (after placed_at.before) at) (sym (there_is names at placed_at) ∙ none) }
       where
         no_schema : (o : Option Schema) → option_map (λ (s : Schema). s.key) o ≡ None → o ≡ None
         no_schema None is = refl
@@ -322,7 +322,7 @@ module _ (spelled : Spelled) (opening : Held) (jobs : List Job) (past : History)
     cause_found trace among last at_last (refusal.Damaged n at) is_true is = is_true
     cause_found trace among last at_last r is_true is = by_command job.command refl is.1
       where
-        by_command : (c : Command) → job.command ≡ c → refusal_in found.frame (found.there).attrs c ≡ Some r → IsRefusedAs jobs past told number job r c
+        by_command : (c : Command) → job.command ≡ c → refusal_in found.frame (found.current).attrs c ≡ Some r → IsRefusedAs jobs past told number job r c
         by_command (Create made) command refused = absurd (none-some r refused)
         by_command c command refused = fault_found trace among r is.0 is.1
 

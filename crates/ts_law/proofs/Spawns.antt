@@ -20,7 +20,7 @@ use Rattle.ts_law.proofs.HeldLemmas.{Holds-from_get}
 use Rattle.ts_model.proofs.HistoryLaws.{new_from_absent}
 use Rattle.ts_model.proofs.ListLemmas.{find-Some, find-append, or_else, slice_get-Contains, slice_get_push}
 use Rattle.ts_model.specs.Commands.{create_refusal, frame_made}
-use Rattle.ts_model.specs.Deeds.{History, IsNewKey, deletions, frame_in, schemas, schema_there, schema_with, writes}
+use Rattle.ts_model.specs.Deeds.{History, IsNewKey, deletions, frame_in, schemas, current_schema, schema_with, writes}
 use Rattle.ts_law.specs.Ends.{AreInside, FindsNoArray, FindsNothing, HasDeclared, IsAnswerOver, IsMerged, IsPlanned, IsTrueEnd, IsTrueRefusal, IsUndone, IsVacuumed, ListedAt, attributes_with, up_to, FindsSchema}
 use Rattle.ts_model.specs.Codecs.{Codec, Spelled, Tracking}
 use Rattle.ts_law.specs.Fresh.{IsHeldId, IsNewId, IsSpent, id_in}
@@ -243,7 +243,7 @@ module _ (jobs : List Job) (job : Job) where
     works_more there is = record {
       schemas = is.schemas;
       undone = subst (λ g. IsUndone g j) (listed_more Schemas is.schemas) is.undone;
-      holds = subst (λ g. schema_there g (looked_at j) ≡ Some there) (listed_more Schemas is.schemas) is.holds;
+      holds = subst (λ g. current_schema g (looked_at j) ≡ Some there) (listed_more Schemas is.schemas) is.holds;
       found = is.found;
       is_found = is.is_found;
       at = is.at;
@@ -311,7 +311,7 @@ module _ (jobs : List Job) (job : Job) where
     reads_in_more r is = record {
       query = is.query;
       reads = is.reads;
-      at = reads_at_more r.from r.to r.fragments r.counting r.delete_names r.there is.at;
+      at = reads_at_more r.from r.to r.fragments r.counting r.delete_names r.current is.at;
       framed = subst (λ g. frame_in g ≡ Some r.frame) (listed_more Schemas ((is.at).works).schemas) is.framed;
       is_ready = is.is_ready;
     }
@@ -377,7 +377,7 @@ module _ (jobs : List Job) (job : Job) where
 
     -- that a job found a schema is true among all
     abbrev finds_schema_more : FindsSchema jobs past seen number j → FindsSchema all past seen number j
-    finds_schema_more is = record { schemas = is.schemas; there = is.there; holds = subst (λ g. schema_there g (looked_at j) ≡ Some is.there) (listed_more Schemas is.schemas) is.holds }
+    finds_schema_more is = record { schemas = is.schemas; current = is.current; holds = subst (λ g. current_schema g (looked_at j) ≡ Some is.current) (listed_more Schemas is.schemas) is.holds }
 
     -- so is one that gets `.vac` objects
     abbrev surveys_more : (s : Survey) → Surveys spelled opening past jobs seen m number j s → Surveys spelled opening past all seen m number j s
@@ -625,13 +625,13 @@ module _ (jobs : List Job) (job : Job) where
         change = is.change;
         evolves = is.evolves;
         schemas = is.schemas;
-        there = is.there;
+        current = is.current;
         undone = subst (λ g. IsUndone g j) (listed_more Schemas is.schemas) is.undone;
-        holds = subst (λ g. schema_there g j.at ≡ Some is.there) (listed_more Schemas is.schemas) is.holds;
+        holds = subst (λ g. current_schema g j.at ≡ Some is.current) (listed_more Schemas is.schemas) is.holds;
         frame = is.frame;
         framed = framed_more is.frame is.framed;
         sound = is.sound;
-        declared = subst (λ g. HasDeclared g j (evolved_attrs (is.there).attrs is.change)) now is.declared;
+        declared = subst (λ g. HasDeclared g j (evolved_attrs (is.current).attrs is.change)) now is.declared;
       },
     )
     end_more (outcome.Written f) (same, is) = (
@@ -640,14 +640,14 @@ module _ (jobs : List Job) (job : Job) where
         cells_in = is.cells_in;
         writes_them = is.writes_them;
         schemas = is.schemas;
-        there = is.there;
+        current = is.current;
         undone = subst (λ g. IsUndone g j) (listed_more Schemas is.schemas) is.undone;
-        holds = subst (λ g. schema_there g j.at ≡ Some is.there) (listed_more Schemas is.schemas) is.holds;
+        holds = subst (λ g. current_schema g j.at ≡ Some is.current) (listed_more Schemas is.schemas) is.holds;
         frame = is.frame;
         framed = framed_more is.frame is.framed;
         cells = is.cells;
         lays = is.lays;
-        written = subst (λ g. Contains (writes g) (written_as j (is.there).key is.cells)) now is.written;
+        written = subst (λ g. Contains (writes g) (written_as j (is.current).key is.cells)) now is.written;
       },
     )
     end_more (outcome.Deleted f) (same, is) = (
@@ -656,9 +656,9 @@ module _ (jobs : List Job) (job : Job) where
         text = is.text;
         deletes = is.deletes;
         schemas = is.schemas;
-        there = is.there;
+        current = is.current;
         undone = subst (λ g. IsUndone g j) (listed_more Schemas is.schemas) is.undone;
-        holds = subst (λ g. schema_there g j.at ≡ Some is.there) (listed_more Schemas is.schemas) is.holds;
+        holds = subst (λ g. current_schema g j.at ≡ Some is.current) (listed_more Schemas is.schemas) is.holds;
         frame = is.frame;
         framed = framed_more is.frame is.framed;
         condition = is.condition;

@@ -212,7 +212,7 @@ module _ (spelled : Spelled) (opening : Held) (past : History) (jobs : List Job)
   reads_in_stays job r unlisted is = record {
     query = is.query;
     reads = is.reads;
-    at = reads_at_stays job r.from r.to r.fragments r.counting r.delete_names r.there unlisted is.at;
+    at = reads_at_stays job r.from r.to r.fragments r.counting r.delete_names r.current unlisted is.at;
     framed = is.framed;
     is_ready = is.is_ready;
   }
@@ -281,7 +281,7 @@ no_array_stays past jobs seen e number made (inr (at, none)) = inr (listed_stays
 
 -- that a job found a schema stays true
 abbrev pub finds_schema_stays : (past : History) (jobs : List Job) (seen : List Told) (e : Told) (number : ℕ) (job : Job) → FindsSchema jobs past seen number job → FindsSchema jobs past (seen ++ e ∷ []) number job
-finds_schema_stays past jobs seen e number job is = record { schemas = listed_stays seen e number Schemas is.schemas; there = is.there; holds = is.holds }
+finds_schema_stays past jobs seen e number job is = record { schemas = listed_stays seen e number Schemas is.schemas; current = is.current; holds = is.holds }
 
 -- that a consolidation found nothing to do stays true
 pub finds_nothing_stays : (spelled : Spelled) (opening : Held) (past : History) (jobs : List Job) (seen : List Told) (e : Told) (number : ℕ) (job : Job) (count : ℕ)
@@ -398,13 +398,13 @@ module _ (spelled : Spelled) (opening : Held) (past : History) (jobs : List Job)
       change = is.change;
       evolves = is.evolves;
       schemas = listed_stays seen e number Schemas is.schemas;
-      there = is.there;
+      current = is.current;
       undone = is.undone;
       holds = is.holds;
       frame = is.frame;
       framed = frame_stays m m' (history_told jobs past seen) (history_told jobs past (seen ++ e ∷ [])) id keeps is.frame is.framed;
       sound = is.sound;
-      declared = declared_stays (evolved_attrs (is.there).attrs is.change) is.declared;
+      declared = declared_stays (evolved_attrs (is.current).attrs is.change) is.declared;
     },
   )
   end_stays (outcome.Written f) other (same, is) = (
@@ -413,14 +413,14 @@ module _ (spelled : Spelled) (opening : Held) (past : History) (jobs : List Job)
       cells_in = is.cells_in;
       writes_them = is.writes_them;
       schemas = listed_stays seen e number Schemas is.schemas;
-      there = is.there;
+      current = is.current;
       undone = is.undone;
       holds = is.holds;
       frame = is.frame;
       framed = frame_stays m m' (history_told jobs past seen) (history_told jobs past (seen ++ e ∷ [])) id keeps is.frame is.framed;
       cells = is.cells;
       lays = is.lays;
-      written = write_stays m m' (history_told jobs past seen) (history_told jobs past (seen ++ e ∷ [])) id keeps (written_as job (is.there).key is.cells) is.written;
+      written = write_stays m m' (history_told jobs past seen) (history_told jobs past (seen ++ e ∷ [])) id keeps (written_as job (is.current).key is.cells) is.written;
     },
   )
   end_stays (outcome.Deleted f) other (same, is) = (
@@ -429,7 +429,7 @@ module _ (spelled : Spelled) (opening : Held) (past : History) (jobs : List Job)
       text = is.text;
       deletes = is.deletes;
       schemas = listed_stays seen e number Schemas is.schemas;
-      there = is.there;
+      current = is.current;
       undone = is.undone;
       holds = is.holds;
       frame = is.frame;

@@ -21,7 +21,7 @@ use Rattle.ts_model.specs.declared.states.Sweep.{Sweep}
 use Rattle.ts_model.specs.declared.states.Sweeping.{Sweeping}
 use Rattle.ts_model.specs.declared.states.Sweeping.TheVariants as sweeping
 use Rattle.ts_model.specs.Codecs.{Codec, CodecLaws, Spelled, Tracking}
-use Rattle.ts_model.specs.Deeds.{History, schema_there}
+use Rattle.ts_model.specs.Deeds.{History, current_schema}
 use Rattle.ts_model.specs.Jobs.{looked_at}
 use Rattle.ts_model.specs.States.{after_swept, committed_in, counting_in, get_vac, list_commits, list_parts, list_schemas, listing_parts, on_bytes, on_names, schemas_in, sweep_of, sweep_with, sweeping_vacs, vac_of, where_swept, with_item, with_vac_in}
 use Rattle.ts_model.specs.Told.{Told, after_told, held_told, history_told}
@@ -119,11 +119,11 @@ module _ {F : Type 0} (codec : Codec F) (spelled : Spelled) (tracks : Tracking F
             (λ names said.
             subst (λ o. ClaimedAfter (where_swept s (looked_at job) o))
             (sym (ap (λ ns. schema_at (schemas_in ns) (looked_at job)) (listed m e Schemas names is comes.replied said) ∙ there_from_listed spelled m h comes.stands (looked_at job)))
-            (elim (schema_there h (looked_at job)) as (λ o. schema_there h (looked_at job) ≡ o → ClaimedAfter (where_swept s (looked_at job) (option_map (λ x. x.key) o))) [
+            (elim (current_schema h (looked_at job)) as (λ o. current_schema h (looked_at job) ≡ o → ClaimedAfter (where_swept s (looked_at job) (option_map (λ x. x.key) o))) [
               | None ↦ λ _. look.clean.undone
               | Some x ↦ λ there.
                   sweeping_claims codec spelled tracks laws opening past jobs (seen ++ e ∷ []) m' number job look.clean look.leads.stands s
-                  (record { from = from; found = record { schemas = listed_now seen e number Schemas comes.own is; there = x; holds = there } })
+                  (record { from = from; found = record { schemas = listed_now seen e number Schemas comes.own is; current = x; holds = there } })
             ] refl))
             look.clean.undone;
       }

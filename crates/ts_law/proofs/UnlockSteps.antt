@@ -261,7 +261,7 @@ module _ (spelled : Spelled) (opening : Held) (jobs : List Job) (past : History)
 
   -- neither finds a fault in a frame and a schema
   no_fault : (r : Refusal) → MakesListing job.command → FindsFault jobs past told number job r → ⊥
-  no_fault r makes is = of_neither (λ c. refusal_in is.frame (is.there).attrs c ≡ Some r) (λ seed lane e. none-some r e) (λ e. none-some r e) makes is.refused
+  no_fault r makes is = of_neither (λ c. refusal_in is.frame (is.current).attrs c ≡ Some r) (λ seed lane e. none-some r e) (λ e. none-some r e) makes is.refused
 
   -- an unlock and a list of the commits are refused for nothing but a call that failed
   pub only_failed : (r : Refusal) → MakesListing job.command → IsRefusedFor spelled opening jobs past told number job r → (p : Place) × (r ≡ refusal.StoreFault p)

@@ -110,11 +110,11 @@ module _ (r : Reading) where
 
   -- cells with null in place of each value that is not used
   abbrev pub cells_blank : List (List ℤ × List Val) → List (List ℤ × List Val)
-  cells_blank cells = each_as (blank r r.there.attrs) cells
+  cells_blank cells = each_as (blank r r.current.attrs) cells
 
   -- the rows that are selected of cells
   abbrev rows_of : List (List ℤ × List Val) → List (List Val)
-  rows_of cells = selected r.frame r.there.attrs r.ready cells
+  rows_of cells = selected r.frame r.current.attrs r.ready cells
 
   -- each shows the same fields
   items_same : (es : List (List ℤ × List Val)) → AllByRecursion (λ e. IsLong e.0) es
@@ -128,12 +128,12 @@ module _ (r : Reading) where
   unfolding in_layout
   rows_blank cells long =
       let total = layout_total r.frame r.ready.layout in
-      let kept = filter (λ e. passes r.ready.filter r.there.attrs e.0 e.1) cells in
+      let kept = filter (λ e. passes r.ready.filter r.current.attrs e.0 e.1) cells in
       let show : List (List ℤ × List Val) → List (List Val) = list_map (λ e. items_at r.ready.fields (fields_of e)) in
-      ap (λ es. show (map.entries (map.from_entries {R = layout_cmp r.frame r.ready.layout} es))) (filter_as (blank r r.there.attrs) (λ c row. passes r.ready.filter r.there.attrs c row) (λ c row. passes_blank r c r.there.attrs row) cells)
-      ∙ ap show (entries_as (blank r r.there.attrs) total kept)
+      ap (λ es. show (map.entries (map.from_entries {R = layout_cmp r.frame r.ready.layout} es))) (filter_as (blank r r.current.attrs) (λ c row. passes r.ready.filter r.current.attrs c row) (λ c row. passes_blank r c r.current.attrs row) cells)
+      ∙ ap show (entries_as (blank r r.current.attrs) total kept)
       ∙ items_same (map.entries (map.from_entries {R = layout_cmp r.frame r.ready.layout} kept))
-      (entries_all total (layout_exact r.frame r.ready.layout) (λ e. IsLong e.0) kept (all_kept (λ e. IsLong e.0) (λ e. passes r.ready.filter r.there.attrs e.0 e.1) cells long))
+      (entries_all total (layout_exact r.frame r.ready.layout) (λ e. IsLong e.0) kept (all_kept (λ e. IsLong e.0) (λ e. passes r.ready.filter r.current.attrs e.0 e.1) cells long))
 
   -- so the same rows are selected of cells that have the same used values
   same_rows : (a b : List (List ℤ × List Val)) → AllByRecursion (λ e. IsLong e.0) a → AllByRecursion (λ e. IsLong e.0) b → cells_blank a ≡ cells_blank b → rows_of a ≡ rows_of b
@@ -148,7 +148,7 @@ module _ (r : Reading) (schemas : List Schema) where
 
   -- its row as it shows through the schema there
   abbrev pub shown_whole : Version → List Val
-  shown_whole v = shown_row (known_attrs r schemas v.schema) v.row r.there.attrs
+  shown_whole v = shown_row (known_attrs r schemas v.schema) v.row r.current.attrs
 
   -- that row, unless it is erased
   abbrev pub left_whole : Version → Option (List Val)
@@ -156,7 +156,7 @@ module _ (r : Reading) (schemas : List Schema) where
 
   -- that of the newest version, or else the fill
   abbrev pub whole_or_fill : Option Version → List Val
-  whole_or_fill newest = option_map_or (λ row. row) (option_and_then left_whole newest) (fills_of r.there.attrs)
+  whole_or_fill newest = option_map_or (λ row. row) (option_and_then left_whole newest) (fills_of r.current.attrs)
 
   -- what was got of a version is erased where the whole one is
   same_erased : (v : Version) → is_erased_by r schemas r.deletions (used_version r schemas v) ≡ erased_whole v
@@ -167,18 +167,18 @@ module _ (r : Reading) (schemas : List Schema) where
 
   -- a row with its used values alone, where there may be one
   abbrev blank_left : Option (List Val) → Option (List Val)
-  blank_left o = option_map (blank r r.there.attrs) o
+  blank_left o = option_map (blank r r.current.attrs) o
 
   -- the same used values are left
   same_left : (v : Version) → blank_left (version_left r schemas (used_version r schemas v)) ≡ blank_left (left_whole v)
   same_left v = ap (λ b. blank_left (cond (not b) (Some shown) None)) (same_erased v) ∙ by_test (erased_whole v)
     where
       shown : List Val
-      shown = shown_row (attrs_got r schemas v.schema) (used_row r (known_attrs r schemas v.schema) v.row) r.there.attrs
+      shown = shown_row (attrs_got r schemas v.schema) (used_row r (known_attrs r schemas v.schema) v.row) r.current.attrs
 
       by_test : (b : Bool) → blank_left (cond (not b) (Some shown) None) ≡ blank_left (cond (not b) (Some (shown_whole v)) None)
       by_test true = refl
-      by_test false = ap Some (same_shown r (known_attrs r schemas v.schema) v.row r.there.attrs)
+      by_test false = ap Some (same_shown r (known_attrs r schemas v.schema) v.row r.current.attrs)
 
   -- so it is where there may be a version
   same_left_of : (o : Option Version) → blank_left (option_and_then (version_left r schemas) (option_map (used_version r schemas) o)) ≡ blank_left (option_and_then left_whole o)
@@ -186,11 +186,11 @@ module _ (r : Reading) (schemas : List Schema) where
   same_left_of (Some v) = same_left v
 
   -- or the fill
-  same_filled : (a b : Option (List Val)) → blank_left a ≡ blank_left b → blank r r.there.attrs (option_map_or (λ row. row) a (fills_of r.there.attrs)) ≡ blank r r.there.attrs (option_map_or (λ row. row) b (fills_of r.there.attrs))
+  same_filled : (a b : Option (List Val)) → blank_left a ≡ blank_left b → blank r r.current.attrs (option_map_or (λ row. row) a (fills_of r.current.attrs)) ≡ blank r r.current.attrs (option_map_or (λ row. row) b (fills_of r.current.attrs))
   same_filled None None same = refl
-  same_filled None (Some y) same = absurd (none-some (blank r r.there.attrs y) same)
-  same_filled (Some x) None same = absurd (none-some (blank r r.there.attrs x) (sym same))
-  same_filled (Some x) (Some y) same = same_Some (blank r r.there.attrs x) (blank r r.there.attrs y) same
+  same_filled None (Some y) same = absurd (none-some (blank r r.current.attrs y) same)
+  same_filled (Some x) None same = absurd (none-some (blank r r.current.attrs x) (sym same))
+  same_filled (Some x) (Some y) same = same_Some (blank r r.current.attrs x) (blank r r.current.attrs y) same
 
   -- ---- what was got
 
@@ -219,7 +219,7 @@ module _ (r : Reading) (schemas : List Schema) where
 
     -- its row as it shows
     abbrev shown : Version → List Val
-    shown v = shown_row (attrs_got r schemas v.schema) v.row r.there.attrs
+    shown v = shown_row (attrs_got r schemas v.schema) v.row r.current.attrs
 
     -- the cells that are left of what was got
     abbrev got_left : Cells
@@ -252,21 +252,21 @@ module _ (r : Reading) (schemas : List Schema) where
 
     -- with their used values alone the two maps are the same
     abbrev blanks : Cells → Cells
-    blanks m = left_values (slice_cmp int_cmp) coords_exact (λ row. true) (blank r r.there.attrs) m
+    blanks m = left_values (slice_cmp int_cmp) coords_exact (λ row. true) (blank r r.current.attrs) m
 
     -- the entries of such a map
-    all_left : (es : List (List ℤ × List Val)) → left_of (slice_cmp int_cmp) coords_exact (λ row. true) (blank r r.there.attrs) es ≡ cells_blank r es
+    all_left : (es : List (List ℤ × List Val)) → left_of (slice_cmp int_cmp) coords_exact (λ row. true) (blank r r.current.attrs) es ≡ cells_blank r es
     all_left [] = refl
-    all_left (e ∷ es) = ap (λ l. (e.0, blank r r.there.attrs e.1) ∷ l) (all_left es)
+    all_left (e ∷ es) = ap (λ l. (e.0, blank r r.current.attrs e.1) ∷ l) (all_left es)
 
     entries_of_blanks : (m : Cells) → map.entries (blanks m) ≡ cells_blank r (map.entries m)
-    entries_of_blanks m = entries_left (slice_cmp int_cmp) coords_exact (λ row. true) (blank r r.there.attrs) m ∙ all_left (map.entries m)
+    entries_of_blanks m = entries_left (slice_cmp int_cmp) coords_exact (λ row. true) (blank r r.current.attrs) m ∙ all_left (map.entries m)
 
     -- the row at a cell of such a map
     get_blanks : (m : Cells) (c : List ℤ) → map.get (blanks m) c ≡ blank_left (map.get m c)
-    get_blanks m c = get_left (slice_cmp int_cmp) coords_exact (λ row. true) (blank r r.there.attrs) m c ∙ by (map.get m c)
+    get_blanks m c = get_left (slice_cmp int_cmp) coords_exact (λ row. true) (blank r r.current.attrs) m c ∙ by (map.get m c)
       where
-        by : (o : Option (List Val)) → option_and_then (λ row. Some (blank r r.there.attrs row)) o ≡ blank_left o
+        by : (o : Option (List Val)) → option_and_then (λ row. Some (blank r r.current.attrs row)) o ≡ blank_left o
         by None = refl
         by (Some row) = refl
 
@@ -290,7 +290,7 @@ module _ (r : Reading) (schemas : List Schema) where
         by (Some v) there e = there_long c v there
 
     -- a sparse array answers with the rows that the whole versions show
-    pub sparse_rows : selected r.frame r.there.attrs r.ready (cells_left r schemas got) ≡ selected r.frame r.there.attrs r.ready (map.entries whole_left)
+    pub sparse_rows : selected r.frame r.current.attrs r.ready (cells_left r schemas got) ≡ selected r.frame r.current.attrs r.ready (map.entries whole_left)
     sparse_rows =
         ap (rows_of r) entries_of_left
         ∙ same_rows r (map.entries got_left) (map.entries whole_left) (all_keys (IsLong r) got_left (λ c row found. got_long c row (sym (left_at c) ∙ found)))
@@ -308,9 +308,9 @@ module _ (r : Reading) (schemas : List Schema) where
     whole_row c = whole_or_fill (newest_at whole c)
 
     -- they have the same used values
-    same_row : (c : List ℤ) → blank r r.there.attrs (got_row c) ≡ blank r r.there.attrs (whole_row c)
+    same_row : (c : List ℤ) → blank r r.current.attrs (got_row c) ≡ blank r r.current.attrs (whole_row c)
     same_row c =
-        ap (λ o. blank r r.there.attrs (row_or_fill r schemas o)) (newest_used c)
+        ap (λ o. blank r r.current.attrs (row_or_fill r schemas o)) (newest_used c)
         ∙ same_filled (option_and_then (version_left r schemas) (option_map (used_version r schemas) (newest_at whole c))) (option_and_then left_whole (newest_at whole c)) (same_left_of (newest_at whole c))
 
     -- so it is of each of some cells
@@ -330,6 +330,6 @@ module _ (r : Reading) (schemas : List Schema) where
         by_test c x false apart e = absurd (none-some x e)
 
     -- it answers with the rows that the whole versions show
-    pub dense_rows : selected r.frame r.there.attrs r.ready (cells_filled r schemas got) ≡ selected r.frame r.there.attrs r.ready (list_map (λ c. (c, whole_row c)) (coords_of_box r.ready.sub))
+    pub dense_rows : selected r.frame r.current.attrs r.ready (cells_filled r schemas got) ≡ selected r.frame r.current.attrs r.ready (list_map (λ c. (c, whole_row c)) (coords_of_box r.ready.sub))
     dense_rows =
         same_rows r (list_map (λ c. (c, got_row c)) (coords_of_box r.ready.sub)) (list_map (λ c. (c, whole_row c)) (coords_of_box r.ready.sub)) (box_keys got_row) (box_keys whole_row) (same_each (coords_of_box r.ready.sub))

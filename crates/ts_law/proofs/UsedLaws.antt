@@ -62,11 +62,11 @@ module _ (r : Reading) where
       (or_right (filter_names r.ready.filter field.name) (deletes_name r.deletions field.name) (any_member (λ x. names_field x.cond field.name) r.deletions e among (own_field e.cond field at)))
 
   -- so is the name that stands at the place of a field that is shown
-  shown_used : (place : ℕ) (name : List ℕ) → Contains r.ready.fields place → slice_get (field_names r.frame.domain r.there.attrs) place ≡ Some name → uses_name r name ≡ true
+  shown_used : (place : ℕ) (name : List ℕ) → Contains r.ready.fields place → slice_get (field_names r.frame.domain r.current.attrs) place ≡ Some name → uses_name r name ≡ true
   shown_used place name at is =
       or_left (shows_name r name) (filter_names r.ready.filter name || deletes_name r.deletions name)
-      (any_member (λ other. same_name other name) (items_at r.ready.fields (field_names r.frame.domain r.there.attrs)) name
-      (Contains-filter_map (slice_get (field_names r.frame.domain r.there.attrs)) r.ready.fields place name at is) (nat_list_eq_equiv.refl name))
+      (any_member (λ other. same_name other name) (items_at r.ready.fields (field_names r.frame.domain r.current.attrs)) name
+      (Contains-filter_map (slice_get (field_names r.frame.domain r.current.attrs)) r.ready.fields place name at is) (nat_list_eq_equiv.refl name))
 
   -- ---- the values that were got
 
@@ -188,13 +188,13 @@ module _ (r : Reading) where
 
   -- so it is at all places where the names are used
   at_places : (places : List ℕ) (c : List ℤ) (row : List Val) → length c ≡ length r.frame.domain
-      → ((place : ℕ) → Contains places place → (name : List ℕ) → slice_get (field_names r.frame.domain r.there.attrs) place ≡ Some name → uses_name r name ≡ true)
-      → items_at places (list_map Int c ++ blank r.there.attrs row) ≡ items_at places (list_map Int c ++ row)
+      → ((place : ℕ) → Contains places place → (name : List ℕ) → slice_get (field_names r.frame.domain r.current.attrs) place ≡ Some name → uses_name r name ≡ true)
+      → items_at places (list_map Int c ++ blank r.current.attrs row) ≡ items_at places (list_map Int c ++ row)
   at_places [] c row long used = refl
   at_places (place ∷ places) c row long used =
-      ap (λ o. cons_option o (items_at places (list_map Int c ++ blank r.there.attrs row))) (at_field r.frame.domain c r.there.attrs row place long (used place (Contains-here place places)))
+      ap (λ o. cons_option o (items_at places (list_map Int c ++ blank r.current.attrs row))) (at_field r.frame.domain c r.current.attrs row place long (used place (Contains-here place places)))
       ∙ ap (cons_option (slice_get (list_map Int c ++ row) place)) (at_places places c row long (λ p at. used p (Contains-there place places p at)))
 
   -- the fields that are shown of a cell of the array do not tell what is not used
-  pub items_blank : (c : List ℤ) (row : List Val) → length c ≡ length r.frame.domain → items_at r.ready.fields (fields_of (c, blank r.there.attrs row)) ≡ items_at r.ready.fields (fields_of (c, row))
+  pub items_blank : (c : List ℤ) (row : List Val) → length c ≡ length r.frame.domain → items_at r.ready.fields (fields_of (c, blank r.current.attrs row)) ≡ items_at r.ready.fields (fields_of (c, row))
   items_blank c row long = at_places r.ready.fields c row long (λ place at name is. shown_used place name at is)

@@ -44,7 +44,7 @@ abbrev reading : Reading → Reading
 reading any = record any {
   from = 0;
   to = 9;
-  there = record { key = second; attrs = [] };
+  current = record { key = second; attrs = [] };
   fragments = one_at 1 ∷ one_at 2 ∷ merged ∷ [];
   counting = merged ∷ [];
   vacs = record { frag = merged; names = one_at 1 ∷ one_at 2 ∷ [] } ∷ [];

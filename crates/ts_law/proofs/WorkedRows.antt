@@ -43,7 +43,7 @@ use Rattle.ts_model.specs.declared.queries.Ready.{Ready}
 use Rattle.ts_model.specs.declared.answers.Refusal.TheVariants as refusal
 use Rattle.ts_model.specs.declared.deeds.Deed.{Deed}
 use Rattle.ts_model.specs.declared.deeds.Deed.TheVariants.{Framed, Declared, Wrote, Erased}
-use Rattle.ts_model.specs.Deeds.{History, schema_there}
+use Rattle.ts_model.specs.Deeds.{History, current_schema}
 use Rattle.ts_model.specs.Answers.{shown_at, shown_inside}
 use Rattle.ts_model.specs.Queries.{attr_field, delete_condition, ready_in, passes, items_at, fields_of}
 use Rattle.ts_cond.specs.declared.nodes.CondOp.TheVariants as op
@@ -95,15 +95,15 @@ evolved = with_deeds (wrote 2 2 first (pos 5) (Int (pos 10) ∷ []) ∷ Declared
 -- ---- what a history shows
 
 -- the schema that holds is the greatest that is stamped in time
-there_before : schema_there evolved 2 ≡ Some first
+there_before : current_schema evolved 2 ≡ Some first
 there_before = refl
 
 -- later the second schema holds
-there_after : schema_there evolved 9 ≡ Some second
+there_after : current_schema evolved 9 ≡ Some second
 there_after = refl
 
 -- before the first there is none
-there_never : schema_there evolved 0 ≡ None
+there_never : current_schema evolved 0 ≡ None
 there_never = refl
 
 -- a cell that was written before an attribute was added shows its fill

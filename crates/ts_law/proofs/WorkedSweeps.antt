@@ -17,7 +17,7 @@ use Rattle.ts_model.specs.declared.answers.Outcome.TheVariants as outcome
 use Rattle.ts_model.specs.Codecs.{Codec}
 use Rattle.ts_model.specs.States.{Exchange, counting_in, get_vac, list_commits, list_parts, list_schemas, names_removed, vac_of}
 use Rattle.ts_model.proofs.ListLemmas.{Contains-cons, Contains-here, Contains-there, Contains-nil, Contains-only}
-use Rattle.ts_law.specs.Courses.{EndsAlong, IsKeyThere, IsLookOf, course_by}
+use Rattle.ts_law.specs.Courses.{EndsAlong, IsCurrentKey, IsLookOf, course_by}
 use Rattle.ts_law.specs.Swept.{sweep_over}
 use Rattle.ts_law.proofs.CourseSweeps.{found_swept}
 
@@ -98,7 +98,7 @@ abbrev later : Job → Job
 later any = record any { command = Vacuum; at = 5 }
 
 -- it found the schema there
-has_schema : (any : Job) (names : List Name) → IsKeyThere (later any) (told names) first
+has_schema : (any : Job) (names : List Name) → IsCurrentKey (later any) (told names) first
 has_schema any names = record { names = name.Schema first ∷ []; listed = Contains-there (commits_told names) (schema_told ∷ []) schema_told (Contains-here schema_told []); newest = refl }
 
 -- it may get the `.vac` that counts
@@ -137,7 +137,7 @@ nothing_removed codec any = (
   record {
     chooses = record {
       key = first;
-      there = has_schema any (wrt_of (one_at 1) ∷ []);
+      current = has_schema any (wrt_of (one_at 1) ∷ []);
       names = wrt_of (one_at 1) ∷ [];
       listed = Contains-here (commits_told (wrt_of (one_at 1) ∷ [])) (schema_told ∷ []);
       vacs = [];

@@ -38,7 +38,7 @@ reading fields filter erased = record {
   to = 9;
   ready = record { sub = record { low = pos 0 ∷ []; high = pos 9 ∷ [] }; fields = fields; filter = filter; layout = layout.Row };
   frame = record { dense = false; domain = dim ∷ []; cell = Row; tile = Row; capacity = 4 };
-  there = record { key = record { t = 1; id = 1 }; attrs = attrs };
+  current = record { key = record { t = 1; id = 1 }; attrs = attrs };
   fragments = [];
   counting = [];
   vacs = [];

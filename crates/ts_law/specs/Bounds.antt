@@ -22,7 +22,7 @@ use Rattle.ts_model.specs.declared.commands.Command.TheVariants.{Read}
 use Rattle.ts_model.specs.declared.commands.Job.{Job}
 use Rattle.ts_model.specs.Codecs.{Spelled}
 use Rattle.ts_model.specs.Gets.{gets_of, MostGets}
-use Rattle.ts_model.specs.Deeds.{History, frame_in, schema_with, schema_there, deletions}
+use Rattle.ts_model.specs.Deeds.{History, frame_in, schema_with, current_schema, deletions}
 use Rattle.ts_model.specs.Queries.{ready_in}
 use Rattle.ts_model.specs.Told.{Told, held_told, history_told, trace_of}
 use Rattle.ts_model.specs.States.{committed_in, counting_in, deletes_in, meets, want_of}
@@ -47,20 +47,20 @@ most_for most h r p = option_map_or (λ s. most r.frame s p (want_of r s.attrs))
 
 -- the schema there and those that heads name, each counted once
 abbrev pub schema_count : Key → List Head → ℕ
-schema_count there heads = distinct_count key_eq (there ∷ list_map (λ head. head.schema) heads)
+schema_count current heads = distinct_count key_eq (current ∷ list_map (λ head. head.schema) heads)
 
 -- the most gets of a read that finds these pieces in the fragments that it looks into: one for the frame, for each schema, for each `.vac` that counts, for each delete and for each fragment, and the most of each fetch
 abbrev pub most_gets_of : MostGets → History → Reading → List Piece → ℕ
 most_gets_of most h r pieces =
-    1 + schema_count r.there.key (heads_in pieces) + length r.counting + length r.delete_names + length r.fragments + sum_by (most_for most h r) (pieces_loaded r pieces)
+    1 + schema_count r.current.key (heads_in pieces) + length r.counting + length r.delete_names + length r.fragments + sum_by (most_for most h r) (pieces_loaded r pieces)
 
 -- what a read of [from, to] asks for and what it lists, over objects that stand for a history: the committed fragments whose span meets the interval, the committed fragments that have a `.vac`, whatever their span, and the deletes in the interval
 pub record AsksOver (h : History) (m : Held) (from to : ℕ) (query : Query) (r : Reading) : Type 0 where
   pub begins : r.from ≡ from
   pub ends : r.to ≡ to
   pub framed : frame_in h ≡ Some r.frame
-  pub holds : schema_there h to ≡ Some r.there
-  pub is_ready : ready_in r.frame r.there.attrs query ≡ Ok r.ready
+  pub holds : current_schema h to ≡ Some r.current
+  pub is_ready : ready_in r.frame r.current.attrs query ≡ Ok r.ready
   pub fragments_are : r.fragments ≡ filter (meets from to) (committed_in (names_under Commits m))
   pub counting_are : r.counting ≡ counting_in (names_under Commits m)
   pub deletes_are : r.delete_names ≡ filter (meets from to) (deletes_in (names_under Commits m))
@@ -79,7 +79,7 @@ pub data FewGets (spelled : Spelled) (most : MostGets) (h : History) (m : Held) 
   -- it makes none
   NoGets : count ≡ 0 → FewGets spelled most h m from to query count
   -- its query is refused: it makes two gets at the most
-  GetsTwo : (frame : Frame) (there : Schema) (r : Refusal) → frame_in h ≡ Some frame → schema_there h to ≡ Some there → ready_in frame there.attrs query ≡ Err r → count ≤ 2
+  GetsTwo : (frame : Frame) (current : Schema) (r : Refusal) → frame_in h ≡ Some frame → current_schema h to ≡ Some current → ready_in frame current.attrs query ≡ Err r → count ≤ 2
       → FewGets spelled most h m from to query count
   -- it gets no more than it may of what it lists, and of the pieces that it loads
   GetsFew : (r : Reading) (pieces : List Piece) → ReadsOver spelled h m from to query r pieces → count ≤ most_gets_of most h r pieces → FewGets spelled most h m from to query count

@@ -73,7 +73,7 @@ pub record Merge : Type 0 where
 -- what a job found: whether the frame was there already, the schema that it works in, the frame, what a consolidation merged, if it came so far, the leases that an unlock removes, and the fragments and the names that a vacuum removes, as far as it came to know them
 pub record Found : Type 0 where
   pub taken : Bool
-  pub there : Schema
+  pub current : Schema
   pub frame : Frame
   pub merged : Option Merge
   pub leases : List Name
@@ -82,12 +82,12 @@ pub record Found : Type 0 where
 
 -- the put of an evolve, where no fault stands against its change
 abbrev pub evolve_puts : Job → Found → Evolution → Option SchemaFault → List Call
-evolve_puts job found change None = put_of (schema_object_of job (evolved_attrs (found.there).attrs change)) ∷ []
+evolve_puts job found change None = put_of (schema_object_of job (evolved_attrs (found.current).attrs change)) ∷ []
 evolve_puts job found change (Some fault) = []
 
 -- the puts of a write, where no refusal stands against its cells
 abbrev pub cell_puts : {F : Type 0} → Codec F → Job → Found → Result (List Cell) Refusal → List Call
-cell_puts codec job found (Ok cells) = list_map put_of (write_objects codec found.frame found.there job cells)
+cell_puts codec job found (Ok cells) = list_map put_of (write_objects codec found.frame found.current job cells)
 cell_puts codec job found (Err r) = []
 
 -- the put of a delete, where no refusal stands against its condition
@@ -112,10 +112,10 @@ sweep_calls found = list_map list_parts found.swept ++ list_map call.Remove foun
 -- the puts and listings of a job at its work, in order, and the removals of an unlock and of a vacuum
 abbrev pub course_by : {F : Type 0} → Codec F → Job → Found → Command → List Call
 course_by codec job found (Create f) = frame_put f ∷ (cond found.taken (list_schemas ∷ []) [] ++ put_of (schema_object_of job f.attrs) ∷ [])
-course_by codec job found (Evolve change) = list_schemas ∷ evolve_puts job found change (evolution_fault (found.frame).domain (found.there).attrs change)
-course_by codec job found (Write w) = list_schemas ∷ cell_puts codec job found (laid found.frame (found.there).attrs w)
+course_by codec job found (Evolve change) = list_schemas ∷ evolve_puts job found change (evolution_fault (found.frame).domain (found.current).attrs change)
+course_by codec job found (Write w) = list_schemas ∷ cell_puts codec job found (laid found.frame (found.current).attrs w)
 course_by codec job found (Read from to query) = list_commits ∷ list_schemas ∷ []
-course_by codec job found (Delete text) = list_schemas ∷ delete_puts job (delete_condition found.frame (found.there).attrs text)
+course_by codec job found (Delete text) = list_schemas ∷ delete_puts job (delete_condition found.frame (found.current).attrs text)
 course_by codec job found (Consolidate from to limits) = list_commits ∷ list_schemas ∷ merge_puts codec found.frame found.merged
 course_by codec job found Vacuum = list_commits ∷ list_schemas ∷ sweep_calls found
 course_by codec job found (Unlock seed lane) = list_leases ∷ list_map call.Remove found.leases
@@ -129,8 +129,8 @@ course_of codec job found = under_lease (lease_of job) (course_by codec job foun
 
 -- the schema that bytes spell under a key is this one
 abbrev pub IsSchemaIn : Schema → Key → Result (List Attr) ℕ → Type 0
-IsSchemaIn there k (Ok attrs) = there ≡ record { key = k; attrs = attrs }
-IsSchemaIn there k (Err at) = ⊤
+IsSchemaIn current k (Ok attrs) = current ≡ record { key = k; attrs = attrs }
+IsSchemaIn current k (Err at) = ⊤
 
 -- the frame that bytes spell is this one
 abbrev pub IsFrameIn : Frame → Result Frame ℕ → Type 0
@@ -138,24 +138,24 @@ IsFrameIn frame (Ok x) = frame ≡ x
 IsFrameIn frame (Err at) = ⊤
 
 -- a reply says what the job found: that its frame was there, the schema that it works in, the frame, the leases that it removes
-abbrev pub SaysThere : Found → Command → Call → Reply → Type 0
-SaysThere found (Create f) (call.Put name.Domain bytes) reply.Taken = found.taken ≡ true
-SaysThere found (Create f) (call.Put name.Domain bytes) reply.Made = found.taken ≡ false
-SaysThere found (Evolve change) (call.Get (name.Schema k) from len) (reply.Bytes bytes) = IsSchemaIn found.there k (schema_of bytes)
-SaysThere found (Evolve change) (call.Get name.Domain from len) (reply.Bytes bytes) = IsFrameIn found.frame (frame_of bytes)
-SaysThere found (Write w) (call.Get (name.Schema k) from len) (reply.Bytes bytes) = IsSchemaIn found.there k (schema_of bytes)
-SaysThere found (Write w) (call.Get name.Domain from len) (reply.Bytes bytes) = IsFrameIn found.frame (frame_of bytes)
-SaysThere found (Delete text) (call.Get (name.Schema k) from len) (reply.Bytes bytes) = IsSchemaIn found.there k (schema_of bytes)
-SaysThere found (Delete text) (call.Get name.Domain from len) (reply.Bytes bytes) = IsFrameIn found.frame (frame_of bytes)
-SaysThere found (Unlock seed lane) (call.List Leases) (reply.Names names) = found.leases ≡ leases_unlocked seed lane names
-SaysThere found command c r = ⊤
+abbrev pub SaysFound : Found → Command → Call → Reply → Type 0
+SaysFound found (Create f) (call.Put name.Domain bytes) reply.Taken = found.taken ≡ true
+SaysFound found (Create f) (call.Put name.Domain bytes) reply.Made = found.taken ≡ false
+SaysFound found (Evolve change) (call.Get (name.Schema k) from len) (reply.Bytes bytes) = IsSchemaIn found.current k (schema_of bytes)
+SaysFound found (Evolve change) (call.Get name.Domain from len) (reply.Bytes bytes) = IsFrameIn found.frame (frame_of bytes)
+SaysFound found (Write w) (call.Get (name.Schema k) from len) (reply.Bytes bytes) = IsSchemaIn found.current k (schema_of bytes)
+SaysFound found (Write w) (call.Get name.Domain from len) (reply.Bytes bytes) = IsFrameIn found.frame (frame_of bytes)
+SaysFound found (Delete text) (call.Get (name.Schema k) from len) (reply.Bytes bytes) = IsSchemaIn found.current k (schema_of bytes)
+SaysFound found (Delete text) (call.Get name.Domain from len) (reply.Bytes bytes) = IsFrameIn found.frame (frame_of bytes)
+SaysFound found (Unlock seed lane) (call.List Leases) (reply.Names names) = found.leases ≡ leases_unlocked seed lane names
+SaysFound found command c r = ⊤
 
 -- a job was told bytes that spell a schema
 abbrev pub GotSchema : List Exchange → Schema → Type 0
 GotSchema trace s = (bytes : List ℕ) × Contains trace (record { call = get_all (name.Schema s.key); reply = reply.Bytes bytes }) × (schema_of bytes ≡ Ok s.attrs)
 
 -- of the schemas that a job listed the one with the key holds where the job looks
-pub record IsKeyThere (job : Job) (trace : List Exchange) (k : Key) : Type 0 where
+pub record IsCurrentKey (job : Job) (trace : List Exchange) (k : Key) : Type 0 where
   pub names : List Name
   pub listed : Contains trace (record { call = list_schemas; reply = reply.Names names })
   pub newest : schema_at (schemas_in names) (looked_at job) ≡ Some k
@@ -168,8 +168,8 @@ pub record IsFramed (found : Found) (trace : List Exchange) : Type 0 where
 
 -- a job got what it found: the schema there is that of its listing of the schemas, and it and the frame are spelled by the bytes that the job was told
 pub record IsGot (job : Job) (found : Found) (trace : List Exchange) : Type 0 where
-  pub key : IsKeyThere job trace (found.there).key
-  pub schema : GotSchema trace found.there
+  pub key : IsCurrentKey job trace (found.current).key
+  pub schema : GotSchema trace found.current
   pub frame_bytes : List ℕ
   pub frame_got : Contains trace (record { call = get_frame; reply = reply.Bytes frame_bytes })
   pub frame_is : frame_of frame_bytes ≡ Ok found.frame
@@ -185,7 +185,7 @@ KnowsFrame job found trace = IsGot job found trace ⊎ (IsConsolidate job.comman
 
 -- all replies to a job say what it found
 abbrev pub AreFound : Job → Found → List Exchange → Type 0
-AreFound job found trace = All (λ x. SaysThere found job.command x.call x.reply) trace
+AreFound job found trace = All (λ x. SaysFound found job.command x.call x.reply) trace
 
 -- ---- the fetches of a job
 
@@ -204,8 +204,8 @@ pub record ReadsBy (found : Found) (trace : List Exchange) (from to : ℕ) (quer
   pub from_is : r.from ≡ from
   pub to_is : r.to ≡ to
   pub frame_is : r.frame ≡ found.frame
-  pub there_is : r.there ≡ found.there
-  pub is_ready : ready_in found.frame (found.there).attrs query ≡ Ok r.ready
+  pub there_is : r.current ≡ found.current
+  pub is_ready : ready_in found.frame (found.current).attrs query ≡ Ok r.ready
   -- it listed these with the commits
   pub names : List Name
   pub listed : Contains trace (record { call = list_commits; reply = reply.Names names })
@@ -293,7 +293,7 @@ pub record PlansBy {F : Type 0} (codec : Codec F) (job : Job) (found : Found) (t
 -- a vacuum chose the fragments that it removes, by what it was told: all that the `.vac` objects name which count in its listing of the commits, where a schema holds at its stamp
 pub record ChoosesBy (job : Job) (trace : List Exchange) (set : List FragKey) : Type 0 where
   pub key : Key
-  pub there : IsKeyThere job trace key
+  pub current : IsCurrentKey job trace key
   pub names : List Name
   pub listed : Contains trace (record { call = list_commits; reply = reply.Names names })
   pub vacs : List VacOf
@@ -337,8 +337,8 @@ abbrev pub IsCountingIn : List Exchange → FragKey → Type 0
 IsCountingIn trace f = (names : List Name) × Contains trace (record { call = list_commits; reply = reply.Names names }) × Contains (counting_in names) f
 
 -- a job that works in a schema gets the one that holds where it looks, of those that it listed, and once it has that one the frame
-abbrev pub LooksThere : Job → List Exchange → Call → Type 0
-LooksThere job trace c = ((k : Key) × IsKeyThere job trace k × (c ≡ get_schema k)) ⊎ ((s : Schema) × IsKeyThere job trace s.key × GotSchema trace s × (c ≡ get_frame))
+abbrev pub LooksForSchema : Job → List Exchange → Call → Type 0
+LooksForSchema job trace c = ((k : Key) × IsCurrentKey job trace k × (c ≡ get_schema k)) ⊎ ((s : Schema) × IsCurrentKey job trace s.key × GotSchema trace s × (c ≡ get_frame))
 
 -- what a read looks at in the array that it found: each is a get of a whole object, but for the calls for which a fetch asks
 pub data LooksInside {F : Type 0} (codec : Codec F) (job : Job) (found : Found) (trace : List Exchange) (from to : ℕ) (c : Call) : Type 0 where
@@ -347,7 +347,7 @@ pub data LooksInside {F : Type 0} (codec : Codec F) (job : Job) (found : Found) 
   -- the part that has the head of a near fragment
   AtHead : (f : FragKey) → IsLookedInto trace from to f → c ≡ get_all (name.Part f (codec.head_part found.frame)) → LooksInside codec job found trace from to c
   -- a further schema: one that is named by a head which the read got, and is not the schema there
-  AtSchema : (f : FragKey) (head : Head) → GotHead codec found trace f head → head.schema ≢ (found.there).key → c ≡ get_schema head.schema → LooksInside codec job found trace from to c
+  AtSchema : (f : FragKey) (head : Head) → GotHead codec found trace f head → head.schema ≢ (found.current).key → c ≡ get_schema head.schema → LooksInside codec job found trace from to c
   -- a delete that was listed and is stamped in the interval
   AtDelete : (f : FragKey) → IsListedIn deletes_in trace from to f → c ≡ get_delete f → LooksInside codec job found trace from to c
   -- a get or a size for which the fetch of a near fragment asks, which the read began on what it got
@@ -356,7 +356,7 @@ pub data LooksInside {F : Type 0} (codec : Codec F) (job : Job) (found : Found) 
 -- what a consolidation looks at: each is a get of a whole object, but for the calls for which a fetch asks
 pub data LooksForSources {F : Type 0} (codec : Codec F) (job : Job) (found : Found) (trace : List Exchange) (from to : ℕ) (c : Call) : Type 0 where
   -- the frame, once it listed the schemas, of which one holds at its stamp
-  AtFrame : (k : Key) → IsKeyThere job trace k → c ≡ get_frame → LooksForSources codec job found trace from to c
+  AtFrame : (k : Key) → IsCurrentKey job trace k → c ≡ get_frame → LooksForSources codec job found trace from to c
   -- a `.vac` that counts
   AtNames : (f : FragKey) → IsFramed found trace → IsCountingIn trace f → c ≡ get_vac f → LooksForSources codec job found trace from to c
   -- the part that has the head of a fragment in the interval
@@ -368,15 +368,15 @@ pub data LooksForSources {F : Type 0} (codec : Codec F) (job : Job) (found : Fou
 
 -- a vacuum gets a `.vac` that counts, once it listed the schemas, of which one holds at its stamp
 abbrev pub LooksForVacs : Job → List Exchange → Call → Type 0
-LooksForVacs job trace c = (k : Key) × IsKeyThere job trace k × (f : FragKey) × IsCountingIn trace f × (c ≡ get_vac f)
+LooksForVacs job trace c = (k : Key) × IsCurrentKey job trace k × (f : FragKey) × IsCountingIn trace f × (c ≡ get_vac f)
 
 -- the call looks at an object that the job's command reads, by what the job was told before; but for the calls of fetches it gets the whole object
 abbrev pub IsLookBy : {F : Type 0} → Codec F → Job → Found → List Exchange → Command → Call → Type 0
 IsLookBy codec job found trace (Create f) c = Contains trace (record { call = frame_put f; reply = reply.Taken }) × (c ≡ get_frame)
-IsLookBy codec job found trace (Evolve change) c = LooksThere job trace c
-IsLookBy codec job found trace (Write w) c = LooksThere job trace c
-IsLookBy codec job found trace (Read from to query) c = LooksThere job trace c ⊎ (IsGot job found trace × LooksInside codec job found trace from to c)
-IsLookBy codec job found trace (Delete text) c = LooksThere job trace c
+IsLookBy codec job found trace (Evolve change) c = LooksForSchema job trace c
+IsLookBy codec job found trace (Write w) c = LooksForSchema job trace c
+IsLookBy codec job found trace (Read from to query) c = LooksForSchema job trace c ⊎ (IsGot job found trace × LooksInside codec job found trace from to c)
+IsLookBy codec job found trace (Delete text) c = LooksForSchema job trace c
 IsLookBy codec job found trace (Consolidate from to limits) c = LooksForSources codec job found trace from to c
 IsLookBy codec job found trace Vacuum c = LooksForVacs job trace c
 IsLookBy codec job found trace (Unlock seed lane) c = ⊥
@@ -426,7 +426,7 @@ pub record EndsAt (looks : Looks) (before : List Exchange) (course : List Call) 
 
 -- why a job is refused where it found this
 abbrev pub refused_in : Found → Command → Option Refusal
-refused_in found command = refusal_in found.frame (found.there).attrs command
+refused_in found command = refusal_in found.frame (found.current).attrs command
 
 -- a fetch of a fragment has all versions that were wanted: as it began, or by a reply for which it waited
 abbrev pub HasTaken : {F : Type 0} → Codec F → Job → Found → List Exchange → FragKey → List Version → Type 0

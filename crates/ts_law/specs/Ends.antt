@@ -45,7 +45,7 @@ use Rattle.ts_cond.specs.declared.query.Query.{Query}
 use Rattle.ts_cond.specs.Tests.{Condition}
 use Rattle.ts_model.specs.Queries.{delete_condition}
 use Rattle.ts_model.specs.Jobs.{key_of, frag_of_job, looked_at, schema_of_job, written_as, deletion_as}
-use Rattle.ts_model.specs.Deeds.{History, frame_in, schemas, writes, deletions, schema_with, schema_there, IsNewKey}
+use Rattle.ts_model.specs.Deeds.{History, frame_in, schemas, writes, deletions, schema_with, current_schema, IsNewKey}
 use Rattle.ts_model.specs.Commands.{create_refusal, frame_made, laid}
 use Rattle.ts_model.specs.Answers.{IsWhole, IsAnswer}
 use Rattle.ts_base.specs.declared.names.Name.TheVariants as name
@@ -143,40 +143,40 @@ pub record IsEvolved (jobs : List Job) (past : History) (told : List Told) (numb
   pub change : Evolution
   pub evolves : job.command ≡ Evolve change
   pub schemas : ListedAt told number Schemas
-  pub there : Schema
+  pub current : Schema
   pub undone : IsUndone (history_told jobs past schemas.before) job
-  pub holds : schema_there (history_told jobs past schemas.before) job.at ≡ Some there
+  pub holds : current_schema (history_told jobs past schemas.before) job.at ≡ Some current
   pub frame : Frame
   pub framed : frame_in (history_told jobs past told) ≡ Some frame
-  pub sound : evolution_fault frame.domain there.attrs change ≡ None
-  pub declared : HasDeclared (history_told jobs past told) job (evolved_attrs there.attrs change)
+  pub sound : evolution_fault frame.domain current.attrs change ≡ None
+  pub declared : HasDeclared (history_told jobs past told) job (evolved_attrs current.attrs change)
 
 -- the write of a job is a deed: its cells are those of its columns, in the schema that holds at its stamp of those that it listed
 pub record IsWritten (jobs : List Job) (past : History) (told : List Told) (number : ℕ) (job : Job) : Type 0 where
   pub cells_in : WriteIn
   pub writes_them : job.command ≡ Write cells_in
   pub schemas : ListedAt told number Schemas
-  pub there : Schema
+  pub current : Schema
   pub undone : IsUndone (history_told jobs past schemas.before) job
-  pub holds : schema_there (history_told jobs past schemas.before) job.at ≡ Some there
+  pub holds : current_schema (history_told jobs past schemas.before) job.at ≡ Some current
   pub frame : Frame
   pub framed : frame_in (history_told jobs past told) ≡ Some frame
   pub cells : List Cell
-  pub lays : laid frame there.attrs cells_in ≡ Ok cells
-  pub written : Contains (writes (history_told jobs past told)) (written_as job there.key cells)
+  pub lays : laid frame current.attrs cells_in ≡ Ok cells
+  pub written : Contains (writes (history_told jobs past told)) (written_as job current.key cells)
 
 -- the delete of a job is a deed: its condition is that of its text, in the schema that holds at its stamp of those that it listed
 pub record IsDeleted (jobs : List Job) (past : History) (told : List Told) (number : ℕ) (job : Job) : Type 0 where
   pub text : List ℕ
   pub deletes : job.command ≡ Delete text
   pub schemas : ListedAt told number Schemas
-  pub there : Schema
+  pub current : Schema
   pub undone : IsUndone (history_told jobs past schemas.before) job
-  pub holds : schema_there (history_told jobs past schemas.before) job.at ≡ Some there
+  pub holds : current_schema (history_told jobs past schemas.before) job.at ≡ Some current
   pub frame : Frame
   pub framed : frame_in (history_told jobs past told) ≡ Some frame
   pub condition : Condition
-  pub says : delete_condition frame there.attrs text ≡ Ok condition
+  pub says : delete_condition frame current.attrs text ≡ Ok condition
   pub erased : Contains (deletions (history_told jobs past told)) (deletion_as job condition)
 
 -- ---- consolidations
@@ -206,8 +206,8 @@ pub record IsPlanned (spelled : Spelled) (h : History) (m : Held) (from to : ℕ
 -- a job found the schema that holds where it looks, as it listed the schemas
 pub record FindsSchema (jobs : List Job) (past : History) (told : List Told) (number : ℕ) (job : Job) : Type 0 where
   pub schemas : ListedAt told number Schemas
-  pub there : Schema
-  pub holds : schema_there (history_told jobs past schemas.before) (looked_at job) ≡ Some there
+  pub current : Schema
+  pub holds : current_schema (history_told jobs past schemas.before) (looked_at job) ≡ Some current
 
 -- what was told up to a call, the call included
 abbrev pub up_to : List Told → Told → List Told

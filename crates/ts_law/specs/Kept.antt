@@ -71,7 +71,7 @@ use Rattle.ts_law.specs.Stands.{HoldsIn, IsCommitted, Stands}
 use Rattle.ts_law.specs.Origins.{last_version, newest_at, wrote_in}
 use Rattle.ts_commit.specs.Selections.{clipped_names, has_origin, is_among, is_clipped, is_usable, names_merged, usable}
 use Rattle.ts_law.specs.Ends.{AreHeads, FindsNoArray, FindsSchema, ListedAt, IsGone, IsPlanned, IsUndone, IsTrueEnd, dead_leases}
-use Rattle.ts_model.specs.Deeds.{History, frame_in, deletions, schema_with, schema_there}
+use Rattle.ts_model.specs.Deeds.{History, frame_in, deletions, schema_with, current_schema}
 use Rattle.ts_model.specs.Commands.{frame_made, create_refusal, laid}
 use Rattle.ts_store.specs.declared.call.Call.TheVariants as call
 use Rattle.ts_model.specs.declared.answers.Outcome.TheVariants as outcome
@@ -80,14 +80,14 @@ use Rattle.std.specs.FinMap as map
 -- ---- what a job found so far
 
 -- the schema that a job works in: at its listing of the schemas it was the one that held where the job looks, and it is a deed; no deed of the job was there
-pub record Works (past : History) (jobs : List Job) (seen : List Told) (number : ℕ) (job : Job) (there : Schema) : Type 0 where
+pub record Works (past : History) (jobs : List Job) (seen : List Told) (number : ℕ) (job : Job) (current : Schema) : Type 0 where
   pub schemas : ListedAt seen number Schemas
   pub undone : IsUndone (history_told jobs past schemas.before) job
-  pub holds : schema_there (history_told jobs past schemas.before) (looked_at job) ≡ Some there
+  pub holds : current_schema (history_told jobs past schemas.before) (looked_at job) ≡ Some current
   pub found : List Key
   pub is_found : schemas_found (trace_of number seen) ≡ Some found
-  pub at : schema_at found (looked_at job) ≡ Some there.key
-  pub declared : schema_with (history_told jobs past seen) there.key ≡ Some there
+  pub at : schema_at found (looked_at job) ≡ Some current.key
+  pub declared : schema_with (history_told jobs past seen) current.key ≡ Some current
 
 -- what a read looks into of the commits that it listed
 pub record LooksInto (spelled : Spelled) (opening : Held) (past : History) (jobs : List Job) (seen : List Told) (m : Held) (number from to : ℕ) (fragments counting delete_names : List FragKey) : Type 0 where
@@ -110,29 +110,29 @@ HasLooked spelled opening past jobs seen m number (Read from to query) listed = 
 HasLooked spelled opening past jobs seen m number _ listed = ⊤
 
 -- a read that listed the commits, and later the schemas
-pub record ReadsAt (spelled : Spelled) (opening : Held) (past : History) (jobs : List Job) (seen : List Told) (m : Held) (number : ℕ) (job : Job) (from to : ℕ) (fragments counting delete_names : List FragKey) (there : Schema) : Type 0 where
+pub record ReadsAt (spelled : Spelled) (opening : Held) (past : History) (jobs : List Job) (seen : List Told) (m : Held) (number : ℕ) (job : Job) (from to : ℕ) (fragments counting delete_names : List FragKey) (current : Schema) : Type 0 where
   pub listed : LooksInto spelled opening past jobs seen m number from to fragments counting delete_names
-  pub works : Works past jobs seen number job there
+  pub works : Works past jobs seen number job current
   pub between : List Told
   pub order : (works.schemas).before ≡ (listed.since.commits).before ++ (listed.since.commits).listing ∷ between
 
 -- what a job listed before it gets the schema there
 abbrev pub HasListed : Spelled → Held → History → List Job → List Told → Held → ℕ → Job → Command → Listed → Schema → Type 0
-HasListed spelled opening past jobs seen m number job (Create f) listed there = ⊥
-HasListed spelled opening past jobs seen m number job (Consolidate from to limits) listed there = ⊥
-HasListed spelled opening past jobs seen m number job Vacuum listed there = ⊥
-HasListed spelled opening past jobs seen m number job (Unlock seed lane) listed there = ⊥
-HasListed spelled opening past jobs seen m number job Fragments listed there = ⊥
-HasListed spelled opening past jobs seen m number job (Read from to query) listed there = ReadsAt spelled opening past jobs seen m number job from to listed.fragments listed.counting listed.delete_names there
-HasListed spelled opening past jobs seen m number job _ listed there = Works past jobs seen number job there
+HasListed spelled opening past jobs seen m number job (Create f) listed current = ⊥
+HasListed spelled opening past jobs seen m number job (Consolidate from to limits) listed current = ⊥
+HasListed spelled opening past jobs seen m number job Vacuum listed current = ⊥
+HasListed spelled opening past jobs seen m number job (Unlock seed lane) listed current = ⊥
+HasListed spelled opening past jobs seen m number job Fragments listed current = ⊥
+HasListed spelled opening past jobs seen m number job (Read from to query) listed current = ReadsAt spelled opening past jobs seen m number job from to listed.fragments listed.counting listed.delete_names current
+HasListed spelled opening past jobs seen m number job _ listed current = Works past jobs seen number job current
 
 -- a read that has the schema there and the frame
 pub record ReadsIn (spelled : Spelled) (opening : Held) (past : History) (jobs : List Job) (seen : List Told) (m : Held) (number : ℕ) (job : Job) (r : Reading) : Type 0 where
   pub query : Query
   pub reads : job.command ≡ Read r.from r.to query
-  pub at : ReadsAt spelled opening past jobs seen m number job r.from r.to r.fragments r.counting r.delete_names r.there
+  pub at : ReadsAt spelled opening past jobs seen m number job r.from r.to r.fragments r.counting r.delete_names r.current
   pub framed : frame_in (history_told jobs past ((at.works).schemas).before) ≡ Some r.frame
-  pub is_ready : ready_in r.frame (r.there).attrs query ≡ Ok r.ready
+  pub is_ready : ready_in r.frame (r.current).attrs query ≡ Ok r.ready
 
 -- an open fragment: its head is that of its piece, and its object is that of the part with the head
 pub record IsOpen {F : Type 0} (codec : Codec F) (spelled : Spelled) (g : History) (m : Held) (frame : Frame) (o : Opened) : Type 0 where
@@ -340,14 +340,14 @@ Aims codec spelled opening past jobs seen m number job objects outcome.Created =
     (f : FrameIn) × (job.command ≡ Create f) × (objects ≡ schema_object_of job f.attrs ∷ []) × (create_refusal f ≡ None) × (frame_in (history_told jobs past seen) ≡ Some (frame_made f))
     × FindsNoArray jobs past seen number f
 Aims codec spelled opening past jobs seen m number job objects (outcome.Evolved k) =
-    (change : Evolution) × (frame : Frame) × (there : Schema) × (job.command ≡ Evolve change) × (k ≡ key_of job) × (objects ≡ schema_object_of job (evolved_attrs there.attrs change) ∷ [])
-    × (frame_in (history_told jobs past seen) ≡ Some frame) × (evolution_fault frame.domain there.attrs change ≡ None) × Works past jobs seen number job there
+    (change : Evolution) × (frame : Frame) × (current : Schema) × (job.command ≡ Evolve change) × (k ≡ key_of job) × (objects ≡ schema_object_of job (evolved_attrs current.attrs change) ∷ [])
+    × (frame_in (history_told jobs past seen) ≡ Some frame) × (evolution_fault frame.domain current.attrs change ≡ None) × Works past jobs seen number job current
 Aims codec spelled opening past jobs seen m number job objects (outcome.Written f) =
-    (w : WriteIn) × (frame : Frame) × (there : Schema) × (cells : List Cell) × (job.command ≡ Write w) × (f ≡ frag_of_job job) × (objects ≡ write_objects codec frame there job cells) × (map.get m (vac_of f) ≡ None)
-    × (frame_in (history_told jobs past seen) ≡ Some frame) × (laid frame there.attrs w ≡ Ok cells) × Works past jobs seen number job there
+    (w : WriteIn) × (frame : Frame) × (current : Schema) × (cells : List Cell) × (job.command ≡ Write w) × (f ≡ frag_of_job job) × (objects ≡ write_objects codec frame current job cells) × (map.get m (vac_of f) ≡ None)
+    × (frame_in (history_told jobs past seen) ≡ Some frame) × (laid frame current.attrs w ≡ Ok cells) × Works past jobs seen number job current
 Aims codec spelled opening past jobs seen m number job objects (outcome.Deleted f) =
-    (text : List ℕ) × (frame : Frame) × (there : Schema) × (condition : Condition) × (job.command ≡ Delete text) × (f ≡ frag_of_job job) × (objects ≡ delete_object_of job condition ∷ [])
-    × (frame_in (history_told jobs past seen) ≡ Some frame) × (delete_condition frame there.attrs text ≡ Ok condition) × Works past jobs seen number job there
+    (text : List ℕ) × (frame : Frame) × (current : Schema) × (condition : Condition) × (job.command ≡ Delete text) × (f ≡ frag_of_job job) × (objects ≡ delete_object_of job condition ∷ [])
+    × (frame_in (history_told jobs past seen) ≡ Some frame) × (delete_condition frame current.attrs text ≡ Ok condition) × Works past jobs seen number job current
 Aims codec spelled opening past jobs seen m number job objects (outcome.Consolidated f count) = AimsToMerge codec spelled opening past jobs seen m number job objects f count
 Aims codec spelled opening past jobs seen m number job objects _ = ⊥
 
@@ -376,10 +376,10 @@ CreateClaims opening past jobs seen m job ListsDeclared =
 abbrev pub SeekClaims : Spelled → Held → History → List Job → List Told → Held → ℕ → Job → Seeking → Type 0
 SeekClaims spelled opening past jobs seen m number job ListsCommits = Clean opening past jobs seen m job × ((from : ℕ) × (to : ℕ) × (query : Query) × (job.command ≡ Read from to query))
 SeekClaims spelled opening past jobs seen m number job (ListsSchemas listed) = Clean opening past jobs seen m job × HasLooked spelled opening past jobs seen m number job.command listed
-SeekClaims spelled opening past jobs seen m number job (GetsSchema listed there) =
-    Clean opening past jobs seen m job × ((s : Schema) × (s.key ≡ there) × HasListed spelled opening past jobs seen m number job job.command listed s)
-SeekClaims spelled opening past jobs seen m number job (GetsFrame listed there) =
-    Clean opening past jobs seen m job × HasListed spelled opening past jobs seen m number job job.command listed there
+SeekClaims spelled opening past jobs seen m number job (GetsSchema listed current) =
+    Clean opening past jobs seen m job × ((s : Schema) × (s.key ≡ current) × HasListed spelled opening past jobs seen m number job job.command listed s)
+SeekClaims spelled opening past jobs seen m number job (GetsFrame listed current) =
+    Clean opening past jobs seen m job × HasListed spelled opening past jobs seen m number job job.command listed current
 
 -- what the state of a read that collects says is true
 abbrev pub CollectClaims : {F : Type 0} → Codec F → Spelled → Tracking F → Held → History → List Job → List Told → Held → ℕ → Job → Collecting F → Type 0

@@ -19,7 +19,7 @@ use Rattle.ts_model.specs.declared.commands.FrameIn.{FrameIn}
 use Rattle.ts_model.specs.declared.commands.Job.{Job}
 use Rattle.ts_model.specs.declared.answers.Refusal.{Refusal}
 use Rattle.ts_model.specs.Commands.{create_refusal, frame_made, laid}
-use Rattle.ts_model.specs.Deeds.{History, frame_in, schemas, schema_there}
+use Rattle.ts_model.specs.Deeds.{History, frame_in, schemas, current_schema}
 use Rattle.ts_model.specs.Jobs.{looked_at}
 use Rattle.ts_model.specs.Queries.{delete_condition, ready_in}
 use Rattle.ts_model.specs.Stages.{lease_of}
@@ -57,16 +57,16 @@ pub record FindsNoSchema (jobs : List Job) (past : History) (told : List Told) (
   pub works : WorksInSchema job.command
   pub looks : at ≡ looked_at job
   pub schemas : ListedAt told number Schemas
-  pub none : schema_there (history_told jobs past schemas.before) at ≡ None
+  pub none : current_schema (history_told jobs past schemas.before) at ≡ None
 
 -- a job found what its command is refused for: in the frame, and in the schema that held where it looks as it listed them
 pub record FindsFault (jobs : List Job) (past : History) (told : List Told) (number : ℕ) (job : Job) (r : Refusal) : Type 0 where
   pub schemas : ListedAt told number Schemas
-  pub there : Schema
-  pub holds : schema_there (history_told jobs past schemas.before) (looked_at job) ≡ Some there
+  pub current : Schema
+  pub holds : current_schema (history_told jobs past schemas.before) (looked_at job) ≡ Some current
   pub frame : Frame
   pub framed : frame_in (history_told jobs past schemas.before) ≡ Some frame
-  pub refused : refusal_in frame there.attrs job.command ≡ Some r
+  pub refused : refusal_in frame current.attrs job.command ≡ Some r
 
 -- a job found a lease in its way: of those that were held as it listed them this was the first that opposes its own
 pub record FindsLease (opening : Held) (told : List Told) (number : ℕ) (job : Job) (other : Name) : Type 0 where

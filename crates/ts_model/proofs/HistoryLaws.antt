@@ -17,7 +17,7 @@ use Rattle.ts_base.specs.declared.keys.Key.{Key}
 use Rattle.ts_cond.specs.CondTexts.{IsCond}
 use Rattle.ts_model.proofs.KeyLemmas.{IsGreatest, frag_itself, frag_same, greatest-None, greatest-Some, key_itself, key_of_frag, key_same, same_from_both}
 use Rattle.ts_model.proofs.ListLemmas.{Contains-cons, Contains-filter, Contains-filter_map, Contains-here, Contains-nil, Contains-slice_get, filter-Contains, find-Some, find-append, find_member, or_else, slice_get-Contains}
-use Rattle.ts_model.specs.Deeds.{DeletionFollows, Follow, History, IsHistory, IsKey, IsNewKey, MayFollow, SchemaFollows, WriteFollows, deletion_in, deletion_of, deletions, frame_in, has_key, key_in, keys, schema_in, schema_there, schema_with, schemas, write_in, writes}
+use Rattle.ts_model.specs.Deeds.{DeletionFollows, Follow, History, IsHistory, IsKey, IsNewKey, MayFollow, SchemaFollows, WriteFollows, deletion_in, deletion_of, deletions, frame_in, has_key, key_in, keys, schema_in, current_schema, schema_with, schemas, write_in, writes}
 use Rattle.ts_model.specs.Jobs.{AreApart, job_with}
 use Rattle.ts_model.specs.declared.commands.Job.{Job}
 use Rattle.ts_model.specs.declared.deeds.Deed.{Deed}
@@ -234,13 +234,13 @@ schema_with-append h g k s with =
     ∙ ap (λ o. or_else o (find (λ t. key_eq t.key k) (schemas g))) with
 
 -- the schema that holds at a timestamp is a deed, stamped there or before
-pub schema_there-is : (h : History) (b : ℕ) (s : Schema) → schema_there h b ≡ Some s → Contains (schemas h) s × (nat_le s.key.t b ≡ true)
-schema_there-is h b s there =
+pub current_schema-is : (h : History) (b : ℕ) (s : Schema) → current_schema h b ≡ Some s → Contains (schemas h) s × (nat_le s.key.t b ≡ true)
+current_schema-is h b s there =
     filter-Contains (λ t. nat_le t.key.t b) (schemas h) s (greatest-Some (λ t. t.key) (filter (λ t. nat_le t.key.t b) (schemas h)) s there).member
 
 -- the schema that holds at a timestamp is the one of its key
-pub there_is_with : (h : History) (b : ℕ) (s : Schema) → IsHistory h → schema_there h b ≡ Some s → schema_with h s.key ≡ Some s
-there_is_with h b s is there = schema_of_key h s is (schema_there-is h b s there).0
+pub current_is_with : (h : History) (b : ℕ) (s : Schema) → IsHistory h → current_schema h b ≡ Some s → schema_with h s.key ≡ Some s
+current_is_with h b s is there = schema_of_key h s is (current_schema-is h b s there).0
 
 -- the schema was declared after these deeds
 pub schema_follows : (h : History) (s : Schema) → IsHistory h → Contains (schemas h) s → (before : History) × (rest : History) × (h ≡ before ++ Declared s ∷ rest) × SchemaFollows before s
@@ -310,14 +310,14 @@ deletion_facts h x is at = let follows = (deletion_follows h x is at).3 in (foll
 
 -- an item with the greatest key, by the keys alone
 greatest_by_keys : (h : History) (found : List Key) (b : ℕ) → ((k : Key) → Contains found k → (s : Schema) × Contains (schemas h) s × (s.key ≡ k))
-    → ((s : Schema) → Contains (schemas h) s → Contains found s.key) → (s : Schema) → schema_there h b ≡ Some s → schema_at found b ≡ Some s.key
+    → ((s : Schema) → Contains (schemas h) s → Contains found s.key) → (s : Schema) → current_schema h b ≡ Some s → schema_at found b ≡ Some s.key
 greatest_by_keys h found b of_schemas of_keys s there = from_answer (schema_at found b) refl
   where
     top : IsGreatest (λ t. t.key) (filter (λ t. nat_le t.key.t b) (schemas h)) s
     top = greatest-Some (λ t. t.key) (filter (λ t. nat_le t.key.t b) (schemas h)) s there
 
     here : Contains (schemas h) s × (nat_le s.key.t b ≡ true)
-    here = schema_there-is h b s there
+    here = current_schema-is h b s there
 
     own : Contains (filter (λ k. nat_le k.t b) found) s.key
     own = Contains-filter (λ k. nat_le k.t b) found s.key (of_keys s here.0) here.1
@@ -333,10 +333,10 @@ greatest_by_keys h found b of_schemas of_keys s there = from_answer (schema_at f
 
 -- the key of the schema there, among keys that are those of the schemas
 pub there_by_keys : (h : History) (found : List Key) (b : ℕ) → ((k : Key) → Contains found k → (s : Schema) × Contains (schemas h) s × (s.key ≡ k))
-    → ((s : Schema) → Contains (schemas h) s → Contains found s.key) → schema_at found b ≡ option_map (λ s. s.key) (schema_there h b)
-there_by_keys h found b of_schemas of_keys = from_there (schema_there h b) refl
+    → ((s : Schema) → Contains (schemas h) s → Contains found s.key) → schema_at found b ≡ option_map (λ s. s.key) (current_schema h b)
+there_by_keys h found b of_schemas of_keys = from_there (current_schema h b) refl
   where
-    from_there : (o : Option Schema) → schema_there h b ≡ o → schema_at found b ≡ option_map (λ s. s.key) o
+    from_there : (o : Option Schema) → current_schema h b ≡ o → schema_at found b ≡ option_map (λ s. s.key) o
     from_there (Some s) there = greatest_by_keys h found b of_schemas of_keys s there
     from_there None none = from_answer (schema_at found b) refl
       where

@@ -30,13 +30,13 @@ use Rattle.ts_model.specs.declared.answers.Refusal.{Refusal}
 use Rattle.ts_model.specs.declared.queries.Ready.{Ready}
 use Rattle.ts_model.specs.declared.queries.Shown.{Shown}
 use Rattle.ts_model.specs.Answers.{shown_at, shown_inside, unwritten}
-use Rattle.ts_model.specs.Deeds.{History, IsHistory, frame_in, schema_there}
+use Rattle.ts_model.specs.Deeds.{History, IsHistory, frame_in, current_schema}
 use Rattle.ts_model.specs.Queries.{box_of, field_places, low_of, high_of, most_cells, too_many, query_refusal, filter_in, ready_with, ready_in}
 use Rattle.ts_model.specs.Scans.{cells_in, shown_of, AreInside}
 use Rattle.ts_model.specs.Selections.{IsNamedBox, placed}
 use Rattle.ts_model.specs.declared.answers.Refusal.TheVariants as refusal
 use Rattle.ts_model.proofs.Checked.{box_ordered}
-use Rattle.ts_model.proofs.HistoryLaws.{there_is_with, framed_by_schema, frame_facts, schema_facts}
+use Rattle.ts_model.proofs.HistoryLaws.{current_is_with, framed_by_schema, frame_facts, schema_facts}
 use Rattle.ts_model.proofs.Newest.{coords_total}
 
 -- ---- the box is that of the bounds, and lies in the domain
@@ -168,14 +168,14 @@ placed_back (e ∷ es) = ap (λ xs. e ∷ xs) (placed_back es)
 -- ---- the later history
 
 -- a history with a schema that holds has a frame
-pub there_is_frame : (h : History) (b : ℕ) (s : Schema) → IsHistory h → schema_there h b ≡ Some s → frame_in h ≡ None → ⊥
-there_is_frame h b s is holds none =
-    let framed = framed_by_schema h s.key s is (there_is_with h b s is holds) in
+pub current_is_frame : (h : History) (b : ℕ) (s : Schema) → IsHistory h → current_schema h b ≡ Some s → frame_in h ≡ None → ⊥
+current_is_frame h b s is holds none =
+    let framed = framed_by_schema h s.key s is (current_is_with h b s is holds) in
     none-some framed.0 (sym none ∙ framed.1)
 
 -- and the attributes of that schema are such as an array can have
-pub there_attrs : (h : History) (b : ℕ) (s : Schema) → IsHistory h → schema_there h b ≡ Some s → AreAttrs s.attrs
-there_attrs h b s is holds = (schema_facts h s.key s is (there_is_with h b s is holds)).0
+pub current_attrs : (h : History) (b : ℕ) (s : Schema) → IsHistory h → current_schema h b ≡ Some s → AreAttrs s.attrs
+current_attrs h b s is holds = (schema_facts h s.key s is (current_is_with h b s is holds)).0
 
 -- its frame is one
 pub framed_is : (h : History) (frame : Frame) → IsHistory h → frame_in h ≡ Some frame → IsFrame frame

@@ -16,7 +16,7 @@ use Rattle.ts_schema.specs.declared.schemas.Schema.{Schema}
 use Rattle.ts_model.specs.declared.deeds.Written.{Written}
 use Rattle.ts_model.specs.declared.deeds.Deed.{Deed}
 use Rattle.ts_model.specs.declared.deeds.Deed.TheVariants.{Framed, Declared, Wrote, Erased}
-use Rattle.ts_model.specs.Deeds.{History, frame_in, write_in, writes, schema_in, schemas, schema_there, row_at, has_cell, last_write}
+use Rattle.ts_model.specs.Deeds.{History, frame_in, write_in, writes, schema_in, schemas, current_schema, row_at, has_cell, last_write}
 use Rattle.ts_schema.specs.declared.frames.Frame.{Frame}
 use Rattle.ts_cond.specs.declared.query.Query.{Query}
 use Rattle.ts_domain.specs.Boxes.{is_in_box}
@@ -44,8 +44,8 @@ last_write-push h d a b c =
     ∙ greatest-append (λ w. w.key) (filter p (writes h)) (filter p (writes (d ∷ [])))
 
 -- the schema there is that of the greater key, too
-pub schema_there-push : (h : History) (d : Deed) (b : ℕ) → schema_there (h ++ d ∷ []) b ≡ greater (λ s. s.key) (schema_there h b) (schema_there (d ∷ []) b)
-schema_there-push h d b =
+pub current_schema-push : (h : History) (d : Deed) (b : ℕ) → current_schema (h ++ d ∷ []) b ≡ greater (λ s. s.key) (current_schema h b) (current_schema (d ∷ []) b)
+current_schema-push h d b =
     let p : Schema → Bool = λ s. nat_le s.key.t b in
     ap (λ ss. greatest (λ s. s.key) (filter p ss)) (filter_map-append schema_in h (d ∷ []))
     ∙ ap (greatest (λ s. s.key)) (filter-append p (schemas h) (schemas (d ∷ [])))
@@ -145,13 +145,13 @@ all_left h there ready a b m shows c = by_case (shows c)
         ∙ sym (ap (λ ws. cond (is_in_box ready.sub c) (option_and_then (shown_in h there a b c) (greatest (λ w. w.key) ws)) None) (no_writes h a b c none.1) ∙ nothing (is_in_box ready.sub c) None)
 
 -- what is asked through the frame and the schema of the later history is referred
-pub referred : (seen later : History) (frame : Frame) (there : Schema) (a b : ℕ) (query : Query) (end : Outcome) → frame_in later ≡ Some frame → schema_there later b ≡ Some there
+pub referred : (seen later : History) (frame : Frame) (there : Schema) (a b : ℕ) (query : Query) (end : Outcome) → frame_in later ≡ Some frame → current_schema later b ≡ Some there
     → IsAsked seen frame there a b query end → IsReferred seen later a b query end
 referred seen later frame there a b query (outcome.Read answer) framed holds asked = (
   record {
     frame = frame;
     framed = framed;
-    there = there;
+    current = there;
     holds = holds;
     ready = asked.0;
     is_ready = asked.1;
@@ -174,7 +174,7 @@ referred seen later frame there a b query (outcome.Listed names) framed holds as
 referred seen later frame there a b query outcome.OutOfMemory framed holds asked = absurd asked
 
 -- so it is where there may be want of memory
-pub referred_or : {E : Type 0} (seen later : History) (frame : Frame) (there : Schema) (a b : ℕ) (query : Query) (r : Result Outcome E) → frame_in later ≡ Some frame → schema_there later b ≡ Some there
+pub referred_or : {E : Type 0} (seen later : History) (frame : Frame) (there : Schema) (a b : ℕ) (query : Query) (r : Result Outcome E) → frame_in later ≡ Some frame → current_schema later b ≡ Some there
     → IfOk r (IsAsked seen frame there a b query) → IfOk r (IsReferred seen later a b query)
 referred_or seen later frame there a b query (Ok end) framed holds asked = referred seen later frame there a b query end framed holds asked
 referred_or seen later frame there a b query (Err e) framed holds asked = tt

@@ -17,7 +17,7 @@ use Rattle.ts_cond.specs.declared.query.Query.{Query}
 use Rattle.ts_cond.specs.Picks.{matches}
 use Rattle.std.specs.Ordering.{int_cmp}
 use Rattle.std.specs.Cmp.Lexicographic.{slice_cmp}
-use Rattle.ts_model.specs.Deeds.{History, frame_in, attrs_with, schema_there, row_at, last_write, deletions}
+use Rattle.ts_model.specs.Deeds.{History, frame_in, attrs_with, current_schema, row_at, last_write, deletions}
 use Rattle.ts_model.specs.Queries.{attr_fields, ready_in, selected, types_shown}
 use Rattle.std.specs.FinMap as map
 
@@ -39,7 +39,7 @@ row_left h a b c w = option_and_then (λ row. cond (is_erased h a b c w row) Non
 
 -- what is left of a write at a coordinate, as it shows through a schema
 abbrev pub shown_in : History → Schema → ℕ → ℕ → List ℤ → Written → Option (List Val)
-shown_in h there a b c w = option_map (λ row. shown_row (attrs_with h w.schema) row there.attrs) (row_left h a b c w)
+shown_in h current a b c w = option_map (λ row. shown_row (attrs_with h w.schema) row current.attrs) (row_left h a b c w)
 
 -- the fill of each attribute
 abbrev pub fills_of : List Attr → List Val
@@ -51,15 +51,15 @@ unwritten frame attrs = cond frame.dense (Some (fills_of attrs)) None
 
 -- what a read of [a, b] shows at a coordinate through a schema: the cell of the last write there, if it is not erased; no older write comes to light
 abbrev pub shown_at : History → Schema → ℕ → ℕ → List ℤ → Option (List Val)
-shown_at h there a b c = option_and_then (shown_in h there a b c) (last_write h a b c)
+shown_at h current a b c = option_and_then (shown_in h current a b c) (last_write h a b c)
 
 -- the same at the coordinates of a box, and nothing elsewhere
 abbrev pub left_inside : History → Schema → Ready → ℕ → ℕ → List ℤ → Option (List Val)
-left_inside h there ready a b c = cond (is_in_box ready.sub c) (shown_at h there a b c) None
+left_inside h current ready a b c = cond (is_in_box ready.sub c) (shown_at h current a b c) None
 
 -- what is shown at the coordinates of a box, and nothing elsewhere: where no write is left, a dense array shows the fill
 abbrev pub shown_inside : History → Frame → Schema → Ready → ℕ → ℕ → List ℤ → Option (List Val)
-shown_inside h frame there ready a b c = cond (is_in_box ready.sub c) (option_or (shown_at h there a b c) (unwritten frame there.attrs)) None
+shown_inside h frame current ready a b c = cond (is_in_box ready.sub c) (option_or (shown_at h current a b c) (unwritten frame current.attrs)) None
 
 -- the answer leaves no write out: no fragment is clipped
 abbrev pub IsWhole : Answer → Type 0
@@ -69,11 +69,11 @@ IsWhole answer = answer.clipped ≡ []
 pub record IsAnswer (h : History) (later : History) (a b : ℕ) (query : Query) (answer : Answer) : Type 0 where
   pub frame : Frame
   pub framed : frame_in later ≡ Some frame
-  pub there : Schema
-  pub holds : schema_there later b ≡ Some there
+  pub current : Schema
+  pub holds : current_schema later b ≡ Some current
   pub ready : Ready
-  pub is_ready : ready_in frame there.attrs query ≡ Ok ready
+  pub is_ready : ready_in frame current.attrs query ≡ Ok ready
   pub cells : Cells
-  pub each : (c : List ℤ) → map.get cells c ≡ shown_inside h frame there ready a b c
-  pub rows : answer.rows ≡ selected frame there.attrs ready (map.entries cells)
-  pub types : answer.types ≡ types_shown frame there.attrs ready
+  pub each : (c : List ℤ) → map.get cells c ≡ shown_inside h frame current ready a b c
+  pub rows : answer.rows ≡ selected frame current.attrs ready (map.entries cells)
+  pub types : answer.types ≡ types_shown frame current.attrs ready

@@ -96,8 +96,8 @@ abbrev pub attrs_with : History → Key → List Attr
 attrs_with h k = option_map_or (λ s. s.attrs) (schema_with h k) []
 
 -- the schema that holds at a timestamp: the one with the greatest key among those stamped there or before
-abbrev pub schema_there : History → ℕ → Option Schema
-schema_there h b = greatest (λ s. s.key) (filter (λ s. nat_le s.key.t b) (schemas h))
+abbrev pub current_schema : History → ℕ → Option Schema
+current_schema h b = greatest (λ s. s.key) (filter (λ s. nat_le s.key.t b) (schemas h))
 
 -- the row that stands at a coordinate
 abbrev pub row_at : List ℤ → List Cell → Option (List Val)

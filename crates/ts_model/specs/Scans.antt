@@ -25,7 +25,7 @@ use Rattle.ts_model.specs.declared.answers.Refusal.{Refusal}
 use Rattle.ts_model.specs.declared.answers.Refusal.TheVariants as refusal
 use Rattle.ts_model.specs.declared.scan.Scan.{Scan}
 use Rattle.ts_model.specs.Queries.{attr_fields, ready_in, selected, types_shown}
-use Rattle.ts_model.specs.Deeds.{History, frame_in, schema_there, row_at, deletions}
+use Rattle.ts_model.specs.Deeds.{History, frame_in, current_schema, row_at, deletions}
 use Rattle.ts_model.specs.Answers.{Cells, erases_cell, left_inside, shown_inside, IsWhole, IsAnswer}
 
 -- the rows of a tree by their coordinates
@@ -57,15 +57,15 @@ AreShown shown m = (c : List ℤ) → map.get m c ≡ shown c
 
 -- the cells are those of the box that a history shows through a schema
 abbrev pub AreInside : History → Frame → Schema → Ready → ℕ → ℕ → Cells → Type 0
-AreInside h frame there ready a b cells = AreShown (shown_inside h frame there ready a b) cells
+AreInside h frame current ready a b cells = AreShown (shown_inside h frame current ready a b) cells
 
 -- a scan looks for what is left of the writes of its deeds, as it shows through its schema, in its box and its interval
 abbrev pub left_by : Scan → List ℤ → Option (List Val)
-left_by s = left_inside s.deeds.now s.there.now s.ready.now s.from s.to
+left_by s = left_inside s.deeds.now s.current.now s.ready.now s.from s.to
 
 -- and for what its array shows there
 abbrev pub shown_by : Scan → List ℤ → Option (List Val)
-shown_by s = shown_inside s.deeds.now s.frame.now s.there.now s.ready.now s.from s.to
+shown_by s = shown_inside s.deeds.now s.frame.now s.current.now s.ready.now s.from s.to
 
 -- a cell with its row
 abbrev pub shown_of : List ℤ × List Val → Shown
@@ -85,23 +85,23 @@ abbrev pub pick_at : List Attr → List Val → CondField → Pick
 pick_at attrs row field = pick_from field.dim (value_under field (attr_fields attrs) row)
 
 -- the rows are those that are selected of the cells of the box that a history shows through a schema
-pub record AreRows (h : History) (frame : Frame) (there : Schema) (ready : Ready) (a b : ℕ) (rows : List (List Val)) : Type 0 where
+pub record AreRows (h : History) (frame : Frame) (current : Schema) (ready : Ready) (a b : ℕ) (rows : List (List Val)) : Type 0 where
   pub cells : Cells
-  pub each : AreInside h frame there ready a b cells
-  pub same : rows ≡ selected frame there.attrs ready (map.entries cells)
+  pub each : AreInside h frame current ready a b cells
+  pub same : rows ≡ selected frame current.attrs ready (map.entries cells)
 
 -- how a read of [a, b] ends of an array with a frame through a schema: with its answer, or refused
 abbrev pub IsAsked : History → Frame → Schema → ℕ → ℕ → Query → Outcome → Type 0
-IsAsked h frame there a b query (outcome.Read answer) =
-    (ready : Ready) × (ready_in frame there.attrs query ≡ Ok ready) × (answer.types ≡ types_shown frame there.attrs ready) × AreRows h frame there ready a b answer.rows × IsWhole answer
-IsAsked h frame there a b query (outcome.Refused r) = ready_in frame there.attrs query ≡ Err r
-IsAsked h frame there a b query end = ⊥
+IsAsked h frame current a b query (outcome.Read answer) =
+    (ready : Ready) × (ready_in frame current.attrs query ≡ Ok ready) × (answer.types ≡ types_shown frame current.attrs ready) × AreRows h frame current ready a b answer.rows × IsWhole answer
+IsAsked h frame current a b query (outcome.Refused r) = ready_in frame current.attrs query ≡ Err r
+IsAsked h frame current a b query end = ⊥
 
 -- a read of the history through the schema there is refused so: no schema holds at b, or else its query is refused
 abbrev pub IsRefused : History → ℕ → Query → Refusal → Type 0
 IsRefused later b query r =
-    ((schema_there later b ≡ None) × (r ≡ refusal.NoSchema b))
-    ⊎ ((frame : Frame) × (there : Schema) × (frame_in later ≡ Some frame) × (schema_there later b ≡ Some there) × (ready_in frame there.attrs query ≡ Err r))
+    ((current_schema later b ≡ None) × (r ≡ refusal.NoSchema b))
+    ⊎ ((frame : Frame) × (current : Schema) × (frame_in later ≡ Some frame) × (current_schema later b ≡ Some current) × (ready_in frame current.attrs query ≡ Err r))
 
 -- how a read of [a, b] ends: with its answer, which leaves no write out, or refused
 abbrev pub IsReferred : History → History → ℕ → ℕ → Query → Outcome → Type 0

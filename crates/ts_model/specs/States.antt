@@ -254,7 +254,7 @@ puts_first job None = Over outcome.OutOfMemory
 
 -- the schema of a key among those that a read knows
 abbrev pub known_schema : Reading → List Schema → Key → Option Schema
-known_schema r schemas k = if key_eq k r.there.key then Some r.there else find (λ s. key_eq s.key k) schemas
+known_schema r schemas k = if key_eq k r.current.key then Some r.current else find (λ s. key_eq s.key k) schemas
 
 -- the attributes of the schema of a key among those that a read knows
 abbrev pub known_attrs : Reading → List Schema → Key → List Attr
@@ -266,7 +266,7 @@ attrs_got r schemas k = used_attrs r (known_attrs r schemas k)
 
 -- the keys of the further schemas that these heads name, ascending and each once
 abbrev pub keys_named : Reading → List Opened → List Key
-keys_named r opened = map.keys (map.from_entries {R = key_cmp} (list_map (λ o. (o.head.schema, o.head.schema)) (filter (λ o. not (key_eq o.head.schema r.there.key)) opened)))
+keys_named r opened = map.keys (map.from_entries {R = key_cmp} (list_map (λ o. (o.head.schema, o.head.schema)) (filter (λ o. not (key_eq o.head.schema r.current.key)) opened)))
 
 -- a version of which the used values were got is erased by these deletes: one with a greater key matches it, under the version's own schema
 abbrev pub is_erased_by : Reading → List Schema → List Deletion → Version → Bool
@@ -274,7 +274,7 @@ is_erased_by r schemas erased v = list_any (λ e. key_lt v.key e.key && matches 
 
 -- a version's coordinates, and its row as it shows through the schema there; an attribute that the read does not use shows its fill
 abbrev pub cell_shown : Reading → List Schema → Version → List ℤ × List Val
-cell_shown r schemas v = (v.coords, shown_row (attrs_got r schemas v.schema) v.row r.there.attrs)
+cell_shown r schemas v = (v.coords, shown_row (attrs_got r schemas v.schema) v.row r.current.attrs)
 
 -- what is left of the versions that a read got: the newest of each cell, unless it is erased
 abbrev pub cells_left : Reading → List Schema → List Version → List (List ℤ × List Val)
@@ -282,11 +282,11 @@ cells_left r schemas got = list_map (cell_shown r schemas) (filter (λ v. not (i
 
 -- the row of a version as it shows through the schema there, unless it is erased
 abbrev pub version_left : Reading → List Schema → Version → Option (List Val)
-version_left r schemas v = cond (not (is_erased_by r schemas r.deletions v)) (Some (shown_row (attrs_got r schemas v.schema) v.row r.there.attrs)) None
+version_left r schemas v = cond (not (is_erased_by r schemas r.deletions v)) (Some (shown_row (attrs_got r schemas v.schema) v.row r.current.attrs)) None
 
 -- the row that a dense array shows where this is the newest version, if there is one: what is left of it, or else the fill
 abbrev pub row_or_fill : Reading → List Schema → Option Version → List Val
-row_or_fill r schemas newest = option_map_or (λ row. row) (option_and_then (version_left r schemas) newest) (fills_of r.there.attrs)
+row_or_fill r schemas newest = option_map_or (λ row. row) (option_and_then (version_left r schemas) newest) (fills_of r.current.attrs)
 
 -- the cells of the box of a dense array, in row order
 abbrev pub cells_filled : Reading → List Schema → List Version → List (List ℤ × List Val)
@@ -299,8 +299,8 @@ cells_shown r schemas got = cond (r.frame).dense (cells_filled r schemas got) (c
 -- the answer of a read that got these versions
 abbrev pub answer_of : Reading → List Schema → List Version → Answer
 answer_of r schemas got = record {
-  types = types_shown r.frame (r.there).attrs r.ready;
-  rows = selected r.frame (r.there).attrs r.ready (cells_shown r schemas got);
+  types = types_shown r.frame (r.current).attrs r.ready;
+  rows = selected r.frame (r.current).attrs r.ready (cells_shown r schemas got);
   clipped = r.clipped;
 }
 
@@ -355,7 +355,7 @@ opened_among frags opened = filter (λ o. is_among o.frag frags) opened
 
 -- what a read reads, once it knows which fragments are clipped
 abbrev pub with_clipped : Reading → List FragKey → Reading
-with_clipped r clipped = record { from = r.from; to = r.to; ready = r.ready; frame = r.frame; there = r.there; fragments = r.fragments; counting = r.counting; vacs = r.vacs; clipped = clipped; delete_names = r.delete_names; deletions = r.deletions }
+with_clipped r clipped = record { from = r.from; to = r.to; ready = r.ready; frame = r.frame; current = r.current; fragments = r.fragments; counting = r.counting; vacs = r.vacs; clipped = clipped; delete_names = r.delete_names; deletions = r.deletions }
 
 -- a read that knows what is clipped goes on with the fragments that it loads
 abbrev pub loads : {F : Type 0} → Codec F → Reading → List Opened → State F
@@ -583,7 +583,7 @@ puts_delete job (Err r) = refuse r
 
 -- what a read reads, before it got any `.vac` or delete
 abbrev pub reading_of : ℕ → ℕ → Listed → Frame → Schema → Ready → Reading
-reading_of from to listed frame s ready = record { from = from; to = to; ready = ready; frame = frame; there = s; fragments = listed.fragments; counting = listed.counting; vacs = []; clipped = []; delete_names = listed.delete_names; deletions = [] }
+reading_of from to listed frame s ready = record { from = from; to = to; ready = ready; frame = frame; current = s; fragments = listed.fragments; counting = listed.counting; vacs = []; clipped = []; delete_names = listed.delete_names; deletions = [] }
 
 -- a read gets its first `.vac`, or is refused
 abbrev pub asks_for : {F : Type 0} → Codec F → ℕ → ℕ → Listed → Frame → Schema → Result Ready Refusal → State F
@@ -664,7 +664,7 @@ after_schema codec r opened keys schemas k bytes =
 
 -- with a `.vac` more
 abbrev pub with_vac : Reading → FragKey → List FragKey → Reading
-with_vac r f names = record { from = r.from; to = r.to; ready = r.ready; frame = r.frame; there = r.there; fragments = r.fragments; counting = r.counting; vacs = r.vacs ++ record { frag = f; names = names } ∷ []; clipped = r.clipped; delete_names = r.delete_names; deletions = r.deletions }
+with_vac r f names = record { from = r.from; to = r.to; ready = r.ready; frame = r.frame; current = r.current; fragments = r.fragments; counting = r.counting; vacs = r.vacs ++ record { frag = f; names = names } ∷ []; clipped = r.clipped; delete_names = r.delete_names; deletions = r.deletions }
 
 -- where a `.vac` leads
 abbrev pub after_vac : {F : Type 0} → Codec F → Reading → FragKey → List ℕ → State F
@@ -672,7 +672,7 @@ after_vac codec r f bytes = on_read (vac_of f) (λ names. getting_vacs codec (wi
 
 -- with a delete more
 abbrev pub with_deletion : Reading → Deletion → Reading
-with_deletion r e = record { from = r.from; to = r.to; ready = r.ready; frame = r.frame; there = r.there; fragments = r.fragments; counting = r.counting; vacs = r.vacs; clipped = r.clipped; delete_names = r.delete_names; deletions = r.deletions ++ e ∷ [] }
+with_deletion r e = record { from = r.from; to = r.to; ready = r.ready; frame = r.frame; current = r.current; fragments = r.fragments; counting = r.counting; vacs = r.vacs; clipped = r.clipped; delete_names = r.delete_names; deletions = r.deletions ++ e ∷ [] }
 
 -- the delete under a name with this condition
 abbrev pub deletion_named : FragKey → Condition → Deletion
@@ -740,8 +740,8 @@ create_asks job ListsDeclared = Some list_schemas
 abbrev pub seek_asks : Seeking → Call
 seek_asks ListsCommits = list_commits
 seek_asks (ListsSchemas listed) = list_schemas
-seek_asks (GetsSchema listed there) = get_schema there
-seek_asks (GetsFrame listed there) = get_frame
+seek_asks (GetsSchema listed current) = get_schema current
+seek_asks (GetsFrame listed current) = get_frame
 
 -- the next call of a read that collects
 abbrev pub collect_asks : {F : Type 0} → Codec F → Collecting F → Option Call
@@ -790,8 +790,8 @@ create_goes job ListsDeclared r = on_names list_schemas (λ names. cond (nat_eq 
 abbrev pub seek_goes : {F : Type 0} → Codec F → Job → Seeking → Reply → State F
 seek_goes codec job ListsCommits r = on_names list_commits (λ names. Seeks (ListsSchemas (looked_into job.command names))) r
 seek_goes codec job (ListsSchemas listed) r = on_names list_schemas (λ names. seeks listed (looked_at job) (schema_at (schemas_in names) (looked_at job))) r
-seek_goes codec job (GetsSchema listed there) r = on_bytes (get_schema there) (λ bytes. on_read (name.Schema there) (λ attrs. Seeks (GetsFrame listed (record { key = there; attrs = attrs }))) (schema_of bytes)) r
-seek_goes codec job (GetsFrame listed there) r = on_bytes get_frame (λ bytes. on_read name.Domain (λ frame. works codec job job.command listed frame there) (frame_of bytes)) r
+seek_goes codec job (GetsSchema listed current) r = on_bytes (get_schema current) (λ bytes. on_read (name.Schema current) (λ attrs. Seeks (GetsFrame listed (record { key = current; attrs = attrs }))) (schema_of bytes)) r
+seek_goes codec job (GetsFrame listed current) r = on_bytes get_frame (λ bytes. on_read name.Domain (λ frame. works codec job job.command listed frame current) (frame_of bytes)) r
 
 -- where a reply leads a read that collects
 abbrev pub collect_goes : {F : Type 0} → Codec F → Collecting F → Reply → State F

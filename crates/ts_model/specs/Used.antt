@@ -29,7 +29,7 @@ deletes_name erased name = list_any (λ e. names_field e.cond name) erased
 
 -- a read shows the field with a name
 abbrev pub shows_name : Reading → List ℕ → Bool
-shows_name r name = has_label (items_at r.ready.fields (field_names r.frame.domain r.there.attrs)) name
+shows_name r name = has_label (items_at r.ready.fields (field_names r.frame.domain r.current.attrs)) name
 
 -- a read uses the values under a name: it shows them, or its filter names them, or one of its deletes
 abbrev pub uses_name : Reading → List ℕ → Bool

@@ -2,7 +2,7 @@
 ghost use Rattle.std.specs.Prelude.{◌≡◌, ◌&&◌, [], ◌∷◌, Some};
 ghost use Rattle.std.specs.Option.{option_copied};
 ghost use Rattle.ts_base.specs.Keys.{greater, is_within};
-ghost use Rattle.ts_model.specs.Deeds.{frame_in, has_cell, last_write, row_at, schema_there, schema_with};
+ghost use Rattle.ts_model.specs.Deeds.{frame_in, has_cell, last_write, row_at, current_schema, schema_with};
 
 use crate::deeds::{Deed, Written};
 use ts_base::{Cell, Coords, Key, Row};
@@ -35,19 +35,19 @@ pub(crate) fn schema_with(deeds: &[Deed], key: Key) -> Option<&Schema>
 }
 
 // The schema that holds at a timestamp.
-pub(crate) fn schema_there(deeds: &[Deed], b: u64) -> Option<&Schema>
-    ensures { option_copied result ≡ schema_there deeds.now b }
+pub(crate) fn current_schema(deeds: &[Deed], b: u64) -> Option<&Schema>
+    ensures { option_copied result ≡ current_schema deeds.now b }
 {
     let mut last = None;
     for deed in deeds {
-        last = there_with(last, deed, b);
+        last = current_with(last, deed, b);
     }
     last
 }
 
 // The schema that holds, where one more deed is looked at.
-fn there_with<'a>(last: Option<&'a Schema>, deed: &'a Deed, b: u64) -> Option<&'a Schema>
-    ensures { option_copied result ≡ greater (λ s. s.key) (option_copied last.entry) (schema_there (deed.now ∷ []) b) }
+fn current_with<'a>(last: Option<&'a Schema>, deed: &'a Deed, b: u64) -> Option<&'a Schema>
+    ensures { option_copied result ≡ greater (λ s. s.key) (option_copied last.entry) (current_schema (deed.now ∷ []) b) }
 {
     match deed {
         Deed::Declared(schema) if schema.key.t <= b => later_schema(last, schema),

@@ -20,7 +20,7 @@ use crate::answers::{Answer, Outcome, Refusal};
 use crate::checking::check_query;
 use crate::deeds::{Deed, History};
 use crate::deletions::is_erased;
-use crate::finding::{find_row, frame_in, latest, schema_there, schema_with};
+use crate::finding::{current_schema, find_row, frame_in, latest, schema_with};
 use crate::queries::{QueryFault, Ready, Shown, ShownList};
 use crate::selection::{fills_of, rows_of, types_shown};
 use std::alloc::Global;
@@ -52,11 +52,11 @@ pub fn reference(
     requires bounds { All IsNamedBox query.now.sub }
     ensures { IfOk result (λ end. IsReferred seen.now later.now from to query.now end) }
 {
-    match schema_there(later.as_slice(), to) {
+    match current_schema(later.as_slice(), to) {
         None => Ok(Outcome::Refused(Refusal::NoSchema { at: to })),
-        Some(there) => match frame_in(later.as_slice()) {
+        Some(current) => match frame_in(later.as_slice()) {
             None => unreachable!(),
-            Some(frame) => ask(alloc, seen.as_slice(), frame, there, from, to, query),
+            Some(frame) => ask(alloc, seen.as_slice(), frame, current, from, to, query),
         },
     }
 }
@@ -66,24 +66,24 @@ fn ask(
     alloc: Global,
     deeds: &[Deed],
     frame: &Frame,
-    there: &Schema,
+    current: &Schema,
     from: u64,
     to: u64,
     query: &Query,
 ) -> Result<Outcome, OutOfMemory>
     requires frame { IsFrame frame.now }
-    requires attrs { AreAttrs there.now.attrs }
+    requires attrs { AreAttrs current.now.attrs }
     requires bounds { All IsNamedBox query.now.sub }
-    ensures { IfOk result (λ end. IsAsked deeds.now frame.now there.now from to query.now end) }
+    ensures { IfOk result (λ end. IsAsked deeds.now frame.now current.now from to query.now end) }
 {
-    match check_query(alloc, frame, there, query) {
+    match check_query(alloc, frame, current, query) {
         Err(QueryFault::OutOfMemory) => Err(OutOfMemory),
         Err(QueryFault::Refused(refusal)) => Ok(Outcome::Refused(refusal)),
         Ok(ready) => {
             let scan = Scan {
                 deeds,
                 frame,
-                there,
+                current,
                 ready: &ready,
                 from,
                 to,
@@ -101,7 +101,7 @@ struct Scan<'a> {
     // The frame of the array.
     frame: &'a Frame,
     // The schema through which rows show.
-    there: &'a Schema,
+    current: &'a Schema,
     // What is asked for.
     ready: &'a Ready,
     // The least timestamp.
@@ -113,19 +113,19 @@ struct Scan<'a> {
 // The answer of an array.
 fn answer(alloc: Global, scan: &Scan) -> Result<Answer, OutOfMemory>
     requires frame { IsFrame scan.now.frame.now }
-    requires attrs { AreAttrs scan.now.there.now.attrs }
+    requires attrs { AreAttrs scan.now.current.now.attrs }
     requires inside { LiesInDomain scan.now.frame.now.domain scan.now.ready.now.sub }
     requires valid { IsBox scan.now.ready.now.sub }
     requires few { scan.now.frame.now.dense ≡ true → cells_of scan.now.ready.now.sub ≤ most_cells }
-    ensures types { IfOk result (λ answer. answer.types ≡ types_shown scan.now.frame.now scan.now.there.now.attrs scan.now.ready.now) }
-    ensures rows { IfOk result (λ answer. AreRows scan.now.deeds.now scan.now.frame.now scan.now.there.now scan.now.ready.now scan.now.from scan.now.to answer.rows) }
+    ensures types { IfOk result (λ answer. answer.types ≡ types_shown scan.now.frame.now scan.now.current.now.attrs scan.now.ready.now) }
+    ensures rows { IfOk result (λ answer. AreRows scan.now.deeds.now scan.now.frame.now scan.now.current.now scan.now.ready.now scan.now.from scan.now.to answer.rows) }
     ensures whole { IfOk result (λ answer. IsWhole answer) }
 {
     let cells = shown_cells(alloc, scan)?;
     let listed = listed(alloc, &cells)?;
     Ok(Answer {
-        types: types_shown(alloc, scan.frame, scan.there, scan.ready)?,
-        rows: rows_of(alloc, scan.frame, scan.there, scan.ready, listed)?,
+        types: types_shown(alloc, scan.frame, scan.current, scan.ready)?,
+        rows: rows_of(alloc, scan.frame, scan.current, scan.ready, listed)?,
         clipped: FragList::new(alloc),
     })
 }
@@ -169,7 +169,7 @@ fn fill(alloc: Global, cells: &mut BTreeMap<Coords, Row>, scan: &Scan) -> Result
     for place in 0..sub.cells() {
         let at = coords_at(sub, Order::Row, place);
         if !cells.contains_key(&at) {
-            cells.insert(at, fills_of(alloc, scan.there)?)?;
+            cells.insert(at, fills_of(alloc, scan.current)?)?;
         }
     }
     Ok(())
@@ -232,7 +232,7 @@ fn left_inside(alloc: Global, scan: &Scan, at: &Coords) -> Result<Option<Row>, O
     ensures { IfOk result (λ shown. shown ≡ left_by scan.now at.now) }
 {
     if scan.ready.sub.contains(at) {
-        shown_at(alloc, at, scan.deeds, scan.there, scan.from, scan.to)
+        shown_at(alloc, at, scan.deeds, scan.current, scan.from, scan.to)
     } else {
         Ok(None)
     }
@@ -243,11 +243,11 @@ fn shown_at(
     alloc: Global,
     at: &Coords,
     deeds: &[Deed],
-    there: &Schema,
+    current: &Schema,
     from: u64,
     to: u64,
 ) -> Result<Option<Row>, OutOfMemory>
-    ensures { IfOk result (λ shown. shown ≡ shown_at deeds.now there.now from to at.now) }
+    ensures { IfOk result (λ shown. shown ≡ shown_at deeds.now current.now from to at.now) }
 {
     match latest(at, deeds, from, to) {
         None => Ok(None),
@@ -257,7 +257,7 @@ fn shown_at(
                 if is_erased(alloc, at, write, row, deeds, from, to)? {
                     Ok(None)
                 } else {
-                    Ok(Some(shown(alloc, deeds, write.schema, row, there)?))
+                    Ok(Some(shown(alloc, deeds, write.schema, row, current)?))
                 }
             }
         },
@@ -270,12 +270,12 @@ fn shown(
     deeds: &[Deed],
     schema: Key,
     row: &Row,
-    there: &Schema,
+    current: &Schema,
 ) -> Result<Row, OutOfMemory>
-    ensures { IfOk result (λ shown. shown ≡ shown_row (attrs_with deeds.now schema) row.now (there.now).attrs) }
+    ensures { IfOk result (λ shown. shown ≡ shown_row (attrs_with deeds.now schema) row.now (current.now).attrs) }
 {
     match schema_with(deeds, schema) {
-        Some(written) => show_row(alloc, &written.attrs, row, &there.attrs),
-        None => show_row(alloc, &AttrList::new(alloc), row, &there.attrs),
+        Some(written) => show_row(alloc, &written.attrs, row, &current.attrs),
+        None => show_row(alloc, &AttrList::new(alloc), row, &current.attrs),
     }
 }

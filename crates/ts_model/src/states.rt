@@ -74,7 +74,7 @@ pub struct Reading {
     /// The frame of the array.
     pub frame: Frame,
     /// The schema that holds at `to`.
-    pub there: Schema,
+    pub current: Schema,
     /// The committed fragments whose span meets the interval, ascending.
     pub fragments: FragList,
     /// The committed fragments that have a `.vac`, ascending.
@@ -98,7 +98,7 @@ impl Drop for Reading {
             to: _,
             ready: _,
             frame: _,
-            there: _,
+            current: _,
             fragments: _,
             counting: _,
             vacs: _,
@@ -208,14 +208,14 @@ pub enum Seeking {
         /// The same.
         listed: Listed,
         /// The key of the schema.
-        there: Key,
+        current: Key,
     },
     /// The same job gets the frame.
     GetsFrame {
         /// The same.
         listed: Listed,
         /// The schema.
-        there: Schema,
+        current: Schema,
     },
 }
 

@@ -58,13 +58,13 @@ placed_so P cells es are all =
 
 -- the row that a dense array shows of its newest version
 pub filled_row : (r : Reading) (schemas : List Schema) (v : Version) (b : Bool) → list_any (erases (attrs_got r schemas v.schema) v) r.deletions ≡ b
-    → row_or_fill r schemas (Some v) ≡ cond b (fills_of (r.there).attrs) (shown_row (attrs_got r schemas v.schema) v.row (r.there).attrs)
+    → row_or_fill r schemas (Some v) ≡ cond b (fills_of (r.current).attrs) (shown_row (attrs_got r schemas v.schema) v.row (r.current).attrs)
 filled_row r schemas v b is = ap row is ∙ by_test b
   where
     row : Bool → List Val
-    row e = option_map_or (λ vals. vals) (cond (not e) (Some (shown_row (attrs_got r schemas v.schema) v.row (r.there).attrs)) None) (fills_of (r.there).attrs)
+    row e = option_map_or (λ vals. vals) (cond (not e) (Some (shown_row (attrs_got r schemas v.schema) v.row (r.current).attrs)) None) (fills_of (r.current).attrs)
 
-    by_test : (e : Bool) → row e ≡ cond e (fills_of (r.there).attrs) (shown_row (attrs_got r schemas v.schema) v.row (r.there).attrs)
+    by_test : (e : Bool) → row e ≡ cond e (fills_of (r.current).attrs) (shown_row (attrs_got r schemas v.schema) v.row (r.current).attrs)
     by_test true = refl
     by_test false = refl
 
@@ -95,15 +95,15 @@ there_at (x ∷ xs) zero d within = refl
 there_at (x ∷ xs) (suc i) d within = there_at xs i d (omega (arith, within))
 
 -- the attributes of a schema beside the one there are those that were found
-pub known_further : (r : Reading) (schemas : List Schema) (k : Key) (o : Option Schema) → key_eq k (r.there).key ≡ false → find (λ s. key_eq s.key k) schemas ≡ o → known_attrs r schemas k ≡ option_map_or (λ s. s.attrs) o []
+pub known_further : (r : Reading) (schemas : List Schema) (k : Key) (o : Option Schema) → key_eq k (r.current).key ≡ false → find (λ s. key_eq s.key k) schemas ≡ o → known_attrs r schemas k ≡ option_map_or (λ s. s.attrs) o []
 known_further r schemas k o other found =
-    ap (λ b. option_map_or (λ s. s.attrs) (if b then Some r.there else find (λ s. key_eq s.key k) schemas) []) other
+    ap (λ b. option_map_or (λ s. s.attrs) (if b then Some r.current else find (λ s. key_eq s.key k) schemas) []) other
     ∙ ap (λ (p : Option Schema). option_map_or (λ s. s.attrs) p []) found
 
 -- the attributes of the schema that holds are known
-known_there : (r : Reading) (schemas : List Schema) (k : Key) → k ≡ (r.there).key → known_attrs r schemas k ≡ (r.there).attrs
-known_there r schemas k same = ap (λ b. option_map_or (λ s. s.attrs) (if b then Some r.there else find (λ s. key_eq s.key k) schemas) []) (ap (λ l. key_eq l (r.there).key) same ∙ key_itself (r.there).key)
+known_there : (r : Reading) (schemas : List Schema) (k : Key) → k ≡ (r.current).key → known_attrs r schemas k ≡ (r.current).attrs
+known_there r schemas k same = ap (λ b. option_map_or (λ s. s.attrs) (if b then Some r.current else find (λ s. key_eq s.key k) schemas) []) (ap (λ l. key_eq l (r.current).key) same ∙ key_itself (r.current).key)
 
 -- of the schema that holds a read got the values that it uses
-pub got_there : (r : Reading) (schemas : List Schema) (k : Key) → k ≡ (r.there).key → attrs_got r schemas k ≡ used_attrs r (r.there).attrs
+pub got_there : (r : Reading) (schemas : List Schema) (k : Key) → k ≡ (r.current).key → attrs_got r schemas k ≡ used_attrs r (r.current).attrs
 got_there r schemas k same = ap (used_attrs r) (known_there r schemas k same)

@@ -101,7 +101,7 @@ all_deletions codec r opened schemas got last none =
 -- a query that is ready gets the first `.vac`
 pub asked_for : {F : Type 0} (codec : Codec F) (from to : ℕ) (listed : Listed) (frame : Frame) (s : Schema) (ready : Ready) (found : Result Ready Refusal) (vacs : List VacOf) (clipped : List FragKey) (erased : List Deletion)
     → found ≡ Ok ready → vacs ≡ [] → clipped ≡ [] → erased ≡ []
-    → getting_vacs codec (record { from = from; to = to; ready = ready; frame = frame; there = s; fragments = listed.fragments; counting = listed.counting; vacs = vacs; clipped = clipped; delete_names = listed.delete_names; deletions = erased }) ≡ asks_for codec from to listed frame s found
+    → getting_vacs codec (record { from = from; to = to; ready = ready; frame = frame; current = s; fragments = listed.fragments; counting = listed.counting; vacs = vacs; clipped = clipped; delete_names = listed.delete_names; deletions = erased }) ≡ asks_for codec from to listed frame s found
 asked_for codec from to listed frame s ready found vacs clipped erased is no_vacs no_clipped none =
-    (λ i. getting_vacs codec (record { from = from; to = to; ready = ready; frame = frame; there = s; fragments = listed.fragments; counting = listed.counting; vacs = no_vacs i; clipped = no_clipped i; delete_names = listed.delete_names; deletions = none i }))
+    (λ i. getting_vacs codec (record { from = from; to = to; ready = ready; frame = frame; current = s; fragments = listed.fragments; counting = listed.counting; vacs = no_vacs i; clipped = no_clipped i; delete_names = listed.delete_names; deletions = none i }))
     ∙ sym (ap (asks_for codec from to listed frame s) is)

@@ -31,11 +31,11 @@ binding_of erased attrs = record { attrs = attrs; picks = picks_under attrs eras
 
 -- the rows of each schema that a read knows, and of those that it does not know, with the values that it uses
 abbrev pub bindings_of : Reading → List Schema → Bindings
-bindings_of r schemas = record { there = binding_of r.deletions (used_attrs r (r.there).attrs); further = list_map (λ s. binding_of r.deletions (used_attrs r s.attrs)) schemas; unknown = binding_of r.deletions [] }
+bindings_of r schemas = record { current = binding_of r.deletions (used_attrs r (r.current).attrs); further = list_map (λ s. binding_of r.deletions (used_attrs r s.attrs)) schemas; unknown = binding_of r.deletions [] }
 
 -- the version's cell, unless it is erased
 abbrev pub one_shown : Reading → List Attr → Version → List (List ℤ × List Val)
-one_shown r attrs v = cond (list_any (erases attrs v) r.deletions) [] ((v.coords, shown_row attrs v.row (r.there).attrs) ∷ [])
+one_shown r attrs v = cond (list_any (erases attrs v) r.deletions) [] ((v.coords, shown_row attrs v.row (r.current).attrs) ∷ [])
 
 -- the cells of versions, but of those that are erased
 abbrev pub all_shown : Reading → List Schema → List Version → List (List ℤ × List Val)

@@ -20,8 +20,8 @@ keys_in tree = map.from_entries tree.entries
 
 -- the keys of the schemas that the heads name beside one
 abbrev pub keys_of_others : Key → List Opened → map.FinMap key_cmp Key
-keys_of_others there opened = map.from_entries (list_map (λ o. (o.head.schema, o.head.schema)) (filter (λ o. not (key_eq o.head.schema there)) opened))
+keys_of_others current opened = map.from_entries (list_map (λ o. (o.head.schema, o.head.schema)) (filter (λ o. not (key_eq o.head.schema current)) opened))
 
 -- with a key more, unless it is the one
 abbrev pub with_other : Key → Key → map.FinMap key_cmp Key → map.FinMap key_cmp Key
-with_other there key m = cond (not (key_eq key there)) (map.insert m key key) m
+with_other current key m = cond (not (key_eq key current)) (map.insert m key key) m

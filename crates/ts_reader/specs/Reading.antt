@@ -46,7 +46,7 @@ pub record AreListed (listed : Listed) : Type 0 where
 -- the array has a frame and attributes, the box lies in the domain, and what is looked into has spellings
 pub record IsReading (r : Reading) : Type 0 where
   pub is_frame : IsFrame r.frame
-  pub are_attrs : AreAttrs (r.there).attrs
+  pub are_attrs : AreAttrs (r.current).attrs
   pub inside : Covers (whole_domain (r.frame).domain) (r.ready).sub
   pub valid : IsBox (r.ready).sub
   -- a read of a dense array has not too many cells

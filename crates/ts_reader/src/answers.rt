@@ -38,12 +38,12 @@ pub(crate) fn answer_of(
     let Reading {
         ready,
         frame,
-        there,
+        current,
         ..
     } = reading;
     Ok(Answer {
-        types: types_shown(alloc, frame, there, ready)?,
-        rows: rows_of(alloc, frame, there, ready, cells)?,
+        types: types_shown(alloc, frame, current, ready)?,
+        rows: rows_of(alloc, frame, current, ready, cells)?,
         clipped: reading.clipped.copy(alloc)?,
     })
 }
@@ -107,7 +107,7 @@ fn cells_whole(
     bindings: &Bindings,
     got: VersionList,
 ) -> Result<ShownList, OutOfMemory>
-    requires attrs { AreAttrs reading.now.there.attrs }
+    requires attrs { AreAttrs reading.now.current.attrs }
     requires rise { AreRising schemas.now }
     requires are { bindings.now ≡ bindings_of reading.now schemas.now }
     ensures { IfOk result (λ cells. map placed cells ≡ map (λ (v : AnyVersion). (v.coords, row_or_fill reading.now schemas.now (Some v))) got) }
@@ -129,14 +129,14 @@ fn row_left(
     bindings: &Bindings,
     version: Version,
 ) -> Result<Row, OutOfMemory>
-    requires attrs { AreAttrs reading.now.there.attrs }
+    requires attrs { AreAttrs reading.now.current.attrs }
     requires rise { AreRising schemas.now }
     requires are { bindings.now ≡ bindings_of reading.now schemas.now }
     ensures { IfOk result (λ row. row ≡ row_or_fill reading.now schemas.now (Some version)) }
 {
     let binding = binding_at(reading, schemas, bindings, version.schema);
     if is_erased(&reading.deletions, binding, &version) {
-        fills_of(alloc, &reading.there)
+        fills_of(alloc, &reading.current)
     } else {
         row_shown(alloc, reading, binding, version)
     }
@@ -150,18 +150,18 @@ fn row_shown(
     binding: &Binding,
     version: Version,
 ) -> Result<Row, OutOfMemory>
-    requires attrs { AreAttrs reading.now.there.attrs }
-    requires own { version.schema ≡ reading.now.there.key → binding.now.attrs ≡ used_attrs reading.now reading.now.there.attrs }
-    ensures { IfOk result (λ shown. shown ≡ shown_row binding.now.attrs version.row reading.now.there.attrs) }
+    requires attrs { AreAttrs reading.now.current.attrs }
+    requires own { version.schema ≡ reading.now.current.key → binding.now.attrs ≡ used_attrs reading.now reading.now.current.attrs }
+    ensures { IfOk result (λ shown. shown ≡ shown_row binding.now.attrs version.row reading.now.current.attrs) }
 {
-    let count = reading.there.attrs.len();
-    if version.schema == reading.there.key
+    let count = reading.current.attrs.len();
+    if version.schema == reading.current.key
         && binding.attrs.len() == count
         && version.row.len() == count
     {
         return Ok(version.row);
     }
-    show_row(alloc, &binding.attrs, &version.row, &reading.there.attrs)
+    show_row(alloc, &binding.attrs, &version.row, &reading.current.attrs)
 }
 
 // The row that a dense array shows where this is the newest version, if there is one.
@@ -177,13 +177,13 @@ fn row_filled(
     ensures { IfOk result (λ row. row ≡ row_or_fill reading.now schemas.now newest.now) }
 {
     match newest {
-        None => fills_of(alloc, &reading.there),
+        None => fills_of(alloc, &reading.current),
         Some(version) => {
             let binding = binding_at(reading, schemas, bindings, version.schema);
             if is_erased(&reading.deletions, binding, version) {
-                fills_of(alloc, &reading.there)
+                fills_of(alloc, &reading.current)
             } else {
-                show_row(alloc, &binding.attrs, &version.row, &reading.there.attrs)
+                show_row(alloc, &binding.attrs, &version.row, &reading.current.attrs)
             }
         }
     }
@@ -197,7 +197,7 @@ fn cells_left(
     bindings: &Bindings,
     got: VersionList,
 ) -> Result<ShownList, OutOfMemory>
-    requires attrs { AreAttrs reading.now.there.attrs }
+    requires attrs { AreAttrs reading.now.current.attrs }
     requires rise { AreRising schemas.now }
     requires are { bindings.now ≡ bindings_of reading.now schemas.now }
     ensures { IfOk result (λ cells. map placed cells ≡ cells_left reading.now schemas.now got) }
@@ -219,9 +219,9 @@ fn add_shown(
     binding: &Binding,
     version: Version,
 ) -> Result<(), OutOfMemory>
-    requires attrs { AreAttrs reading.now.there.attrs }
+    requires attrs { AreAttrs reading.now.current.attrs }
     requires picks { binding.now.picks ≡ picks_under binding.now.attrs reading.now.deletions }
-    requires own { version.schema ≡ reading.now.there.key → binding.now.attrs ≡ used_attrs reading.now reading.now.there.attrs }
+    requires own { version.schema ≡ reading.now.current.key → binding.now.attrs ≡ used_attrs reading.now reading.now.current.attrs }
     ensures { OnOk result (map placed cells.new ≡ map placed cells.old ++ one_shown reading.now binding.now.attrs version) }
 {
     if is_erased(&reading.deletions, binding, &version) {

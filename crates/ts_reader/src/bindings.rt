@@ -36,7 +36,7 @@ pub(crate) type BindingList = Sequence<Binding>;
 #[derive(Drop)]
 pub(crate) struct Bindings {
     /// Those of the schema that holds.
-    pub there: Binding,
+    pub current: Binding,
     /// Those of each further schema.
     pub further: BindingList,
     /// Those of a schema that the read does not know.
@@ -53,7 +53,7 @@ pub(crate) fn bindings_of(
     ensures { IfOk result (λ bindings. bindings ≡ bindings_of reading.now schemas.now) }
 {
     Ok(Bindings {
-        there: used_binding(alloc, reading, &reading.there.attrs)?,
+        current: used_binding(alloc, reading, &reading.current.attrs)?,
         further: further_bindings(alloc, reading, schemas.as_slice())?,
         unknown: binding_of(alloc, &reading.deletions, AttrList::new(alloc))?,
     })
@@ -133,8 +133,8 @@ pub(crate) fn binding_at<'a>(
     requires are { bindings.now ≡ bindings_of reading.now schemas.now }
     ensures { result.now ≡ binding_of reading.now.deletions (attrs_got reading.now schemas.now key) }
 {
-    if key == reading.there.key {
-        return &bindings.there;
+    if key == reading.current.key {
+        return &bindings.current;
     }
     match search_schemas(schemas.as_slice(), key) {
         Ok(place) => bindings.further.at(place as u64),

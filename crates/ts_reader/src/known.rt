@@ -20,8 +20,8 @@ pub(crate) fn known_schema<'a>(
     requires { AreRising schemas.now }
     ensures { option_copied result ≡ known_schema reading.now schemas.now key }
 {
-    if key == reading.there.key {
-        return Some(&reading.there);
+    if key == reading.current.key {
+        return Some(&reading.current);
     }
     schema_among(schemas.as_slice(), key)
 }

@@ -15,32 +15,32 @@ use ts_model::Opened;
 /// once.
 pub(crate) fn keys_named(
     alloc: Global,
-    there: Key,
+    current: Key,
     opened: &[Opened],
 ) -> Result<KeyList, OutOfMemory>
-    ensures is { IfOk result (λ keys. keys ≡ finite.keys (keys_of_others there opened.now)) }
+    ensures is { IfOk result (λ keys. keys ≡ finite.keys (keys_of_others current opened.now)) }
     ensures rise { IfOk result (IsStrictlySortedBy key_cmp) }
 {
-    let named = others(alloc, there, opened)?;
+    let named = others(alloc, current, opened)?;
     Ok(KeyList::from_vec(all_keys(alloc, &named)?))
 }
 
 // The keys of the further schemas in a tree.
-fn others(alloc: Global, there: Key, opened: &[Opened]) -> Result<BTreeMap<Key, Key>, OutOfMemory>
-    ensures { IfOk result (λ named. keys_in named ≡ keys_of_others there opened.now) }
+fn others(alloc: Global, current: Key, opened: &[Opened]) -> Result<BTreeMap<Key, Key>, OutOfMemory>
+    ensures { IfOk result (λ named. keys_in named ≡ keys_of_others current opened.now) }
 {
     let mut named = BTreeMap::new(alloc);
     for fragment in opened.iter().rev() {
-        add_other(&mut named, there, fragment.head.schema)?;
+        add_other(&mut named, current, fragment.head.schema)?;
     }
     Ok(named)
 }
 
 // Adds a key, unless it is that of the schema that holds.
-fn add_other(named: &mut BTreeMap<Key, Key>, there: Key, key: Key) -> Result<(), OutOfMemory>
-    ensures { OnOk result (keys_in named.new ≡ with_other there key (keys_in named.old)) }
+fn add_other(named: &mut BTreeMap<Key, Key>, current: Key, key: Key) -> Result<(), OutOfMemory>
+    ensures { OnOk result (keys_in named.new ≡ with_other current key (keys_in named.old)) }
 {
-    if key != there {
+    if key != current {
         named.insert(key, key)?;
     }
     Ok(())

@@ -38,19 +38,19 @@ pub(crate) fn begin_reading<P: Pieces, R: Threads + Sync>(
     job: &Job,
     listed: Listed,
     frame: Frame,
-    there: Schema,
+    current: Schema,
 ) -> Result<State<P::Fetch>, OutOfMemory>
     requires job { IsReadJob job.now }
     requires listed { AreListed listed }
     requires frame { IsFrame frame }
-    requires attrs { AreAttrs there.attrs }
-    ensures is { IfOk result (λ next. next ≡ works P.codec job.now job.now.command listed frame there) }
+    requires attrs { AreAttrs current.attrs }
+    ensures is { IfOk result (λ next. next ≡ works P.codec job.now job.now.command listed frame current) }
     ensures may { IfOk result (IsReadState P.codec) }
     ensures fewer { IfOk result (λ next. reads_left P.left next < 2 ^ 195) }
 {
     match &job.command {
         Command::Read { from, to, query } => {
-            ask_for::<P, R>(rt, alloc, *from, *to, query, listed, frame, there)
+            ask_for::<P, R>(rt, alloc, *from, *to, query, listed, frame, current)
         }
         _ => unreachable!(),
     }
@@ -65,24 +65,24 @@ fn ask_for<P: Pieces, R: Threads + Sync>(
     query: &Query,
     listed: Listed,
     frame: Frame,
-    there: Schema,
+    current: Schema,
 ) -> Result<State<P::Fetch>, OutOfMemory>
     requires bounds { All IsNamedBox query.now.sub }
     requires listed { AreListed listed }
     requires frame { IsFrame frame }
-    requires attrs { AreAttrs there.attrs }
-    ensures is { IfOk result (λ next. next ≡ asks_for P.codec from to listed frame there (ready_in frame there.attrs query.now)) }
+    requires attrs { AreAttrs current.attrs }
+    ensures is { IfOk result (λ next. next ≡ asks_for P.codec from to listed frame current (ready_in frame current.attrs query.now)) }
     ensures may { IfOk result (IsReadState P.codec) }
     ensures fewer { IfOk result (λ next. reads_left P.left next < 2 ^ 195) }
 {
-    match check_query(alloc, &frame, &there, query) {
+    match check_query(alloc, &frame, &current, query) {
         Ok(ready) => {
             let reading = Reading {
                 from,
                 to,
                 ready,
                 frame,
-                there,
+                current,
                 fragments: listed.fragments,
                 counting: listed.counting,
                 vacs: VacList::new(alloc),
@@ -149,7 +149,7 @@ fn gather<P: Pieces, R: Threads + Sync>(
     ensures may { IfOk result (IsReadState P.codec) }
     ensures fewer { IfOk result (λ next. reads_left P.left next ≤ 2 ^ 194) }
 {
-    let keys = keys_named(alloc, reading.there.key, opened.as_slice())?;
+    let keys = keys_named(alloc, reading.current.key, opened.as_slice())?;
     let schemas = SchemaList::new(alloc);
     gather_next::<P, R>(
         rt,

@@ -121,9 +121,9 @@ impl<P: Pieces> Works for Reads<P> {
         job: &Job,
         listed: Listed,
         frame: Frame,
-        there: Schema,
+        current: Schema,
     ) -> Result<State<P::Fetch>, OutOfMemory> {
-        begin_reading::<P, R>(rt, alloc, job, listed, frame, there)
+        begin_reading::<P, R>(rt, alloc, job, listed, frame, current)
     }
 }
 

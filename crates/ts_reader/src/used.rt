@@ -69,7 +69,7 @@ fn shows_name(reading: &Reading, name: &Label) -> bool
 {
     let (dims, attrs) = (
         reading.frame.domain.as_slice(),
-        reading.there.attrs.as_slice(),
+        reading.current.attrs.as_slice(),
     );
     let fields = &reading.ready.fields;
     for field in 0..fields.len() {

@@ -23,8 +23,8 @@ use Rattle.ts_script.specs.Values.{layout_named}
 use Rattle.ts_script.specs.Options.{cell_count_of, number_of, labels_of, boxes_of}
 
 -- the words, each as its bytes
-abbrev pub spelled : List (Bor (List ℕ)) → List (List ℕ)
-spelled words = map (λ word. word.now) words
+abbrev pub word_texts : List (Bor (List ℕ)) → List (List ℕ)
+word_texts words = map (λ word. word.now) words
 
 -- ---- the command line, as clap has it
 

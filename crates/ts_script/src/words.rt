@@ -9,7 +9,7 @@ ghost use Rattle.clap.specs.Matches.{found_of};
 ghost use Rattle.clap.specs.Simple.{subcommand_rows_of};
 ghost use Rattle.ts_script.specs.Shapes.{Gives};
 ghost use Rattle.ts_script.specs.Meanings.{IsFitAsked};
-ghost use Rattle.ts_script.specs.Words.{asked, asked_by, box_in, consolidate_asked, delete_asked, fields_in, generate_asked, layout_in, limit_in, line_alone, number_in, object_asked, read_asked, spelled, vacuum_asked};
+ghost use Rattle.ts_script.specs.Words.{asked, asked_by, box_in, consolidate_asked, delete_asked, fields_in, generate_asked, layout_in, limit_in, line_alone, number_in, object_asked, read_asked, word_texts, vacuum_asked};
 
 use crate::commands::tilestore_command;
 use crate::fitting::{as_text, fits};
@@ -77,7 +77,7 @@ pub enum ObjectForm {
 /// exactly where `clap` refuses them, as it does a request for help too, or where the value of an option has
 /// another form.
 pub fn read_words(alloc: Global, words: &[&str]) -> Result<Asked, FormFault>
-    ensures asked { Gives result (asked (spelled words.entry.now)) }
+    ensures asked { Gives result (asked (word_texts words.entry.now)) }
     ensures fit { IfOk result IsFitAsked }
 {
     let command = match tilestore_command(alloc) {

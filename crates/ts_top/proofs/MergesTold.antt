@@ -16,7 +16,7 @@ use Rattle.ts_store.specs.Journals.{held_after}
 use Rattle.ts_schema.specs.declared.schemas.Schema.{Schema}
 use Rattle.ts_model.specs.declared.commands.Command.TheVariants.{Consolidate, Vacuum}
 use Rattle.ts_model.specs.declared.commands.Job.{Job}
-use Rattle.ts_model.specs.Deeds.{History, schema_there}
+use Rattle.ts_model.specs.Deeds.{History, current_schema}
 use Rattle.ts_model.specs.Jobs.{key_of, looked_at}
 use Rattle.ts_model.specs.States.{vac_of}
 use Rattle.ts_model.specs.Told.{Told, entries_of, entry_of, held_told, history_told}
@@ -80,10 +80,10 @@ module _ (m : Held) (jobs : List Job) (past : History) (lane : Option ℕ → �
         }
 
     -- a schema that a job found at its stamp holds there in the history after it
-    pub schema_found : (job : Job) → looked_at job ≡ job.at → FindsSchema jobs past told number job → (there : Schema) × (schema_there (history_told jobs past told) job.at ≡ Some there)
+    pub schema_found : (job : Job) → looked_at job ≡ job.at → FindsSchema jobs past told number job → (there : Schema) × (current_schema (history_told jobs past told) job.at ≡ Some there)
     schema_found job looks is = (
-      is.there,
-      ap (schema_there (history_told jobs past told)) (sym looks) ∙ ap (λ h. schema_there h (looked_at job)) (sym (listed_now jobs past a c told parts number early Schemas is.schemas still)) ∙ is.holds,
+      is.current,
+      ap (current_schema (history_told jobs past told)) (sym looks) ∙ ap (λ h. current_schema h (looked_at job)) (sym (listed_now jobs past a c told parts number early Schemas is.schemas still)) ∙ is.holds,
     )
 
     module _ (stays : (front mid : List Told) → told ≡ front ++ mid → All (IsNoSweep jobs) mid → HeldSince (held_told m front) (held_told m told)) (job : Job) (is_job : slice_get jobs number ≡ Some job) (mine : (e : Told) → Contains c e → e.job ≡ Some number)

@@ -45,7 +45,7 @@ use Rattle.ts_model.specs.declared.deeds.Written.{Written}
 use Rattle.ts_model.specs.declared.deeds.Deletion.{Deletion}
 use Rattle.ts_model.specs.Commands.{create_refusal, frame_made, laid}
 use Rattle.ts_model.specs.Queries.{delete_condition}
-use Rattle.ts_model.specs.Deeds.{History, IsHistory, IsNewKey, frame_in, schemas, schema_there}
+use Rattle.ts_model.specs.Deeds.{History, IsHistory, IsNewKey, frame_in, schemas, current_schema}
 use Rattle.ts_model.specs.Driven.{AskedFrom, IsDriven}
 use Rattle.ts_base.specs.declared.names.Prefix.TheVariants.{Schemas}
 use Rattle.ts_model.specs.Jobs.{key_of, looked_at, looks_at, schema_of_job, written_as, deletion_as}
@@ -133,7 +133,7 @@ deed_no_lease h job found (name.Lease k mode) d is = absurd (none-some d is)
 deed_no_lease h job found _ d is = tt
 
 module _ (jobs : List Job) (past : History) (a c told : List Told) (parts : told ≡ a ++ c) (number : ℕ) (early : Early number a) where
-  held_once : (at : ListedAt told number Schemas) (k : Key) (there : Schema) → IsNewKey (history_told jobs past at.before) k → schema_there (history_told jobs past at.before) k.t ≡ Some there
+  held_once : (at : ListedAt told number Schemas) (k : Key) (there : Schema) → IsNewKey (history_told jobs past at.before) k → current_schema (history_told jobs past at.before) k.t ≡ Some there
       → HeldOnce (history_told jobs past a) (history_told jobs past told) k there
   held_once at k there new holds = (history_told jobs past at.before, listed_after jobs past a c told parts number early Schemas at, goes_on jobs past at.before (at.listing ∷ at.later) told at.place, new, holds)
 
@@ -160,13 +160,13 @@ module _ (jobs : List Job) (past : History) (a c told : List Told) (parts : told
         → IsSegment run_codec job (trace_of number c) (Done end) → IsTrueEnd run_spelled m jobs past told number job end → TellsOf end job.command
     end_tells outcome.Created still stays left short cause segment is = subst (TellsOf outcome.Created) (sym is.creates) (none_before is.made is.found_none, is.sound, is.framed, is.declared)
     end_tells (outcome.Evolved k) still stays left short cause segment (same, is) =
-        subst (TellsOf (outcome.Evolved k)) (sym is.evolves) (same, is.there, held_once is.schemas (key_of job) is.there is.undone is.holds, is.frame, is.framed, is.sound, is.declared)
+        subst (TellsOf (outcome.Evolved k)) (sym is.evolves) (same, is.current, held_once is.schemas (key_of job) is.current is.undone is.holds, is.frame, is.framed, is.sound, is.declared)
     end_tells (outcome.Written f) still stays left short cause segment (same, is) =
         subst (TellsOf (outcome.Written f)) (sym is.writes_them)
-        (same, is.there, held_once is.schemas (key_of job) is.there is.undone is.holds, is.frame, is.framed, is.cells, is.lays, is.written)
+        (same, is.current, held_once is.schemas (key_of job) is.current is.undone is.holds, is.frame, is.framed, is.cells, is.lays, is.written)
     end_tells (outcome.Deleted f) still stays left short cause segment (same, is) =
         subst (TellsOf (outcome.Deleted f)) (sym is.deletes)
-        (same, is.there, held_once is.schemas (key_of job) is.there is.undone is.holds, is.frame, is.framed, is.condition, is.says, is.erased)
+        (same, is.current, held_once is.schemas (key_of job) is.current is.undone is.holds, is.frame, is.framed, is.condition, is.says, is.erased)
     end_tells (outcome.Read answer) still stays left short cause segment (from, to, query, reads, is) =
         let same = (still (subst DoesNone (sym reads) tt)).0 in
         subst (TellsOf (outcome.Read answer)) (sym reads) (
@@ -266,8 +266,8 @@ looks_here job _ works = absurd works
 
 module _ (before h : History) (job : Job) (found : Option (List Key)) where
   -- the schema that the job uses held at its stamp, and the job is not refused there
-  abbrev Held_there : Command → Type 0
-  Held_there c = WorksIn c → (there : Schema) → schema_used h job found ≡ Some there → HeldOnce before h (key_of job) there × FitsIn h c there
+  abbrev Held_current : Command → Type 0
+  Held_current c = WorksIn c → (there : Schema) → schema_used h job found ≡ Some there → HeldOnce before h (key_of job) there × FitsIn h c there
 
   -- a create that puts an object is a right one, and but for the frame there was no schema before it
   abbrev Right_where : Name → Command → Type 0
@@ -280,7 +280,7 @@ module _ (before h : History) (job : Job) (found : Option (List Key)) where
   no_domain : (k : Key) → name.Schema k ≡ name.Domain → ⊥
   no_domain k is = cc
 
-  declared_own : (k : Key) (c : Command) (d : Deed) → Right_where (name.Schema k) c → Held_there c → option_map Declared (declared_by h job found c) ≡ Some d → IsDeedOf before h (key_of job) c d
+  declared_own : (k : Key) (c : Command) (d : Deed) → Right_where (name.Schema k) c → Held_current c → option_map Declared (declared_by h job found c) ≡ Some d → IsDeedOf before h (key_of job) c d
   declared_own k (Create made) d right held is =
       let (sound, none) = right made refl in
       subst (IsDeedOf before h (key_of job) (Create made)) (same_Some (Declared (schema_of_job job made.attrs)) d is) (none (no_domain k), sound, refl)
@@ -299,7 +299,7 @@ module _ (before h : History) (job : Job) (found : Option (List Key)) where
   written_from columns (Some there) None w is = absurd (none-some w is)
   written_from columns None frame w is = absurd (none-some w is)
 
-  written_own : (c : Command) (d : Deed) → Held_there c → option_map Wrote (written_by h job found c) ≡ Some d → IsDeedOf before h (key_of job) c d
+  written_own : (c : Command) (d : Deed) → Held_current c → option_map Wrote (written_by h job found c) ≡ Some d → IsDeedOf before h (key_of job) c d
   written_own (Write columns) d held is =
       let (w, at, same) = map_some Wrote (written_by h job found (Write columns)) d is in
       let (f, framed, there, used, cells, lays, made) = written_from columns (schema_used h job found) (frame_in h) w at in
@@ -314,7 +314,7 @@ module _ (before h : History) (job : Job) (found : Option (List Key)) where
   erased_from text (Some there) None e is = absurd (none-some e is)
   erased_from text None frame e is = absurd (none-some e is)
 
-  erased_own : (c : Command) (d : Deed) → Held_there c → option_map Erased (deleted_by h job found c) ≡ Some d → IsDeedOf before h (key_of job) c d
+  erased_own : (c : Command) (d : Deed) → Held_current c → option_map Erased (deleted_by h job found c) ≡ Some d → IsDeedOf before h (key_of job) c d
   erased_own (Delete text) d held is =
       let (e, at, same) = map_some Erased (deleted_by h job found (Delete text)) d is in
       let (f, framed, there, used, condition, says, made) = erased_from text (schema_used h job found) (frame_in h) e at in
@@ -322,14 +322,14 @@ module _ (before h : History) (job : Job) (found : Option (List Key)) where
   erased_own _ d held is = absurd (none-some d is)
 
   -- the deed of an object that a job puts is one of its command
-  put_own : (n : Name) (d : Deed) → Right_where n job.command → Held_there job.command → deed_of h job found n ≡ Some d → IsDeedOf before h (key_of job) job.command d
+  put_own : (n : Name) (d : Deed) → Right_where n job.command → Held_current job.command → deed_of h job found n ≡ Some d → IsDeedOf before h (key_of job) job.command d
   put_own name.Domain d right held is = framed_own job.command d right is
   put_own (name.Schema k) d right held is = declared_own k job.command d right held is
   put_own (name.Commit f Wrt) d right held is = written_own job.command d held is
   put_own (name.Commit f Del) d right held is = erased_own job.command d held is
   put_own _ d right held is = absurd (none-some d is)
 
-  call_own : (c : Call) (d : Deed) → ((n : Name) (bytes : List ℕ) → c ≡ call.Put n bytes → Right_where n job.command × Held_there job.command) → deed_in h job found c ≡ Some d → IsDeedOf before h (key_of job) job.command d
+  call_own : (c : Call) (d : Deed) → ((n : Name) (bytes : List ℕ) → c ≡ call.Put n bytes → Right_where n job.command × Held_current job.command) → deed_in h job found c ≡ Some d → IsDeedOf before h (key_of job) job.command d
   call_own (call.Put n bytes) d held is = let (right, there) = held n bytes refl in put_own n d right there is
   call_own _ d held is = absurd (none-some d is)
 
@@ -654,7 +654,7 @@ module _ (gives : ℕ → Bool) (seed : ℕ) (items : List Numbered) (jobs : Lis
       let (found, fits) = works_where_used run_codec run_spelled run_tracks run_laws one_lane jobs past m told results begins replied suit owned within in_turn driven
       seen (is.late ++ b) e place i job mine is_job (no_create job.command works) (no_merge job.command works) looks n bytes puts (no_lease n bytes puts) there uses in
       subst (λ h. HeldOnce (history_told jobs past a) h (key_of job) there × FitsIn h job.command there) now (
-        held_once jobs past a is.early seen refl i early found.schemas (key_of job) there found.undone (ap (schema_there (history_told jobs past (found.schemas).before)) (sym looks) ∙ found.holds),
+        held_once jobs past a is.early seen refl i early found.schemas (key_of job) there found.undone (ap (current_schema (history_told jobs past (found.schemas).before)) (sym looks) ∙ found.holds),
         fits,
       ) in
       call_own (history_told jobs past a) (history_told jobs past a ++ front) job (schemas_found (trace_of i seen)) e.call d (λ n bytes puts. (right n bytes puts, held n bytes puts)) deed

@@ -14,7 +14,7 @@ use Rattle.ts_model.specs.States.{Exchange}
 use Rattle.ts_model.proofs.Driving.{Makes}
 use Rattle.ts_law.specs.Doing.{RanOver}
 use Rattle.ts_law.proofs.Doing.{ran-told}
-use Rattle.ts_actor.specs.Drives.{Leads, AreAsked, EndsAs, Drove}
+use Rattle.ts_actor.specs.Drives.{MadeInTurn, AreAsked, EndsAs, Drove}
 use Rattle.ts_actor.proofs.Below.{CalledAbove, leads_below}
 use Rattle.ts_actor.proofs.JobRuns.{job_ends, asked_by, comes_out}
 use Rattle.ts_commands.specs.declared.actors.AnyActor.{AnyActor}
@@ -23,8 +23,8 @@ use Rattle.ts_commands.proofs.Asked.{asks_it}
 use Rattle.ts_top.specs.Runners.{JustMade, KeepsCount}
 
 -- calls that were made after others
-pub leads-append : {S : Type 0} (call : S → Exchange → S → Type 0) (a b c : S) (xs ys : List Exchange) → Leads call a xs b → Leads call b ys c → Leads call a (xs ++ ys) c
-leads-append {S} call a b c [] ys is more = let P : S → Type 0 = λ s. Leads call s ys c in subst P is more
+pub leads-append : {S : Type 0} (call : S → Exchange → S → Type 0) (a b c : S) (xs ys : List Exchange) → MadeInTurn call a xs b → MadeInTurn call b ys c → MadeInTurn call a (xs ++ ys) c
+leads-append {S} call a b c [] ys is more = let P : S → Type 0 = λ s. MadeInTurn call s ys c in subst P is more
 leads-append call a b c (x ∷ xs) ys (between, made, rest) more = (between, made, leads-append call between b c xs ys rest more)
 
 module _ {S : Type 0} (held : S → Option Held) (told : S → Fate) (faults asked : S → ℕ) (notes : S → Call → Reply → S → Type 0) where
@@ -32,17 +32,17 @@ module _ {S : Type 0} (held : S → Option Held) (told : S → Fate) (faults ask
   abbrev pub RecorderCalled : Recorder S → Exchange → Recorder S → Type 0
   RecorderCalled = CalledAbove held told faults asked notes
 
-  pub lane_stays : (a b : Recorder S) (xs : List Exchange) → Leads RecorderCalled a xs b → b.book.lane ≡ a.book.lane
+  pub lane_stays : (a b : Recorder S) (xs : List Exchange) → MadeInTurn RecorderCalled a xs b → b.book.lane ≡ a.book.lane
   lane_stays a b [] is = ap (λ (r : Recorder S). r.book.lane) is
   lane_stays a b (x ∷ xs) (between, called, rest) = lane_stays between b xs rest ∙ called.noted.0.lane
 
-  pub count_stays : (a b : Recorder S) (xs : List Exchange) → Leads RecorderCalled a xs b → KeepsCount (faults a.store) (faults b.store) a.book.journal b.book.journal
+  pub count_stays : (a b : Recorder S) (xs : List Exchange) → MadeInTurn RecorderCalled a xs b → KeepsCount (faults a.store) (faults b.store) a.book.journal b.book.journal
   count_stays a b [] is = let P : Recorder S → Type 0 = λ r. KeepsCount (faults a.store) (faults r.store) a.book.journal r.book.journal in subst P (sym is) (λ base counts. counts)
   count_stays a b (x ∷ xs) (between, called, rest) = λ base counts. count_stays between b xs rest base (called.noted.0.counted base counts)
 
   -- the calls lead from one store to another, the first of which enters in this lane
   abbrev LeadsIn : ℕ → Recorder S → List Exchange → Recorder S → Type 0
-  LeadsIn lane a xs b = (a.book.lane ≡ lane) × Leads RecorderCalled a xs b
+  LeadsIn lane a xs b = (a.book.lane ≡ lane) × MadeInTurn RecorderCalled a xs b
 
   makes : (lane : ℕ) (a b : Recorder S) (x : Exchange) → a.book.lane ≡ lane → RecorderCalled a x b → Makes lane (held a.store) (held b.store) a.book.journal b.book.journal x
   makes lane a b x is called =

@@ -30,7 +30,7 @@ use Rattle.ts_model.specs.declared.answers.Refusal.TheVariants as refusal
 use Rattle.ts_model.specs.declared.deeds.Deed.{Deed}
 use Rattle.ts_model.specs.declared.deeds.Deed.TheVariants.{Framed, Declared, Wrote, Erased}
 use Rattle.ts_model.specs.Commands.{frame_made}
-use Rattle.ts_model.specs.Deeds.{Follow, History, IsHistory, IsNewKey, MayFollow, frame_in, key_in, schema_in, schema_there, schemas}
+use Rattle.ts_model.specs.Deeds.{Follow, History, IsHistory, IsNewKey, MayFollow, frame_in, key_in, schema_in, current_schema, schemas}
 use Rattle.ts_model.specs.Jobs.{key_of, looked_at, looks_at}
 use Rattle.ts_model.specs.Stages.{mode_of}
 use Rattle.ts_model.specs.States.{get_frame, made_by, place_of}
@@ -242,13 +242,13 @@ module _ (m : Held) (jobs : List Job) (past : History) (lane : Option ℕ → �
   module _ (still : now ≡ before) where
     -- the command is refused in the frame and the schema there
     abbrev IsRefusedIn : Refusal → Command → Type 0
-    IsRefusedIn r command = (there : Schema) × (schema_there now (looks_for (key_of job) command) ≡ Some there) × (frame : Frame) × (frame_in now ≡ Some frame) × (refusal_in frame there.attrs command ≡ Some r)
+    IsRefusedIn r command = (there : Schema) × (current_schema now (looks_for (key_of job) command) ≡ Some there) × (frame : Frame) × (frame_in now ≡ Some frame) × (refusal_in frame there.attrs command ≡ Some r)
 
     fault_found : (r : Refusal) → FindsFault jobs past told number job r → IsRefusedIn r job.command
     fault_found r is =
         let over = listed_now jobs past a c told parts number early Schemas is.schemas still in (
-          is.there,
-          ap (schema_there now) (sym (looks_same job job.command)) ∙ ap (λ h. schema_there h (looked_at job)) (sym over) ∙ is.holds,
+          is.current,
+          ap (current_schema now) (sym (looks_same job job.command)) ∙ ap (λ h. current_schema h (looked_at job)) (sym over) ∙ is.holds,
           is.frame,
           ap frame_in (sym over) ∙ is.framed,
           is.refused,
@@ -260,7 +260,7 @@ module _ (m : Held) (jobs : List Job) (past : History) (lane : Option ℕ → �
     no_schema at Fragments is found = absurd (subst WorksInSchema is found.works)
     no_schema at command is found = (
       found.looks ∙ looks_same job job.command ∙ ap (looks_for (key_of job)) is,
-      ap (λ h. schema_there h at) (sym (listed_now jobs past a c told parts number early Schemas found.schemas still)) ∙ found.none,
+      ap (λ h. current_schema h at) (sym (listed_now jobs past a c told parts number early Schemas found.schemas still)) ∙ found.none,
     )
 
     -- a command without a lease finds none in its way
@@ -293,8 +293,8 @@ module _ (m : Held) (jobs : List Job) (past : History) (lane : Option ℕ → �
       where
         by_command : (command : Command) → job.command ≡ command → IsRefusedAs jobs past told number job r command → HasCause calls_of now (key_of job) r command
         by_command (Create made) same refused = refused.0
-        by_command (Unlock seed lane) same refused = absurd (none-some r (subst (λ q. refusal_in refused.frame (refused.there).attrs q ≡ Some r) same refused.refused))
-        by_command Fragments same refused = absurd (none-some r (subst (λ q. refusal_in refused.frame (refused.there).attrs q ≡ Some r) same refused.refused))
+        by_command (Unlock seed lane) same refused = absurd (none-some r (subst (λ q. refusal_in refused.frame (refused.current).attrs q ≡ Some r) same refused.refused))
+        by_command Fragments same refused = absurd (none-some r (subst (λ q. refusal_in refused.frame (refused.current).attrs q ≡ Some r) same refused.refused))
         by_command command same refused = subst (IsRefusedIn r) same (fault_found r refused)
 
   -- a refusal that is true of a job tells so of its command

@@ -22,7 +22,7 @@ use Rattle.ts_model.specs.States.{Exchange, leases_unlocked, list_commits, list_
 use Rattle.ts_model.specs.Told.{IsReplied, Replied, Suits, Told, entries_of, held_told, trace_of}
 use Rattle.ts_model.proofs.ListLemmas.{Contains-cons, Contains-here, Contains-nil, Contains-there}
 use Rattle.ts_model.proofs.Traces.{held_told-append}
-use Rattle.ts_law.specs.Courses.{Along, EndsAlong, EndsUnder, Found, IsLookBy, IsLookOf, IsSegment, MayEndAs, SaysThere, course_by, lets_on, under_lease}
+use Rattle.ts_law.specs.Courses.{Along, EndsAlong, EndsUnder, Found, IsLookBy, IsLookOf, IsSegment, MayEndAs, SaysFound, course_by, lets_on, under_lease}
 use Rattle.ts_law.proofs.Effects.{listed}
 use Rattle.ts_law.proofs.Fetches.{Contains-map, map-Contains}
 use Rattle.ts_law.proofs.Journals.{journal_held}
@@ -52,7 +52,7 @@ module _ (h : Held) (c : List Told) (i : ℕ) (job : Job) (own : (e : Told) → 
     gone : (n : Name) → Contains leases n → map.get (held_told h c) n ≡ None
     others : (n : Name) → (Contains leases n → ⊥) → map.get (held_told h c) n ≡ map.get h n
 
-  module _ (seed lane : ℕ) (unlocks : job.command ≡ Unlock seed lane) (found : Found) (are_found : All (λ (x : Exchange). SaysThere found job.command x.call x.reply) (trace_of i c))
+  module _ (seed lane : ℕ) (unlocks : job.command ≡ Unlock seed lane) (found : Found) (are_found : All (λ (x : Exchange). SaysFound found job.command x.call x.reply) (trace_of i c))
       (along : Along (IsLookOf run_codec job found) [] (list_leases ∷ list_map call.Remove found.leases) (trace_of i c) []) where
     -- an unlock looks at nothing
     no_look : (before : List Exchange) (x : Call) → IsLookOf run_codec job found before x → ⊥
@@ -67,10 +67,10 @@ module _ (h : Held) (c : List Told) (i : ℕ) (job : Job) (own : (e : Told) → 
     leases_are =
         let (names, said) = told_names Leases (at.first).reply at.lets in
         let told : names ≡ names_under Leases h = listed h at.first Leases names at.calls (subst (Replied h) at.parts replied).0 said in
-        let first = All-head (λ (x : Exchange). SaysThere found job.command x.call x.reply) (record { call = (at.first).call; reply = (at.first).reply }) (trace_of i at.later)
-        (subst (All (λ (x : Exchange). SaysThere found job.command x.call x.reply)) (ap (trace_of i) at.parts ∙ trace_first i at.first at.later (own at.first (subst (λ l. Contains l at.first) (sym at.parts) (Contains-here at.first at.later)))) are_found) in
-        let says : SaysThere found (Unlock seed lane) list_leases (reply.Names names) = subst (λ r. SaysThere found (Unlock seed lane) list_leases r) said (subst (λ q. SaysThere found (Unlock seed lane) q (at.first).reply) at.calls
-        (subst (λ q. SaysThere found q (at.first).call (at.first).reply) unlocks first)) in
+        let first = All-head (λ (x : Exchange). SaysFound found job.command x.call x.reply) (record { call = (at.first).call; reply = (at.first).reply }) (trace_of i at.later)
+        (subst (All (λ (x : Exchange). SaysFound found job.command x.call x.reply)) (ap (trace_of i) at.parts ∙ trace_first i at.first at.later (own at.first (subst (λ l. Contains l at.first) (sym at.parts) (Contains-here at.first at.later)))) are_found) in
+        let says : SaysFound found (Unlock seed lane) list_leases (reply.Names names) = subst (λ r. SaysFound found (Unlock seed lane) list_leases r) said (subst (λ q. SaysFound found (Unlock seed lane) q (at.first).reply) at.calls
+        (subst (λ q. SaysFound found q (at.first).call (at.first).reply) unlocks first)) in
         says ∙ ap (leases_unlocked seed lane) told
 
     -- a call after the listing removes one of these leases

@@ -22,7 +22,7 @@ use Rattle.ts_model.specs.declared.commands.Command.TheVariants.{Create, Read, C
 use Rattle.ts_model.specs.declared.answers.Refusal.{Refusal}
 use Rattle.ts_model.specs.declared.answers.Refusal.TheVariants as refusal
 use Rattle.ts_model.specs.Commands.{create_refusal, frame_made}
-use Rattle.ts_model.specs.Deeds.{History, IsNewKey, frame_in, schema_there, schemas}
+use Rattle.ts_model.specs.Deeds.{History, IsNewKey, frame_in, current_schema, schemas}
 use Rattle.ts_model.specs.Stages.{mode_of}
 use Rattle.ts_model.specs.States.{place_of}
 use Rattle.ts_law.specs.Ends.{kind_of}
@@ -63,10 +63,10 @@ HasCause calls h k refusal.ArrayExists (Create made) = ((frame : Frame) × (fram
 HasCause calls h k r (Create made) = create_refusal made ≡ Some r
 HasCause calls h k r (Unlock seed lane) = ⊥
 HasCause calls h k r Fragments = ⊥
-HasCause calls h k (refusal.NoSchema at) command = (at ≡ looks_for k command) × (schema_there h at ≡ None)
+HasCause calls h k (refusal.NoSchema at) command = (at ≡ looks_for k command) × (current_schema h at ≡ None)
 HasCause calls h k (refusal.Leased other) command = IsOpposed calls k command other
-HasCause calls h k (refusal.NothingToDo eligible) (Consolidate from to limits) = (there : Schema) × (schema_there h k.t ≡ Some there) × Plans calls h from to limits (Nothing eligible)
-HasCause calls h k r command = (there : Schema) × (schema_there h (looks_for k command) ≡ Some there) × (frame : Frame) × (frame_in h ≡ Some frame) × (refusal_in frame there.attrs command ≡ Some r)
+HasCause calls h k (refusal.NothingToDo eligible) (Consolidate from to limits) = (current : Schema) × (current_schema h k.t ≡ Some current) × Plans calls h from to limits (Nothing eligible)
+HasCause calls h k r command = (current : Schema) × (current_schema h (looks_for k command) ≡ Some current) × (frame : Frame) × (frame_in h ≡ Some frame) × (refusal_in frame current.attrs command ≡ Some r)
 
 -- what a refusal tells.
 -- No object is missing, damaged or taken.

@@ -32,7 +32,7 @@ use Rattle.ts_model.specs.declared.answers.Driven.TheVariants.{Done, Stopped}
 use Rattle.ts_model.specs.declared.deeds.Deed.{Deed}
 use Rattle.ts_model.specs.declared.deeds.Deed.TheVariants.{Framed, Declared, Wrote, Erased}
 use Rattle.ts_model.specs.Answers.{IsWhole}
-use Rattle.ts_model.specs.Deeds.{History, frame_in, schemas, schema_with, schema_there, writes, deletions, IsNewKey}
+use Rattle.ts_model.specs.Deeds.{History, frame_in, schemas, schema_with, current_schema, writes, deletions, IsNewKey}
 use Rattle.ts_model.specs.Commands.{create_refusal, frame_made, laid}
 use Rattle.ts_model.specs.Queries.{delete_condition}
 use Rattle.ts_model.specs.Stages.{mode_of}
@@ -61,7 +61,7 @@ Extends sooner later = (deeds : List Deed) × (later ≡ sooner ++ deeds)
 
 -- a schema held at the stamp of a command with the key, at some time while the history went from `before` to `now`, when it had no deed of the command
 abbrev pub HeldOnce : History → History → Key → Schema → Type 0
-HeldOnce before now k schema = (once : History) × Extends before once × Extends once now × IsNewKey once k × (schema_there once k.t ≡ Some schema)
+HeldOnce before now k schema = (once : History) × Extends before once × Extends once now × IsNewKey once k × (current_schema once k.t ≡ Some schema)
 
 -- at the end of its calls no lease of a command with the key is held
 abbrev pub HasNoLease : Calls → Key → Command → Type 0
@@ -95,17 +95,17 @@ Tells calls before now k (outcome.Read answer) (Read from to query) = Answers ca
 Tells calls before now k outcome.Created (Create made) =
     (schemas before ≡ []) × (create_refusal made ≡ None) × (frame_in now ≡ Some (frame_made made)) × (schema_with now k ≡ Some (record { key = k; attrs = made.attrs }))
 Tells calls before now k (outcome.Evolved n) (Evolve change) =
-    (n ≡ k) × (there : Schema) × HeldOnce before now k there × (frame : Frame) × (frame_in now ≡ Some frame)
-    × (evolution_fault frame.domain there.attrs change ≡ None) × (schema_with now k ≡ Some (record { key = k; attrs = evolved_attrs there.attrs change }))
+    (n ≡ k) × (current : Schema) × HeldOnce before now k current × (frame : Frame) × (frame_in now ≡ Some frame)
+    × (evolution_fault frame.domain current.attrs change ≡ None) × (schema_with now k ≡ Some (record { key = k; attrs = evolved_attrs current.attrs change }))
 Tells calls before now k (outcome.Written f) (Write columns) =
-    (f ≡ frag_of k) × (there : Schema) × HeldOnce before now k there × (frame : Frame) × (frame_in now ≡ Some frame)
-    × (cells : List Cell) × (laid frame there.attrs columns ≡ Ok cells) × Contains (writes now) (record { key = k; schema = there.key; cells = cells })
+    (f ≡ frag_of k) × (current : Schema) × HeldOnce before now k current × (frame : Frame) × (frame_in now ≡ Some frame)
+    × (cells : List Cell) × (laid frame current.attrs columns ≡ Ok cells) × Contains (writes now) (record { key = k; schema = current.key; cells = cells })
 Tells calls before now k (outcome.Deleted f) (Delete text) =
-    (f ≡ frag_of k) × (there : Schema) × HeldOnce before now k there × (frame : Frame) × (frame_in now ≡ Some frame)
-    × (condition : Condition) × (delete_condition frame there.attrs text ≡ Ok condition) × Contains (deletions now) (record { key = k; cond = condition })
+    (f ≡ frag_of k) × (current : Schema) × HeldOnce before now k current × (frame : Frame) × (frame_in now ≡ Some frame)
+    × (condition : Condition) × (delete_condition frame current.attrs text ≡ Ok condition) × Contains (deletions now) (record { key = k; cond = condition })
 Tells calls before now k (outcome.Consolidated f count) (Consolidate from to limits) =
-    (now ≡ before) × IsNewKey now k × (there : Schema) × (schema_there now k.t ≡ Some there) × Merged calls now k from to limits f count × HasNoLease calls k (Consolidate from to limits)
-Tells calls before now k (outcome.Vacuumed count) Vacuum = (now ≡ before) × IsNewKey now k × (there : Schema) × (schema_there now k.t ≡ Some there) × Vacuumed calls count × HasNoLease calls k Vacuum
+    (now ≡ before) × IsNewKey now k × (current : Schema) × (current_schema now k.t ≡ Some current) × Merged calls now k from to limits f count × HasNoLease calls k (Consolidate from to limits)
+Tells calls before now k (outcome.Vacuumed count) Vacuum = (now ≡ before) × IsNewKey now k × (current : Schema) × (current_schema now k.t ≡ Some current) × Vacuumed calls count × HasNoLease calls k Vacuum
 Tells calls before now k (outcome.Unlocked count) (Unlock seed lane) = (now ≡ before) × IsNewKey now k × Unlocked calls seed lane count
 Tells calls before now k (outcome.Listed names) Fragments = (now ≡ before) × IsNewKey now k × (names ≡ names_under Commits calls.opening)
 Tells calls before now k (outcome.Refused r) command = TellsRefusal calls before now k command r
@@ -117,14 +117,14 @@ abbrev pub IsDeedOf : History → History → Key → Command → Deed → Type 
 IsDeedOf before h k (Create made) (Framed frame) = (create_refusal made ≡ None) × (frame ≡ frame_made made)
 IsDeedOf before h k (Create made) (Declared s) = (schemas before ≡ []) × (create_refusal made ≡ None) × (s ≡ record { key = k; attrs = made.attrs })
 IsDeedOf before h k (Evolve change) (Declared s) =
-    (there : Schema) × HeldOnce before h k there × (frame : Frame) × (frame_in h ≡ Some frame)
-    × (evolution_fault frame.domain there.attrs change ≡ None) × (s ≡ record { key = k; attrs = evolved_attrs there.attrs change })
+    (current : Schema) × HeldOnce before h k current × (frame : Frame) × (frame_in h ≡ Some frame)
+    × (evolution_fault frame.domain current.attrs change ≡ None) × (s ≡ record { key = k; attrs = evolved_attrs current.attrs change })
 IsDeedOf before h k (Write columns) (Wrote w) =
-    (there : Schema) × HeldOnce before h k there × (frame : Frame) × (frame_in h ≡ Some frame)
-    × (cells : List Cell) × (laid frame there.attrs columns ≡ Ok cells) × (w ≡ record { key = k; schema = there.key; cells = cells })
+    (current : Schema) × HeldOnce before h k current × (frame : Frame) × (frame_in h ≡ Some frame)
+    × (cells : List Cell) × (laid frame current.attrs columns ≡ Ok cells) × (w ≡ record { key = k; schema = current.key; cells = cells })
 IsDeedOf before h k (Delete text) (Erased e) =
-    (there : Schema) × HeldOnce before h k there × (frame : Frame) × (frame_in h ≡ Some frame)
-    × (condition : Condition) × (delete_condition frame there.attrs text ≡ Ok condition) × (e ≡ record { key = k; cond = condition })
+    (current : Schema) × HeldOnce before h k current × (frame : Frame) × (frame_in h ≡ Some frame)
+    × (condition : Condition) × (delete_condition frame current.attrs text ≡ Ok condition) × (e ≡ record { key = k; cond = condition })
 IsDeedOf before h k _ _ = ⊥
 
 -- how a command came out tells the truth: its end does, and one that was stopped was to be stopped

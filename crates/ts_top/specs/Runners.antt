@@ -17,7 +17,7 @@ use Rattle.ts_model.specs.States.{Exchange}
 use Rattle.ts_law.specs.Doing.{AllRan, RanOver}
 use Rattle.ts_law.specs.Fresh.{AreJobsOf, IsStampOf, Numbered, id_of, job_from}
 use Rattle.ts_plain.specs.Pieces.{IsPlain}
-use Rattle.ts_actor.specs.Drives.{Called, MadeOf}
+use Rattle.ts_actor.specs.Drives.{Exchanged, MadeOf}
 use Rattle.ts_actor.specs.PlainCodec.{plain_codec, NeverWaits}
 use Rattle.ts_fetch.specs.Plans.{Going}
 use Rattle.ts_kinds.specs.declared.either_fetch.EitherFetch.{EitherFetch}
@@ -31,7 +31,7 @@ KeepsCount before now journal longer = (base : ℕ) → capped (base + failures 
 
 -- just these calls were made of a store, but for such as found no memory; the store's own members say what each did
 abbrev pub JustMade : {S : Type 0} → (S → Option Held) → (S → Fate) → (S → ℕ) → (S → Call → Reply → S → Type 0) → S → List Exchange → S → Type 0
-JustMade held last faults notes before calls later = MadeOf (Called held last faults notes) before calls later
+JustMade held last faults notes before calls later = MadeOf (Exchanged held last faults notes) before calls later
 
 -- how far a fetch of the program has come: in a dense array it found all versions at once, in a sparse one it goes through the tiles of its plan
 abbrev pub RunFetch : Type 0

@@ -2,7 +2,7 @@
 ghost use Rattle.std.specs.Prelude.{◌≡◌, ◌⊎◌, ◌+◌, ◌≤◌, ℕ, List, [], length, Err, Some, None, true, IfOk, IfErr, IsErrOf, IsSomeAnd};
 ghost use Rattle.ts_store.specs.Counts.{capped, Rose};
 ghost use Rattle.ts_store.specs.Journals.{failures};
-ghost use Rattle.ts_script.specs.Words.{asked, spelled};
+ghost use Rattle.ts_script.specs.Words.{asked, word_texts};
 ghost use Rattle.ts_top.specs.Runners.{JustMade};
 ghost use Rattle.ts_script.specs.declared.words.Asked.{Asked};
 ghost use Rattle.ts_script.specs.Meanings.{has_input, meaning};
@@ -96,9 +96,9 @@ struct Prepared {
 
 // Reads the words, and the input where they ask for something that has one.
 fn prepare<I: Source>(alloc: Global, words: &[&str], input: &mut I) -> Result<Prepared, Stop>
-    ensures read { IfOk result (IsPrepared (spelled words.entry.now) (stream I.left I.faults input.old input.new)) }
+    ensures read { IfOk result (IsPrepared (word_texts words.entry.now) (stream I.left I.faults input.old input.new)) }
     ensures limited { IfOk result (λ prepared. AreLimited prepared.lines) }
-    ensures reason { IfErr result (HasReason (spelled words.entry.now) (stream I.left I.faults input.old input.new)) }
+    ensures reason { IfErr result (HasReason (word_texts words.entry.now) (stream I.left I.faults input.old input.new)) }
 {
     let asked = match read_words(alloc, words) {
         Ok(asked) => asked,
@@ -274,7 +274,7 @@ pub fn run<R: Threads + Sync, S: Store, I: Source, O: Sink, C: Clock>(
     clock: &C,
 ) -> Ran<S>
     ensures run { IsRunOf S.held (JustMade S.held S.last S.faults S.notes) (record {
-      words = spelled words.entry.now;
+      words = word_texts words.entry.now;
       seed = seed;
       gives = C.gives clock.now;
       input = stream I.left I.faults input.old input.new;
@@ -287,7 +287,7 @@ pub fn run<R: Threads + Sync, S: Store, I: Source, O: Sink, C: Clock>(
 
     // What it means, in words of the history.
     ensures promise { Promised S.held (record {
-      words = spelled words.entry.now;
+      words = word_texts words.entry.now;
       seed = seed;
       gives = C.gives clock.now;
       input = stream I.left I.faults input.old input.new;
@@ -302,15 +302,15 @@ pub fn run<R: Threads + Sync, S: Store, I: Source, O: Sink, C: Clock>(
     ensures counted { capped (S.faults store + failures result.journal) ≤ S.faults result.store }
 
     // Each status, with where it comes.
-    ensures usage { result.status ≡ 2 → asked (spelled words.entry.now) ≡ None }
-    ensures usage_there { asked (spelled words.entry.now) ≡ None → (result.status ≡ 2) ⊎ (result.status ≡ 7) }
-    ensures bad_script { result.status ≡ 3 → (n : ℕ) × AskFor (spelled words.entry.now) (I.left input.old) (Err (Bad n)) }
-    ensures bad_script_there { (job : Asked) → asked (spelled words.entry.now) ≡ Some job → (n : ℕ) → IsSomeAnd (I.left input.old) (λ all. meaning job all ≡ Err (Bad n))
+    ensures usage { result.status ≡ 2 → asked (word_texts words.entry.now) ≡ None }
+    ensures usage_there { asked (word_texts words.entry.now) ≡ None → (result.status ≡ 2) ⊎ (result.status ≡ 7) }
+    ensures bad_script { result.status ≡ 3 → (n : ℕ) × AskFor (word_texts words.entry.now) (I.left input.old) (Err (Bad n)) }
+    ensures bad_script_there { (job : Asked) → asked (word_texts words.entry.now) ≡ Some job → (n : ℕ) → IsSomeAnd (I.left input.old) (λ all. meaning job all ≡ Err (Bad n))
         → (result.status ≡ 3) ⊎ (result.status ≡ 4) ⊎ (result.status ≡ 7) }
-    ensures read_fault { result.status ≡ 4 → IsSomeAnd (asked (spelled words.entry.now)) (λ job. has_input job ≡ true) × Rose (I.faults input.old) (I.faults input.new) }
+    ensures read_fault { result.status ≡ 4 → IsSomeAnd (asked (word_texts words.entry.now)) (λ job. has_input job ≡ true) × Rose (I.faults input.old) (I.faults input.new) }
     ensures write_fault { result.status ≡ 5 → Rose (O.faults out.old) (O.faults out.new) }
     ensures refused { result.status ≡ 6 → WasRefused S.held (JustMade S.held S.last S.faults S.notes) (record {
-      words = spelled words.entry.now;
+      words = word_texts words.entry.now;
       seed = seed;
       gives = C.gives clock.now;
       input = stream I.left I.faults input.old input.new;

@@ -12,7 +12,7 @@ use Rattle.ts_store.specs.Stores.{Answers, Steps}
 use Rattle.ts_turnstile.specs.declared.view.View.{View}
 use Rattle.ts_turnstile.specs.Lanes.{Hears}
 use Rattle.ts_turnstile.specs.Views.{lanes_of, saw}
-use Rattle.ts_turnstile.specs.Passes.{GoesOn, EnteredIf, Called}
+use Rattle.ts_turnstile.specs.Passes.{GoesOn, EnteredIf, CalledInTurn}
 
 told_on : (P Q : Held → Type 0) (m : Option Held) → IfSome m P → ((h : Held) → P h → Q h) → IfSome m Q
 told_on P Q None p on = tt
@@ -28,10 +28,10 @@ replied_by opened before now journal call did said told made answers =
     let done : Steps false (held_after m journal) now did call said = subst (λ b. Steps b (held_after m journal) now did call said) made stepped in
     (done.1, answers.known (subst (λ o. IsSome o) (sym is) refl)))
 
--- a call in turn is what `Called` says
+-- a call in turn is what `CalledInTurn` says
 pub called : (v w : View) (lane : ℕ) (before now : Option Held) (journal longer : List Entry) (call : Call) (did : Fate) (said : Reply) → v.lane ≡ lane → w ≡ saw v longer
     → IfSome v.opening.held (λ m. before ≡ Some (held_after m journal)) → Hears v.seen (lanes_of v) journal → EntersIf (is_no_memory said) journal longer (entry lane call did)
-    → (is_no_memory said ≡ false → Answers before now did call said) → Called v w call said
+    → (is_no_memory said ≡ false → Answers before now did call said) → CalledInTurn v w call said
 called v w lane before now journal longer call did said own is told goes_on enters answers =
     let Is : View → Type 0 = λ u. (u ≡ saw v u.seen) × EnteredIf (is_no_memory said) v u.seen call said in
     let all = subst Is (sym is) (refl, tells (is_no_memory said) refl enters) in

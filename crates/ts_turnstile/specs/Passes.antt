@@ -38,6 +38,6 @@ EnteredIf true v journal call said = GoesOn v journal
 EnteredIf false v journal call said = Entered v journal call said
 
 -- a call of a pass: it is entered, unless there was no memory, and nothing changed but what the pass has seen
-pub record Called (v w : View) (call : Call) (said : Reply) : Type 0 where
+pub record CalledInTurn (v w : View) (call : Call) (said : Reply) : Type 0 where
   pub same : w ≡ saw v w.seen
   pub tells : EnteredIf (is_no_memory said) v w.seen call said

@@ -8,7 +8,7 @@ ghost use Rattle.ts_turnstile.specs.Views.{opening_of, first_view, lanes_of, wit
 ghost use Rattle.ts_turnstile.specs.Lanes.{Hears};
 ghost use Rattle.ts_turnstile.specs.Places.{place_in, place_after};
 ghost use Rattle.ts_turnstile.specs.Rule.{Replays};
-ghost use Rattle.ts_turnstile.specs.Passes.{pass_view, Called};
+ghost use Rattle.ts_turnstile.specs.Passes.{pass_view, CalledInTurn};
 ghost use Rattle.ts_turnstile.specs.Belonging.{Belongs, Rests, Awaits};
 
 use crate::closed::Closed;
@@ -74,7 +74,7 @@ impl<S: Store> Turnstile<S> {
         ensures own { Belongs self.now pass.new }
         ensures fits { FitsCall call result }
         ensures spelled { IsSpelledReply result }
-        ensures called { Called (pass_view pass.old) (pass_view pass.new) call result }
+        ensures called { CalledInTurn (pass_view pass.old) (pass_view pass.new) call result }
     {
         let badge = mem::replace(&mut pass.badge, Badge::blank());
         let mut seat = badge.into_seat();
@@ -127,7 +127,7 @@ impl<S: Store> Turnstile<S> {
         ensures rests { Rests seat.new.me }
         ensures fits { FitsCall call result.reply }
         ensures spelled { IsSpelledReply result.reply }
-        ensures called { Called seat.old.me.0 seat.new.me.0 call result.reply }
+        ensures called { CalledInTurn seat.old.me.0 seat.new.me.0 call result.reply }
         ensures placed { place_in lane seat.new.me.0.seen ≡ place_after result.place (place_in lane seat.old.me.0.seen) }
     {
         let ticket = self.draw(rt, seat);

@@ -23,7 +23,7 @@ use Rattle.ts_law.specs.Runs.{exchanges}
 use Rattle.ts_law.specs.Stands.{Stands}
 use Rattle.ts_law.proofs.Alone.{IsTrueAlone, true_alone}
 use Rattle.ts_law.proofs.Doing.{ran-told}
-use Rattle.ts_actor.specs.Drives.{Called, Leads, AreAsked, EndsAs, Drove}
+use Rattle.ts_actor.specs.Drives.{Exchanged, MadeInTurn, AreAsked, EndsAs, Drove}
 use Rattle.ts_actor.proofs.JobRuns.{job_ends, asked_by, comes_out}
 use Rattle.ts_commands.specs.declared.actors.AnyActor.{AnyActor}
 use Rattle.ts_commands.specs.Actors.{job_of, Follows}
@@ -56,17 +56,17 @@ module _ {S : Type 0} (held : S → Option Held) (last : S → Fate) (faults : S
   abbrev LeadsOn : Entered S → List Exchange → Entered S → Type 0
   LeadsOn a [] b = b ≡ a
   LeadsOn a (x ∷ xs) b =
-      (between : Entered S) × Called held last faults notes a.store x between.store × (between.journal ≡ entered_after a.journal x.call (last between.store) x.reply) × LeadsOn between xs b
+      (between : Entered S) × Exchanged held last faults notes a.store x between.store × (between.journal ≡ entered_after a.journal x.call (last between.store) x.reply) × LeadsOn between xs b
 
   -- the calls that lead from one store to another have entries
-  entered_all : (a : Entered S) (xs : List Exchange) (b : S) → Leads (Called held last faults notes) a.store xs b → (end : Entered S) × (end.store ≡ b) × LeadsOn a xs end
+  entered_all : (a : Entered S) (xs : List Exchange) (b : S) → MadeInTurn (Exchanged held last faults notes) a.store xs b → (end : Entered S) × (end.store ≡ b) × LeadsOn a xs end
   entered_all a [] b is = (a, sym is, refl)
   entered_all a (x ∷ xs) b (between, called, rest) =
       let next : Entered S = record { store = between; journal = entered_after a.journal x.call (last between) x.reply } in
       let (end, same, way) = entered_all next xs b rest in
       (end, same, (next, called, refl, way))
 
-  makes : (a b : Entered S) (x : Exchange) → Called held last faults notes a.store x b.store → b.journal ≡ entered_after a.journal x.call (last b.store) x.reply
+  makes : (a b : Entered S) (x : Exchange) → Exchanged held last faults notes a.store x b.store → b.journal ≡ entered_after a.journal x.call (last b.store) x.reply
       → Makes 0 (held a.store) (held b.store) a.journal b.journal x
   makes a b x called is =
       let P : List Entry → Type 0 = λ es. Enters a.journal es 0 x.call (last b.store) x.reply in
@@ -76,7 +76,7 @@ module _ {S : Type 0} (held : S → Option Held) (last : S → Fate) (faults : S
     -- over a store that held m, which stands for a history, the actor of any job with a new identifier and any stop leaves what stands for the history after its calls, and its end tells the truth of it
     pub driven_alone : (job : Job) (h : History) (m : Held) (first final : AnyActor W F) (before later : S) (result : Driven Outcome)
         → held before ≡ Some m → Stands spelled m h → IsNewId m h m [] job.id → IsFit job → job_of first ≡ job → job_of final ≡ job
-        → (drove : Drove job_of (Follows codec) (job_ends codec) (Called held last faults notes) first final before later job.stop result)
+        → (drove : Drove job_of (Follows codec) (job_ends codec) (Exchanged held last faults notes) first final before later job.stop result)
         → DroveAlone held spelled job h m drove.trace later result
     driven_alone job h m first final before later result holds stands new fit first_is final_is drove =
         let Q : Job → Type 0 = λ j. AreAsked (job_of {P = W} {F = F}) (Follows {P = W} codec) j [] drove.trace in

@@ -50,9 +50,9 @@ impl<P: Pieces> Makes for Deletes<P> {
         alloc: Global,
         job: &Job,
         frame: &Frame,
-        there: &Schema,
+        current: &Schema,
     ) -> Result<State<P::Fetch>, OutOfMemory> {
-        delete::<P>(alloc, job, frame, there)
+        delete::<P>(alloc, job, frame, current)
     }
 }
 
@@ -72,15 +72,15 @@ fn delete<P: Pieces>(
     alloc: Global,
     job: &Job,
     frame: &Frame,
-    there: &Schema,
+    current: &Schema,
 ) -> Result<State<P::Fetch>, OutOfMemory>
     requires job { IsDeleteJob job.now }
-    requires attrs { AreAttrs there.now.attrs }
-    ensures is { IfOk result (λ state. (listed : AnyListed) → state ≡ works P.codec job.now job.now.command listed frame.now there.now) }
+    requires attrs { AreAttrs current.now.attrs }
+    ensures is { IfOk result (λ state. (listed : AnyListed) → state ≡ works P.codec job.now job.now.command listed frame.now current.now) }
     ensures may { IfOk result IsLaterState }
     ensures fewer { IfOk result (λ state. calls_left state < 2 ^ 195) }
 {
-    match check_delete(alloc, frame, there, text_in(job)) {
+    match check_delete(alloc, frame, current, text_in(job)) {
         Ok(condition) => put_delete(alloc, job, &condition),
         Err(QueryFault::Refused(refusal)) => Ok(refuse(refusal)),
         Err(QueryFault::OutOfMemory) => Err(OutOfMemory),

@@ -46,9 +46,9 @@ impl<P: Pieces> Makes for Evolves<P> {
         alloc: Global,
         job: &Job,
         frame: &Frame,
-        there: &Schema,
+        current: &Schema,
     ) -> Result<State<P::Fetch>, OutOfMemory> {
-        evolve::<P>(alloc, job, frame, there)
+        evolve::<P>(alloc, job, frame, current)
     }
 }
 
@@ -68,14 +68,14 @@ fn evolve<P: Pieces>(
     alloc: Global,
     job: &Job,
     frame: &Frame,
-    there: &Schema,
+    current: &Schema,
 ) -> Result<State<P::Fetch>, OutOfMemory>
     requires { IsEvolveJob job.now }
-    ensures is { IfOk result (λ state. (listed : AnyListed) → state ≡ works P.codec job.now job.now.command listed frame.now there.now) }
+    ensures is { IfOk result (λ state. (listed : AnyListed) → state ≡ works P.codec job.now job.now.command listed frame.now current.now) }
     ensures may { IfOk result IsLaterState }
     ensures fewer { IfOk result (λ state. calls_left state < 2 ^ 195) }
 {
-    match there.evolved(alloc, frame, key_of(job), change_in(job)) {
+    match current.evolved(alloc, frame, key_of(job), change_in(job)) {
         Ok(schema) => put_schema(alloc, job, &schema, Outcome::Evolved(key_of(job))),
         Err(SchemaFault::OutOfMemory) => Err(OutOfMemory),
         Err(fault) => Ok(refuse(Refusal::SchemaBad(fault))),

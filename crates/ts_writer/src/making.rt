@@ -53,12 +53,12 @@ pub trait Makes {
         alloc: Global,
         job: &Job,
         frame: &Frame,
-        there: &Schema,
+        current: &Schema,
     ) -> Result<State<Self::Fetch>, OutOfMemory>
         requires job { serves job.now }
         requires frame { IsFrame frame.now }
-        requires attrs { AreAttrs there.now.attrs }
-        ensures is { IfOk result (λ state. (listed : AnyListed) → state ≡ works codec job.now job.now.command listed frame.now there.now) }
+        requires attrs { AreAttrs current.now.attrs }
+        ensures is { IfOk result (λ state. (listed : AnyListed) → state ≡ works codec job.now job.now.command listed frame.now current.now) }
         ensures may { IfOk result IsLaterState }
         ensures fewer { IfOk result (λ state. calls_left state < 2 ^ 195) };
 }
@@ -155,9 +155,9 @@ impl<M: Makes> Works for Making<M> {
         job: &Job,
         _listed: Listed,
         frame: Frame,
-        there: Schema,
+        current: Schema,
     ) -> Result<State<M::Fetch>, OutOfMemory> {
-        M::make(alloc, job, &frame, &there)
+        M::make(alloc, job, &frame, &current)
     }
 }
 

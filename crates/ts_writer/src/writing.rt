@@ -55,9 +55,9 @@ impl<P: Pieces> Makes for Writes<P> {
         alloc: Global,
         job: &Job,
         frame: &Frame,
-        there: &Schema,
+        current: &Schema,
     ) -> Result<State<P::Fetch>, OutOfMemory> {
-        write::<P>(alloc, job, frame, there)
+        write::<P>(alloc, job, frame, current)
     }
 }
 
@@ -78,18 +78,18 @@ fn write<P: Pieces>(
     alloc: Global,
     job: &Job,
     frame: &Frame,
-    there: &Schema,
+    current: &Schema,
 ) -> Result<State<P::Fetch>, OutOfMemory>
     requires job { IsWriteJob job.now }
     requires frame { IsFrame frame.now }
-    requires attrs { AreAttrs there.now.attrs }
-    ensures is { IfOk result (λ state. (listed : AnyListed) → state ≡ works P.codec job.now job.now.command listed frame.now there.now) }
+    requires attrs { AreAttrs current.now.attrs }
+    ensures is { IfOk result (λ state. (listed : AnyListed) → state ≡ works P.codec job.now job.now.command listed frame.now current.now) }
     ensures may { IfOk result IsLaterState }
     ensures fewer { IfOk result (λ state. calls_left state < 2 ^ 195) }
 {
     let write = write_in(job);
-    match lay(alloc, frame, &there.attrs, write) {
-        Ok(cells) => put_cells::<P>(alloc, job, frame, there, write, cells),
+    match lay(alloc, frame, &current.attrs, write) {
+        Ok(cells) => put_cells::<P>(alloc, job, frame, current, write, cells),
         Err(LayFault::Refused(refusal)) => Ok(refuse(refusal)),
         Err(LayFault::OutOfMemory) => Err(OutOfMemory),
     }
@@ -100,20 +100,20 @@ fn put_cells<P: Pieces>(
     alloc: Global,
     job: &Job,
     frame: &Frame,
-    there: &Schema,
+    current: &Schema,
     write: &WriteIn,
     cells: CellList,
 ) -> Result<State<P::Fetch>, OutOfMemory>
     requires frame { IsFrame frame.now }
-    requires attrs { AreAttrs there.now.attrs }
+    requires attrs { AreAttrs current.now.attrs }
     requires spelled { IsTrue (is_spelled_write write.now) }
-    requires laid { laid frame.now there.now.attrs write.now ≡ Ok cells }
-    ensures is { IfOk result (λ state. state ≡ puts_cells P.codec job.now frame.now there.now (Ok cells)) }
+    requires laid { laid frame.now current.now.attrs write.now ≡ Ok cells }
+    ensures is { IfOk result (λ state. state ≡ puts_cells P.codec job.now frame.now current.now (Ok cells)) }
     ensures may { IfOk result IsLaterState }
     ensures fewer { IfOk result (λ state. calls_left state < 2 ^ 64) }
 {
-    let piece = piece_of(alloc, frame, key_of(job), schema_key(there), cells)?;
-    let parts = P::parts(alloc, frame, there, &piece)?;
+    let piece = piece_of(alloc, frame, key_of(job), schema_key(current), cells)?;
+    let parts = P::parts(alloc, frame, current, &piece)?;
     let frag = frag_of(job);
     let objects = objects_of(alloc, frag, parts)?;
     Ok(put(objects, 0, Outcome::Written(frag)))

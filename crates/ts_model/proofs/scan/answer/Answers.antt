@@ -16,7 +16,7 @@ rows_of-requires-clause-inside c =
     let s = c.args.scan.now in
     let dims = s.frame.now.domain in
     subst (All (λ (cell : Shown). IsTrue (is_in_domain dims cell.coords))) (sym c.in_ok-listed.ensures.cells)
-    (cells_inside dims s.deeds.now s.frame.now s.there.now s.ready.now s.from s.to c.in_ok-cells.cells c.requires.inside c.in_ok-cells.ensures)
+    (cells_inside dims s.deeds.now s.frame.now s.current.now s.ready.now s.from s.to c.in_ok-cells.cells c.requires.inside c.in_ok-cells.ensures)
 
 pub returns-clause-rows : goal.returns-clause-rows
 returns-clause-rows c =
@@ -27,6 +27,6 @@ returns-clause-rows c =
       each = c.in_ok-cells.ensures;
       same =
           c.in_ok-rows_of.ensures
-          ∙ ap (selected s.frame.now s.there.now.attrs s.ready.now)
+          ∙ ap (selected s.frame.now s.current.now.attrs s.ready.now)
           (ap (map placed) c.in_ok-listed.ensures.cells ∙ placed_back entries ∙ sym (entries-tree coords_total entries c.in_ok-listed.ensures.ordered));
     }

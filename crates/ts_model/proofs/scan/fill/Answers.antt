@@ -20,20 +20,20 @@ use Rattle.ts_model.proofs.scan.fill.Goals.{then-not-contains_key+in_ok-fills_of
 module _ (s : Scan) where
   -- what is shown of a scan at a coordinate
   abbrev what : List ℤ → Option (List Val)
-  what c = shown_at s.deeds.now s.there.now s.from s.to c
+  what c = shown_at s.deeds.now s.current.now s.from s.to c
 
   -- what is left is shown
   over : (c : List ℤ) (row : List Val) → left_by s c ≡ Some row → shown_by s c ≡ Some row
-  over c row is = left_is_shown (is_in_box s.ready.now.sub c) (what c) (unwritten s.frame.now s.there.now.attrs) row is
+  over c row is = left_is_shown (is_in_box s.ready.now.sub c) (what c) (unwritten s.frame.now s.current.now.attrs) row is
 
   -- and else the fill, in a dense array
-  filled_in : s.frame.now.dense ≡ true → (c : List ℤ) → is_in_box s.ready.now.sub c ≡ true → left_by s c ≡ None → shown_by s c ≡ Some (fills_of s.there.now.attrs)
+  filled_in : s.frame.now.dense ≡ true → (c : List ℤ) → is_in_box s.ready.now.sub c ≡ true → left_by s c ≡ None → shown_by s c ≡ Some (fills_of s.current.now.attrs)
   filled_in dense c inside none =
-      fill_is_shown (is_in_box s.ready.now.sub c) (what c) (unwritten s.frame.now s.there.now.attrs) (fills_of s.there.now.attrs) inside (ap (λ b. unwritten (record s.frame.now { dense = b }) s.there.now.attrs) dense) none
+      fill_is_shown (is_in_box s.ready.now.sub c) (what c) (unwritten s.frame.now s.current.now.attrs) (fills_of s.current.now.attrs) inside (ap (λ b. unwritten (record s.frame.now { dense = b }) s.current.now.attrs) dense) none
 
   -- where nothing is the fill is put
   fill_put : s.frame.now.dense ≡ true → (place : ℕ) (at : List ℤ) (row : List Val) (m n : Cells) → slice_get (coords_in_order Row s.ready.now.sub) place ≡ Some at → is_in_box s.ready.now.sub at ≡ true
-      → is_some (finite.get m at) ≡ false → row ≡ fills_of s.there.now.attrs → n ≡ finite.insert m at row → IsFilled (left_by s) (shown_by s) (coords_in_order Row s.ready.now.sub) place m
+      → is_some (finite.get m at) ≡ false → row ≡ fills_of s.current.now.attrs → n ≡ finite.insert m at row → IsFilled (left_by s) (shown_by s) (coords_in_order Row s.ready.now.sub) place m
       → IsFilled (left_by s) (shown_by s) (coords_in_order Row s.ready.now.sub) (place + 1) n
   fill_put dense place at row m n is inside none fills more filled =
       subst (IsFilled (left_by s) (shown_by s) (coords_in_order Row s.ready.now.sub) (place + 1)) (sym more)

@@ -29,5 +29,5 @@ pub returns : goal.returns
 returns c =
     let deeds = c.args.scan.now.deeds.now in
     let past : length deeds ≤ c.loop-deed.deed-index = c.loop-deed-test.false in
-    all_left deeds c.args.scan.now.there.now c.args.scan.now.ready.now c.args.scan.now.from c.args.scan.now.to (cells_in c.loop-deed.cells)
+    all_left deeds c.args.scan.now.current.now c.args.scan.now.ready.now c.args.scan.now.from c.args.scan.now.to (cells_in c.loop-deed.cells)
     (subst (λ (ds : List Deed). Shows (left_by c.args.scan.now) (cells_in c.loop-deed.cells) (cells_of_deeds ds)) (take_all c.loop-deed.deed-index deeds past) c.loop-deed.invariant)

@@ -20,5 +20,5 @@ returns-else-is_erased c =
     let r = c.args.reading.now in
     let v = c.in-Some.version in
     let left = ap (λ binding. list_any (erases binding.attrs v) r.deletions) (sym c.binding_at-binding.ensures) ∙ sym c.is_erased.ensures ∙ c.if-is_erased.false in
-    let shown = ap (λ binding. shown_row binding.attrs v.row (r.there).attrs) c.binding_at-binding.ensures in
+    let shown = ap (λ binding. shown_row binding.attrs v.row (r.current).attrs) c.binding_at-binding.ensures in
     IfOk-weaker c.show_row.result _ _ (λ row is. is ∙ shown ∙ sym (filled_row r c.args.schemas.now v false left) ∙ sym (ap (row_or_fill r c.args.schemas.now) c.in-Some.is)) c.show_row.ensures

@@ -10,7 +10,7 @@ use Rattle.ts_reader.proofs.answers.row_shown.Goals as goal
 pub returns-then-len-count-2 : goal.returns-then-len-count-2
 returns-then-len-count-2 c =
     let r = c.args.reading.now in
-    let there = r.there in
+    let there = r.current in
     let v = c.args.version in
     let tie : key_eq v.schema there.key ≡ true = search rules in
     let used = c.requires.own (key_same v.schema there.key tie) in

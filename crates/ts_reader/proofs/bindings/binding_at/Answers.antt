@@ -12,16 +12,16 @@ returns-in-Ok c =
     let r = c.args.reading.now in
     let ss = c.as_slice.result.now in
     let place = c.in-Ok.place in
-    let other : key_eq c.args.key (r.there).key ≡ false = search rules in
-    let found = ap (find (λ s. key_eq s.key c.args.key)) (sym c.as_slice.ensures) ∙ c.in-Ok.ensures.found r.there in
-    let at = ap (λ xs. slice_get xs place) (sym c.as_slice.ensures) ∙ there_at ss place r.there c.in-Ok.ensures.bound in
+    let other : key_eq c.args.key (r.current).key ≡ false = search rules in
+    let found = ap (find (λ s. key_eq s.key c.args.key)) (sym c.as_slice.ensures) ∙ c.in-Ok.ensures.found r.current in
+    let at = ap (λ xs. slice_get xs place) (sym c.as_slice.ensures) ∙ there_at ss place r.current c.in-Ok.ensures.bound in
     let further = ap (λ bindings. slice_get bindings.further place) (sym c.requires.are) ∙ c.at.ensures in
-    mapped_at (λ s. binding_of r.deletions (used_attrs r s.attrs)) c.args.schemas.now place (get_or ss place r.there) c.at.result.now at further
-    ∙ ap (λ attrs. binding_of r.deletions (used_attrs r attrs)) (sym (known_further r c.args.schemas.now c.args.key (Some (get_or ss place r.there)) other found))
+    mapped_at (λ s. binding_of r.deletions (used_attrs r s.attrs)) c.args.schemas.now place (get_or ss place r.current) c.at.result.now at further
+    ∙ ap (λ attrs. binding_of r.deletions (used_attrs r attrs)) (sym (known_further r c.args.schemas.now c.args.key (Some (get_or ss place r.current)) other found))
 
 pub returns-in-Err : goal.returns-in-Err
 returns-in-Err c =
     let r = c.args.reading.now in
-    let other : key_eq c.args.key (r.there).key ≡ false = search rules in
+    let other : key_eq c.args.key (r.current).key ≡ false = search rules in
     let absent = ap (find (λ s. key_eq s.key c.args.key)) (sym c.as_slice.ensures) ∙ c.in-Err.ensures.absent refl in
     ap (λ bindings. bindings.unknown) c.requires.are ∙ ap (λ attrs. binding_of r.deletions (used_attrs r attrs)) (sym (known_further r c.args.schemas.now c.args.key None other absent))

@@ -13,9 +13,9 @@ next_vac-requires g c = (
   record {
     is_frame = c.requires.frame;
     are_attrs = c.requires.attrs;
-    inside = ready_covered c.args.frame c.args.there.attrs c.args.query.now c.in-Ok.ready c.in-Ok.ensures;
-    valid = ready_is_box c.args.frame c.args.there.attrs c.args.query.now c.in-Ok.ready c.requires.frame c.requires.bounds c.in-Ok.ensures;
-    few_cells = ready_few c.args.frame c.args.there.attrs c.args.query.now c.in-Ok.ready c.in-Ok.ensures;
+    inside = ready_covered c.args.frame c.args.current.attrs c.args.query.now c.in-Ok.ready c.in-Ok.ensures;
+    valid = ready_is_box c.args.frame c.args.current.attrs c.args.query.now c.in-Ok.ready c.requires.frame c.requires.bounds c.in-Ok.ensures;
+    few_cells = ready_few c.args.frame c.args.current.attrs c.args.query.now c.in-Ok.ready c.in-Ok.ensures;
     fragments = c.requires.listed.fragments;
     counting = c.requires.listed.counting;
     deletes = c.requires.listed.deletes;
@@ -26,5 +26,5 @@ pub returns-in-Ok-clause-is : goal.returns-in-Ok-clause-is
 returns-in-Ok-clause-is g c =
     IfOk-weaker c.next_vac.result _ _ (λ s is.
     is
-    ∙ asked_for g.P.Pieces.codec c.args.from c.args.to c.args.listed c.args.frame c.args.there c.in-Ok.ready (ready_in c.args.frame c.args.there.attrs c.args.query.now) c.new.result c.new-in-Ok.result c.new-in-Ok-2.result
+    ∙ asked_for g.P.Pieces.codec c.args.from c.args.to c.args.listed c.args.frame c.args.current c.in-Ok.ready (ready_in c.args.frame c.args.current.attrs c.args.query.now) c.new.result c.new-in-Ok.result c.new-in-Ok-2.result
     c.in-Ok.ensures c.new.ensures c.new-in-Ok.ensures c.new-in-Ok-2.ensures) c.next_vac.ensures.is

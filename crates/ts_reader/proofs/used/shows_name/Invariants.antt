@@ -6,4 +6,4 @@ use Rattle.ts_reader.proofs.used.shows_name.Given as goal
 
 -- it is shown where one of the fields from here on has the name
 abbrev pub invariant-loop-field : goal.invariant-loop-field
-invariant-loop-field l = has_label (items_at (drop l.field l.reading.ready.fields) (field_names l.reading.frame.domain l.reading.there.attrs)) l.name ≡ shows_name l.reading l.name
+invariant-loop-field l = has_label (items_at (drop l.field l.reading.ready.fields) (field_names l.reading.frame.domain l.reading.current.attrs)) l.name ≡ shows_name l.reading l.name

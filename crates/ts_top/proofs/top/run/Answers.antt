@@ -7,7 +7,7 @@ use Rattle.ts_store.specs.Journals.{failures}
 use Rattle.ts_model.specs.declared.commands.Line.{Line}
 use Rattle.ts_top.specs.Runners.{JustMade}
 use Rattle.ts_top.specs.Seen.{Seen, Stream, stream, Plays, Stopped, IsRunOf, stopped, played}
-use Rattle.ts_script.specs.Words.{spelled}
+use Rattle.ts_script.specs.Words.{word_texts}
 use Rattle.ts_top.proofs.Promises.{promise_stopped, promise_played}
 use Rattle.ts_top.proofs.Exact.{usage, usage_there, refused, bad_script, bad_script_there, read_fault, write_fault, untouched}
 use Rattle.ts_top.proofs.top.run.Goals as goal
@@ -16,7 +16,7 @@ pub returns-in-Ok : goal.returns-in-Ok
 returns-in-Ok g c =
     let held = g.S.Store.held in
     let made = JustMade held g.S.Store.last g.S.Store.faults g.S.Store.notes in
-    let words = spelled c.args.words.now in
+    let words = word_texts c.args.words.now in
     let input : Stream = stream g.I.Source.left g.I.Source.faults c.args.input.now c.prepare.new.input in
     let out : Stream = stream g.O.Sink.contents g.O.Sink.faults c.args.out.now c.play.new.out in
     let seen : Seen g.row.S.Denot = record { words = words; seed = c.args.seed; gives = g.C.Clock.gives c.args.clock.now; input = input; out = out; store = c.args.store; later = c.play.result.store; status = c.play.result.status; journal = c.play.result.journal } in
@@ -44,7 +44,7 @@ pub returns-in-Err : goal.returns-in-Err
 returns-in-Err g c =
     let held = g.S.Store.held in
     let made = JustMade held g.S.Store.last g.S.Store.faults g.S.Store.notes in
-    let words = spelled c.args.words.now in
+    let words = word_texts c.args.words.now in
     let input : Stream = stream g.I.Source.left g.I.Source.faults c.args.input.now c.prepare.new.input in
     let out : Stream = stream g.O.Sink.contents g.O.Sink.faults c.args.out.now c.print_stop.new.out in
     let seen : Seen g.row.S.Denot = record { words = words; seed = c.args.seed; gives = g.C.Clock.gives c.args.clock.now; input = input; out = out; store = c.args.store; later = c.args.store; status = c.status.result; journal = c.new.result } in

@@ -19,7 +19,7 @@ use Rattle.ts_model.specs.declared.states.Seeking.TheVariants.{ListsSchemas, Get
 use Rattle.ts_model.specs.Codecs.{Codec}
 use Rattle.ts_model.specs.Jobs.{looked_at}
 use Rattle.ts_model.specs.States.{Exchange, goes, ended, get_schema, get_frame, list_schemas, schemas_in, works as comes_to}
-use Rattle.ts_law.specs.Courses.{Found, IsSchemaIn, IsFrameIn, SaysThere, GotSchema, IsKeyThere, IsGot, LooksThere, IsLookOf, lets_on}
+use Rattle.ts_law.specs.Courses.{Found, IsSchemaIn, IsFrameIn, SaysFound, GotSchema, IsCurrentKey, IsGot, LooksForSchema, IsLookOf, lets_on}
 use Rattle.ts_law.specs.Refusals.{WorksInSchema}
 use Rattle.ts_model.specs.declared.states.Listed.{Listed}
 use Rattle.ts_law.proofs.CourseCalls.{Goes, Follows, follows_on, follows_refused, follows_ended, goes_none, goes_by}
@@ -41,7 +41,7 @@ no_frame = record { dense = false; domain = []; cell = order.Row; tile = order.R
 
 -- what a job found that works in a schema of an array with a frame
 abbrev pub found_as : Schema → Frame → Found
-found_as there frame = record { taken = false; there = there; frame = frame; merged = None; leases = []; swept = []; removed = [] }
+found_as there frame = record { taken = false; current = there; frame = frame; merged = None; leases = []; swept = []; removed = [] }
 
 -- what bytes say, if a reply has any
 abbrev pub OfBytes : (List ℕ → Type 0) → Reply → Type 0
@@ -49,20 +49,20 @@ OfBytes P (reply.Bytes bytes) = P bytes
 OfBytes P r = ⊤
 
 module _ {F : Type 0} (codec : Codec F) (job : Job) (works : WorksInSchema job.command)
-    (may_look : (found : Found) (seen : List Exchange) (c : Call) → LooksThere job seen c → IsLookOf codec job found seen c)
-    (says_list : (found : Found) (r : Reply) → SaysThere found job.command list_schemas r)
-    (says_schema : (found : Found) (k : Key) (r : Reply) → OfBytes (λ bytes. IsSchemaIn found.there k (schema_of bytes)) r → SaysThere found job.command (get_schema k) r)
-    (says_frame : (found : Found) (r : Reply) → OfBytes (λ bytes. IsFrameIn found.frame (frame_of bytes)) r → SaysThere found job.command get_frame r)
+    (may_look : (found : Found) (seen : List Exchange) (c : Call) → LooksForSchema job seen c → IsLookOf codec job found seen c)
+    (says_list : (found : Found) (r : Reply) → SaysFound found job.command list_schemas r)
+    (says_schema : (found : Found) (k : Key) (r : Reply) → OfBytes (λ bytes. IsSchemaIn found.current k (schema_of bytes)) r → SaysFound found job.command (get_schema k) r)
+    (says_frame : (found : Found) (r : Reply) → OfBytes (λ bytes. IsFrameIn found.frame (frame_of bytes)) r → SaysFound found job.command get_frame r)
     (tail : Found → List Call) (early : List Exchange) (looked : Listed)
-    (works_go : (there : Schema) (frame : Frame) (seen : List Exchange) (x : Exchange) (xs : List Exchange) (end : Outcome) → AreAmong early seen → IsGot job (found_as there frame) (seen ++ x ∷ []) → SaysThere (found_as there frame) job.command x.call x.reply
+    (works_go : (there : Schema) (frame : Frame) (seen : List Exchange) (x : Exchange) (xs : List Exchange) (end : Outcome) → AreAmong early seen → IsGot job (found_as there frame) (seen ++ x ∷ []) → SaysFound (found_as there frame) job.command x.call x.reply
     → IsTrue (lets_on x.call x.reply) → IsLookOf codec job (found_as there frame) seen x.call → Follows codec job seen (found_as there frame) (tail (found_as there frame)) x xs end (comes_to codec job job.command looked frame there)) where
   -- a job got the schema there
-  record GotThere (seen : List Exchange) (there : Schema) : Type 0 where
-    key : IsKeyThere job seen there.key
+  record GotCurrent (seen : List Exchange) (there : Schema) : Type 0 where
+    key : IsCurrentKey job seen there.key
     spelled : GotSchema seen there
 
   -- with the frame it got all that it found
-  got_all : (seen : List Exchange) (there : Schema) (frame : Frame) (bytes : List ℕ) → GotThere seen there → frame_of bytes ≡ Ok frame → IsGot job (found_as there frame) (seen ++ record { call = get_frame; reply = reply.Bytes bytes } ∷ [])
+  got_all : (seen : List Exchange) (there : Schema) (frame : Frame) (bytes : List ℕ) → GotCurrent seen there → frame_of bytes ≡ Ok frame → IsGot job (found_as there frame) (seen ++ record { call = get_frame; reply = reply.Bytes bytes } ∷ [])
   got_all seen there frame bytes have is =
       let x : Exchange = record { call = get_frame; reply = reply.Bytes bytes } in
       record {
@@ -74,7 +74,7 @@ module _ {F : Type 0} (codec : Codec F) (job : Job) (works : WorksInSchema job.c
       }
 
   -- bytes that are broken spell no other schema
-  silent_schema : (found : Found) (k : Key) (at : ℕ) (bytes : List ℕ) → schema_of bytes ≡ Err at → IsSchemaIn found.there k (schema_of bytes)
+  silent_schema : (found : Found) (k : Key) (at : ℕ) (bytes : List ℕ) → schema_of bytes ≡ Err at → IsSchemaIn found.current k (schema_of bytes)
   silent_schema found k at bytes is = rw is tt
 
   -- bytes that are broken spell no other frame
@@ -82,23 +82,23 @@ module _ {F : Type 0} (codec : Codec F) (job : Job) (works : WorksInSchema job.c
   silent_frame found at bytes is = rw is tt
 
   -- the get of the frame is a look
-  looks_frame : (seen : List Exchange) (there : Schema) (found : Found) → GotThere seen there → IsLookOf codec job found seen get_frame
+  looks_frame : (seen : List Exchange) (there : Schema) (found : Found) → GotCurrent seen there → IsLookOf codec job found seen get_frame
   looks_frame seen there found have = may_look found seen get_frame (inr (there, have.key, have.spelled, refl))
 
   -- so is that of the schema there
-  looks_schema : (seen : List Exchange) (k : Key) (found : Found) → IsKeyThere job seen k → IsLookOf codec job found seen (get_schema k)
+  looks_schema : (seen : List Exchange) (k : Key) (found : Found) → IsCurrentKey job seen k → IsLookOf codec job found seen (get_schema k)
   looks_schema seen k found is = may_look found seen (get_schema k) (inl (k, is, refl))
 
   -- the get of the frame says which it is
   frame_found : (there : Schema) (seen xs : List Exchange) (end : Outcome) → AreAmong early seen
-      → (frame : Frame) × (GotThere seen there → Goes codec job seen (found_as there frame) (tail (found_as there frame)) xs end (Seeks (GetsFrame looked there)))
+      → (frame : Frame) × (GotCurrent seen there → Goes codec job seen (found_as there frame) (tail (found_as there frame)) xs end (Seeks (GetsFrame looked there)))
   frame_found there seen [] end since = (no_frame, λ have. goes_none codec job seen (found_as there no_frame) (tail (found_as there no_frame)) end (Seeks (GetsFrame looked there)) (λ o q. cc))
   frame_found there seen (x ∷ xs) end since =
       let (frame, follows) = by_reply x.reply in
       (frame, λ have. goes_by codec job seen (found_as there frame) (tail (found_as there frame)) x xs end (Seeks (GetsFrame looked there)) get_frame refl (λ same. follows have))
     where
       FrameFor : Reply → Type 0
-      FrameFor r = (frame : Frame) × (GotThere seen there → Follows codec job seen (found_as there frame) (tail (found_as there frame)) (record { call = get_frame; reply = r }) xs end (goes codec job (Seeks (GetsFrame looked there)) r))
+      FrameFor r = (frame : Frame) × (GotCurrent seen there → Follows codec job seen (found_as there frame) (tail (found_as there frame)) (record { call = get_frame; reply = r }) xs end (goes codec job (Seeks (GetsFrame looked there)) r))
 
       by_frame : (bytes : List ℕ) (f : Result Frame ℕ) → frame_of bytes ≡ f → FrameFor (reply.Bytes bytes)
       by_frame bytes (Ok frame) is = (
@@ -113,7 +113,7 @@ module _ {F : Type 0} (codec : Codec F) (job : Job) (works : WorksInSchema job.c
             (inl (bytes, Contains-push seen (record { call = get_frame; reply = reply.Bytes bytes }), is))),
       )
 
-      other : (r : Reply) → OfBytes (λ bytes. IsFrameIn no_frame (frame_of bytes)) r → GotThere seen there → Follows codec job seen (found_as there no_frame) (tail (found_as there no_frame)) (record { call = get_frame; reply = r }) xs end (ended get_frame r)
+      other : (r : Reply) → OfBytes (λ bytes. IsFrameIn no_frame (frame_of bytes)) r → GotCurrent seen there → Follows codec job seen (found_as there no_frame) (tail (found_as there no_frame)) (record { call = get_frame; reply = r }) xs end (ended get_frame r)
       other r quiet have =
           follows_ended codec job seen (found_as there no_frame) (tail (found_as there no_frame)) (tail (found_as there no_frame)) get_frame r xs end tt (says_frame (found_as there no_frame) r quiet) (inl (looks_frame seen there (found_as there no_frame) have, refl))
 
@@ -123,7 +123,7 @@ module _ {F : Type 0} (codec : Codec F) (job : Job) (works : WorksInSchema job.c
 
   -- the get of the schema there says which it is
   schema_found : (k : Key) (seen xs : List Exchange) (end : Outcome) → AreAmong early seen
-      → (there : Schema) × (frame : Frame) × (IsKeyThere job seen k → Goes codec job seen (found_as there frame) (tail (found_as there frame)) xs end (Seeks (GetsSchema looked k)))
+      → (there : Schema) × (frame : Frame) × (IsCurrentKey job seen k → Goes codec job seen (found_as there frame) (tail (found_as there frame)) xs end (Seeks (GetsSchema looked k)))
   schema_found k seen [] end since = (no_schema, no_frame, λ listed. goes_none codec job seen (found_as no_schema no_frame) (tail (found_as no_schema no_frame)) end (Seeks (GetsSchema looked k)) (λ o q. cc))
   schema_found k seen (x ∷ xs) end since =
       let (there, frame, follows) = by_reply x.reply in
@@ -131,7 +131,7 @@ module _ {F : Type 0} (codec : Codec F) (job : Job) (works : WorksInSchema job.c
     where
       SchemaFor : Reply → Type 0
       SchemaFor r = (there : Schema) × (frame : Frame)
-          × (IsKeyThere job seen k → Follows codec job seen (found_as there frame) (tail (found_as there frame)) (record { call = get_schema k; reply = r }) xs end (goes codec job (Seeks (GetsSchema looked k)) r))
+          × (IsCurrentKey job seen k → Follows codec job seen (found_as there frame) (tail (found_as there frame)) (record { call = get_schema k; reply = r }) xs end (goes codec job (Seeks (GetsSchema looked k)) r))
 
       by_attrs : (bytes : List ℕ) (a : Result (List Attr) ℕ) → schema_of bytes ≡ a → SchemaFor (reply.Bytes bytes)
       by_attrs bytes (Ok attrs) is =
@@ -152,7 +152,7 @@ module _ {F : Type 0} (codec : Codec F) (job : Job) (works : WorksInSchema job.c
                 (says_schema (found_as no_schema no_frame) k (reply.Bytes bytes) (silent_schema (found_as no_schema no_frame) k at bytes is)) (inl (looks_schema seen k (found_as no_schema no_frame) listed, refl)) (inl (bytes, Contains-push seen y, is))),
           )
 
-      other : (r : Reply) → OfBytes (λ bytes. IsSchemaIn no_schema k (schema_of bytes)) r → IsKeyThere job seen k → Follows codec job seen (found_as no_schema no_frame) (tail (found_as no_schema no_frame)) (record { call = get_schema k; reply = r }) xs end (ended (get_schema k) r)
+      other : (r : Reply) → OfBytes (λ bytes. IsSchemaIn no_schema k (schema_of bytes)) r → IsCurrentKey job seen k → Follows codec job seen (found_as no_schema no_frame) (tail (found_as no_schema no_frame)) (record { call = get_schema k; reply = r }) xs end (ended (get_schema k) r)
       other r quiet listed =
           follows_ended codec job seen (found_as no_schema no_frame) (tail (found_as no_schema no_frame)) (tail (found_as no_schema no_frame)) (get_schema k) r xs end tt (says_schema (found_as no_schema no_frame) k r quiet) (inl (looks_schema seen k (found_as no_schema no_frame) listed, refl))
 
