@@ -1,0 +1,1 @@
+//! What holds of dense fragments in tiles, as contracts of calls that do nothing.

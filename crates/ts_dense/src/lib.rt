@@ -1,0 +1,6 @@
+//! Dense fragments in tiles: each column in an object of its own, cut by the space tiles of the array,
+//! and metadata that says where the tiles start. Coordinates are not stored.
+#![tactic(auto)]
+
+mod building;
+mod laws;
