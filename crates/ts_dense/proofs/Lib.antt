@@ -1,0 +1,9 @@
+pub mod TileLists
+pub mod SlotLaws
+pub mod TileTexts
+pub mod SlotColumns
+pub mod RoomLaws
+pub mod OnePiece
+pub mod FormLaws
+pub mod OnceLaws
+pub mod WorkedSizes

@@ -4,3 +4,5 @@
 
 mod building;
 mod laws;
+
+pub use laws::{parts_spell_their_piece, parts_store_one_piece, pieces_have_one_form};
