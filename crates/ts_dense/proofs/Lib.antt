@@ -1,1 +1,3 @@
 pub mod TileLists
+pub mod HullOrder
+pub mod SlotLaws
