@@ -1,4 +1,5 @@
 pub mod TileLists
+pub mod HullOrder
 pub mod SlotLaws
 pub mod TileTexts
 pub mod SlotColumns
