@@ -4,13 +4,14 @@ use Rattle.std.specs.Prelude.{IsTrue, nat_lt, nat_eq}
 use Rattle.std.specs.List.{All}
 use Rattle.std.proofs.lemmas.Bool.{true≢false, and_parts, ltb-true, eqb-true, ne_eqb}
 use Rattle.std.proofs.lemmas.List.{length-map}
-use Rattle.std.proofs.lemmas.List.Elements.{All-head, All-map, All-weaker}
+use Rattle.std.proofs.lemmas.List.Elements.{All-head, All-map, All-weaker, All-contains}
 use Rattle.ts_base.specs.declared.names.PartBytes.{PartBytes}
 use Rattle.ts_base.specs.declared.keys.FragKey.{FragKey}
 use Rattle.ts_base.specs.declared.values.Val.TheVariants.{Null}
 use Rattle.ts_base.specs.declared.heads.Piece.{Piece}
 use Rattle.ts_base.specs.declared.names.Part.{Part}
 use Rattle.ts_base.specs.declared.names.Part.TheVariants as part
+use Rattle.ts_domain.proofs.DomainLemmas.{All-IsDomain}
 use Rattle.ts_wire.specs.declared.kinds.Kind.TheVariants as kind
 use Rattle.ts_wire.specs.Exact.{EachFits}
 use Rattle.ts_wire.proofs.Numbers.{number_exact}
@@ -30,11 +31,12 @@ use Rattle.ts_sparse.proofs.Apart.{split_same, spells_apart, lists_same}
 use Rattle.ts_sparse.proofs.Shapes.{all_parts}
 use Rattle.ts_sparse.proofs.Rows.{cons_parts, Same, rows_same}
 use Rattle.ts_sparse.proofs.OnePiece.{Alike, alike-append, alike_many, alike_sizes, AllShort, short_parts, origins_alike, origins_same, cells_same, there_same, objects_same, there_short, in_turn_all}
-use Rattle.ts_dense.specs.Slots.{tiles_over, counts_over, coords_over, no_origin, is_hole, slots_of, cells_in}
+use Rattle.ts_dense.specs.Slots.{tiles_over, counts_over, coords_over, no_origin, hole, is_hole, slots_of, cells_in}
 use Rattle.ts_dense.specs.Dense.{attr_objects, objects_of, meta_bytes, meta_part, parts_of, FitsDense, IsDense}
 use Rattle.ts_dense.proofs.RoomLaws.{room_of_short}
 use Rattle.ts_dense.proofs.SlotColumns.{Held, attrs_alike, attrs_told}
-use Rattle.ts_dense.proofs.SlotLaws.{slots_at, each_slot, cells_back, slots_full, slots_counted}
+use Rattle.ts_dense.proofs.HullOrder.{counts_sum}
+use Rattle.ts_dense.proofs.SlotLaws.{slots_at, slots_many, IsSlotOf, each_slot, cells_back, slots_full}
 
 -- ---- the cells among slots
 
@@ -109,6 +111,22 @@ module _ (frame : Frame) (attrs : List Attr) where
 
 -- ---- what holds of each slot
 
+-- what holds of holes and of the cells holds of the slots
+each_holds : (frame : Frame) (s : StoredPiece) (P : StoredCell → Type 0) → ((at : List ℤ) → P (hole at)) → All P s.cells → All P (slots_of frame s)
+unfolding slots_of
+each_holds frame s P holes cells =
+    let coords = coords_over frame (box_of s.head.hull) in
+    All-weaker (IsSlotOf s.cells) P (λ slot is. by slot is) (slots_of frame s) (each_slot coords s.cells)
+  where
+    by : (slot : StoredCell) → IsSlotOf s.cells slot → P slot
+    by slot (inl e) = subst P (sym e) (holes slot.coords)
+    by slot (inr is) = All-contains P s.cells slot cells is
+
+-- the slots stand at the coordinates of the hull
+slots_stand : (frame : Frame) (s : StoredPiece) → map (λ (c : StoredCell). c.coords) (slots_of frame s) ≡ coords_over frame (box_of s.head.hull)
+unfolding slots_of
+slots_stand frame s = slots_at (coords_over frame (box_of s.head.hull)) s.cells
+
 module _ (frame : Frame) (attrs : List Attr) (frag : FragKey) where
   place_below : (head : StoredHead) (front : List StoredCell) (c : StoredCell) → FitsCell frame attrs head front c → c.origin < length head.origins
   place_below head front c fits = ltb-true c.origin (length head.origins) (and_parts (nat_lt c.origin (length head.origins)) (origin_rises frame.dense (last_of front) c.coords c.origin) fits.known).0
@@ -121,7 +139,7 @@ module _ (frame : Frame) (attrs : List Attr) (frag : FragKey) where
   slots_small : (s : StoredPiece) → FitsDense frame attrs frag s → All (λ i. i < 256 ^ 4) (origin_column (slots_of frame s))
   slots_small s fits =
       All-map (λ i. i < 256 ^ 4) (λ (c : StoredCell). c.origin) (slots_of frame s)
-      (each_slot frame s (λ (c : StoredCell). c.origin < 256 ^ 4) (λ at. omega arith) (in_turn_all (FitsCell frame attrs s.head) (λ c. c.origin < 256 ^ 4) (λ front c f. f.origin) [] s.cells fits.cells))
+      (each_holds frame s (λ (c : StoredCell). c.origin < 256 ^ 4) (λ at. omega arith) (in_turn_all (FitsCell frame attrs s.head) (λ c. c.origin < 256 ^ 4) (λ front c f. f.origin) [] s.cells fits.cells))
 
   -- a fragment that is not consolidated has one origin, and no hole
   slots_zero : (s : StoredPiece) → FitsDense frame attrs frag s → s.head.consolidated ≡ false → All (λ i. i ≡ 0) (origin_column (slots_of frame s))
@@ -129,12 +147,20 @@ module _ (frame : Frame) (attrs : List Attr) (frag : FragKey) where
       let one : IsTrue (may_count false (length s.head.origins)) = subst (λ b. IsTrue (may_count b (length s.head.origins))) no_other (fits.head).some_origin in
       let only = eqb-true (length s.head.origins) 1 one in
       let zeros = in_turn_all (FitsCell frame attrs s.head) (λ c. c.origin ≡ 0) (λ front c f. let below = place_below s.head front c f in omega (arith, below, only)) [] s.cells fits.cells in
-      All-map (λ i. i ≡ 0) (λ (c : StoredCell). c.origin) (slots_of frame s) (subst (All (λ (c : StoredCell). c.origin ≡ 0)) (sym (slots_full frame attrs frag s fits no_other)) zeros)
+      let here : All (λ (c : StoredCell). is_hole c ≡ false → c.origin ≡ 0) (slots_of frame s) = each_holds frame s (λ (c : StoredCell). is_hole c ≡ false → c.origin ≡ 0) (λ at none. absurd (true≢false none)) (All-weaker (λ (c : StoredCell). c.origin ≡ 0) (λ (c : StoredCell). is_hole c ≡ false → c.origin ≡ 0) (λ c z full. z) s.cells zeros) in
+      let full = slots_full frame attrs frag s fits no_other in
+      All-map (λ i. i ≡ 0) (λ (c : StoredCell). c.origin) (slots_of frame s) (λ k d below. here k d below (full k d below))
+
+  -- the space tiles have room for the slots, and for no more
+  slots_counted : (s : StoredPiece) → FitsDense frame attrs frag s → length (slots_of frame s) ≡ sum (counts_over frame (box_of s.head.hull))
+  unfolding slots_of
+  slots_counted s fits =
+      slots_many (coords_over frame (box_of s.head.hull)) s.cells ∙ sym (counts_sum frame s.head.hull (All-IsDomain frame.domain (fits.sound).domain) (fits.head).hull)
 
   known_slots : {look : Part → Option (List ℕ)} (s : StoredPiece) → FitsDense frame attrs frag s → All (IsThere look) (map column_part (objects_of frame attrs s)) → Known frame attrs s.head (slots_of frame s)
   unfolding objects_of
   known_slots {look = look} s fits there = record {
-    held = each_slot frame s (Held 0 attrs) (λ at. inl (refl, refl)) (cells_held s fits);
+    held = each_holds frame s (Held 0 attrs) (λ at. inl (refl, refl)) (cells_held s fits);
     small = slots_small s fits;
     zero_only = slots_zero s fits;
     rows = subst (All (λ (c : StoredCell). EachFits FitsValue attrs c.row)) (sym (cells_back frame attrs frag s fits)) (in_turn_all (FitsCell frame attrs s.head) (λ c. EachFits FitsValue attrs c.row) (λ front c f. f.row) [] s.cells fits.cells);
@@ -155,13 +181,13 @@ module _ (frame : Frame) (attrs : List Attr) (frag : FragKey) where
   same_cells look s t fs ft same ps pt sizes =
       let cs = slots_of frame s in
       let es = slots_of frame t in
-      let coords : map (λ (c : StoredCell). c.coords) cs ≡ map (λ (c : StoredCell). c.coords) es = slots_at frame s ∙ ap (λ h. coords_over frame (box_of h.hull)) same ∙ sym (slots_at frame t) in
+      let coords : map (λ (c : StoredCell). c.coords) cs ≡ map (λ (c : StoredCell). c.coords) es = slots_stand frame s ∙ ap (λ h. coords_over frame (box_of h.hull)) same ∙ sym (slots_stand frame t) in
       let long : length cs ≡ length es = sym (length-map cs (λ (c : StoredCell). c.coords)) ∙ ap length coords ∙ length-map es (λ (c : StoredCell). c.coords) in
       let moved : objects_in frame attrs s.head es ≡ objects_of frame attrs t = ap (λ h. objects_in frame attrs h es) same in
       let alike = subst (Alike (objects_of frame attrs s)) moved (slots_alike frame attrs s.head cs es long) in
       let objects = objects_same look (objects_of frame attrs s) (objects_of frame attrs t) alike ps pt (sizes alike) in
       let known : Known frame attrs s.head es = subst (λ h. Known frame attrs h es) (sym same) (known_slots {look = look} t ft pt) in
-      let cells = objects_tell frame attrs s.head cs es (slots_counted frame attrs frag s fs) coords (known_slots {look = look} s fs ps) known (objects ∙ sym moved) in
+      let cells = objects_tell frame attrs s.head cs es (slots_counted s fs) coords (known_slots {look = look} s fs ps) known (objects ∙ sym moved) in
       sym (cells_back frame attrs frag s fs) ∙ cells ∙ cells_back frame attrs frag t ft
 
   -- the parts store one thing
