@@ -1,10 +1,10 @@
 -- What the objects of the columns of slots tell of the slots.
-use Rattle.std.proofs.Common.{◌≡◌, ℕ, suc, ◌+◌, ◌^◌, ◌<◌, Bool, true, false, not, List, [], ◌∷◌, ◌++◌, length, map, get_or, drop, sum, refl, sym, ap, ◌∙◌, subst, arith, append_assoc, ◌⊎◌, inl, inr}
+use Rattle.std.proofs.Common.{◌≡◌, ℕ, suc, ◌^◌, ◌<◌, Bool, true, false, not, List, [], ◌∷◌, ◌++◌, length, map, get_or, drop, sum, refl, sym, ap, ◌∙◌, subst, ◌⊎◌, inl, inr}
 use Rattle.std.specs.Prelude.{IsTrue}
 use Rattle.std.specs.List.{flat_map, All}
 use Rattle.std.proofs.lemmas.Bool.{true≢false}
 use Rattle.std.proofs.lemmas.List.{length-map}
-use Rattle.std.proofs.lemmas.List.Elements.{All-head, All-tail, All-nil, All-cons, All-weaker, All-map}
+use Rattle.std.proofs.lemmas.List.Elements.{All-head, All-tail, All-weaker, All-map}
 use Rattle.ts_base.specs.declared.values.Val.{Val}
 use Rattle.ts_base.specs.declared.values.Val.TheVariants.{Null, Int, Bytes}
 use Rattle.ts_base.specs.declared.values.ValType.{ValType}
@@ -21,10 +21,10 @@ use Rattle.ts_plain.specs.Plain.{FitsValue}
 use Rattle.ts_column.specs.Tiles.{is_there}
 use Rattle.ts_column.specs.Spelled.{text_of}
 use Rattle.ts_table.specs.Texts.{joined}
-use Rattle.ts_sparse.specs.Tilings.{tiles_of, tile_starts, starts_in}
+use Rattle.ts_sparse.specs.Tilings.{starts_in}
 use Rattle.ts_sparse.specs.Sparse.{Object, value_column, validity_objects}
 use Rattle.ts_sparse.proofs.Apart.{split_same, lists_same}
-use Rattle.ts_sparse.proofs.Rows.{cons_parts, at_front, Same}
+use Rattle.ts_sparse.proofs.Rows.{at_front, Same}
 use Rattle.ts_sparse.proofs.Shapes.{length-tile_starts}
 use Rattle.ts_sparse.proofs.ColumnLaws.{Short, column_same, marks_same, bytes_same, inside_small, length-starts_in}
 use Rattle.ts_sparse.proofs.OnePiece.{Alike, alike-append, alike_many, AllShort, short_parts, columns_long, validity_alike}

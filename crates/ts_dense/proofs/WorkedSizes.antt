@@ -1,5 +1,5 @@
 -- A worked fragment: six cells in two space tiles, written at once, and the same hull with two cells alone.
-use Rattle.std.proofs.Common.{◌≡◌, ℕ, ℤ, pos, true, false, List, [], ◌∷◌, ◌++◌, length, map, refl}
+use Rattle.std.proofs.Common.{◌≡◌, ℕ, pos, true, false, List, [], ◌∷◌, length, map, refl}
 use Rattle.std.specs.List.{flat_map}
 use Rattle.ts_base.specs.declared.names.Part.TheVariants as part
 use Rattle.ts_base.specs.declared.values.Val.TheVariants.{Int}
@@ -14,7 +14,6 @@ use Rattle.ts_schema.specs.declared.frames.Frame.{Frame}
 use Rattle.ts_plain.specs.declared.stored.StoredCell.{StoredCell}
 use Rattle.ts_plain.specs.declared.stored.StoredPiece.{StoredPiece}
 use Rattle.ts_plain.specs.Plain.{head_bytes, hull_bytes, side_bytes, origins_bytes}
-use Rattle.ts_sparse.specs.Sparse.{Object}
 use Rattle.ts_dense.specs.Slots.{slots_of, coords_over}
 use Rattle.ts_dense.specs.Dense.{objects_of, meta_bytes}
 
