@@ -1,11 +1,10 @@
 -- The cells of a hull, space tile by space tile.
-use Rattle.std.proofs.Common.{◌≡◌, ℕ, ℤ, true, ◌&&◌, int_le, List, [], ◌∷◌, ◌*◌, map, length, refl, sym, ap, ◌∙◌, arith}
+use Rattle.std.proofs.Common.{◌≡◌, ℤ, true, ◌&&◌, int_le, List, [], ◌∷◌, ◌*◌, map, length, refl, sym, ap, ◌∙◌, arith}
 use Rattle.std.specs.Prelude.{IsTrue}
 use Rattle.std.specs.List.{sum, All, AllByRecursion}
 use Rattle.std.proofs.lemmas.Int.{ints}
 use Rattle.std.proofs.lemmas.Bool.{and_parts, and_from}
 use Rattle.ts_domain.specs.declared.dims.Dim.{Dim}
-use Rattle.ts_domain.specs.declared.boxes.SubBox.{SubBox}
 use Rattle.ts_domain.specs.Bounds.{count_between}
 use Rattle.ts_domain.specs.Boxes.{IsBox, is_in_box, cells_of}
 use Rattle.ts_domain.specs.Dims.{IsSoundDim}

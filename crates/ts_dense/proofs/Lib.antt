@@ -1,3 +1,4 @@
 pub mod TileLists
 pub mod HullOrder
 pub mod SlotLaws
+pub mod SpaceTiles
