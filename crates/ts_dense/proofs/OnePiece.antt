@@ -36,7 +36,7 @@ use Rattle.ts_dense.specs.Dense.{attr_objects, objects_of, meta_bytes, meta_part
 use Rattle.ts_dense.proofs.RoomLaws.{room_of_short}
 use Rattle.ts_dense.proofs.SlotColumns.{Held, attrs_alike, attrs_told}
 use Rattle.ts_dense.proofs.HullOrder.{counts_sum}
-use Rattle.ts_dense.proofs.SlotLaws.{slots_at, slots_many, IsSlotOf, each_slot, cells_back, slots_full}
+use Rattle.ts_dense.proofs.SlotLaws.{slots_at, slots_many, IsSlotOf, each_slot, cells_back, slots_are_cells}
 
 -- ---- the cells among slots
 
@@ -147,9 +147,7 @@ module _ (frame : Frame) (attrs : List Attr) (frag : FragKey) where
       let one : IsTrue (may_count false (length s.head.origins)) = subst (λ b. IsTrue (may_count b (length s.head.origins))) no_other (fits.head).some_origin in
       let only = eqb-true (length s.head.origins) 1 one in
       let zeros = in_turn_all (FitsCell frame attrs s.head) (λ c. c.origin ≡ 0) (λ front c f. let below = place_below s.head front c f in omega (arith, below, only)) [] s.cells fits.cells in
-      let here : All (λ (c : StoredCell). is_hole c ≡ false → c.origin ≡ 0) (slots_of frame s) = each_holds frame s (λ (c : StoredCell). is_hole c ≡ false → c.origin ≡ 0) (λ at none. absurd (true≢false none)) (All-weaker (λ (c : StoredCell). c.origin ≡ 0) (λ (c : StoredCell). is_hole c ≡ false → c.origin ≡ 0) (λ c z full. z) s.cells zeros) in
-      let full = slots_full frame attrs frag s fits no_other in
-      All-map (λ i. i ≡ 0) (λ (c : StoredCell). c.origin) (slots_of frame s) (λ k d below. here k d below (full k d below))
+      All-map (λ i. i ≡ 0) (λ (c : StoredCell). c.origin) (slots_of frame s) (subst (All (λ (c : StoredCell). c.origin ≡ 0)) (sym (slots_are_cells frame attrs frag s fits no_other)) zeros)
 
   -- the space tiles have room for the slots, and for no more
   slots_counted : (s : StoredPiece) → FitsDense frame attrs frag s → length (slots_of frame s) ≡ sum (counts_over frame (box_of s.head.hull))

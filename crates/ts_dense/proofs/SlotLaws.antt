@@ -1,5 +1,5 @@
 -- The slots of a dense fragment: where they stand, and that they are its cells and holes.
-use Rattle.std.proofs.Common.{◌≡◌, ℕ, suc, ◌+◌, ◌<◌, ◌≤◌, ◌^◌, ℤ, Bool, true, false, ◌&&◌, ◌||◌, nat_lt, nat_eq, cond, List, [], ◌∷◌, ◌++◌, length, map, filter, Some, refl, sym, ap, subst, ◌∙◌, ◌⊎◌, inl, inr, arith}
+use Rattle.std.proofs.Common.{◌≡◌, suc, ◌<◌, ◌^◌, ℤ, Bool, true, false, ◌&&◌, ◌||◌, nat_lt, cond, List, [], ◌∷◌, ◌++◌, length, map, filter, Some, refl, sym, ap, subst, ◌∙◌, ◌⊎◌, inl, inr, arith}
 use Rattle.std.specs.Prelude.{IsTrue, not}
 use Rattle.std.specs.Bool.{Decides}
 use Rattle.std.specs.List.{All, AllByRecursion, Contains}
@@ -20,20 +20,20 @@ use Rattle.ts_domain.specs.Boxes.{is_in_box}
 use Rattle.ts_domain.proofs.DomainLemmas.{All-IsDomain}
 use Rattle.ts_order.specs.Orders.{global_cmp}
 use Rattle.ts_order.proofs.OrderLemmas.{global_total, global_cmp-exact}
-use Rattle.ts_order.proofs.InOrder.{InOrder, IsAmong, NoneTwice, all_among, all_from_among}
-use Rattle.ts_wire.specs.Exact.{InTurn, EachFits}
+use Rattle.ts_order.proofs.InOrder.{InOrder, IsAmong, NoneTwice, all_among}
+use Rattle.ts_wire.specs.Exact.{InTurn}
 use Rattle.ts_schema.specs.declared.attrs.Attr.{Attr}
 use Rattle.ts_schema.specs.declared.frames.Frame.{Frame}
 use Rattle.ts_plain.specs.declared.stored.StoredHead.{StoredHead}
 use Rattle.ts_plain.specs.declared.stored.StoredCell.{StoredCell}
 use Rattle.ts_plain.specs.declared.stored.StoredPiece.{StoredPiece}
 use Rattle.ts_plain.specs.Rules.{last_of, coords_rise, origin_rises, volume}
-use Rattle.ts_plain.specs.Plain.{FitsSide, FitsCell}
+use Rattle.ts_plain.specs.Plain.{FitsCell}
 use Rattle.ts_plain.specs.Writes.{box_of}
 use Rattle.ts_plain.proofs.WrittenPieces.{last_pushed}
 use Rattle.ts_dense.specs.Slots.{coords_over, no_origin, hole, is_hole, slots_from, slots_of, cells_in}
 use Rattle.ts_dense.specs.Dense.{FitsDense}
-use Rattle.ts_dense.proofs.HullOrder.{on_hull, coords_in_turn, coords_once, coords_covered, coords_many}
+use Rattle.ts_dense.proofs.HullOrder.{on_hull, coords_in_turn, coords_covered, coords_many}
 
 -- ---- one slot more
 
@@ -238,6 +238,16 @@ pub slots_full : (frame : Frame) (attrs : List Attr) (frag : FragKey) (s : Store
 slots_full frame attrs frag s fits plain =
     let count = ap length (cells_back frame attrs frag s fits) in
     no_holes (slots_of frame s) (all_pass (λ (slot : StoredCell). not (is_hole slot)) (slots_of frame s) (count ∙ fits.whole plain ∙ fits.full ∙ sym (slots_of_many frame attrs frag s fits)))
+
+-- slots that all have cells are these cells
+all_cells : (slots : List StoredCell) → All (λ slot. is_hole slot ≡ false) slots → cells_in slots ≡ slots
+all_cells [] full = refl
+all_cells (slot ∷ slots) full =
+    kept slot slots (All-head (λ slot. is_hole slot ≡ false) slot slots full) ∙ ap (λ more. slot ∷ more) (all_cells slots (All-tail (λ slot. is_hole slot ≡ false) slot slots full))
+
+-- so its slots are its cells
+pub slots_are_cells : (frame : Frame) (attrs : List Attr) (frag : FragKey) (s : StoredPiece) → FitsDense frame attrs frag s → s.head.consolidated ≡ false → slots_of frame s ≡ s.cells
+slots_are_cells frame attrs frag s fits plain = sym (all_cells (slots_of frame s) (slots_full frame attrs frag s fits plain)) ∙ cells_back frame attrs frag s fits
 
 -- ---- slots from their cells
 
