@@ -35,8 +35,9 @@ use Rattle.ts_dense.specs.Slots.{tiles_over, counts_over, coords_over, no_origin
 use Rattle.ts_dense.specs.Dense.{attr_objects, objects_of, meta_bytes, meta_part, parts_of, FitsDense, IsDense}
 use Rattle.ts_dense.proofs.RoomLaws.{room_of_short}
 use Rattle.ts_dense.proofs.SlotColumns.{Held, attrs_alike, attrs_told}
-use Rattle.ts_dense.proofs.HullOrder.{counts_sum}
-use Rattle.ts_dense.proofs.SlotLaws.{slots_at, slots_many, IsSlotOf, each_slot, cells_back, slots_are_cells}
+use Rattle.ts_dense.proofs.HullOrder.{counts_many}
+use Rattle.ts_dense.proofs.SpaceTiles.{slots_stand}
+use Rattle.ts_dense.proofs.SlotLaws.{slots_many, IsSlotOf, each_slot, cells_back, slots_are_cells}
 
 -- ---- the cells among slots
 
@@ -122,11 +123,6 @@ each_holds frame s P holes cells =
     by slot (inl e) = subst P (sym e) (holes slot.coords)
     by slot (inr is) = All-contains P s.cells slot cells is
 
--- the slots stand at the coordinates of the hull
-slots_stand : (frame : Frame) (s : StoredPiece) → map (λ (c : StoredCell). c.coords) (slots_of frame s) ≡ coords_over frame (box_of s.head.hull)
-unfolding slots_of
-slots_stand frame s = slots_at (coords_over frame (box_of s.head.hull)) s.cells
-
 module _ (frame : Frame) (attrs : List Attr) (frag : FragKey) where
   place_below : (head : StoredHead) (front : List StoredCell) (c : StoredCell) → FitsCell frame attrs head front c → c.origin < length head.origins
   place_below head front c fits = ltb-true c.origin (length head.origins) (and_parts (nat_lt c.origin (length head.origins)) (origin_rises frame.dense (last_of front) c.coords c.origin) fits.known).0
@@ -153,7 +149,7 @@ module _ (frame : Frame) (attrs : List Attr) (frag : FragKey) where
   slots_counted : (s : StoredPiece) → FitsDense frame attrs frag s → length (slots_of frame s) ≡ sum (counts_over frame (box_of s.head.hull))
   unfolding slots_of
   slots_counted s fits =
-      slots_many (coords_over frame (box_of s.head.hull)) s.cells ∙ sym (counts_sum frame s.head.hull (All-IsDomain frame.domain (fits.sound).domain) (fits.head).hull)
+      slots_many (coords_over frame (box_of s.head.hull)) s.cells ∙ sym (counts_many frame s.head.hull (All-IsDomain frame.domain (fits.sound).domain) (fits.head).hull)
 
   known_slots : {look : Part → Option (List ℕ)} (s : StoredPiece) → FitsDense frame attrs frag s → All (IsThere look) (map column_part (objects_of frame attrs s)) → Known frame attrs s.head (slots_of frame s)
   unfolding objects_of
@@ -179,7 +175,7 @@ module _ (frame : Frame) (attrs : List Attr) (frag : FragKey) where
   same_cells look s t fs ft same ps pt sizes =
       let cs = slots_of frame s in
       let es = slots_of frame t in
-      let coords : map (λ (c : StoredCell). c.coords) cs ≡ map (λ (c : StoredCell). c.coords) es = slots_stand frame s ∙ ap (λ h. coords_over frame (box_of h.hull)) same ∙ sym (slots_stand frame t) in
+      let coords : map (λ (c : StoredCell). c.coords) cs ≡ map (λ (c : StoredCell). c.coords) es = slots_stand frame attrs frag s fs ∙ ap (λ h. coords_over frame (box_of h.hull)) same ∙ sym (slots_stand frame attrs frag t ft) in
       let long : length cs ≡ length es = sym (length-map cs (λ (c : StoredCell). c.coords)) ∙ ap length coords ∙ length-map es (λ (c : StoredCell). c.coords) in
       let moved : objects_in frame attrs s.head es ≡ objects_of frame attrs t = ap (λ h. objects_in frame attrs h es) same in
       let alike = subst (Alike (objects_of frame attrs s)) moved (slots_alike frame attrs s.head cs es long) in
