@@ -9,3 +9,4 @@ pub mod OnePiece
 pub mod FormLaws
 pub mod OnceLaws
 pub mod WorkedSizes
+pub mod WorkedFits

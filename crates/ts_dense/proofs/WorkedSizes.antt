@@ -4,6 +4,7 @@ use Rattle.std.specs.List.{flat_map}
 use Rattle.ts_base.specs.declared.names.Part.TheVariants as part
 use Rattle.ts_base.specs.declared.values.Val.TheVariants.{Int}
 use Rattle.ts_base.specs.declared.values.ValType.TheVariants.{I32, U8}
+use Rattle.ts_domain.specs.declared.dims.Dim.{Dim}
 use Rattle.ts_domain.specs.declared.orders.Order.TheVariants.{Row, Col}
 use Rattle.ts_wire.specs.declared.kinds.Kind.TheVariants as kind
 use Rattle.ts_wire.specs.Numbers.{number_bytes, int_bytes}
@@ -17,20 +18,26 @@ use Rattle.ts_plain.specs.Plain.{head_bytes, hull_bytes, side_bytes, origins_byt
 use Rattle.ts_dense.specs.Slots.{slots_of, coords_over}
 use Rattle.ts_dense.specs.Dense.{objects_of, meta_bytes}
 
+abbrev pub rows : Dim
+rows = record { name = 114 ∷ []; ty = U8; low = pos 1; high = pos 3; extent = pos 2 }
+
+abbrev pub columns : Dim
+columns = record { name = 99 ∷ []; ty = U8; low = pos 1; high = pos 2; extent = pos 2 }
+
 -- rows 1 to 3 and columns 1 to 2, in space tiles of two by two, and in each tile column by column
-pub frame : Frame
+unfoldable pub frame : Frame
 frame = record {
   dense = true;
-  domain = record { name = 114 ∷ []; ty = U8; low = pos 1; high = pos 3; extent = pos 2 } ∷ (record { name = 99 ∷ []; ty = U8; low = pos 1; high = pos 2; extent = pos 2 } ∷ []);
+  domain = rows ∷ (columns ∷ []);
   cell = Col;
   tile = Row;
   capacity = 10000;
 }
 
-pub attrs : List Attr
+unfoldable pub attrs : List Attr
 attrs = record { name = 97 ∷ []; ty = I32; nullable = false; fill = Int (pos 0) } ∷ []
 
-pub cell : ℕ → ℕ → ℕ → ℕ → StoredCell
+unfoldable pub cell : ℕ → ℕ → ℕ → ℕ → StoredCell
 cell r c origin v = record { coords = pos r ∷ (pos c ∷ []); origin = origin; row = Int (pos v) ∷ [] }
 
 -- the whole domain, in global order
@@ -49,7 +56,7 @@ whole = record {
 }
 
 -- the first cell and the last one, of two writes
-pub corners : StoredPiece
+unfoldable pub corners : StoredPiece
 unfolding cell
 corners = record {
   head = record {
