@@ -1,0 +1,12 @@
+pub mod TileLists
+pub mod HullOrder
+pub mod SlotLaws
+pub mod SpaceTiles
+pub mod TileTexts
+pub mod SlotColumns
+pub mod RoomLaws
+pub mod OnePiece
+pub mod FormLaws
+pub mod OnceLaws
+pub mod WorkedSizes
+pub mod WorkedFits

@@ -1,0 +1,8 @@
+//! Dense fragments in tiles: each column in an object of its own, cut by the space tiles of the array,
+//! and metadata that says where the tiles start. Coordinates are not stored.
+#![tactic(auto)]
+
+mod building;
+mod laws;
+
+pub use laws::{parts_spell_their_piece, parts_store_one_piece, pieces_have_one_form};
