@@ -2,6 +2,7 @@ pub mod TileLists
 pub mod HullOrder
 pub mod SlotLaws
 pub mod SpaceTiles
+pub mod SlotOrder
 pub mod TileTexts
 pub mod SlotColumns
 pub mod RoomLaws

@@ -5,4 +5,7 @@
 mod building;
 mod laws;
 
-pub use laws::{parts_spell_their_piece, parts_store_one_piece, pieces_have_one_form};
+pub use laws::{
+    parts_spell_their_piece, parts_store_one_piece, pieces_have_one_form,
+    slots_stand_in_global_order, tiles_that_meet_suffice,
+};
