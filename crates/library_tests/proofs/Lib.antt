@@ -1,4 +1,2 @@
-mod LikeLemmas
 mod WorkedHeads
 mod WorkedHistories
-mod OneCellFits

@@ -1,2 +1,1 @@
 mod Pushed
-mod WorkedHistories

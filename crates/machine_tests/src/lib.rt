@@ -1,5 +1,5 @@
-//! The tests of the machines: drives, consolidations, vacuums, unlocks and listings alone, and worlds of
-//! actors that share one store; and those of the stores: in a folder, and shared by lanes.
+//! The tests of the machines: drives, consolidations, vacuums, unlocks and listings alone; and those of the
+//! stores: in a folder, and shared by lanes.
 //!
 //! A crate with tests is proved twice, so these stand in a crate that holds nothing else.
 #![tactic(auto)]
@@ -14,5 +14,3 @@ mod folder;
 mod turnstile;
 #[cfg(test)]
 mod vacuum;
-#[cfg(test)]
-mod worlds;

@@ -44,7 +44,7 @@ use Rattle.ts_plain.specs.Rules.{volume, last_of, is_full, may_hold, may_count, 
 use Rattle.ts_plain.specs.Plain.{FitsCoord, FitsSide, FitsOrigin, FitsValue, FitsCell, FitsPlain}
 use Rattle.ts_plain.specs.Pieces.{no_key, origin_key, version_in, head_of, piece_of, IsPlainObject}
 use Rattle.ts_plain.specs.Merges.{version_cmp, VersionsAscend, LiesInside, IsOrdered}
-use Rattle.ts_plain.proofs.OrderedPieces.{plain_ordered}
+use Rattle.ts_plain.proofs.OrderedPieces.{cells_inside, cells_ascend}
 use Rattle.ts_plain.proofs.WrittenPieces.{last_pushed, origins_ascend}
 use Rattle.ts_model.specs.Commands.{global_order}
 use Rattle.ts_model.specs.Deeds.{RowFits, IsKey}
@@ -408,10 +408,18 @@ module _ (frame : Frame) (attrs : List Attr) (frag : FragKey) (stored : StoredPi
         by true made = many_writes made
         by false ordinary = let own = names ordinary in one_write ordinary own.0 own.1 own.2
 
+-- a piece whose stored form keeps all rules can be written once more
+pub fits_storable : (frame : Frame) (attrs : List Attr) (p : Piece) (stored : StoredPiece) → IsFrame frame → AreAttrs attrs → NamesOwn p.head → FitsPlain frame attrs p.head.frag stored → p ≡ piece_of p.head.frag stored → IsStorable frame attrs p
+unfolding piece_of head_of
+fits_storable frame attrs p stored is_frame are_attrs own fits same =
+    let up = origins_ascend p.head.frag stored.head.consolidated stored.head.origins fits.head.some_origin fits.head.origins in
+    let ordered : IsOrdered frame (map (version_in stored.head) stored.cells) = record {
+      inside = cells_inside frame attrs stored.head up [] stored.cells fits.head.hull fits.cells;
+      ascend = cells_ascend frame attrs stored.head up [] stored.cells fits.cells;
+    } in
+    let names = subst (λ (q : Piece). NamesOwn q.head) same own in
+    subst (IsStorable frame attrs) (sym same) (stored_again frame attrs p.head.frag stored fits is_frame are_attrs ordered names)
+
 -- what a plain object holds can be written once more
 pub plain_source : (frame : Frame) (attrs : List Attr) (p : Piece) (bytes : List ℕ) → IsFrame frame → AreAttrs attrs → NamesOwn p.head → IsPlainObject frame attrs p bytes → IsStorable frame attrs p
-unfolding piece_of head_of
-plain_source frame attrs p bytes is_frame are_attrs own is =
-    let ordered = subst (λ (q : Piece). IsOrdered frame q.versions) is.same (plain_ordered frame attrs p bytes is) in
-    let names = subst (λ (q : Piece). NamesOwn q.head) is.same own in
-    subst (IsStorable frame attrs) (sym is.same) (stored_again frame attrs p.head.frag is.stored is.fits is_frame are_attrs ordered names)
+plain_source frame attrs p bytes is_frame are_attrs own is = fits_storable frame attrs p is.stored is_frame are_attrs own is.fits is.same

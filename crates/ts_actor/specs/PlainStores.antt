@@ -108,7 +108,7 @@ module _ (frame : Frame) (attrs : List Attr) where
       ∙ ap (λ x. x ∷ taken (all_of frame attrs) vs) (is_cut v are.0) ∙ ap (λ l. v ∷ l) (all_taken vs are.1)
 
   -- what is taken of a piece that can be written, where all is wanted, are its versions
-  taken_whole : (p : Piece) → IsStorable frame attrs p → taken (all_of frame attrs) p.versions ≡ p.versions
+  pub taken_whole : (p : Piece) → IsStorable frame attrs p → taken (all_of frame attrs) p.versions ≡ p.versions
   taken_whole p storable = all_taken p.versions (are_whole p storable)
 
 -- ---- heads of ordinary fragments
@@ -125,7 +125,7 @@ module _ (frame : Frame) (frag : FragKey) (known : IsSpelledFrag frag) where
   one_origin count (k ∷ l ∷ ks) one fits = absurd (omega (arith, one))
 
   -- so a head that no consolidation made is named by its origin
-  names_own : (head : StoredHead) → FitsHead frame frag head → NamesOwn (head_of frag head)
+  pub names_own : (head : StoredHead) → FitsHead frame frag head → NamesOwn (head_of frag head)
   unfolding head_of
   names_own head fits ordinary =
       let one = eqb-true (length head.origins) 1 (subst (λ b. may_count b (length head.origins) ≡ true) ordinary fits.some_origin) in

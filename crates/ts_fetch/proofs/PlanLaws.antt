@@ -22,7 +22,7 @@ use Rattle.ts_fetch.specs.declared.planned.Planned.{Planned}
 use Rattle.ts_fetch.specs.declared.planned.Planned.TheVariants.{SizeOf, Range}
 use Rattle.ts_fetch.specs.declared.judging.Verdict.{Verdict}
 use Rattle.ts_fetch.specs.declared.judging.Verdict.TheVariants.{Whole, Broken}
-use Rattle.ts_fetch.specs.Plans.{Judging, Going, call_of, stepped, asks_next, asks_size, told, IsRight, bytes_in, ranges_of, gets_among, gets_left, OnPlan}
+use Rattle.ts_fetch.specs.Plans.{Judging, Going, call_of, stepped, asks_next, asks_size, told, IsRight, bytes_in, ranges_of, gets_planned, gets_left, OnPlan}
 use Rattle.ts_fetch.specs.PlanLaws.{StartsWell, AsksParts, GoesOn, PlanLooks, PlanPays, PlanOwn, BreaksAtLesser}
 
 module _ {G : Type 0} (judge : Judging G) where
@@ -96,23 +96,23 @@ module _ {G : Type 0} (judge : Judging G) where
 
   -- the next call of the plan
   asked_next : (given : G) (frag : FragKey) (p : Planned) (left : List Planned) (got : List (List ℕ))
-      → Asked frag (gets_among (p ∷ left)) (record { given = given; frag = frag; waits = Some p; left = left; got = got }) (call_of frag p)
+      → Asked frag (gets_planned (p ∷ left)) (record { given = given; frag = frag; waits = Some p; left = left; got = got }) (call_of frag p)
   asked_next given frag (SizeOf part size) left got = record { looks = refl; pays = omega arith; own = (refl, (part, refl)) }
   asked_next given frag (Range part from count) left got = record { looks = refl; pays = omega arith; own = (refl, (part, refl)) }
 
-  next_asked : (given : G) (frag : FragKey) (left : List Planned) (got : List (List ℕ)) (g : Going G) (c : Call) → asks_next judge given frag left got ≡ Asks g c → Asked frag (gets_among left) g c
+  next_asked : (given : G) (frag : FragKey) (left : List Planned) (got : List (List ℕ)) (g : Going G) (c : Call) → asks_next judge given frag left got ≡ Asks g c → Asked frag (gets_planned left) g c
   next_asked given frag [] got g c e = absurd (over (judge given got) e)
     where
       over : (j : Verdict) → stepped j ≡ Asks g c → ⊥
       over (Whole vs) e = cc
       over (Broken part at) e = cc
-  next_asked given frag (p ∷ left) got g c e = asked_as frag (gets_among (p ∷ left)) _ g (call_of frag p) c e (asked_next given frag p left got)
+  next_asked given frag (p ∷ left) got g c e = asked_as frag (gets_planned (p ∷ left)) _ g (call_of frag p) c e (asked_next given frag p left got)
 
-  size_asked : (given : G) (frag : FragKey) (p : Planned) (part : Part) (left : List Planned) (got : List (List ℕ)) (g : Going G) (c : Call) → asks_size given frag p part left got ≡ Asks g c → Asked frag (gets_among left) g c
-  size_asked given frag p part left got g c e = asked_as frag (gets_among left) _ g (call.Size (name.Part frag part)) c e (record { looks = refl; pays = omega arith; own = (refl, (part, refl)) })
+  size_asked : (given : G) (frag : FragKey) (p : Planned) (part : Part) (left : List Planned) (got : List (List ℕ)) (g : Going G) (c : Call) → asks_size given frag p part left got ≡ Asks g c → Asked frag (gets_planned left) g c
+  size_asked given frag p part left got g c e = asked_as frag (gets_planned left) _ g (call.Size (name.Part frag part)) c e (record { looks = refl; pays = omega arith; own = (refl, (part, refl)) })
 
   -- each step asks so
-  told_asked : (given : G) (frag : FragKey) (w : Option Planned) (left : List Planned) (got : List (List ℕ)) (g : Going G) (r : Reply) (c : Call) → told judge given frag w left got r ≡ Asks g c → Asked frag (gets_among left) g c
+  told_asked : (given : G) (frag : FragKey) (w : Option Planned) (left : List Planned) (got : List (List ℕ)) (g : Going G) (r : Reply) (c : Call) → told judge given frag w left got r ≡ Asks g c → Asked frag (gets_planned left) g c
   told_asked given frag None left got g r c e = next_asked given frag left got g c e
   told_asked given frag (Some (SizeOf part size)) left got g (reply.Length count) c e =
       next_asked given frag left got g c (tested (nat_eq count size) (asks_next judge given frag left got) e)

@@ -93,14 +93,14 @@ abbrev pub calls_left : {G : Type 0} → Going G → ℕ
 calls_left f = length f.left + 1
 
 -- how many calls of a list are gets
-abbrev pub gets_among : List Planned → ℕ
-gets_among [] = 0
-gets_among (SizeOf part size ∷ plan) = gets_among plan
-gets_among (Range part from count ∷ plan) = gets_among plan + 1
+abbrev pub gets_planned : List Planned → ℕ
+gets_planned [] = 0
+gets_planned (SizeOf part size ∷ plan) = gets_planned plan
+gets_planned (Range part from count ∷ plan) = gets_planned plan + 1
 
 -- how many gets a fetch may still make
 abbrev pub gets_left : {G : Type 0} → Going G → ℕ
-gets_left f = gets_among f.left
+gets_left f = gets_planned f.left
 
 -- ---- over parts that are held
 

@@ -44,7 +44,7 @@ use Rattle.ts_model.specs.States.{counting_in, looked_into, reading_of, vac_of}
 use Rattle.ts_model.proofs.HistoryLaws.{framed_by_schema, current_is_with}
 use Rattle.ts_model.proofs.KeyLemmas.{key_same, key_itself, key_other}
 use Rattle.ts_model.proofs.ListLemmas.{Contains-cons, Contains-here, Contains-nil, Contains-there}
-use Rattle.ts_law.specs.Bounds.{AsksOver, FewGets, GetsTwo, GetsFew, heads_in, most_for, pieces_loaded, schema_count}
+use Rattle.ts_law.specs.Bounds.{ListsOver, FewGets, GetsTwo, GetsFew, heads_in, most_for, pieces_loaded, schema_count}
 use Rattle.ts_law.specs.Ends.{AreAllVacs}
 use Rattle.ts_law.specs.Stands.{HoldsIn, IsNoLease, Names, Stands}
 use Rattle.ts_law.proofs.HeldLemmas.{bytes_there}
@@ -132,7 +132,7 @@ each_made {X} called P (y ∷ ys) made =
 
 module _ (spelled : Spelled) (most : MostGets) (h : History) (m : Held) (stands : Stands spelled m h) (from to : ℕ) (query : Query) where
   -- the pieces in the fragments that a read looks into
-  pub pieces_there : (r : Reading) → AsksOver h m from to query r → (pieces : List Piece) × (list_map (λ p. p.head.frag) pieces ≡ r.fragments) × ((p : Piece) → Contains pieces p → HoldsIn spelled h m p.head.frag p)
+  pub pieces_there : (r : Reading) → ListsOver h m from to query r → (pieces : List Piece) × (list_map (λ p. p.head.frag) pieces ≡ r.fragments) × ((p : Piece) → Contains pieces p → HoldsIn spelled h m p.head.frag p)
   pieces_there r asks = each_made (λ p. p.head.frag) (λ p. HoldsIn spelled h m p.head.frag p) r.fragments (λ f at.
       let committed = (committed_from_looked m from to f (subst (λ fs. Contains fs f) asks.fragments_are at)).0 in
       let whole = stands.whole f committed in
@@ -140,7 +140,7 @@ module _ (spelled : Spelled) (most : MostGets) (h : History) (m : Held) (stands 
       (whole.0, named, subst (λ g. HoldsIn spelled h m g whole.0) (sym named) whole.1))
 
   -- the `.vac` objects that count
-  vacs_there : (r : Reading) → AsksOver h m from to query r → (vacs : List VacOf) × AreAllVacs m vacs
+  vacs_there : (r : Reading) → ListsOver h m from to query r → (vacs : List VacOf) × AreAllVacs m vacs
   vacs_there r asks =
       let made = each_made (λ v. v.frag) (λ v. Names m v.frag v.names) (counting_in (names_under Commits m)) (λ f at.
       let held = counting_held m f at in
@@ -150,7 +150,7 @@ module _ (spelled : Spelled) (most : MostGets) (h : History) (m : Held) (stands 
       (made.0, record { frags = made.1; each = made.2 })
 
   -- the deletes in the interval
-  deletes_there : (r : Reading) → AsksOver h m from to query r → (erased : List Deletion) × (list_map (λ e. frag_of e.key) erased ≡ r.delete_names) × ((e : Deletion) → Contains erased e → Contains (deletions h) e)
+  deletes_there : (r : Reading) → ListsOver h m from to query r → (erased : List Deletion) × (list_map (λ e. frag_of e.key) erased ≡ r.delete_names) × ((e : Deletion) → Contains erased e → Contains (deletions h) e)
   deletes_there r asks = each_made (λ e. frag_of e.key) (Contains (deletions h)) r.delete_names (λ f at.
       let of = erase_from_looked spelled m h stands from to f (subst (λ fs. Contains fs f) asks.deletes_are at) in
       (of.0, of.2, of.1))
@@ -160,7 +160,7 @@ module _ (spelled : Spelled) (most : MostGets) (h : History) (m : Held) (stands 
   in_the_end r vacs erased = record { from = r.from; to = r.to; ready = r.ready; frame = r.frame; current = r.current; fragments = r.fragments; counting = r.counting; vacs = vacs; clipped = r.clipped; delete_names = r.delete_names; deletions = erased }
 
   -- so many gets are few: those that need no fetch, where the schemas are those that pieces name
-  pub few_listed : (r : Reading) → AsksOver h m from to query r → (pieces : List Piece) → list_map (λ p. p.head.frag) pieces ≡ r.fragments → ((p : Piece) → Contains pieces p → HoldsIn spelled h m p.head.frag p)
+  pub few_listed : (r : Reading) → ListsOver h m from to query r → (pieces : List Piece) → list_map (λ p. p.head.frag) pieces ≡ r.fragments → ((p : Piece) → Contains pieces p → HoldsIn spelled h m p.head.frag p)
       → (count : ℕ) → count ≤ 1 + schema_count r.current.key (heads_in pieces) + length r.counting + length r.delete_names + length r.fragments → FewGets spelled most h m from to query count
   few_listed r asks pieces frags each count few =
       let vacs = vacs_there r asks in
@@ -178,7 +178,7 @@ module _ (spelled : Spelled) (most : MostGets) (h : History) (m : Held) (stands 
       (let fetched : ℕ = sum_by (most_for most h whole) (pieces_loaded whole pieces) in omega (arith, few))
 
   -- so few are those of a read that knows no fragment's head yet
-  pub few_early : (r : Reading) → AsksOver h m from to query r → (count : ℕ) → count ≤ 2 + length r.counting + length r.fragments → FewGets spelled most h m from to query count
+  pub few_early : (r : Reading) → ListsOver h m from to query r → (count : ℕ) → count ≤ 2 + length r.counting + length r.fragments → FewGets spelled most h m from to query count
   few_early r asks count few =
       let there = pieces_there r asks in
       let some = some_schema r.current.key (heads_in there.0) in
@@ -186,7 +186,7 @@ module _ (spelled : Spelled) (most : MostGets) (h : History) (m : Held) (stands 
 
   -- what a read asks for that has the schema there and the frame
   pub asks_there : (frame : Frame) (there : Schema) (ready : Ready) → frame_in h ≡ Some frame → current_schema h to ≡ Some there → ready_in frame there.attrs query ≡ Ok ready
-      → AsksOver h m from to query (reading_of from to (looked_into (Read from to query) (names_under Commits m)) frame there ready)
+      → ListsOver h m from to query (reading_of from to (looked_into (Read from to query) (names_under Commits m)) frame there ready)
   asks_there frame there ready framed holds is = record { begins = refl; ends = refl; framed = framed; holds = holds; is_ready = is; fragments_are = refl; counting_are = refl; deletes_are = refl }
 
   -- two gets are few where a schema is there

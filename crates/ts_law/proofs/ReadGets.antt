@@ -58,7 +58,7 @@ use Rattle.ts_model.specs.States.{after_delete, after_fetched, after_head, after
 use Rattle.ts_model.proofs.HistoryLaws.{deletion_facts, deletion_of_name, frame_facts, framed_by_schema, schema_facts, schema_with-is, current_is_with}
 use Rattle.ts_model.proofs.KeyLemmas.{key_same}
 use Rattle.ts_model.proofs.ListLemmas.{Contains-here, Contains-nil, Contains-slice_get, Contains-there, filter-Contains, find-Some}
-use Rattle.ts_law.specs.Bounds.{AsksOver, FewGets, GetsFew, heads_in, most_for, pieces_loaded, schema_count}
+use Rattle.ts_law.specs.Bounds.{ListsOver, FewGets, GetsFew, heads_in, most_for, pieces_loaded, schema_count}
 use Rattle.ts_law.specs.Ends.{AreAllVacs}
 use Rattle.ts_law.specs.Stands.{HoldsIn, IsNoLease, Names, Stands}
 use Rattle.ts_law.proofs.Declaring.{attrs_again, frame_again}
@@ -87,7 +87,7 @@ module _ {F : Type 0} (codec : Codec F) (spelled : Spelled) (tracks : Tracking F
 
   -- what the read asks for and lists
   abbrev pub AsksSo : Reading → Type 0
-  AsksSo r = AsksOver h m from to query r
+  AsksSo r = ListsOver h m from to query r
 
   -- ---- open fragments
 

@@ -159,7 +159,7 @@ module _ (r : Reading) (schemas : List Schema) where
   whole_or_fill newest = option_map_or (λ row. row) (option_and_then left_whole newest) (fills_of r.current.attrs)
 
   -- what was got of a version is erased where the whole one is
-  same_erased : (v : Version) → is_erased_by r schemas r.deletions (used_version r schemas v) ≡ erased_whole v
+  same_erased : (v : Version) → is_erased_by r schemas (used_version r schemas v) ≡ erased_whole v
   same_erased v =
       any_alike (λ e. key_lt v.key e.key && matches e.cond v.coords (attr_fields (attrs_got r schemas v.schema)) (used_row r (known_attrs r schemas v.schema) v.row))
       (λ e. key_lt v.key e.key && matches e.cond v.coords (attr_fields (known_attrs r schemas v.schema)) v.row) r.deletions
@@ -215,7 +215,7 @@ module _ (r : Reading) (schemas : List Schema) where
 
     -- a version that was got is left
     abbrev is_left : Version → Bool
-    is_left v = not (is_erased_by r schemas r.deletions v)
+    is_left v = not (is_erased_by r schemas v)
 
     -- its row as it shows
     abbrev shown : Version → List Val

@@ -55,7 +55,7 @@ most_gets_of most h r pieces =
     1 + schema_count r.current.key (heads_in pieces) + length r.counting + length r.delete_names + length r.fragments + sum_by (most_for most h r) (pieces_loaded r pieces)
 
 -- what a read of [from, to] asks for and what it lists, over objects that stand for a history: the committed fragments whose span meets the interval, the committed fragments that have a `.vac`, whatever their span, and the deletes in the interval
-pub record AsksOver (h : History) (m : Held) (from to : ℕ) (query : Query) (r : Reading) : Type 0 where
+pub record ListsOver (h : History) (m : Held) (from to : ℕ) (query : Query) (r : Reading) : Type 0 where
   pub begins : r.from ≡ from
   pub ends : r.to ≡ to
   pub framed : frame_in h ≡ Some r.frame
@@ -67,7 +67,7 @@ pub record AsksOver (h : History) (m : Held) (from to : ℕ) (query : Query) (r 
 
 -- what the read knows before its first fetch, and the pieces in the fragments that it looks into: it has the `.vac` objects that count, and the deletes in the interval
 pub record ReadsOver (spelled : Spelled) (h : History) (m : Held) (from to : ℕ) (query : Query) (r : Reading) (pieces : List Piece) : Type 0 where
-  pub asks : AsksOver h m from to query r
+  pub asks : ListsOver h m from to query r
   pub frags : list_map (λ p. p.head.frag) pieces ≡ r.fragments
   pub each : (p : Piece) → Contains pieces p → HoldsIn spelled h m p.head.frag p
   pub vacs : AreAllVacs m r.vacs

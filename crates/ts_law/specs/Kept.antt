@@ -179,6 +179,10 @@ pub record GotUsed (g : History) (r : Reading) (schemas : List Schema) (heads : 
   -- at each coordinate it got the newest one, with the values that it uses
   pub uses : (c : List ℤ) → newest_at got c ≡ option_map (used_version r schemas) (newest_at whole c)
 
+-- what was told before a read listed the commits that it looks into
+abbrev pub told_before_read : {spelled : Spelled} {opening : Held} {past : History} {jobs : List Job} {seen : List Told} {m : Held} {number : ℕ} {job : Job} {r : Reading} → ReadsIn spelled opening past jobs seen m number job r → List Told
+told_before_read reads = (((reads.at).listed).since.commits).before
+
 -- the deletes that a read got are those under the first of these names, and each is a deed
 pub record AreDeletions (h : History) (delete_names : List FragKey) (erased : List Deletion) : Type 0 where
   pub names_are : list_map (λ e. frag_of e.key) erased ≡ take (length erased) delete_names
@@ -187,18 +191,18 @@ pub record AreDeletions (h : History) (delete_names : List FragKey) (erased : Li
 -- a read that has the first of its `.vac` objects
 pub record GettingVacs (spelled : Spelled) (opening : Held) (past : History) (jobs : List Job) (seen : List Told) (m : Held) (number : ℕ) (job : Job) (r : Reading) : Type 0 where
   pub reads : ReadsIn spelled opening past jobs seen m number job r
-  pub are_vacs : AreVacs (held_told opening (((reads.at).listed).since.commits).before) r.counting r.vacs
+  pub are_vacs : AreVacs (held_told opening (told_before_read reads)) r.counting r.vacs
 
 -- a read of which the first fragments are open
 pub record Opening {F : Type 0} (codec : Codec F) (spelled : Spelled) (opening : Held) (past : History) (jobs : List Job) (seen : List Told) (m : Held) (number : ℕ) (job : Job) (r : Reading) (opened : List Opened) : Type 0 where
   pub reads : ReadsIn spelled opening past jobs seen m number job r
-  pub are_vacs : AreVacs (held_told opening (((reads.at).listed).since.commits).before) r.counting r.vacs
-  pub are_open : AreOpen codec spelled (history_told jobs past (((reads.at).listed).since.commits).before) (held_told opening (((reads.at).listed).since.commits).before) r.frame r.fragments opened
+  pub are_vacs : AreVacs (held_told opening (told_before_read reads)) r.counting r.vacs
+  pub are_open : AreOpen codec spelled (history_told jobs past (told_before_read reads)) (held_told opening (told_before_read reads)) r.frame r.fragments opened
 
 -- a read that knows what it loads, and has some of the schemas of these fragments
 pub record Gathering {F : Type 0} (codec : Codec F) (spelled : Spelled) (opening : Held) (past : History) (jobs : List Job) (seen : List Told) (m : Held) (number : ℕ) (job : Job) (r : Reading) (opened : List Opened) (schemas : List Schema) : Type 0 where
   pub reads : ReadsIn spelled opening past jobs seen m number job r
-  pub chosen : AreChosen codec spelled (history_told jobs past (((reads.at).listed).since.commits).before) (held_told opening (((reads.at).listed).since.commits).before) r opened
+  pub chosen : AreChosen codec spelled (history_told jobs past (told_before_read reads)) (held_told opening (told_before_read reads)) r opened
   pub gathered : AreSchemas (history_told jobs past seen) (keys_named r opened) schemas
 
 -- a read that has all schemas of its fragments, and some of the deletes
@@ -247,11 +251,15 @@ pub record Surveys (spelled : Spelled) (opening : Held) (past : History) (jobs :
   pub framed : frame_in (history_told jobs past seen) ≡ Some s.frame
   pub are_vacs : AreVacs (held_told opening ((chooses.since).commits).before) s.counting s.vacs
 
+-- what was told before a consolidation listed the commits that it chooses from
+abbrev pub told_before_survey : {spelled : Spelled} {opening : Held} {past : History} {jobs : List Job} {seen : List Told} {m : Held} {number : ℕ} {job : Job} {s : Survey} → Surveys spelled opening past jobs seen m number job s → List Told
+told_before_survey surveys = (((surveys.chooses).since).commits).before
+
 -- a consolidation that has all `.vac` objects, and of which the first fragments are open
 pub record Opens {F : Type 0} (codec : Codec F) (spelled : Spelled) (opening : Held) (past : History) (jobs : List Job) (seen : List Told) (m : Held) (number : ℕ) (job : Job) (s : Survey) (opened : List Opened) : Type 0 where
   pub surveys : Surveys spelled opening past jobs seen m number job s
   pub all_vacs : length s.vacs ≡ length s.counting
-  pub are_open : AreOpen codec spelled (history_told jobs past (((surveys.chooses).since).commits).before) (held_told opening (((surveys.chooses).since).commits).before) s.frame s.fragments opened
+  pub are_open : AreOpen codec spelled (history_told jobs past (told_before_survey surveys)) (held_told opening (told_before_survey surveys)) s.frame s.fragments opened
 
 -- a consolidation of which all fragments are open, and that has some of the schemas that their heads name
 pub record Learns {F : Type 0} (codec : Codec F) (spelled : Spelled) (opening : Held) (past : History) (jobs : List Job) (seen : List Told) (m : Held) (number : ℕ) (job : Job) (s : Survey) (opened : List Opened) (schemas : List Schema) : Type 0 where
@@ -277,11 +285,11 @@ AreSourcesIn codec spelled g m frame schema _ _ = ⊥
 -- a consolidation that knows its sources, which are those of its plan, all in one schema
 pub record HasSources {F : Type 0} (codec : Codec F) (spelled : Spelled) (opening : Held) (past : History) (jobs : List Job) (seen : List Told) (m : Held) (number : ℕ) (job : Job) (s : Survey) (sources : List Opened) (schema : Schema) : Type 0 where
   pub surveys : Surveys spelled opening past jobs seen m number job s
-  pub by_plan : IsPlanned spelled (history_told jobs past (((surveys.chooses).since).commits).before) (held_told opening (((surveys.chooses).since).commits).before) s.from s.to s.limits (planned.Take (frags_of sources))
+  pub by_plan : IsPlanned spelled (history_told jobs past (told_before_survey surveys)) (held_told opening (told_before_survey surveys)) s.from s.to s.limits (planned.Take (frags_of sources))
   pub same_vacs : by_plan.vacs ≡ s.vacs
   pub heads : heads_of sources ≡ filter (λ head. is_among head.frag (frags_of sources)) by_plan.heads
   pub pieces : List Piece
-  pub are_sources : AreSourcesIn codec spelled (history_told jobs past (((surveys.chooses).since).commits).before) (held_told opening (((surveys.chooses).since).commits).before) s.frame schema sources pieces
+  pub are_sources : AreSourcesIn codec spelled (history_told jobs past (told_before_survey surveys)) (held_told opening (told_before_survey surveys)) s.frame schema sources pieces
   pub declared : schema_with (history_told jobs past seen) schema.key ≡ Some schema
 
 -- what is got of each of these pieces, in turn: all of it
@@ -410,7 +418,7 @@ MergeClaims codec spelled tracks opening past jobs seen m number job (merging.Ge
 MergeClaims codec spelled tracks opening past jobs seen m number job (merging.Fetches s sources schema next frag got fetch c) =
     Clean opening past jobs seen m job × (slice_get (frags_of sources) next ≡ Some frag)
     × ((merges : Merges codec spelled opening past jobs seen m number job s sources schema next got)
-    × IsFetched codec spelled tracks (history_told jobs past (((((merges.has).surveys).chooses).since).commits).before) (held_told opening (((((merges.has).surveys).chooses).since).commits).before)
+    × IsFetched codec spelled tracks (history_told jobs past (told_before_survey (merges.has).surveys)) (held_told opening (told_before_survey (merges.has).surveys))
     s.frame schema frag (merges.has).pieces next fetch c)
 
 -- what the state of a vacuum that has not come to its removals says is true

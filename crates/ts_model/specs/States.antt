@@ -268,9 +268,9 @@ attrs_got r schemas k = used_attrs r (known_attrs r schemas k)
 abbrev pub keys_named : Reading → List Opened → List Key
 keys_named r opened = map.keys (map.from_entries {R = key_cmp} (list_map (λ o. (o.head.schema, o.head.schema)) (filter (λ o. not (key_eq o.head.schema r.current.key)) opened)))
 
--- a version of which the used values were got is erased by these deletes: one with a greater key matches it, under the version's own schema
-abbrev pub is_erased_by : Reading → List Schema → List Deletion → Version → Bool
-is_erased_by r schemas erased v = list_any (λ e. key_lt v.key e.key && matches e.cond v.coords (attr_fields (attrs_got r schemas v.schema)) v.row) erased
+-- a version of which the used values were got is erased by a delete of the read: one with a greater key matches it, under the version's own schema
+abbrev pub is_erased_by : Reading → List Schema → Version → Bool
+is_erased_by r schemas v = list_any (λ e. key_lt v.key e.key && matches e.cond v.coords (attr_fields (attrs_got r schemas v.schema)) v.row) r.deletions
 
 -- a version's coordinates, and its row as it shows through the schema there; an attribute that the read does not use shows its fill
 abbrev pub cell_shown : Reading → List Schema → Version → List ℤ × List Val
@@ -278,11 +278,11 @@ cell_shown r schemas v = (v.coords, shown_row (attrs_got r schemas v.schema) v.r
 
 -- what is left of the versions that a read got: the newest of each cell, unless it is erased
 abbrev pub cells_left : Reading → List Schema → List Version → List (List ℤ × List Val)
-cells_left r schemas got = list_map (cell_shown r schemas) (filter (λ v. not (is_erased_by r schemas r.deletions v)) (map.values (newest_of got)))
+cells_left r schemas got = list_map (cell_shown r schemas) (filter (λ v. not (is_erased_by r schemas v)) (map.values (newest_of got)))
 
 -- the row of a version as it shows through the schema there, unless it is erased
 abbrev pub version_left : Reading → List Schema → Version → Option (List Val)
-version_left r schemas v = cond (not (is_erased_by r schemas r.deletions v)) (Some (shown_row (attrs_got r schemas v.schema) v.row r.current.attrs)) None
+version_left r schemas v = cond (not (is_erased_by r schemas v)) (Some (shown_row (attrs_got r schemas v.schema) v.row r.current.attrs)) None
 
 -- the row that a dense array shows where this is the newest version, if there is one: what is left of it, or else the fill
 abbrev pub row_or_fill : Reading → List Schema → Option Version → List Val

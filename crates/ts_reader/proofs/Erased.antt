@@ -31,8 +31,8 @@ one_more r schemas v = by_test (list_any (erases (attrs_got r schemas v.schema) 
 -- the cells of one version more
 pub shown_more : (r : Reading) (schemas : List Schema) (vs : List Version) (v : Version) → all_shown r schemas (vs ++ v ∷ []) ≡ all_shown r schemas vs ++ one_shown r (attrs_got r schemas v.schema) v
 shown_more r schemas vs v =
-    ap (map (cell_shown r schemas)) (filter-append (λ w. not (is_erased_by r schemas r.deletions w)) vs (v ∷ []))
-    ∙ map-append (cell_shown r schemas) (filter (λ w. not (is_erased_by r schemas r.deletions w)) vs) _
+    ap (map (cell_shown r schemas)) (filter-append (λ w. not (is_erased_by r schemas w)) vs (v ∷ []))
+    ∙ map-append (cell_shown r schemas) (filter (λ w. not (is_erased_by r schemas w)) vs) _
     ∙ ap (λ es. all_shown r schemas vs ++ es) (one_more r schemas v)
 
 one_so : (P : List ℤ → Type 0) (r : Reading) (schemas : List Schema) (v : Version) (left : List Version) (b : Bool) → P v.coords → AllByRecursion (λ (e : List ℤ × List Val). P e.0) (map (cell_shown r schemas) left)
@@ -43,7 +43,7 @@ one_so P r schemas v left false here all = (here, all)
 -- what is true of the coordinates of each version is true of those of each cell that is shown
 pub cells_so : (P : List ℤ → Type 0) (r : Reading) (schemas : List Schema) (vs : List Version) → AllByRecursion (λ v. P v.coords) vs → AllByRecursion (λ (e : List ℤ × List Val). P e.0) (all_shown r schemas vs)
 cells_so P r schemas [] all = tt
-cells_so P r schemas (v ∷ vs) all = one_so P r schemas v (filter (λ w. not (is_erased_by r schemas r.deletions w)) vs) (is_erased_by r schemas r.deletions v) all.0 (cells_so P r schemas vs all.1)
+cells_so P r schemas (v ∷ vs) all = one_so P r schemas v (filter (λ w. not (is_erased_by r schemas w)) vs) (is_erased_by r schemas v) all.0 (cells_so P r schemas vs all.1)
 
 unplaced : (P : List ℤ → Type 0) (cells : List Shown) → AllByRecursion (λ (e : List ℤ × List Val). P e.0) (map placed cells) → AllByRecursion (λ (cell : Shown). P cell.coords) cells
 unplaced P [] all = tt

@@ -39,4 +39,4 @@ one_shown r attrs v = cond (list_any (erases attrs v) r.deletions) [] ((v.coords
 
 -- the cells of versions, but of those that are erased
 abbrev pub all_shown : Reading → List Schema → List Version → List (List ℤ × List Val)
-all_shown r schemas vs = list_map (cell_shown r schemas) (filter (λ v. not (is_erased_by r schemas r.deletions v)) vs)
+all_shown r schemas vs = list_map (cell_shown r schemas) (filter (λ v. not (is_erased_by r schemas v)) vs)

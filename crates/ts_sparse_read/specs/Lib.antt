@@ -15,7 +15,6 @@ pub mod SparseGets
 pub mod Reads
 pub mod Fits
 pub mod Walks
-pub mod SparseSources
 pub mod SparseWrites
 pub mod SparseMerges
 pub mod SparseLaws
@@ -41,6 +40,5 @@ pub mod TakenCells
 pub mod InOrder
 pub mod TilesAgain
 pub mod WholeTiles
-pub mod AllWanted
 pub mod Restored
 pub mod SparsePieceLaws

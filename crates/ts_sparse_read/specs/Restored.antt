@@ -27,10 +27,10 @@ use Rattle.ts_sparse.specs.Sparse.{FitsSparse}
 use Rattle.ts_sparse_read.specs.TileReads.{is_among}
 use Rattle.ts_sparse_read.specs.Opens.{used_in}
 use Rattle.ts_sparse_read.specs.Codecs.{IsSparseStorable, sparse_codec}
-use Rattle.ts_sparse_read.specs.SparseSources.{fits_storable}
+use Rattle.ts_actor.specs.PlainSources.{fits_storable}
 use Rattle.ts_sparse_read.specs.TakenCells.{taken_cells}
 use Rattle.ts_sparse_read.specs.WholeTiles.{all_among, stored_of, whole_fits}
-use Rattle.ts_sparse_read.specs.AllWanted.{taken_whole, names_own}
+use Rattle.ts_actor.specs.PlainStores.{taken_whole, names_own}
 
 -- ---- the head
 

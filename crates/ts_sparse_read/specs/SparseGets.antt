@@ -36,7 +36,7 @@ use Rattle.ts_sparse.proofs.ToldLaws.{footer_told}
 use Rattle.ts_actor.specs.PieceLaws.{AsksOwn, AreInBox, TakesInside, TakesSpelled, AsksBounded}
 use Rattle.ts_fetch.specs.declared.planned.Planned.{Planned}
 use Rattle.ts_fetch.specs.declared.judging.Verdict.TheVariants.{Whole}
-use Rattle.ts_fetch.specs.Plans.{Going, gets_among, gets_left}
+use Rattle.ts_fetch.specs.Plans.{Going, gets_planned, gets_left}
 use Rattle.ts_fetch.proofs.PlanLaws.{plan_pays}
 use Rattle.ts_fetch.proofs.Heard.{asks_own}
 use Rattle.ts_fetch.proofs.Inside.{takes_inside, takes_once}
@@ -109,17 +109,17 @@ sparse_found frame s frag object want fetch versions all short opens takes =
 -- ---- how many gets
 
 -- sizes are no gets
-gets_sizes : (used : List UsedColumn) (plan : List Planned) → gets_among (map size_call used ++ plan) ≡ gets_among plan
+gets_sizes : (used : List UsedColumn) (plan : List Planned) → gets_planned (map size_call used ++ plan) ≡ gets_planned plan
 gets_sizes [] plan = refl
 gets_sizes (c ∷ used) plan = gets_sizes used plan
 
 -- each span is one
-gets_spans : (spans : List Span) (plan : List Planned) → gets_among (map span_call spans ++ plan) ≡ length spans + gets_among plan
+gets_spans : (spans : List Span) (plan : List Planned) → gets_planned (map span_call spans ++ plan) ≡ length spans + gets_planned plan
 gets_spans [] plan = omega arith
 gets_spans (z ∷ spans) plan = let more = gets_spans spans plan in omega (arith, more)
 
 -- each tile has a span in each object
-gets_tiles : (frame : Frame) (footer : Footer) (used : List UsedColumn) (places : List ℕ) → gets_among (flat_map tile_calls (tiles_at frame footer used places)) ≡ length places * length used
+gets_tiles : (frame : Frame) (footer : Footer) (used : List UsedColumn) (places : List ℕ) → gets_planned (flat_map tile_calls (tiles_at frame footer used places)) ≡ length places * length used
 gets_tiles frame footer used [] = omega arith
 gets_tiles frame footer used (i ∷ places) =
     let more = gets_tiles frame footer used places in
@@ -154,7 +154,7 @@ module _ (frame : Frame) (s : Schema) (p : Piece) (want : Want) where
   abbrev told : Footer
   told = footer_of frame s.attrs (stored_for p)
 
-  plan_few : gets_among (calls_for (used_in frame s.attrs told want.attrs) (tiles_at frame told (used_in frame s.attrs told want.attrs) (places_for frame want.sub told))) ≤ sparse_gets frame s p want
+  plan_few : gets_planned (calls_for (used_in frame s.attrs told want.attrs) (tiles_at frame told (used_in frame s.attrs told want.attrs) (places_for frame want.sub told))) ≤ sparse_gets frame s p want
   unfolding used_in
   plan_few =
       let used = used_in frame s.attrs told want.attrs in
@@ -176,6 +176,6 @@ sparse_bounded = record {
       let b = is_begun frame s p.head.frag object want f opens in
       let same : b.footer ≡ footer_of frame s.attrs (stored_for p) = same_ok (footer_stored frame s.attrs p.head.frag object) b.footer (footer_of frame s.attrs (stored_for p)) b.read stored in
       subst (λ (g : Going Opened). gets_left g ≤ sparse_gets frame s p want) (sym b.is)
-      (subst (λ (footer : Footer). gets_among (calls_for (used_in frame s.attrs footer want.attrs) (tiles_at frame footer (used_in frame s.attrs footer want.attrs) (places_for frame want.sub footer))) ≤ sparse_gets frame s p want) (sym same)
+      (subst (λ (footer : Footer). gets_planned (calls_for (used_in frame s.attrs footer want.attrs) (tiles_at frame footer (used_in frame s.attrs footer want.attrs) (places_for frame want.sub footer))) ≤ sparse_gets frame s p want) (sym same)
       (plan_few frame s p want));
 }

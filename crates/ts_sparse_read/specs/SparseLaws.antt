@@ -55,7 +55,7 @@ use Rattle.ts_model.specs.Codecs.{AsksLooks, AsksHeld, SpeaksOf, IsToldOf, GoesW
 use Rattle.ts_actor.specs.PieceLaws.{SpellsOne}
 use Rattle.ts_sparse_read.specs.declared.opened.Opened.{Opened}
 use Rattle.ts_sparse_read.specs.Codecs.{IsSparseStorable, sparse_parts, IsSparseIn, sparse_codec, SparseTracks}
-use Rattle.ts_sparse_read.specs.SparseSources.{fits_storable}
+use Rattle.ts_actor.specs.PlainSources.{fits_storable}
 use Rattle.ts_sparse_read.specs.SparseWrites.{sparse_ordinary}
 use Rattle.ts_sparse_read.specs.SparseMerges.{sparse_merged}
 

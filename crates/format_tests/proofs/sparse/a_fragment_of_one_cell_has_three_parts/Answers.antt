@@ -1,6 +1,6 @@
 -- The fragment can be stored.
-use Rattle.library_tests.proofs.OneCellFits.{names_there, fits_there}
-use Rattle.library_tests.proofs.sparse.a_fragment_of_one_cell_has_three_parts.Goals as goal
+use Rattle.format_tests.proofs.OneCellFits.{names_there, fits_there}
+use Rattle.format_tests.proofs.sparse.a_fragment_of_one_cell_has_three_parts.Goals as goal
 
 pub build-requires-clause-names : goal.build-requires-clause-names
 build-requires-clause-names g c = names_there _ c.in_ok-piece.ensures

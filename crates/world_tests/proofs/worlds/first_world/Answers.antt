@@ -6,7 +6,7 @@ use Rattle.ts_plain.specs.Pieces.{IsPlain}
 use Rattle.ts_model.specs.Deeds.{History}
 use Rattle.ts_law.specs.Stands.{Stands}
 use Rattle.ts_law.proofs.FirstStands.{nothing_stands}
-use Rattle.machine_tests.proofs.worlds.first_world.Goals as goal
+use Rattle.world_tests.proofs.worlds.first_world.Goals as goal
 
 pub new-requires-3 : goal.new-requires-3
 new-requires-3 c =

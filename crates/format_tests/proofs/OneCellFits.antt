@@ -12,7 +12,7 @@ use Rattle.ts_schema.specs.declared.frames.Frame.{Frame}
 use Rattle.ts_plain.specs.Plain.{FitsHead, FitsPlain}
 use Rattle.ts_plain.specs.Writes.{place_of, HasPlace, stored_for, NamesWrites}
 use Rattle.ts_sparse.specs.Sparse.{FitsTypes, FitsSparse}
-use Rattle.library_tests.specs.OneCell.{frame_of, attrs_of, one_cell}
+use Rattle.format_tests.specs.OneCell.{frame_of, attrs_of, one_cell}
 
 names : NamesWrites one_cell
 unfolding place_of IsStrictlySortedBy

@@ -2,7 +2,7 @@
 use Rattle.std.proofs.Common.{◌≡◌, ℕ, zero, suc, ◌<◌, List, [], ◌∷◌, length, get_or, rules, arith, subst}
 use Rattle.std.specs.Prelude.{All}
 use Rattle.ts_table.specs.Orders.{LiesInside}
-use Rattle.library_tests.proofs.table.merge.Goals as goal
+use Rattle.format_tests.proofs.table.merge.Goals as goal
 
 both : {X : Type 0} (P : X → Type 0) (xs : List X) (x y : X) → length xs ≡ 2 → x ≡ get_or xs 0 x → y ≡ get_or xs 1 y → P x → P y → (k : ℕ) (d : X) → k < length xs → P (get_or xs k d)
 both P (v ∷ w ∷ []) x y two is_x is_y first second zero d within = subst P is_x first

@@ -4,7 +4,7 @@ use Rattle.ts_base.specs.Held.{Held}
 use Rattle.ts_model.specs.Deeds.{History}
 use Rattle.ts_law.specs.Fresh.{IsCarried}
 use Rattle.ts_law.proofs.FirstStands.{nothing, fresh_over_nothing}
-use Rattle.machine_tests.proofs.worlds.spawn.Goals as goal
+use Rattle.world_tests.proofs.worlds.spawn.Goals as goal
 
 -- nothing was carried where it began empty
 none_carried : (opening : Held) (past : History) (id : ℕ) → opening ≡ nothing → past ≡ [] → IsCarried opening past id → ⊥

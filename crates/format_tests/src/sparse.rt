@@ -1,6 +1,6 @@
 //! The parts of a sparse fragment of one cell, byte for byte where they are short.
 ghost use Rattle.std.specs.Prelude.{◌≡◌, IfOk};
-ghost use Rattle.library_tests.specs.OneCell.{frame_of, attrs_of, one_cell};
+ghost use Rattle.format_tests.specs.OneCell.{frame_of, attrs_of, one_cell};
 
 use std::alloc::Global;
 use std::test::Fail;

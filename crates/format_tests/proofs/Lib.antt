@@ -1,0 +1,2 @@
+mod LikeLemmas
+mod OneCellFits
