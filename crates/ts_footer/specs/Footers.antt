@@ -25,7 +25,7 @@ use Rattle.ts_footer.specs.TreeTexts.{rooted}
 use Rattle.ts_footer.specs.Tilings.{full_in, forms_in, tile_total, tree_in}
 use Rattle.ts_plain.specs.Writes.{box_of}
 
--- ---- reading
+-- ---- reading, by how the cells lie in tiles
 
 -- behind a head stand the number of tiles, what is said of the objects, and the tree over the tiles, where there is one
 unfoldable pub laid_tiles_at : Tiling → Frame → List Attr → StoredHead → Place → Read (ℕ × (List ColumnSize × Option Rooted))
@@ -47,23 +47,31 @@ laid_footer_stored tiling frame attrs frag object = object_at kind.Meta (laid_fo
 unfoldable pub laid_head_stored : Tiling → Frame → FragKey → List ℕ → Result StoredHead ℕ
 laid_head_stored tiling frame frag object = unwrapped kind.Meta object >>= λ body. head_by (full_in tiling frame.dense) frame frag (place body 14) >>= λ x. Ok x.0
 
--- the same where coordinates are stored, as in sparse arrays
+-- ---- reading, where coordinates are stored as in sparse arrays
+
+-- what stands behind a head, where coordinates are stored
 abbrev pub tiles_at : Frame → List Attr → StoredHead → Place → Read (ℕ × (List ColumnSize × Option Rooted))
 tiles_at frame attrs head = laid_tiles_at Sparse frame attrs head
 
+-- all that the metadata stores, where coordinates are stored
 abbrev pub footer_at : Frame → List Attr → FragKey → Place → Read Footer
 footer_at frame attrs frag = laid_footer_at Sparse frame attrs frag
 
+-- what the whole object stores, where coordinates are stored, or the offset of its first broken field
 abbrev pub footer_stored : Frame → List Attr → FragKey → List ℕ → Result Footer ℕ
 footer_stored frame attrs frag object = laid_footer_stored Sparse frame attrs frag object
 
+-- what the object stores before the number of tiles, where coordinates are stored, or the offset of its first broken field up to there
 abbrev pub head_stored : Frame → FragKey → List ℕ → Result StoredHead ℕ
 head_stored frame frag object = laid_head_stored Sparse frame frag object
 
--- the same in space tiles, as in dense arrays
+-- ---- reading, in space tiles as in dense arrays
+
+-- what the whole object stores of a fragment in space tiles, or the offset of its first broken field
 abbrev pub dense_footer_stored : Frame → List Attr → FragKey → List ℕ → Result Footer ℕ
 dense_footer_stored frame attrs frag object = laid_footer_stored Dense frame attrs frag object
 
+-- what the object stores before the number of tiles of a fragment in space tiles, or the offset of its first broken field up to there
 abbrev pub dense_head_stored : Frame → FragKey → List ℕ → Result StoredHead ℕ
 dense_head_stored frame frag object = laid_head_stored Dense frame frag object
 
@@ -110,10 +118,10 @@ pub record FitsLaidFooter (tiling : Tiling) (frame : Frame) (attrs : List Attr) 
   pub sizes : EachFits (FitsSize footer.head.cells footer.tiles) (forms_in tiling frame attrs footer.head.consolidated) footer.sizes
   pub tree : FitsTreeIn tiling (box_of footer.head.hull) footer.tiles footer.tree
 
--- the same where coordinates are stored, as in sparse arrays
+-- each field keeps its rule, where coordinates are stored
 abbrev pub FitsFooter : Frame → List Attr → FragKey → Footer → Type 0
 FitsFooter frame attrs frag footer = FitsLaidFooter Sparse frame attrs frag footer
 
--- the same in space tiles, as in dense arrays
+-- each field keeps its rule, in space tiles
 abbrev pub FitsDenseFooter : Frame → List Attr → FragKey → Footer → Type 0
 FitsDenseFooter frame attrs frag footer = FitsLaidFooter Dense frame attrs frag footer

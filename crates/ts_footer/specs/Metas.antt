@@ -57,30 +57,41 @@ pub record IsLaidMetaObject (tiling : Tiling) (frame : Frame) (attrs : List Attr
   pub spelled : bytes ≡ wrapped kind.Meta (footer_bytes stored)
   pub same : meta ≡ meta_of meta.head.frag stored
 
--- the same where coordinates are stored, as in sparse arrays
+-- ---- where coordinates are stored, as in sparse arrays
+
+-- the metadata that the object under this name holds, where coordinates are stored, or the offset of the first broken field
 abbrev pub meta_in : Frame → List Attr → FragKey → List ℕ → Result Meta ℕ
 meta_in frame attrs frag object = laid_meta_in Sparse frame attrs frag object
 
+-- the head that the object under this name holds, where coordinates are stored, or the offset of the first broken field up to its end
 abbrev pub head_in : Frame → FragKey → List ℕ → Result Head ℕ
 head_in frame frag object = laid_head_in Sparse frame frag object
 
+-- the bytes are those of an object that holds the metadata, where coordinates are stored
 abbrev pub IsMetaObject : Frame → List Attr → Meta → List ℕ → Type 0
 IsMetaObject frame attrs meta bytes = IsLaidMetaObject Sparse frame attrs meta bytes
 
--- the same in space tiles, as in dense arrays
+-- ---- in space tiles, as in dense arrays
+
+-- the metadata of a fragment in space tiles that the object under this name holds, or the offset of the first broken field
 abbrev pub dense_meta_in : Frame → List Attr → FragKey → List ℕ → Result Meta ℕ
 dense_meta_in frame attrs frag object = laid_meta_in Dense frame attrs frag object
 
+-- the head of a fragment in space tiles that the object under this name holds, or the offset of the first broken field up to its end
 abbrev pub dense_head_in : Frame → FragKey → List ℕ → Result Head ℕ
 dense_head_in frame frag object = laid_head_in Dense frame frag object
 
+-- the bytes are those of an object that holds the metadata of a fragment in space tiles
 abbrev pub IsDenseMetaObject : Frame → List Attr → Meta → List ℕ → Type 0
 IsDenseMetaObject frame attrs meta bytes = IsLaidMetaObject Dense frame attrs meta bytes
 
--- the same by the kind of the array
+-- ---- by the kind of the array
+
+-- the metadata that the object under this name holds in an array of this frame, or the offset of the first broken field
 abbrev pub meta_by : Frame → List Attr → FragKey → List ℕ → Result Meta ℕ
 meta_by frame attrs frag object = laid_meta_in (tiling_of frame) frame attrs frag object
 
+-- the bytes are those of an object that holds the metadata in an array of this frame
 abbrev pub IsMetaObjectBy : Frame → List Attr → Meta → List ℕ → Type 0
 IsMetaObjectBy frame attrs meta bytes = IsLaidMetaObject (tiling_of frame) frame attrs meta bytes
 
@@ -116,7 +127,7 @@ footer_for forms meta = record {
 abbrev pub footer_by : Frame → List Attr → Meta → Footer
 footer_by frame attrs meta = footer_for (forms_by frame attrs meta) meta
 
--- the metadata is that of some object
+-- the metadata is that of some object, by the kind of the array
 pub record HasMetaObjectBy (frame : Frame) (attrs : List Attr) (meta : Meta) : Type 0 where
   pub bytes : List ℕ
   pub spelled : IsMetaObjectBy frame attrs meta bytes

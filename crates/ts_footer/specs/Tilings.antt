@@ -17,7 +17,7 @@ use Rattle.ts_footer.specs.declared.tilings.Tiling.TheVariants.{Sparse, Dense}
 use Rattle.ts_footer.specs.Columns.{tiles_for, column_forms}
 use Rattle.ts_footer.specs.TreeTexts.{tree_at}
 
--- how the fragments of an array lie in tiles, by its kind
+-- how the fragments of an array lie in tiles: those of a dense one in space tiles
 abbrev pub tiling_of : Frame → Tiling
 tiling_of frame = if frame.dense then Dense else Sparse
 
@@ -40,7 +40,7 @@ abbrev pub tile_total : Tiling → Frame → StoredHead → ℕ
 tile_total Sparse frame head = tiles_for frame.capacity head.cells
 tile_total Dense frame head = cells_of (tile_box frame.domain (box_of head.hull))
 
--- the tree over the tiles, where coordinates are stored
+-- the tree over the tiles, which there is where coordinates are stored
 abbrev pub tree_in : Tiling → SubBox → ℕ → Place → Read (Option Rooted)
 tree_in Sparse hull tiles = mapped Some (tree_at hull tiles)
 tree_in Dense hull tiles = given None

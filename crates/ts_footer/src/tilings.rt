@@ -2,7 +2,6 @@
 ghost use Rattle.std.specs.Prelude.{◌≡◌, ◌-◌, ◌≤◌, ◌^◌, nat_eq, min, IfOk};
 ghost use Rattle.ts_domain.specs.Boxes.{IsBox, cells_of};
 ghost use Rattle.ts_domain.specs.Domains.{LiesInDomain};
-ghost use Rattle.ts_wire.specs.Exact.{IsBytes};
 ghost use Rattle.ts_wire.specs.Reading.{Reads, ReadsOr};
 ghost use Rattle.ts_order.specs.Tiles.{tile_box};
 ghost use Rattle.ts_plain.specs.Insides.{IsHull};
@@ -15,7 +14,7 @@ use crate::columns::{FormList, column_forms};
 use crate::trees::read_tree;
 use std::alloc::Global;
 use ts_base::{FragKey, OutOfMemory};
-use ts_domain::{Dim, Domain, SubBox};
+use ts_domain::{Domain, SubBox};
 use ts_order::tile_numbers;
 use ts_plain::{StoredHead, read_fields, read_full_fields};
 use ts_rtree::Tree;

@@ -60,14 +60,14 @@ origin_at frag consolidated count front = ruled (may_be_origin frag consolidated
 unfoldable pub origins_at : FragKey → Bool → Place → Read (List Key)
 origins_at frag consolidated = numbered_at (origin_count_at consolidated) (origin_at frag consolidated)
 
--- what stands before the cells, where `full` says of a fragment, by whether it is consolidated, that it has each cell of its hull: it is read without the schema
+-- what stands before the cells, where fragments that are full, by whether they are consolidated, have each cell of their hull: it is read without the schema
 unfoldable pub head_by : (Bool → Bool) → Frame → FragKey → Place → Read StoredHead
 head_by full frame frag =
     mapped (λ x. record { schema = x.0; dense = x.1.0; consolidated = x.1.1.0; hull = x.1.1.1.0; cells = x.1.1.1.1.0; origins = x.1.1.1.1.1 })
     (both key_at (λ _. both (dense_at frame.dense) (λ _. both (consolidated_at frag) (λ consolidated.
     both (hull_at frame.domain) (λ hull. both (cells_at (full consolidated) hull) (λ _. origins_at frag consolidated))))))
 
--- what stands before the cells of a plain fragment
+-- what stands before the cells of a plain fragment: one of a dense array that is not consolidated is full
 abbrev pub head_at : Frame → FragKey → Place → Read StoredHead
 head_at frame frag = head_by (is_full frame.dense) frame frag
 
@@ -147,7 +147,7 @@ pub record FitsOrigin (frag : FragKey) (consolidated : Bool) (count : ℕ) (fron
   pub range : FitsKey key
   pub in_place : IsTrue (may_be_origin frag consolidated count front key)
 
--- each field before the cells keeps its rule, where `full` says of a fragment, by whether it is consolidated, that it has each cell of its hull
+-- each field before the cells keeps its rule, where fragments that are full, by whether they are consolidated, have each cell of their hull
 pub record FitsHeadBy (full : Bool → Bool) (frame : Frame) (frag : FragKey) (head : StoredHead) : Type 0 where
   pub schema : FitsKey head.schema
   pub kind : IsTrue (beq frame.dense head.dense)
