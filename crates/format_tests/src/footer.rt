@@ -1,12 +1,10 @@
-//! Worked objects of the metadata of sparse fragments: what each byte says, and which offset each
+//! Worked objects of the metadata of fragments in tiles: what each byte says, and which offset each
 //! broken field gives.
-ghost use Rattle.std.specs.Prelude.{◌≡◌, false, IfOk};
-
 use std::alloc::Global;
 use std::test::Fail;
 use ts_base::{ByteList, FragKey, Key, Label, OutOfMemory, Val, ValType};
 use ts_domain::{Dim, Domain, Order};
-use ts_footer::{Meta, read_head};
+use ts_footer::{Meta, read_dense_head, read_head};
 use ts_schema::{Attr, AttrList, Frame, Schema};
 use ts_wire::ReadFault;
 
@@ -127,6 +125,38 @@ const TEXTS: [u8; 256] = [
     0x06, 0x00, 0x00, 0x00, 0x00, 0x00, 0x00, 0x00, 0x00, 0x00, 0x00, 0x00, 0x00, 0x00, 0x00, 0x00,
 ];
 
+// The metadata of a write of six integers into all of a dense array of three rows and two columns, whose
+// space tiles have two rows and two columns each.
+#[rattlefmt::skip]
+const SPACE_TILES: [u8; 152] = [
+    // the text TDBU, the kind 5, the version 1
+    0x54, 0x44, 0x42, 0x55, 0x05, 0x01,
+    // the length of what follows: 138
+    0x8a, 0x00, 0x00, 0x00, 0x00, 0x00, 0x00, 0x00,
+    // the schema: timestamp 0, identifier 1
+    0x00, 0x00, 0x00, 0x00, 0x00, 0x00, 0x00, 0x00, 0x01, 0x00, 0x00, 0x00, 0x00, 0x00, 0x00, 0x00,
+    0x00, 0x00, 0x00, 0x00, 0x00, 0x00, 0x00, 0x00,
+    // dense, and not consolidated
+    0x01, 0x00,
+    // the rows: from 1 to 3
+    0x01, 0x00, 0x00, 0x00, 0x00, 0x00, 0x00, 0x00, 0x00, 0x00, 0x00, 0x00, 0x00, 0x00, 0x00, 0x00,
+    0x03, 0x00, 0x00, 0x00, 0x00, 0x00, 0x00, 0x00, 0x00, 0x00, 0x00, 0x00, 0x00, 0x00, 0x00, 0x00,
+    // the columns: from 1 to 2
+    0x01, 0x00, 0x00, 0x00, 0x00, 0x00, 0x00, 0x00, 0x00, 0x00, 0x00, 0x00, 0x00, 0x00, 0x00, 0x00,
+    0x02, 0x00, 0x00, 0x00, 0x00, 0x00, 0x00, 0x00, 0x00, 0x00, 0x00, 0x00, 0x00, 0x00, 0x00, 0x00,
+    // six cells
+    0x06, 0x00, 0x00, 0x00, 0x00, 0x00, 0x00, 0x00,
+    // one origin
+    0x01, 0x00, 0x00, 0x00,
+    // the origin: timestamp 1, identifier 2
+    0x01, 0x00, 0x00, 0x00, 0x00, 0x00, 0x00, 0x00, 0x02, 0x00, 0x00, 0x00, 0x00, 0x00, 0x00, 0x00,
+    0x00, 0x00, 0x00, 0x00, 0x00, 0x00, 0x00, 0x00,
+    // two tiles
+    0x02, 0x00, 0x00, 0x00,
+    // the values have 38 bytes
+    0x26, 0x00, 0x00, 0x00, 0x00, 0x00, 0x00, 0x00,
+];
+
 const FRAG: FragKey = FragKey {
     t1: 1,
     t2: 1,
@@ -176,10 +206,21 @@ const TEXTS_CHANGES: [Change; 9] = [
     Change(72, 3, 108),
 ];
 
+// A consolidated fragment has an object of origins more, and the object ends before its length.
+const SPACE_TILES_CHANGES: [Change; 9] = [
+    Change(6, 0x89, 6),
+    Change(38, 0, 38),
+    Change(39, 1, 152),
+    Change(72, 2, 104),
+    Change(104, 5, 104),
+    Change(140, 1, 140),
+    Change(140, 3, 140),
+    Change(143, 1, 140),
+    Change(144, 0x27, 144),
+];
+
 // The frame of a sparse array of one dimension from 0 to 9, with so many cells a tile.
-fn frame(capacity: u32) -> Result<Frame, Fail>
-    ensures { IfOk result (λ frame. frame.dense ≡ false) }
-{
+fn frame(capacity: u32) -> Result<Frame, Fail> {
     let dim = Dim {
         name: Label::new("x").ok_or("no label")?,
         ty: ValType::I64,
@@ -194,6 +235,32 @@ fn frame(capacity: u32) -> Result<Frame, Fail>
         cell: Order::Row,
         tile: Order::Row,
         capacity,
+    })
+}
+
+// The frame of a dense array of three rows and two columns, with two of each in a space tile.
+fn dense_frame() -> Result<Frame, Fail> {
+    let rows = Dim {
+        name: Label::new("r").ok_or("no label")?,
+        ty: ValType::U8,
+        low: 1,
+        high: 3,
+        extent: 2,
+    };
+    let columns = Dim {
+        name: Label::new("c").ok_or("no label")?,
+        ty: ValType::U8,
+        low: 1,
+        high: 2,
+        extent: 2,
+    };
+    let domain = Domain::new(&[rows, columns]).ok().ok_or("no domain")?;
+    Ok(Frame {
+        dense: true,
+        domain,
+        cell: Order::Row,
+        tile: Order::Row,
+        capacity: 10_000,
     })
 }
 
@@ -217,9 +284,7 @@ fn broken_at(
     schema: &Schema,
     object: &[u8],
     change: &Change,
-) -> Result<Option<u64>, OutOfMemory>
-    requires { frame.now.dense ≡ false }
-{
+) -> Result<Option<u64>, OutOfMemory> {
     let Change(at, byte, _) = change;
     let mut bytes = ByteList::of_bytes(alloc, object)?;
     if *at < bytes.len() {
@@ -238,9 +303,7 @@ fn breaks_so(
     schema: &Schema,
     object: &[u8],
     changes: &[Change],
-) -> Result<bool, OutOfMemory>
-    requires { frame.now.dense ≡ false }
-{
+) -> Result<bool, OutOfMemory> {
     for change in changes {
         let Change(_, _, broken) = change;
         if broken_at(alloc, frame, schema, object, change)? != Some(*broken) {
@@ -259,16 +322,18 @@ fn is_read_back(
     object: &[u8],
     lengths: &[u64],
     starts: &[u64],
-) -> Result<bool, ReadFault>
-    requires { frame.now.dense ≡ false }
-{
+) -> Result<bool, ReadFault> {
     let meta = Meta::decode(alloc, frame, schema, FRAG, object)?;
     let known = match meta.var_starts.as_slice() {
         [] => starts.is_empty(),
         [list] => list.as_slice() == starts,
         _ => false,
     };
-    let head = read_head(alloc, frame, FRAG, object)?;
+    let head = if frame.dense {
+        read_dense_head(alloc, frame, FRAG, object)?
+    } else {
+        read_head(alloc, frame, FRAG, object)?
+    };
     let bytes = meta.encode(alloc, frame, schema)?;
     Ok(
         known
@@ -297,5 +362,25 @@ fn metadata_of_texts_tells_where_their_tiles_start(rt: HostRuntime) -> Result<()
     let frame = frame(1)?;
     assert!(rt; is_read_back(alloc, &frame, &schema, &TEXTS, &[30, 30, 17, 16], &[14, 16])?);
     assert!(rt; breaks_so(alloc, &frame, &schema, &TEXTS, &TEXTS_CHANGES)?);
+    Ok(())
+}
+
+#[test]
+fn metadata_of_space_tiles_has_its_152_bytes(rt: HostRuntime) -> Result<(), Fail> {
+    let alloc = rt.alloc();
+    let schema = schema(alloc, ValType::I32, false, Val::Int(0))?;
+    let frame = dense_frame()?;
+    assert!(rt; is_read_back(alloc, &frame, &schema, &SPACE_TILES, &[38], &[])?);
+    assert!(rt; breaks_so(alloc, &frame, &schema, &SPACE_TILES, &SPACE_TILES_CHANGES)?);
+    // An object that is cut is broken at its length, whatever is changed behind it.
+    assert!(rt;
+        breaks_so(
+            alloc,
+            &frame,
+            &schema,
+            &SPACE_TILES[..151],
+            &[Change(140, 3, 6)]
+        )?
+    );
     Ok(())
 }

@@ -1,5 +1,5 @@
 -- What the metadata stores is read exactly: each field, and the whole.
-use Rattle.std.proofs.Common.{◌≡◌, ℕ, ◌^◌, ◌<◌, true, ◌&&◌, nat_eq, nat_le, int_le, List, [], ◌∷◌, ◌++◌, map, Option, Some, None, refl, sym, ap, subst, ◌∙◌, arith, append_assoc, ℤ}
+use Rattle.std.proofs.Common.{◌≡◌, ℕ, ◌^◌, ◌<◌, ◌≤◌, true, ◌&&◌, nat_eq, nat_le, int_le, List, [], ◌∷◌, ◌++◌, map, Option, Some, None, refl, sym, ap, subst, ◌∙◌, arith, append_assoc, ℤ}
 use Rattle.std.specs.List.{All, flat_map}
 use Rattle.std.specs.Option.{IsSomeAnd}
 use Rattle.std.proofs.lemmas.Bool.{and_parts, and_from, leb-true, eqb-true, eq-eqb}
@@ -8,35 +8,39 @@ use Rattle.std.proofs.lemmas.List.Concat.{flat_map-append}
 use Rattle.std.proofs.lemmas.List.Elements.{All-nil, All-cons}
 use Rattle.ts_base.specs.declared.keys.FragKey.{FragKey}
 use Rattle.ts_domain.specs.declared.dims.Dim.{Dim}
+use Rattle.ts_domain.specs.declared.boxes.SubBox.{SubBox}
 use Rattle.ts_domain.specs.Bounds.{are_bounds}
 use Rattle.ts_domain.specs.Rects.{rect_bytes}
 use Rattle.ts_wire.specs.Exact.{Exact, EachFits}
 use Rattle.ts_wire.specs.Numbers.{number_bytes, FitsInt}
-use Rattle.ts_wire.proofs.Laws.{restated, mapped_exact, both_exact, ruled_exact, items_exact, each_exact}
+use Rattle.ts_wire.proofs.Laws.{restated, given_exact, mapped_exact, both_exact, ruled_exact, items_exact, each_exact}
 use Rattle.ts_wire.proofs.Numbers.{number_exact}
 use Rattle.ts_schema.specs.declared.attrs.Attr.{Attr}
 use Rattle.ts_schema.specs.declared.frames.Frame.{Frame}
 use Rattle.ts_rtree.specs.Trees.{Rooted, nodes_of}
 use Rattle.ts_plain.specs.declared.stored.Side.{Side}
 use Rattle.ts_plain.specs.declared.stored.StoredHead.{StoredHead}
-use Rattle.ts_plain.specs.Plain.{head_bytes, FitsSide, FitsHead}
-use Rattle.ts_plain.specs.Rules.{last_of}
-use Rattle.ts_plain.proofs.PlainExact.{head_exact}
+use Rattle.ts_plain.specs.Plain.{FitsSide, FitsHeadBy}
+use Rattle.ts_plain.specs.Rules.{is_full, last_of}
+use Rattle.ts_plain.proofs.PlainExact.{head_by_exact}
 use Rattle.ts_footer.specs.declared.columns.ColumnForm.{ColumnForm}
 use Rattle.ts_footer.specs.declared.columns.ColumnForm.TheVariants.{Fixed, Var}
 use Rattle.ts_footer.specs.declared.columns.ColumnSize.{ColumnSize}
-use Rattle.ts_footer.specs.declared.footers.Footer.{Footer}
-use Rattle.ts_footer.specs.Columns.{tiles_for, tile_count_at, column_forms, fixed_length, fixed_at, may_start, start_at, starts_at, size_at, sizes_at, sizes_of, FitsStart, FitsStarts, FitsSize}
+use Rattle.ts_footer.specs.Columns.{tiles_for, tile_count_at, fixed_length, fixed_at, may_start, start_at, starts_at, size_at, sizes_at, sizes_of, FitsStart, FitsStarts, FitsSize}
 use Rattle.ts_plain.specs.Writes.{box_of}
-use Rattle.ts_footer.specs.Footers.{tiles_at, footer_at, leaves_in, layout_bytes, footer_bytes, FitsRect, FitsTree, FitsFooter}
+use Rattle.ts_footer.specs.Footers.{laid_tiles_at, laid_footer_at, leaves_in, layout_bytes, footer_bytes, FitsRect, FitsTree, FitsTreeIn, FitsLaidFooter}
+use Rattle.ts_footer.specs.declared.tilings.Tiling.{Tiling}
+use Rattle.ts_footer.specs.declared.tilings.Tiling.TheVariants.{Sparse, Dense}
+use Rattle.ts_footer.specs.Tilings.{full_in, forms_in, tile_total, tree_in}
 use Rattle.ts_footer.proofs.FooterReads.{some_cell, tiles_some}
+use Rattle.ts_footer.proofs.Writes.{no_boxes}
 use Rattle.ts_footer.proofs.TreeExact.{tree_text, tree_exact}
 
 -- ---- the objects of columns
 
-count_exact : (capacity cells : ℕ) → Exact (λ tiles. (tiles < 256 ^ 4) × (nat_eq tiles (tiles_for capacity cells) ≡ true)) (number_bytes 4) (tile_count_at capacity cells)
+count_exact : (total : ℕ) → Exact (λ tiles. (tiles < 256 ^ 4) × (nat_eq tiles total ≡ true)) (number_bytes 4) (tile_count_at total)
 unfolding tile_count_at
-count_exact capacity cells = ruled_exact (λ tiles. nat_eq tiles (tiles_for capacity cells)) (number_exact 4)
+count_exact total = ruled_exact (λ tiles. nat_eq tiles total) (number_exact 4)
 
 fixed_exact : (width cells : ℕ) → Exact (λ n. (n < 256 ^ 8) × (nat_eq n (fixed_length width cells) ≡ true)) (number_bytes 8) (fixed_at width cells)
 unfolding fixed_at
@@ -117,57 +121,63 @@ hull_rect dims hull fits =
 
 -- ---- the whole
 
+-- the spelling of a tree, where there is one
+abbrev boxes_text : Option Rooted → List ℕ
+boxes_text tree = flat_map rect_bytes (nodes_of (leaves_in tree))
+
+-- what is known of a tree that is there
+tree_parts : (hull : SubBox) (tiles : ℕ) (tree : Option Rooted) → IsSomeAnd tree (FitsTree hull tiles)
+    → (t : Rooted) × FitsTree hull tiles t × (Some t ≡ tree) × (tree_text t ≡ boxes_text tree)
+tree_parts hull tiles None fits = absurd fits
+tree_parts hull tiles (Some t) fits = (t, fits, refl, refl)
+
+-- a tree where there is one to be
+tree_in_exact : (tiling : Tiling) (frame : Frame) (frag : FragKey) (head : StoredHead) (tiles : ℕ) → FitsHeadBy (full_in tiling frame.dense) frame frag head
+    → nat_eq tiles (tile_total tiling frame head) ≡ true → Exact (FitsTreeIn tiling (box_of head.hull) tiles) boxes_text (tree_in tiling (box_of head.hull) tiles)
+tree_in_exact Sparse frame frag head tiles fits as_many =
+    let some = some_cell (is_full frame.dense) frame frag head fits in
+    let more = tiles_some frame.capacity head.cells some in
+    let same = eqb-true tiles (tiles_for frame.capacity head.cells) as_many in
+    mapped_exact (tree_exact (box_of head.hull) tiles (subst (λ n. 1 ≤ n) (sym same) more) (hull_rect frame.domain head.hull fits.hull)) (record {
+      there = λ t fit. (fit, refl);
+      back = λ tree fit. tree_parts (box_of head.hull) tiles tree fit;
+    })
+tree_in_exact Dense frame frag head tiles fits as_many = restated (given_exact None) (λ tree none. (none, sym (ap boxes_text none ∙ no_boxes))) (λ tree none. none)
+
 -- what fits behind a head
-abbrev FitsTiles : Frame → List Attr → StoredHead → ℕ × (List ColumnSize × Rooted) → Type 0
-FitsTiles frame attrs head x =
-    ((x.0 < 256 ^ 4) × (nat_eq x.0 (tiles_for frame.capacity head.cells) ≡ true))
-    × (EachFits (FitsSize head.cells x.0) (column_forms frame.domain attrs head.consolidated) x.1.0 × FitsTree (box_of head.hull) x.0 x.1.1)
+abbrev FitsTiles : Tiling → Frame → List Attr → StoredHead → ℕ × (List ColumnSize × Option Rooted) → Type 0
+FitsTiles tiling frame attrs head x =
+    ((x.0 < 256 ^ 4) × (nat_eq x.0 (tile_total tiling frame head) ≡ true))
+    × (EachFits (FitsSize head.cells x.0) (forms_in tiling frame attrs head.consolidated) x.1.0 × FitsTreeIn tiling (box_of head.hull) x.0 x.1.1)
 
-abbrev tiles_text : ℕ × (List ColumnSize × Rooted) → List ℕ
-tiles_text x = number_bytes 4 x.0 ++ (flat_map (number_bytes 8) (sizes_of x.1.0) ++ tree_text x.1.1)
+abbrev tiles_text : ℕ × (List ColumnSize × Option Rooted) → List ℕ
+tiles_text x = number_bytes 4 x.0 ++ (flat_map (number_bytes 8) (sizes_of x.1.0) ++ boxes_text x.1.1)
 
-tiles_exact : (frame : Frame) (attrs : List Attr) (frag : FragKey) (head : StoredHead) → FitsHead frame frag head
-    → Exact (FitsTiles frame attrs head) tiles_text (tiles_at frame attrs head)
-unfolding tiles_at
-tiles_exact frame attrs frag head fits =
-    both_exact (count_exact frame.capacity head.cells) (λ tiles as_many.
-    both_exact (sizes_exact head.cells tiles (column_forms frame.domain attrs head.consolidated)) (λ _ _.
-    tree_exact (box_of head.hull) tiles (tiles_some frame.capacity head.cells tiles (some_cell frame frag head fits) as_many.1) (hull_rect frame.domain head.hull fits.hull)))
-
--- what is stored of these parts
-abbrev footer_from : StoredHead × (ℕ × (List ColumnSize × Rooted)) → Footer
-footer_from x = record { head = x.0; tiles = x.1.0; sizes = x.1.1.0; tree = Some x.1.1.1 }
-
--- what is stored has parts that fit
-abbrev HasParts : Frame → List Attr → FragKey → Footer → Type 0
-HasParts frame attrs frag footer =
-    (x : StoredHead × (ℕ × (List ColumnSize × Rooted))) × (FitsHead frame frag x.0 × FitsTiles frame attrs x.0 x.1)
-    × (footer_from x ≡ footer) × (head_bytes x.0 ++ tiles_text x.1 ≡ footer_bytes footer)
-
-parts_of : (frame : Frame) (attrs : List Attr) (frag : FragKey) (footer : Footer) (tree : Option Rooted) → tree ≡ footer.tree → FitsFooter frame attrs frag footer → HasParts frame attrs frag footer
-unfolding layout_bytes
-parts_of frame attrs frag footer None is fits = absurd (subst (λ t. IsSomeAnd t (FitsTree (box_of footer.head.hull) footer.tiles)) (sym is) fits.tree)
-parts_of frame attrs frag footer (Some tree) is fits =
-    let fit = subst (λ t. IsSomeAnd t (FitsTree (box_of footer.head.hull) footer.tiles)) (sym is) fits.tree in (
-      (footer.head, (footer.tiles, (footer.sizes, tree))),
-      (fits.head, ((fits.few, eq-eqb footer.tiles (tiles_for frame.capacity footer.head.cells) fits.tiles), (fits.sizes, fit))),
-      ap (λ t. record { head = footer.head; tiles = footer.tiles; sizes = footer.sizes; tree = t }) is,
-      ap (λ t. head_bytes footer.head ++ (number_bytes 4 footer.tiles ++ (flat_map (number_bytes 8) (sizes_of footer.sizes) ++ flat_map rect_bytes (nodes_of (leaves_in t))))) is,
-    )
+tiles_exact : (tiling : Tiling) (frame : Frame) (attrs : List Attr) (frag : FragKey) (head : StoredHead) → FitsHeadBy (full_in tiling frame.dense) frame frag head
+    → Exact (FitsTiles tiling frame attrs head) tiles_text (laid_tiles_at tiling frame attrs head)
+unfolding laid_tiles_at
+tiles_exact tiling frame attrs frag head fits =
+    both_exact (count_exact (tile_total tiling frame head)) (λ tiles as_many.
+    both_exact (sizes_exact head.cells tiles (forms_in tiling frame attrs head.consolidated)) (λ _ _. tree_in_exact tiling frame frag head tiles fits as_many.1))
 
 -- each spelling of what fits is read, and nothing else
-pub footer_exact : (frame : Frame) (attrs : List Attr) (frag : FragKey) → Exact (FitsFooter frame attrs frag) footer_bytes (footer_at frame attrs frag)
-unfolding footer_at layout_bytes
-footer_exact frame attrs frag = mapped_exact (both_exact (head_exact frame frag) (λ head fits. tiles_exact frame attrs frag head fits)) (record {
+pub footer_exact : (tiling : Tiling) (frame : Frame) (attrs : List Attr) (frag : FragKey) → Exact (FitsLaidFooter tiling frame attrs frag) footer_bytes (laid_footer_at tiling frame attrs frag)
+unfolding laid_footer_at layout_bytes
+footer_exact tiling frame attrs frag = mapped_exact (both_exact (head_by_exact (full_in tiling frame.dense) frame frag) (λ head fits. tiles_exact tiling frame attrs frag head fits)) (record {
   there = λ x fits. (
     record {
       head = fits.0;
-      tiles = eqb-true x.1.0 (tiles_for frame.capacity x.0.cells) fits.1.0.1;
+      tiles = eqb-true x.1.0 (tile_total tiling frame x.0) fits.1.0.1;
       few = fits.1.0.0;
       sizes = fits.1.1.0;
       tree = fits.1.1.1;
     },
     refl,
   );
-  back = λ footer fits. parts_of frame attrs frag footer footer.tree refl fits;
+  back = λ footer fits. (
+    (footer.head, (footer.tiles, (footer.sizes, footer.tree))),
+    (fits.head, ((fits.few, eq-eqb footer.tiles (tile_total tiling frame footer.head) fits.tiles), (fits.sizes, fits.tree))),
+    refl,
+    refl,
+  );
 })

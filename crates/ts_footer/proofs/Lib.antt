@@ -3,9 +3,9 @@ pub mod LeafReads
 pub mod TreeReads
 pub mod TreeSpells
 pub mod FooterReads
+pub mod Writes
 pub mod Rects
 pub mod TreeExact
 pub mod FooterExact
 pub mod TreeLeaves
 pub mod MetaObjects
-pub mod Writes

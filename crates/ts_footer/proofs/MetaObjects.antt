@@ -1,9 +1,11 @@
 -- An object of metadata holds one metadata, and its head is read without the schema.
-use Rattle.std.proofs.Common.{◌≡◌, ℕ, ◌^◌, ◌<◌, ◌≤◌, Bool, true, false, nat_eq, if◌then◌else◌, List, [], ◌∷◌, length, map, Some, Ok, Err, Result, IfOk, refl, sym, ap, ◌∙◌, subst, arith}
+use Rattle.std.proofs.Common.{◌≡◌, ℕ, ◌^◌, ◌<◌, ◌≤◌, Bool, true, false, nat_eq, if◌then◌else◌, List, [], ◌∷◌, length, map, Option, Ok, Err, Result, IfOk, refl, sym, ap, ◌∙◌, subst, arith}
+use Rattle.std.specs.List.{All}
 use Rattle.std.proofs.lemmas.List.{length-map}
 use Rattle.std.proofs.lemmas.Result.{IfOk-weaker}
 use Rattle.ts_base.specs.declared.keys.FragKey.{FragKey}
 use Rattle.ts_base.specs.declared.heads.Head.{Head}
+use Rattle.ts_domain.specs.Dims.{IsSoundDim}
 use Rattle.ts_wire.specs.declared.faults.ReadFault.{ReadFault}
 use Rattle.ts_wire.specs.declared.faults.ReadFault.TheVariants as fault
 use Rattle.ts_wire.specs.declared.kinds.Kind.TheVariants as kind
@@ -18,7 +20,7 @@ use Rattle.ts_schema.specs.declared.frames.Frame.{Frame}
 use Rattle.ts_rtree.specs.Trees.{Rooted}
 use Rattle.ts_plain.specs.declared.stored.Side.{Side}
 use Rattle.ts_plain.specs.declared.stored.StoredHead.{StoredHead}
-use Rattle.ts_plain.specs.Plain.{head_at}
+use Rattle.ts_plain.specs.Plain.{head_by}
 use Rattle.ts_plain.specs.Pieces.{head_of, BreaksSo}
 use Rattle.ts_plain.specs.Writes.{sides_of}
 use Rattle.ts_footer.specs.declared.columns.ColumnForm.{ColumnForm}
@@ -26,48 +28,50 @@ use Rattle.ts_footer.specs.declared.columns.ColumnForm.TheVariants.{Fixed, Var}
 use Rattle.ts_footer.specs.declared.columns.ColumnSize.{ColumnSize}
 use Rattle.ts_footer.specs.declared.footers.Footer.{Footer}
 use Rattle.ts_footer.specs.declared.metas.Meta.{Meta}
-use Rattle.ts_footer.specs.Columns.{tiles_for, column_forms, FitsSize}
-use Rattle.ts_footer.specs.Footers.{tiles_at, footer_at, footer_stored, head_stored, footer_bytes, FitsFooter}
-use Rattle.ts_footer.specs.Metas.{some_before, starts_of, meta_of, meta_in, head_in, IsMetaObject, HasEach, sizes_for, footer_for, HasMetaObject, IsWritable}
-use Rattle.ts_footer.proofs.FooterReads.{some_cell, tiles_some}
+use Rattle.ts_footer.specs.declared.tilings.Tiling.{Tiling}
+use Rattle.ts_footer.specs.declared.tilings.Tiling.TheVariants.{Sparse}
+use Rattle.ts_footer.specs.Columns.{FitsSize}
+use Rattle.ts_footer.specs.Tilings.{tiling_of, full_in, forms_in}
+use Rattle.ts_footer.specs.Footers.{laid_tiles_at, laid_footer_at, laid_footer_stored, laid_head_stored, footer_stored, footer_bytes, FitsLaidFooter, FitsFooter}
+use Rattle.ts_footer.specs.Metas.{some_before, starts_of, meta_of, laid_meta_in, laid_head_in, meta_in, head_in, meta_by, IsLaidMetaObject, IsMetaObject, IsMetaObjectBy, HasEach, sizes_for, footer_for, footer_by, HasMetaObjectBy, IsWritable}
+use Rattle.ts_footer.proofs.FooterReads.{sides_hull, some_cell, total_some}
 use Rattle.ts_footer.proofs.FooterExact.{footer_exact}
-use Rattle.std.proofs.lemmas.Bool.{eq-eqb}
 
 -- ---- one object, one metadata
 
 -- what fits and is spelled is read
-pub stored_again : (frame : Frame) (attrs : List Attr) (frag : FragKey) (stored : Footer) → FitsFooter frame attrs frag stored → length (footer_bytes stored) < 2 ^ 64
-    → footer_stored frame attrs frag (wrapped kind.Meta (footer_bytes stored)) ≡ Ok stored
-unfolding footer_stored
-stored_again frame attrs frag stored fits few = object_only (footer_exact frame attrs frag) kind.Meta stored few fits
+pub laid_again : (tiling : Tiling) (frame : Frame) (attrs : List Attr) (frag : FragKey) (stored : Footer) → FitsLaidFooter tiling frame attrs frag stored → length (footer_bytes stored) < 2 ^ 64
+    → laid_footer_stored tiling frame attrs frag (wrapped kind.Meta (footer_bytes stored)) ≡ Ok stored
+unfolding laid_footer_stored
+laid_again tiling frame attrs frag stored fits few = object_only (footer_exact tiling frame attrs frag) kind.Meta stored few fits
 
 -- what is read fits, and the object is its spelling
-pub stored_found : (frame : Frame) (attrs : List Attr) (frag : FragKey) (object : List ℕ) (footer : Footer) → IsBytes object → length object < 2 ^ 64 → footer_stored frame attrs frag object ≡ Ok footer
-    → FitsFooter frame attrs frag footer × (object ≡ wrapped kind.Meta (footer_bytes footer)) × (length (footer_bytes footer) < 2 ^ 64)
-unfolding footer_stored
-stored_found frame attrs frag object footer all few read =
-    let was = object_found (footer_exact frame attrs frag) kind.Meta object footer all read in
+pub laid_found : (tiling : Tiling) (frame : Frame) (attrs : List Attr) (frag : FragKey) (object : List ℕ) (footer : Footer) → IsBytes object → length object < 2 ^ 64 → laid_footer_stored tiling frame attrs frag object ≡ Ok footer
+    → FitsLaidFooter tiling frame attrs frag footer × (object ≡ wrapped kind.Meta (footer_bytes footer)) × (length (footer_bytes footer) < 2 ^ 64)
+unfolding laid_footer_stored
+laid_found tiling frame attrs frag object footer all few read =
+    let was = object_found (footer_exact tiling frame attrs frag) kind.Meta object footer all read in
     let room : length (footer_bytes footer) < 2 ^ 64 = omega (arith, few, ap length was.1, length-wrapped kind.Meta (footer_bytes footer)) in
     (was.0, was.1, room)
 
-object_again : (frame : Frame) (attrs : List Attr) (m : Meta) (bytes : List ℕ) → (is : IsMetaObject frame attrs m bytes) → footer_stored frame attrs m.head.frag bytes ≡ Ok is.stored
-object_again frame attrs m bytes is = ap (footer_stored frame attrs m.head.frag) is.spelled ∙ stored_again frame attrs m.head.frag is.stored is.fits is.few
+object_again : (tiling : Tiling) (frame : Frame) (attrs : List Attr) (m : Meta) (bytes : List ℕ) → (is : IsLaidMetaObject tiling frame attrs m bytes) → laid_footer_stored tiling frame attrs m.head.frag bytes ≡ Ok is.stored
+object_again tiling frame attrs m bytes is = ap (laid_footer_stored tiling frame attrs m.head.frag) is.spelled ∙ laid_again tiling frame attrs m.head.frag is.stored is.fits is.few
 
 -- the object of metadata is read as that metadata
-pub meta_again : (frame : Frame) (attrs : List Attr) (m : Meta) (bytes : List ℕ) → IsMetaObject frame attrs m bytes → meta_in frame attrs m.head.frag bytes ≡ Ok m
-unfolding meta_in
-meta_again frame attrs m bytes is =
-    goes_on (footer_stored frame attrs m.head.frag bytes) (λ stored. Ok (meta_of m.head.frag stored)) is.stored (Ok m) (object_again frame attrs m bytes is) (ap Ok (sym is.same))
+pub laid_meta_again : (tiling : Tiling) (frame : Frame) (attrs : List Attr) (m : Meta) (bytes : List ℕ) → IsLaidMetaObject tiling frame attrs m bytes → laid_meta_in tiling frame attrs m.head.frag bytes ≡ Ok m
+unfolding laid_meta_in
+laid_meta_again tiling frame attrs m bytes is =
+    goes_on (laid_footer_stored tiling frame attrs m.head.frag bytes) (λ stored. Ok (meta_of m.head.frag stored)) is.stored (Ok m) (object_again tiling frame attrs m bytes is) (ap Ok (sym is.same))
 
 -- what is read is the metadata that the object holds, under its name
-pub meta_found : (frame : Frame) (attrs : List Attr) (frag : FragKey) (bytes : List ℕ) (m : Meta) → IsBytes bytes → length bytes < 2 ^ 64
-    → meta_in frame attrs frag bytes ≡ Ok m → IsMetaObject frame attrs m bytes × (m.head.frag ≡ frag)
-unfolding meta_in meta_of head_of
-meta_found frame attrs frag bytes m all few h =
-    let step = bound (footer_stored frame attrs frag bytes) (λ stored. Ok (meta_of frag stored)) m h in
-    let was = stored_found frame attrs frag bytes step.first all few step.was in
+pub laid_meta_found : (tiling : Tiling) (frame : Frame) (attrs : List Attr) (frag : FragKey) (bytes : List ℕ) (m : Meta) → IsBytes bytes → length bytes < 2 ^ 64
+    → laid_meta_in tiling frame attrs frag bytes ≡ Ok m → IsLaidMetaObject tiling frame attrs m bytes × (m.head.frag ≡ frag)
+unfolding laid_meta_in meta_of head_of
+laid_meta_found tiling frame attrs frag bytes m all few h =
+    let step = bound (laid_footer_stored tiling frame attrs frag bytes) (λ stored. Ok (meta_of frag stored)) m h in
+    let was = laid_found tiling frame attrs frag bytes step.first all few step.was in
     let same : meta_of frag step.first ≡ m = same_ok (Ok (meta_of frag step.first)) (meta_of frag step.first) m refl step.next in
-    let P : Meta → Type 0 = λ n. IsMetaObject frame attrs n bytes × (n.head.frag ≡ frag) in
+    let P : Meta → Type 0 = λ n. IsLaidMetaObject tiling frame attrs n bytes × (n.head.frag ≡ frag) in
     subst P same (record { stored = step.first; fits = was.0; few = was.2; spelled = was.1; same = refl }, refl)
 
 -- ---- the head, read without the schema
@@ -78,10 +82,10 @@ stays r f at h = ap (λ q. q >>= f) h
 
 -- the parts of what is stored
 abbrev Parts : Type 0
-Parts = StoredHead × (ℕ × (List ColumnSize × Rooted))
+Parts = StoredHead × (ℕ × (List ColumnSize × Option Rooted))
 
 abbrev footer_from : Parts → Footer
-footer_from x = record { head = x.0; tiles = x.1.0; sizes = x.1.1.0; tree = Some x.1.1.1 }
+footer_from x = record { head = x.0; tiles = x.1.0; sizes = x.1.1.0; tree = x.1.1.1 }
 
 -- the parts of a value that was read whole, the first of which stands at the place
 record Whole {A B C : Type 0} (read : Place → Read A) (f : A × B → C) (p : Place) (z : C) : Type 0 where
@@ -125,26 +129,26 @@ module _ {A B C : Type 0} (read : Place → Read A) (next : A → Place → Read
   front_read z h = by_first z (read p) refl h
 
 -- where a field of the head is broken, the whole object is broken there, whatever the attributes are
-head_broken : (frame : Frame) (attrs : List Attr) (frag : FragKey) (object : List ℕ) (at : ℕ) → head_stored frame frag object ≡ Err at → footer_stored frame attrs frag object ≡ Err at
-unfolding head_stored footer_stored footer_at object_at
-head_broken frame attrs frag object at h = by_body (unwrapped kind.Meta object) h
+head_broken : (tiling : Tiling) (frame : Frame) (attrs : List Attr) (frag : FragKey) (object : List ℕ) (at : ℕ) → laid_head_stored tiling frame frag object ≡ Err at → laid_footer_stored tiling frame attrs frag object ≡ Err at
+unfolding laid_head_stored laid_footer_stored laid_footer_at object_at
+head_broken tiling frame attrs frag object at h = by_body (unwrapped kind.Meta object) h
   where
     by_head : (r : Read StoredHead) → (r >>= λ x. Ok x.0) ≡ Err at → r ≡ Err at
     by_head (Ok x) e = absurd (not_both (Ok x.0) x.0 at refl e)
     by_head (Err there) e = let same : there ≡ at = cc in ap Err same
 
-    by_body : (r : Result (List ℕ) ℕ) → (r >>= λ body. head_at frame frag (place body 14) >>= λ x. Ok x.0) ≡ Err at → (r >>= λ body. whole (footer_at frame attrs frag) (place body 14)) ≡ Err at
-    by_body (Ok body) e = front_broken (head_at frame frag) (tiles_at frame attrs) footer_from (place body 14) at (by_head (head_at frame frag (place body 14)) e)
+    by_body : (r : Result (List ℕ) ℕ) → (r >>= λ body. head_by (full_in tiling frame.dense) frame frag (place body 14) >>= λ x. Ok x.0) ≡ Err at → (r >>= λ body. whole (laid_footer_at tiling frame attrs frag) (place body 14)) ≡ Err at
+    by_body (Ok body) e = front_broken (head_by (full_in tiling frame.dense) frame frag) (laid_tiles_at tiling frame attrs) footer_from (place body 14) at (by_head (head_by (full_in tiling frame.dense) frame frag (place body 14)) e)
     by_body (Err there) e = let same : there ≡ at = cc in ap Err same
 
 -- where the whole object is read, so is its head, whatever the attributes are
-head_read : (frame : Frame) (attrs : List Attr) (frag : FragKey) (object : List ℕ) (stored : Footer) → footer_stored frame attrs frag object ≡ Ok stored → head_stored frame frag object ≡ Ok stored.head
-unfolding head_stored footer_stored footer_at object_at
-head_read frame attrs frag object stored h =
-    let body = bound (unwrapped kind.Meta object) (λ body. whole (footer_at frame attrs frag) (place body 14)) stored h in
-    let front = front_read (head_at frame frag) (tiles_at frame attrs) footer_from (place body.first 14) stored body.next in
-    goes_on (unwrapped kind.Meta object) (λ b. head_at frame frag (place b 14) >>= λ x. Ok x.0) body.first (Ok stored.head) body.was
-    (goes_on (head_at frame frag (place body.first 14)) (λ x. Ok x.0) (front.parts.0, front.behind) (Ok stored.head) front.first (ap (λ s. Ok s.head) front.made))
+head_read : (tiling : Tiling) (frame : Frame) (attrs : List Attr) (frag : FragKey) (object : List ℕ) (stored : Footer) → laid_footer_stored tiling frame attrs frag object ≡ Ok stored → laid_head_stored tiling frame frag object ≡ Ok stored.head
+unfolding laid_head_stored laid_footer_stored laid_footer_at object_at
+head_read tiling frame attrs frag object stored h =
+    let body = bound (unwrapped kind.Meta object) (λ body. whole (laid_footer_at tiling frame attrs frag) (place body 14)) stored h in
+    let front = front_read (head_by (full_in tiling frame.dense) frame frag) (laid_tiles_at tiling frame attrs) footer_from (place body.first 14) stored body.next in
+    goes_on (unwrapped kind.Meta object) (λ b. head_by (full_in tiling frame.dense) frame frag (place b 14) >>= λ x. Ok x.0) body.first (Ok stored.head) body.was
+    (goes_on (head_by (full_in tiling frame.dense) frame frag (place body.first 14)) (λ x. Ok x.0) (front.parts.0, front.behind) (Ok stored.head) front.first (ap (λ s. Ok s.head) front.made))
 
 -- ---- what is written again
 
@@ -186,18 +190,25 @@ sizes_back cells tiles (Var ∷ forms) (size ∷ sizes) some (first, others) =
       same = ap (sizes_for (Var ∷ forms) (size.length ∷ lengths)) starts ∙ ap (λ ss. size ∷ ss) rest.same;
     }
 
+-- the objects of the fragment with this metadata
+abbrev forms_for : Tiling → Frame → List Attr → Meta → List ColumnForm
+forms_for tiling frame attrs m = forms_in tiling frame attrs m.head.consolidated
+
 -- metadata that fits has tiles
-has_tiles : (frame : Frame) (attrs : List Attr) (frag : FragKey) (footer : Footer) → FitsFooter frame attrs frag footer → 1 ≤ footer.tiles
-has_tiles frame attrs frag footer fits =
-    tiles_some frame.capacity footer.head.cells footer.tiles (some_cell frame frag footer.head fits.head) (eq-eqb footer.tiles (tiles_for frame.capacity footer.head.cells) fits.tiles)
+has_tiles : (tiling : Tiling) (frame : Frame) (attrs : List Attr) (frag : FragKey) (footer : Footer) → All IsSoundDim frame.domain → FitsLaidFooter tiling frame attrs frag footer → 1 ≤ footer.tiles
+has_tiles tiling frame attrs frag footer sound fits =
+    let hull = sides_hull frame.domain footer.head.hull sound fits.head.hull in
+    let some = some_cell (full_in tiling frame.dense) frame frag footer.head fits.head in
+    subst (λ n. 1 ≤ n) (sym fits.tiles) (total_some tiling frame footer.head sound hull some)
 
 -- what is stored of the metadata that an object holds is what the object stores
-footer_back : (frame : Frame) (attrs : List Attr) (frag : FragKey) (footer : Footer) → FitsFooter frame attrs frag footer → footer_for frame attrs (meta_of frag footer) ≡ footer
+footer_back : (tiling : Tiling) (frame : Frame) (attrs : List Attr) (frag : FragKey) (footer : Footer) → All IsSoundDim frame.domain → FitsLaidFooter tiling frame attrs frag footer
+    → footer_for (forms_for tiling frame attrs (meta_of frag footer)) (meta_of frag footer) ≡ footer
 unfolding meta_of head_of
-footer_back frame attrs frag footer fits =
+footer_back tiling frame attrs frag footer sound fits =
     let head = footer.head in
     let hull = hull_back head.hull in
-    let sizes = sizes_back head.cells footer.tiles (column_forms frame.domain attrs head.consolidated) footer.sizes (has_tiles frame attrs frag footer fits) fits.sizes in
+    let sizes = sizes_back head.cells footer.tiles (forms_in tiling frame attrs head.consolidated) footer.sizes (has_tiles tiling frame attrs frag footer sound fits) fits.sizes in
     λ i. record {
       head = record { schema = head.schema; dense = head.dense; consolidated = head.consolidated; hull = hull i; cells = head.cells; origins = head.origins };
       tiles = footer.tiles;
@@ -205,11 +216,12 @@ footer_back frame attrs frag footer fits =
       tree = footer.tree;
     }
 
-footer_writable : (frame : Frame) (attrs : List Attr) (frag : FragKey) (footer : Footer) → FitsFooter frame attrs frag footer → IsWritable frame attrs (meta_of frag footer)
+footer_writable : (tiling : Tiling) (frame : Frame) (attrs : List Attr) (frag : FragKey) (footer : Footer) → All IsSoundDim frame.domain → FitsLaidFooter tiling frame attrs frag footer
+    → IsWritable (forms_for tiling frame attrs (meta_of frag footer)) (meta_of frag footer)
 unfolding meta_of head_of
-footer_writable frame attrs frag footer fits =
+footer_writable tiling frame attrs frag footer sound fits =
     let head = footer.head in
-    let sizes = sizes_back head.cells footer.tiles (column_forms frame.domain attrs head.consolidated) footer.sizes (has_tiles frame attrs frag footer fits) fits.sizes in
+    let sizes = sizes_back head.cells footer.tiles (forms_in tiling frame attrs head.consolidated) footer.sizes (has_tiles tiling frame attrs frag footer sound fits) fits.sizes in
     record {
       corners = length-map head.hull (λ (side : Side). side.high) ∙ sym (length-map head.hull (λ (side : Side). side.low));
       few = fits.head.few_origins;
@@ -217,13 +229,16 @@ footer_writable frame attrs frag footer fits =
     }
 
 -- metadata that some object holds can be written
-pub is_writable : (frame : Frame) (attrs : List Attr) (m : Meta) (bytes : List ℕ) → IsMetaObject frame attrs m bytes → IsWritable frame attrs m
-is_writable frame attrs m bytes is = subst (IsWritable frame attrs) (sym is.same) (footer_writable frame attrs m.head.frag is.stored is.fits)
+pub is_writable : (tiling : Tiling) (frame : Frame) (attrs : List Attr) (m : Meta) (bytes : List ℕ) → All IsSoundDim frame.domain → IsLaidMetaObject tiling frame attrs m bytes
+    → IsWritable (forms_for tiling frame attrs m) m
+is_writable tiling frame attrs m bytes sound is =
+    subst (λ n. IsWritable (forms_for tiling frame attrs n) n) (sym is.same) (footer_writable tiling frame attrs m.head.frag is.stored sound is.fits)
 
 -- what is stored of it is what each object that holds it stores
-stored_one : (frame : Frame) (attrs : List Attr) (m : Meta) (bytes : List ℕ) → IsMetaObject frame attrs m bytes → wrapped kind.Meta (footer_bytes (footer_for frame attrs m)) ≡ bytes
-stored_one frame attrs m bytes is =
-    let same : footer_for frame attrs m ≡ is.stored = ap (footer_for frame attrs) is.same ∙ footer_back frame attrs m.head.frag is.stored is.fits in
+stored_one : (tiling : Tiling) (frame : Frame) (attrs : List Attr) (m : Meta) (bytes : List ℕ) → All IsSoundDim frame.domain → IsLaidMetaObject tiling frame attrs m bytes
+    → wrapped kind.Meta (footer_bytes (footer_for (forms_for tiling frame attrs m) m)) ≡ bytes
+stored_one tiling frame attrs m bytes sound is =
+    let same : footer_for (forms_for tiling frame attrs m) m ≡ is.stored = ap (λ n. footer_for (forms_for tiling frame attrs n) n) is.same ∙ footer_back tiling frame attrs m.head.frag is.stored sound is.fits in
     ap (λ stored. wrapped kind.Meta (footer_bytes stored)) same ∙ sym is.spelled
 
 -- ---- what the calls say
@@ -234,88 +249,120 @@ answered answer x (Ok found) was h = same_ok answer found x h was
 answered answer x (Err (fault.Damaged damaged)) was h = not_both answer x damaged.at was h
 answered answer x (Err fault.OutOfMemory) was h = tt
 
-pub stored_fits : (frame : Frame) (attrs : List Attr) (frag : FragKey) (object : List ℕ) (result : Result Footer ReadFault) → IsBytes object → length object < 2 ^ 64
-    → DecodesOr (λ footer. footer) (footer_stored frame attrs frag object) result → IfOk result (FitsFooter frame attrs frag)
-stored_fits frame attrs frag object (Ok footer) all few h = (stored_found frame attrs frag object footer all few h).0
-stored_fits frame attrs frag object (Err e) all few h = tt
+pub stored_fits : (tiling : Tiling) (frame : Frame) (attrs : List Attr) (frag : FragKey) (object : List ℕ) (result : Result Footer ReadFault) → IsBytes object → length object < 2 ^ 64
+    → DecodesOr (λ footer. footer) (laid_footer_stored tiling frame attrs frag object) result → IfOk result (FitsLaidFooter tiling frame attrs frag)
+stored_fits tiling frame attrs frag object (Ok footer) all few h = (laid_found tiling frame attrs frag object footer all few h).0
+stored_fits tiling frame attrs frag object (Err e) all few h = tt
 
-pub stored_spells : (frame : Frame) (attrs : List Attr) (frag : FragKey) (object : List ℕ) (result : Result Footer ReadFault) → IsBytes object → length object < 2 ^ 64
-    → DecodesOr (λ footer. footer) (footer_stored frame attrs frag object) result → IfOk result (λ footer. object ≡ wrapped kind.Meta (footer_bytes footer))
-stored_spells frame attrs frag object (Ok footer) all few h = (stored_found frame attrs frag object footer all few h).1
-stored_spells frame attrs frag object (Err e) all few h = tt
+pub stored_spells : (tiling : Tiling) (frame : Frame) (attrs : List Attr) (frag : FragKey) (object : List ℕ) (result : Result Footer ReadFault) → IsBytes object → length object < 2 ^ 64
+    → DecodesOr (λ footer. footer) (laid_footer_stored tiling frame attrs frag object) result → IfOk result (λ footer. object ≡ wrapped kind.Meta (footer_bytes footer))
+stored_spells tiling frame attrs frag object (Ok footer) all few h = (laid_found tiling frame attrs frag object footer all few h).1
+stored_spells tiling frame attrs frag object (Err e) all few h = tt
 
-pub found_in : (frame : Frame) (attrs : List Attr) (frag : FragKey) (object : List ℕ) (result : Result Meta ReadFault) → IsBytes object → length object < 2 ^ 64
-    → DecodesOr (λ m. m) (meta_in frame attrs frag object) result → IfOk result (λ m. IsMetaObject frame attrs m object × (m.head.frag ≡ frag))
-found_in frame attrs frag object (Ok m) all few h = meta_found frame attrs frag object m all few h
-found_in frame attrs frag object (Err e) all few h = tt
+pub found_in : (tiling : Tiling) (frame : Frame) (attrs : List Attr) (frag : FragKey) (object : List ℕ) (result : Result Meta ReadFault) → IsBytes object → length object < 2 ^ 64
+    → DecodesOr (λ m. m) (laid_meta_in tiling frame attrs frag object) result → IfOk result (λ m. IsLaidMetaObject tiling frame attrs m object × (m.head.frag ≡ frag))
+found_in tiling frame attrs frag object (Ok m) all few h = laid_meta_found tiling frame attrs frag object m all few h
+found_in tiling frame attrs frag object (Err e) all few h = tt
 
-pub writable_in : (frame : Frame) (attrs : List Attr) (frag : FragKey) (object : List ℕ) (result : Result Meta ReadFault) → IsBytes object → length object < 2 ^ 64
-    → DecodesOr (λ m. m) (meta_in frame attrs frag object) result → IfOk result (IsWritable frame attrs)
-writable_in frame attrs frag object (Ok m) all few h = is_writable frame attrs m object (meta_found frame attrs frag object m all few h).0
-writable_in frame attrs frag object (Err e) all few h = tt
+pub writable_in : (tiling : Tiling) (frame : Frame) (attrs : List Attr) (frag : FragKey) (object : List ℕ) (result : Result Meta ReadFault) → All IsSoundDim frame.domain → IsBytes object → length object < 2 ^ 64
+    → DecodesOr (λ m. m) (laid_meta_in tiling frame attrs frag object) result → IfOk result (λ m. IsWritable (forms_for tiling frame attrs m) m)
+writable_in tiling frame attrs frag object (Ok m) sound all few h = is_writable tiling frame attrs m object sound (laid_meta_found tiling frame attrs frag object m all few h).0
+writable_in tiling frame attrs frag object (Err e) sound all few h = tt
 
 -- what is spelled is read
-pub only_in : (frame : Frame) (attrs : List Attr) (m : Meta) (frag : FragKey) (object : List ℕ) (result : Result Meta ReadFault) → m.head.frag ≡ frag
-    → IsMetaObject frame attrs m object → DecodesOr (λ p. p) (meta_in frame attrs frag object) result → IsRead (λ p. p) m result
-only_in frame attrs m frag object result named is h =
-    answered (meta_in frame attrs frag object) m result (ap (λ f. meta_in frame attrs f object) (sym named) ∙ meta_again frame attrs m object is) h
+pub only_in : (tiling : Tiling) (frame : Frame) (attrs : List Attr) (m : Meta) (frag : FragKey) (object : List ℕ) (result : Result Meta ReadFault) → m.head.frag ≡ frag
+    → IsLaidMetaObject tiling frame attrs m object → DecodesOr (λ p. p) (laid_meta_in tiling frame attrs frag object) result → IsRead (λ p. p) m result
+only_in tiling frame attrs m frag object result named is h =
+    answered (laid_meta_in tiling frame attrs frag object) m result (ap (λ f. laid_meta_in tiling frame attrs f object) (sym named) ∙ laid_meta_again tiling frame attrs m object is) h
 
 -- the head of what is spelled is read
-head_again : (frame : Frame) (attrs : List Attr) (m : Meta) (bytes : List ℕ) → IsMetaObject frame attrs m bytes → head_in frame m.head.frag bytes ≡ Ok m.head
-unfolding head_in meta_of
-head_again frame attrs m bytes is =
+head_again : (tiling : Tiling) (frame : Frame) (attrs : List Attr) (m : Meta) (bytes : List ℕ) → IsLaidMetaObject tiling frame attrs m bytes → laid_head_in tiling frame m.head.frag bytes ≡ Ok m.head
+unfolding laid_head_in meta_of
+head_again tiling frame attrs m bytes is =
     let frag = m.head.frag in
     let same : head_of frag is.stored.head ≡ m.head = sym (ap (λ q. q.head) is.same) in
-    goes_on (head_stored frame frag bytes) (λ head. Ok (head_of frag head)) is.stored.head (Ok m.head) (head_read frame attrs frag bytes is.stored (object_again frame attrs m bytes is)) (ap Ok same)
+    goes_on (laid_head_stored tiling frame frag bytes) (λ head. Ok (head_of frag head)) is.stored.head (Ok m.head) (head_read tiling frame attrs frag bytes is.stored (object_again tiling frame attrs m bytes is)) (ap Ok same)
 
-pub only_head : (frame : Frame) (attrs : List Attr) (m : Meta) (frag : FragKey) (object : List ℕ) (result : Result Head ReadFault) → m.head.frag ≡ frag
-    → IsMetaObject frame attrs m object → DecodesOr (λ p. p) (head_in frame frag object) result → IsRead (λ p. p) m.head result
-only_head frame attrs m frag object result named is h =
-    answered (head_in frame frag object) m.head result (ap (λ f. head_in frame f object) (sym named) ∙ head_again frame attrs m object is) h
+pub laid_only_head : (tiling : Tiling) (frame : Frame) (attrs : List Attr) (m : Meta) (frag : FragKey) (object : List ℕ) (result : Result Head ReadFault) → m.head.frag ≡ frag
+    → IsLaidMetaObject tiling frame attrs m object → DecodesOr (λ p. p) (laid_head_in tiling frame frag object) result → IsRead (λ p. p) m.head result
+laid_only_head tiling frame attrs m frag object result named is h =
+    answered (laid_head_in tiling frame frag object) m.head result (ap (λ f. laid_head_in tiling frame f object) (sym named) ∙ head_again tiling frame attrs m object is) h
 
 -- what is broken in the head is broken in the whole, whatever the attributes are
-pub broken_head : (frame : Frame) (attrs : List Attr) (frag : FragKey) (object : List ℕ) (result : Result Head ReadFault)
-    → DecodesOr (λ p. p) (head_in frame frag object) result → BreaksSo (meta_in frame attrs frag object) result
-unfolding head_in meta_in
-broken_head frame attrs frag object (Ok found) h = tt
-broken_head frame attrs frag object (Err fault.OutOfMemory) h = tt
-broken_head frame attrs frag object (Err (fault.Damaged damaged)) h =
-    stays (footer_stored frame attrs frag object) (λ stored. Ok (meta_of frag stored)) damaged.at (head_broken frame attrs frag object damaged.at (by_head (head_stored frame frag object) h))
+pub laid_broken_head : (tiling : Tiling) (frame : Frame) (attrs : List Attr) (frag : FragKey) (object : List ℕ) (result : Result Head ReadFault)
+    → DecodesOr (λ p. p) (laid_head_in tiling frame frag object) result → BreaksSo (laid_meta_in tiling frame attrs frag object) result
+unfolding laid_head_in laid_meta_in
+laid_broken_head tiling frame attrs frag object (Ok found) h = tt
+laid_broken_head tiling frame attrs frag object (Err fault.OutOfMemory) h = tt
+laid_broken_head tiling frame attrs frag object (Err (fault.Damaged damaged)) h =
+    stays (laid_footer_stored tiling frame attrs frag object) (λ stored. Ok (meta_of frag stored)) damaged.at (head_broken tiling frame attrs frag object damaged.at (by_head (laid_head_stored tiling frame frag object) h))
   where
     by_head : (r : Result StoredHead ℕ) → (r >>= λ head. Ok (head_of frag head)) ≡ Err damaged.at → r ≡ Err damaged.at
     by_head (Ok head) e = absurd (not_both (Ok (head_of frag head)) _ damaged.at refl e)
     by_head (Err there) e = let same : there ≡ damaged.at = cc in ap Err same
 
 -- metadata that some object holds is written as that object
-pub one_meta : {E : Type 0} (frame : Frame) (attrs : List Attr) (m : Meta) (object : List ℕ) (result : Result (List ℕ) E) → IsMetaObject frame attrs m object
-    → IfOk result (λ bytes. bytes ≡ wrapped kind.Meta (footer_bytes (footer_for frame attrs m))) → IfOk result (λ bytes. bytes ≡ object)
-one_meta frame attrs m object result is =
-    IfOk-weaker result (λ bytes. bytes ≡ wrapped kind.Meta (footer_bytes (footer_for frame attrs m))) (λ bytes. bytes ≡ object) (λ bytes h. h ∙ stored_one frame attrs m object is)
+pub one_meta : {E : Type 0} (frame : Frame) (attrs : List Attr) (m : Meta) (object : List ℕ) (result : Result (List ℕ) E) → All IsSoundDim frame.domain → IsMetaObjectBy frame attrs m object
+    → IfOk result (λ bytes. bytes ≡ wrapped kind.Meta (footer_bytes (footer_by frame attrs m))) → IfOk result (λ bytes. bytes ≡ object)
+one_meta frame attrs m object result sound is =
+    IfOk-weaker result (λ bytes. bytes ≡ wrapped kind.Meta (footer_bytes (footer_by frame attrs m))) (λ bytes. bytes ≡ object)
+    (λ bytes h. h ∙ stored_one (tiling_of frame) frame attrs m object sound is)
 
 -- so it gives such an object
-pub meta_written : {E : Type 0} (frame : Frame) (attrs : List Attr) (m : Meta) (result : Result (List ℕ) E) → HasMetaObject frame attrs m
-    → IfOk result (λ bytes. bytes ≡ wrapped kind.Meta (footer_bytes (footer_for frame attrs m))) → IfOk result (IsMetaObject frame attrs m)
-meta_written frame attrs m result has written =
-    IfOk-weaker result (λ bytes. bytes ≡ has.bytes) (IsMetaObject frame attrs m) (λ bytes h. subst (IsMetaObject frame attrs m) (sym h) has.spelled)
-    (one_meta frame attrs m has.bytes result has.spelled written)
+pub meta_written : {E : Type 0} (frame : Frame) (attrs : List Attr) (m : Meta) (result : Result (List ℕ) E) → All IsSoundDim frame.domain → HasMetaObjectBy frame attrs m
+    → IfOk result (λ bytes. bytes ≡ wrapped kind.Meta (footer_bytes (footer_by frame attrs m))) → IfOk result (IsMetaObjectBy frame attrs m)
+meta_written frame attrs m result sound has written =
+    IfOk-weaker result (λ bytes. bytes ≡ has.bytes) (IsMetaObjectBy frame attrs m) (λ bytes h. subst (IsMetaObjectBy frame attrs m) (sym h) has.spelled)
+    (one_meta frame attrs m has.bytes result sound has.spelled written)
 
 -- what is written so is read again
-pub meta_undone : {E : Type 0} (frame : Frame) (attrs : List Attr) (m : Meta) (result : Result (List ℕ) E) → HasMetaObject frame attrs m
-    → IfOk result (λ bytes. bytes ≡ wrapped kind.Meta (footer_bytes (footer_for frame attrs m))) → IfOk result (λ bytes. meta_in frame attrs m.head.frag bytes ≡ Ok m)
-meta_undone frame attrs m result has written =
-    IfOk-weaker result (IsMetaObject frame attrs m) (λ bytes. meta_in frame attrs m.head.frag bytes ≡ Ok m) (λ bytes is. meta_again frame attrs m bytes is)
-    (meta_written frame attrs m result has written)
+pub meta_undone : {E : Type 0} (frame : Frame) (attrs : List Attr) (m : Meta) (result : Result (List ℕ) E) → All IsSoundDim frame.domain → HasMetaObjectBy frame attrs m
+    → IfOk result (λ bytes. bytes ≡ wrapped kind.Meta (footer_bytes (footer_by frame attrs m))) → IfOk result (λ bytes. meta_by frame attrs m.head.frag bytes ≡ Ok m)
+meta_undone frame attrs m result sound has written =
+    IfOk-weaker result (IsMetaObjectBy frame attrs m) (λ bytes. meta_by frame attrs m.head.frag bytes ≡ Ok m) (λ bytes is. laid_meta_again (tiling_of frame) frame attrs m bytes is)
+    (meta_written frame attrs m result sound has written)
 
 -- an object that is cut behind its envelope is broken at its length
-pub cut_in : (frame : Frame) (attrs : List Attr) (frag : FragKey) (object body : List ℕ) (result : Result Meta ReadFault) → DecodesOr (λ m. m) (meta_in frame attrs frag object) result
+pub cut_in : (tiling : Tiling) (frame : Frame) (attrs : List Attr) (frag : FragKey) (object body : List ℕ) (result : Result Meta ReadFault) → DecodesOr (λ m. m) (laid_meta_in tiling frame attrs frag object) result
     → length body < 2 ^ 64 → IsCut 14 (wrapped kind.Meta body) object → IsDamagedAt 6 result
-unfolding meta_in footer_stored object_at
-cut_in frame attrs frag object body result h few cut = broken result (stays (footer_stored frame attrs frag object) (λ footer. Ok (meta_of frag footer)) 6 short) h
+unfolding laid_meta_in laid_footer_stored object_at
+cut_in tiling frame attrs frag object body result h few cut = broken result (stays (laid_footer_stored tiling frame attrs frag object) (λ footer. Ok (meta_of frag footer)) 6 short) h
   where
-    short : footer_stored frame attrs frag object ≡ Err 6
-    short = stays (unwrapped kind.Meta object) (λ b. whole (footer_at frame attrs frag) (place b 14)) 6 (unwrapped_cut kind.Meta body object few cut)
+    short : laid_footer_stored tiling frame attrs frag object ≡ Err 6
+    short = stays (unwrapped kind.Meta object) (λ b. whole (laid_footer_at tiling frame attrs frag) (place b 14)) 6 (unwrapped_cut kind.Meta body object few cut)
 
-    broken : (r : Result Meta ReadFault) → meta_in frame attrs frag object ≡ Err 6 → DecodesOr (λ m. m) (meta_in frame attrs frag object) r → IsDamagedAt 6 r
-    broken (Ok m) was k = absurd (not_both (meta_in frame attrs frag object) m 6 k was)
-    broken (Err (fault.Damaged damaged)) was k = same_err (meta_in frame attrs frag object) damaged.at 6 k was
+    broken : (r : Result Meta ReadFault) → laid_meta_in tiling frame attrs frag object ≡ Err 6 → DecodesOr (λ m. m) (laid_meta_in tiling frame attrs frag object) r → IsDamagedAt 6 r
+    broken (Ok m) was k = absurd (not_both (laid_meta_in tiling frame attrs frag object) m 6 k was)
+    broken (Err (fault.Damaged damaged)) was k = same_err (laid_meta_in tiling frame attrs frag object) damaged.at 6 k was
     broken (Err fault.OutOfMemory) was k = tt
+
+-- ---- where coordinates are stored
+
+-- what fits and is spelled is read
+pub stored_again : (frame : Frame) (attrs : List Attr) (frag : FragKey) (stored : Footer) → FitsFooter frame attrs frag stored → length (footer_bytes stored) < 2 ^ 64
+    → footer_stored frame attrs frag (wrapped kind.Meta (footer_bytes stored)) ≡ Ok stored
+stored_again frame attrs frag stored fits few = laid_again Sparse frame attrs frag stored fits few
+
+-- what is read fits, and the object is its spelling
+pub stored_found : (frame : Frame) (attrs : List Attr) (frag : FragKey) (object : List ℕ) (footer : Footer) → IsBytes object → length object < 2 ^ 64 → footer_stored frame attrs frag object ≡ Ok footer
+    → FitsFooter frame attrs frag footer × (object ≡ wrapped kind.Meta (footer_bytes footer)) × (length (footer_bytes footer) < 2 ^ 64)
+stored_found frame attrs frag object footer all few read = laid_found Sparse frame attrs frag object footer all few read
+
+-- the object of metadata is read as that metadata
+pub meta_again : (frame : Frame) (attrs : List Attr) (m : Meta) (bytes : List ℕ) → IsMetaObject frame attrs m bytes → meta_in frame attrs m.head.frag bytes ≡ Ok m
+meta_again frame attrs m bytes is = laid_meta_again Sparse frame attrs m bytes is
+
+-- what is read is the metadata that the object holds, under its name
+pub meta_found : (frame : Frame) (attrs : List Attr) (frag : FragKey) (bytes : List ℕ) (m : Meta) → IsBytes bytes → length bytes < 2 ^ 64
+    → meta_in frame attrs frag bytes ≡ Ok m → IsMetaObject frame attrs m bytes × (m.head.frag ≡ frag)
+meta_found frame attrs frag bytes m all few h = laid_meta_found Sparse frame attrs frag bytes m all few h
+
+-- the head of what is spelled is read
+pub only_head : (frame : Frame) (attrs : List Attr) (m : Meta) (frag : FragKey) (object : List ℕ) (result : Result Head ReadFault) → m.head.frag ≡ frag
+    → IsMetaObject frame attrs m object → DecodesOr (λ p. p) (head_in frame frag object) result → IsRead (λ p. p) m.head result
+only_head frame attrs m frag object result named is h = laid_only_head Sparse frame attrs m frag object result named is h
+
+-- what is broken in the head is broken in the whole, whatever the attributes are
+pub broken_head : (frame : Frame) (attrs : List Attr) (frag : FragKey) (object : List ℕ) (result : Result Head ReadFault)
+    → DecodesOr (λ p. p) (head_in frame frag object) result → BreaksSo (meta_in frame attrs frag object) result
+broken_head frame attrs frag object result h = laid_broken_head Sparse frame attrs frag object result h

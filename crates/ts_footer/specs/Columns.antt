@@ -23,9 +23,9 @@ rounded_up a b = a / b + min 1 (a % b)
 abbrev pub tiles_for : ℕ → ℕ → ℕ
 tiles_for capacity cells = rounded_up cells (max capacity 1)
 
--- the number of tiles over so many cells
-unfoldable pub tile_count_at : ℕ → ℕ → Place → Read ℕ
-tile_count_at capacity cells = ruled (λ tiles. nat_eq tiles (tiles_for capacity cells)) (number_at 4)
+-- the number of tiles, which is known
+unfoldable pub tile_count_at : ℕ → Place → Read ℕ
+tile_count_at total = ruled (λ tiles. nat_eq tiles total) (number_at 4)
 
 -- ---- which objects there are
 
@@ -49,7 +49,7 @@ attr_forms attr = value_forms attr.ty ++ validity_forms attr.nullable
 abbrev pub origin_forms : Bool → List ColumnForm
 origin_forms consolidated = if consolidated then Fixed 4 ∷ [] else []
 
--- the objects of a fragment whose coordinates are stored, in their order
+-- the objects of a fragment that stores its coordinates along these dimensions, in their order
 unfoldable pub column_forms : List Dim → List Attr → Bool → List ColumnForm
 column_forms dims attrs consolidated = map dim_form dims ++ (flat_map attr_forms attrs ++ origin_forms consolidated)
 

@@ -1,4 +1,4 @@
--- The metadata of a fragment whose coordinates are stored, as callers see it.
+-- The metadata of a fragment in tiles, as callers see it.
 use Rattle.std.specs.Prelude.{◌≡◌, ℕ, ◌^◌, ◌<◌, List, [], ◌∷◌, length, map, Result, Ok}
 use Rattle.ts_base.specs.declared.keys.FragKey.{FragKey}
 use Rattle.ts_base.specs.declared.heads.Head.{Head}
@@ -14,8 +14,10 @@ use Rattle.ts_footer.specs.declared.columns.ColumnForm.TheVariants.{Fixed, Var}
 use Rattle.ts_footer.specs.declared.columns.ColumnSize.{ColumnSize}
 use Rattle.ts_footer.specs.declared.footers.Footer.{Footer}
 use Rattle.ts_footer.specs.declared.metas.Meta.{Meta}
-use Rattle.ts_footer.specs.Columns.{column_forms}
-use Rattle.ts_footer.specs.Footers.{footer_stored, head_stored, footer_bytes, FitsFooter}
+use Rattle.ts_footer.specs.declared.tilings.Tiling.{Tiling}
+use Rattle.ts_footer.specs.declared.tilings.Tiling.TheVariants.{Sparse, Dense}
+use Rattle.ts_footer.specs.Tilings.{tiling_of, forms_in}
+use Rattle.ts_footer.specs.Footers.{laid_footer_stored, laid_head_stored, footer_bytes, FitsLaidFooter}
 
 -- ---- from what is stored
 
@@ -40,20 +42,58 @@ meta_of frag footer = record {
 }
 
 -- the metadata that the object under this name holds, or the offset of the first broken field
-unfoldable pub meta_in : Frame → List Attr → FragKey → List ℕ → Result Meta ℕ
-meta_in frame attrs frag object = footer_stored frame attrs frag object >>= λ footer. Ok (meta_of frag footer)
+unfoldable pub laid_meta_in : Tiling → Frame → List Attr → FragKey → List ℕ → Result Meta ℕ
+laid_meta_in tiling frame attrs frag object = laid_footer_stored tiling frame attrs frag object >>= λ footer. Ok (meta_of frag footer)
 
 -- the head that the object under this name holds, or the offset of the first broken field up to its end
-unfoldable pub head_in : Frame → FragKey → List ℕ → Result Head ℕ
-head_in frame frag object = head_stored frame frag object >>= λ head. Ok (head_of frag head)
+unfoldable pub laid_head_in : Tiling → Frame → FragKey → List ℕ → Result Head ℕ
+laid_head_in tiling frame frag object = laid_head_stored tiling frame frag object >>= λ head. Ok (head_of frag head)
 
 -- the bytes are those of an object that holds the metadata
-pub record IsMetaObject (frame : Frame) (attrs : List Attr) (meta : Meta) (bytes : List ℕ) : Type 0 where
+pub record IsLaidMetaObject (tiling : Tiling) (frame : Frame) (attrs : List Attr) (meta : Meta) (bytes : List ℕ) : Type 0 where
   pub stored : Footer
-  pub fits : FitsFooter frame attrs meta.head.frag stored
+  pub fits : FitsLaidFooter tiling frame attrs meta.head.frag stored
   pub few : length (footer_bytes stored) < 2 ^ 64
   pub spelled : bytes ≡ wrapped kind.Meta (footer_bytes stored)
   pub same : meta ≡ meta_of meta.head.frag stored
+
+-- ---- where coordinates are stored, as in sparse arrays
+
+-- the metadata that the object under this name holds, where coordinates are stored, or the offset of the first broken field
+abbrev pub meta_in : Frame → List Attr → FragKey → List ℕ → Result Meta ℕ
+meta_in frame attrs frag object = laid_meta_in Sparse frame attrs frag object
+
+-- the head that the object under this name holds, where coordinates are stored, or the offset of the first broken field up to its end
+abbrev pub head_in : Frame → FragKey → List ℕ → Result Head ℕ
+head_in frame frag object = laid_head_in Sparse frame frag object
+
+-- the bytes are those of an object that holds the metadata, where coordinates are stored
+abbrev pub IsMetaObject : Frame → List Attr → Meta → List ℕ → Type 0
+IsMetaObject frame attrs meta bytes = IsLaidMetaObject Sparse frame attrs meta bytes
+
+-- ---- in space tiles, as in dense arrays
+
+-- the metadata of a fragment in space tiles that the object under this name holds, or the offset of the first broken field
+abbrev pub dense_meta_in : Frame → List Attr → FragKey → List ℕ → Result Meta ℕ
+dense_meta_in frame attrs frag object = laid_meta_in Dense frame attrs frag object
+
+-- the head of a fragment in space tiles that the object under this name holds, or the offset of the first broken field up to its end
+abbrev pub dense_head_in : Frame → FragKey → List ℕ → Result Head ℕ
+dense_head_in frame frag object = laid_head_in Dense frame frag object
+
+-- the bytes are those of an object that holds the metadata of a fragment in space tiles
+abbrev pub IsDenseMetaObject : Frame → List Attr → Meta → List ℕ → Type 0
+IsDenseMetaObject frame attrs meta bytes = IsLaidMetaObject Dense frame attrs meta bytes
+
+-- ---- by the kind of the array
+
+-- the metadata that the object under this name holds in an array of this frame, or the offset of the first broken field
+abbrev pub meta_by : Frame → List Attr → FragKey → List ℕ → Result Meta ℕ
+meta_by frame attrs frag object = laid_meta_in (tiling_of frame) frame attrs frag object
+
+-- the bytes are those of an object that holds the metadata in an array of this frame
+abbrev pub IsMetaObjectBy : Frame → List Attr → Meta → List ℕ → Type 0
+IsMetaObjectBy frame attrs meta bytes = IsLaidMetaObject (tiling_of frame) frame attrs meta bytes
 
 -- ---- to what is stored
 
@@ -70,26 +110,34 @@ sizes_for (Fixed width ∷ forms) (n ∷ lengths) starts = record { length = n; 
 sizes_for (Var ∷ forms) (n ∷ lengths) (s ∷ starts) = record { length = n; starts = s } ∷ sizes_for forms lengths starts
 sizes_for _ _ _ = []
 
--- the forms of the objects of a fragment
-abbrev pub forms_of : Frame → List Attr → Meta → List ColumnForm
-forms_of frame attrs meta = column_forms frame.domain attrs meta.head.consolidated
+-- the forms of the objects of a fragment, by the kind of the array
+abbrev pub forms_by : Frame → List Attr → Meta → List ColumnForm
+forms_by frame attrs meta = forms_in (tiling_of frame) frame attrs meta.head.consolidated
 
--- what is stored of the metadata
-abbrev pub footer_for : Frame → List Attr → Meta → Footer
-footer_for frame attrs meta = record {
+-- what is stored of the metadata, with objects of these forms
+abbrev pub footer_for : List ColumnForm → Meta → Footer
+footer_for forms meta = record {
   head = stored_head meta.head;
   tiles = meta.tiles;
-  sizes = sizes_for (forms_of frame attrs meta) meta.lengths meta.var_starts;
+  sizes = sizes_for forms meta.lengths meta.var_starts;
   tree = meta.tree;
 }
 
--- the metadata is that of some object
-pub record HasMetaObject (frame : Frame) (attrs : List Attr) (meta : Meta) : Type 0 where
-  pub bytes : List ℕ
-  pub spelled : IsMetaObject frame attrs meta bytes
+-- what is stored of the metadata, by the kind of the array
+abbrev pub footer_by : Frame → List Attr → Meta → Footer
+footer_by frame attrs meta = footer_for (forms_by frame attrs meta) meta
 
--- the head's corners and origins can be written, and something is said of each object
-pub record IsWritable (frame : Frame) (attrs : List Attr) (meta : Meta) : Type 0 where
+-- the metadata is that of some object, by the kind of the array
+pub record HasMetaObjectBy (frame : Frame) (attrs : List Attr) (meta : Meta) : Type 0 where
+  pub bytes : List ℕ
+  pub spelled : IsMetaObjectBy frame attrs meta bytes
+
+-- the head's corners and origins can be written, and something is said of each object of these forms
+pub record IsWritable (forms : List ColumnForm) (meta : Meta) : Type 0 where
   pub corners : length meta.head.high ≡ length meta.head.low
   pub few : length meta.head.origins < 2 ^ 32
-  pub objects : HasEach (forms_of frame attrs meta) meta.lengths meta.var_starts
+  pub objects : HasEach forms meta.lengths meta.var_starts
+
+-- the metadata can be written, by the kind of the array
+abbrev pub IsWritableBy : Frame → List Attr → Meta → Type 0
+IsWritableBy frame attrs meta = IsWritable (forms_by frame attrs meta) meta

@@ -34,8 +34,8 @@ pub struct ColumnSize {
 /// A list of what is said of objects.
 pub type SizeList = Sequence<ColumnSize>;
 
-/// The forms of the objects of a fragment whose coordinates are stored, in their order: the coordinates of
-/// each dimension, then for each attribute its values and their validity, then the origins.
+/// The forms of the objects of a fragment, in their order: the coordinates along each dimension of which
+/// they are stored, then for each attribute its values and their validity, then the origins.
 #[tactic(auto, unfolding(crate::specs::Columns::column_forms))]
 pub(crate) fn column_forms(
     alloc: Global,

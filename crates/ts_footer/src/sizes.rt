@@ -1,7 +1,7 @@
-//! Reading the number of tiles, and what the metadata says of the objects of the columns.
+//! Reading what the metadata says of the objects of the columns.
 ghost use Rattle.std.specs.Prelude.{◌≡◌, ◌<◌, ◌^◌, [], IfOk};
 ghost use Rattle.ts_wire.specs.Reading.{Reads, ReadsOr};
-ghost use Rattle.ts_footer.specs.Columns.{tile_count_at, fixed_at, start_at, starts_at, size_at, sizes_at};
+ghost use Rattle.ts_footer.specs.Columns.{fixed_at, start_at, starts_at, size_at, sizes_at};
 
 use crate::columns::{ColumnForm, ColumnSize, SizeList};
 use std::alloc::Global;
@@ -10,21 +10,6 @@ use ts_wire::{Cursor, Damaged, ReadFault, kept};
 
 // The bytes of an envelope.
 const ENVELOPE: u64 = 14;
-
-/// The number of tiles over so many cells.
-#[tactic(auto, unfolding(crate::specs::Columns::tile_count_at))]
-pub(crate) fn read_tile_count(
-    capacity: u32,
-    cells: u64,
-    cursor: &mut Cursor,
-) -> Result<u32, Damaged>
-    ensures { Reads (λ tiles. tiles) (tile_count_at capacity cells) cursor.old cursor.new result }
-{
-    let at = cursor.at();
-    let tiles = cursor.u32()?;
-    let wanted = cells.div_ceil(u64::from(capacity).max(1));
-    kept(at, tiles, u64::from(tiles) == wanted)
-}
 
 // A length that is known.
 #[tactic(auto, unfolding(crate::specs::Columns::fixed_at))]

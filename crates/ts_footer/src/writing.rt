@@ -8,10 +8,11 @@ ghost use Rattle.ts_wire.specs.Numbers.{number_bytes};
 ghost use Rattle.ts_rtree.specs.Trees.{nodes_of};
 ghost use Rattle.ts_footer.specs.Columns.{sizes_of};
 ghost use Rattle.ts_footer.specs.Footers.{leaves_in, footer_bytes};
-ghost use Rattle.ts_footer.specs.Metas.{HasEach, sizes_for, footer_for, IsWritable};
+ghost use Rattle.ts_footer.specs.Metas.{HasEach, sizes_for, footer_by, IsWritableBy};
 
-use crate::columns::{ColumnForm, column_forms};
+use crate::columns::ColumnForm;
 use crate::metas::Meta;
+use crate::tilings::{forms_in, tiling_of};
 use std::alloc::Global;
 use ts_base::{ByteList, CountList, LengthList, OutOfMemory, StartList};
 use ts_plain::write_head;
@@ -27,18 +28,14 @@ pub(crate) fn write_meta(
     attrs: &[Attr],
     meta: &Meta,
 ) -> Result<ByteList, OutOfMemory>
-    requires { IsWritable frame.now attrs.now meta.now }
-    ensures { IfOk result (λ object. object ≡ wrapped kind.Meta (footer_bytes (footer_for frame.now attrs.now meta.now))) }
+    requires { IsWritableBy frame.now attrs.now meta.now }
+    ensures { IfOk result (λ object. object ≡ wrapped kind.Meta (footer_bytes (footer_by frame.now attrs.now meta.now))) }
 {
     let mut scribe = Scribe::new(alloc);
     write_head(&mut scribe, &meta.head)?;
     scribe.u32(meta.tiles)?;
-    let forms = column_forms(
-        alloc,
-        frame.domain.as_slice(),
-        attrs,
-        meta.head.consolidated,
-    )?;
+    let tiling = tiling_of(frame);
+    let forms = forms_in(alloc, tiling, frame, attrs, meta.head.consolidated)?;
     write_sizes(
         &mut scribe,
         forms.as_slice(),

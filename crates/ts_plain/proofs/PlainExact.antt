@@ -18,7 +18,7 @@ use Rattle.ts_plain.specs.declared.stored.Side.{Side}
 use Rattle.ts_plain.specs.declared.stored.StoredHead.{StoredHead}
 use Rattle.ts_plain.specs.declared.stored.StoredCell.{StoredCell}
 use Rattle.ts_plain.specs.Rules.{is_on_side, side_of, from_on, may_span, is_full, may_hold, may_count, last_of, may_be_origin, coords_rise, origin_rises}
-use Rattle.ts_plain.specs.Plain.{dense_at, consolidated_at, coord_at, side_at, hull_at, cells_at, origin_count_at, origin_at, origins_at, head_at, coords_at, index_at, value_at, row_at, cell_at, plain_at, side_bytes, hull_bytes, origins_bytes, head_bytes, cell_bytes, plain_bytes, FitsCoord, FitsSide, FitsOrigin, FitsHead, FitsValue, FitsCell, FitsPlain}
+use Rattle.ts_plain.specs.Plain.{dense_at, consolidated_at, coord_at, side_at, hull_at, cells_at, origin_count_at, origin_at, origins_at, head_by, head_at, coords_at, index_at, value_at, row_at, cell_at, plain_at, side_bytes, hull_bytes, origins_bytes, head_bytes, cell_bytes, plain_bytes, FitsCoord, FitsSide, FitsOrigin, FitsHeadBy, FitsHead, FitsValue, FitsCell, FitsPlain}
 
 -- ---- before the cells
 
@@ -68,11 +68,11 @@ origins_exact : (frag : FragKey) (consolidated : Bool) → Exact (FitsOrigins fr
 unfolding origins_at origins_bytes
 origins_exact frag consolidated = numbered_exact (origin_count_exact consolidated) (λ count _. origin_exact frag consolidated count)
 
-pub head_exact : (frame : Frame) (frag : FragKey) → Exact (FitsHead frame frag) head_bytes (head_at frame frag)
-unfolding head_at head_bytes
-head_exact frame frag =
+pub head_by_exact : (full : Bool → Bool) (frame : Frame) (frag : FragKey) → Exact (FitsHeadBy full frame frag) head_bytes (head_by full frame frag)
+unfolding head_by head_bytes
+head_by_exact full frame frag =
     mapped_exact (both_exact key_exact (λ _ _. both_exact (dense_exact frame.dense) (λ _ _. both_exact (consolidated_exact frag) (λ consolidated _.
-    both_exact (hull_exact frame.domain) (λ hull _. both_exact (cells_exact (is_full frame.dense consolidated) hull) (λ _ _. origins_exact frag consolidated)))))) (record {
+    both_exact (hull_exact frame.domain) (λ hull _. both_exact (cells_exact (full consolidated) hull) (λ _ _. origins_exact frag consolidated)))))) (record {
       there = λ x fits. (
         record {
           schema = fits.0;
@@ -94,6 +94,9 @@ head_exact frame frag =
         refl,
       );
     })
+
+pub head_exact : (frame : Frame) (frag : FragKey) → Exact (FitsHead frame frag) head_bytes (head_at frame frag)
+head_exact frame frag = head_by_exact (is_full frame.dense) frame frag
 
 -- ---- cells
 

@@ -60,12 +60,16 @@ origin_at frag consolidated count front = ruled (may_be_origin frag consolidated
 unfoldable pub origins_at : FragKey → Bool → Place → Read (List Key)
 origins_at frag consolidated = numbered_at (origin_count_at consolidated) (origin_at frag consolidated)
 
--- what stands before the cells: it is read without the schema
-unfoldable pub head_at : Frame → FragKey → Place → Read StoredHead
-head_at frame frag =
+-- what stands before the cells, where fragments that are full, by whether they are consolidated, have each cell of their hull: it is read without the schema
+unfoldable pub head_by : (Bool → Bool) → Frame → FragKey → Place → Read StoredHead
+head_by full frame frag =
     mapped (λ x. record { schema = x.0; dense = x.1.0; consolidated = x.1.1.0; hull = x.1.1.1.0; cells = x.1.1.1.1.0; origins = x.1.1.1.1.1 })
     (both key_at (λ _. both (dense_at frame.dense) (λ _. both (consolidated_at frag) (λ consolidated.
-    both (hull_at frame.domain) (λ hull. both (cells_at (is_full frame.dense consolidated) hull) (λ _. origins_at frag consolidated))))))
+    both (hull_at frame.domain) (λ hull. both (cells_at (full consolidated) hull) (λ _. origins_at frag consolidated))))))
+
+-- what stands before the cells of a plain fragment: one of a dense array that is not consolidated is full
+abbrev pub head_at : Frame → FragKey → Place → Read StoredHead
+head_at frame frag = head_by (is_full frame.dense) frame frag
 
 -- the coordinates of a cell, in the hull and behind the cell before it
 unfoldable pub coords_at : Frame → List Side → Option StoredCell → Place → Read (List ℤ)
@@ -143,17 +147,21 @@ pub record FitsOrigin (frag : FragKey) (consolidated : Bool) (count : ℕ) (fron
   pub range : FitsKey key
   pub in_place : IsTrue (may_be_origin frag consolidated count front key)
 
--- each field before the cells keeps its rule
-pub record FitsHead (frame : Frame) (frag : FragKey) (head : StoredHead) : Type 0 where
+-- each field before the cells keeps its rule, where fragments that are full, by whether they are consolidated, have each cell of their hull
+pub record FitsHeadBy (full : Bool → Bool) (frame : Frame) (frag : FragKey) (head : StoredHead) : Type 0 where
   pub schema : FitsKey head.schema
   pub kind : IsTrue (beq frame.dense head.dense)
   pub span : IsTrue (may_span frag head.consolidated)
   pub hull : EachFits FitsSide frame.domain head.hull
   pub cells : head.cells < 256 ^ 8
-  pub as_many : IsTrue (may_hold (is_full frame.dense head.consolidated) head.hull head.cells)
+  pub as_many : IsTrue (may_hold (full head.consolidated) head.hull head.cells)
   pub few_origins : length head.origins < 256 ^ 4
   pub some_origin : IsTrue (may_count head.consolidated (length head.origins))
   pub origins : InTurn (FitsOrigin frag head.consolidated (length head.origins)) [] head.origins
+
+-- each field before the cells of a plain fragment keeps its rule
+abbrev pub FitsHead : Frame → FragKey → StoredHead → Type 0
+FitsHead frame frag head = FitsHeadBy (is_full frame.dense) frame frag head
 
 -- the value has a spelling, and the attribute may have it
 abbrev pub FitsValue : Attr → Val → Type 0

@@ -39,6 +39,10 @@ may_span frag consolidated = consolidated || nat_eq frag.t1 frag.t2
 abbrev pub is_full : Bool → Bool → Bool
 is_full dense consolidated = dense && not consolidated
 
+-- a fragment has each cell of its hull: any one, or one of a dense array that is not consolidated
+abbrev pub full_by : Bool → Bool → Bool → Bool
+full_by any dense consolidated = any || is_full dense consolidated
+
 -- a full fragment has as many cells as its hull, another has one or more
 abbrev pub may_hold : Bool → List Side → ℕ → Bool
 may_hold full hull cells = if full then nat_eq cells (volume hull) else nat_le 1 cells

@@ -1,5 +1,5 @@
 //! Reading plain objects.
-ghost use Rattle.std.specs.Prelude.{◌≡◌, ◌≤◌, ◌<◌, List, [], length, IfOk, IsTrue};
+ghost use Rattle.std.specs.Prelude.{◌≡◌, ◌≤◌, ◌<◌, true, List, [], length, IfOk, IsTrue};
 ghost use Rattle.std.specs.List.{All};
 ghost use Rattle.ts_base.specs.declared.heads.Piece.{Piece as AnyPiece};
 ghost use Rattle.ts_schema.specs.declared.attrs.Attr.{Attr as AnyAttr};
@@ -7,8 +7,8 @@ ghost use Rattle.ts_domain.specs.Dims.{IsSoundDim};
 ghost use Rattle.ts_domain.specs.Domains.{is_in_domain};
 ghost use Rattle.ts_wire.specs.Reading.{Reads, ReadsOr, DecodesOr, IsRead};
 ghost use Rattle.ts_wire.specs.Place.{items_at, each_at, whole};
-ghost use Rattle.ts_plain.specs.Rules.{last_of};
-ghost use Rattle.ts_plain.specs.Plain.{dense_at, consolidated_at, coord_at, side_at, hull_at, cells_at, origin_count_at, origin_at, origins_at, head_at, coords_at, index_at, row_at, cell_at, plain_at, plain_stored, head_stored};
+ghost use Rattle.ts_plain.specs.Rules.{full_by, last_of};
+ghost use Rattle.ts_plain.specs.Plain.{dense_at, consolidated_at, coord_at, side_at, hull_at, cells_at, origin_count_at, origin_at, origins_at, head_by, head_at, coords_at, index_at, row_at, cell_at, plain_at, plain_stored, head_stored};
 ghost use Rattle.ts_plain.specs.Pieces.{plain_piece, plain_head, IsPlainObject, BreaksSo};
 ghost use Rattle.ts_plain.specs.Writes.{NamesWrites};
 ghost use Rattle.ts_plain.specs.Merges.{IsOrdered};
@@ -165,9 +165,10 @@ fn read_origins(
     read_counted_origins(alloc, frag, consolidated, count, cursor)
 }
 
-/// What stands before the cells, at a place in the object of this fragment: the fields that all objects
-/// of fragments begin with. The hull lies in the domain.
-#[tactic(auto, using(crate::proofs::Insides::hull_sides), unfolding(crate::specs::Plain::head_at))]
+/// What stands before the cells, at a place in the plain object of this fragment: the fields that all
+/// objects of fragments begin with. The hull lies in the domain.
+///
+/// A fragment of a dense array that is not consolidated has as many cells as its hull.
 pub fn read_fields(
     alloc: Global,
     frame: &Frame,
@@ -177,11 +178,40 @@ pub fn read_fields(
     ensures reads { ReadsOr (λ head. head) (head_at frame.now frag) cursor.old cursor.new result }
     ensures inside { IfOk result (λ head. IsHull frame.now.domain head.hull) }
 {
+    read_fields_by(alloc, frame, frag, false, cursor)
+}
+
+/// What [`read_fields`] reads, of a fragment that has as many cells as its hull, consolidated or not.
+pub fn read_full_fields(
+    alloc: Global,
+    frame: &Frame,
+    frag: FragKey,
+    cursor: &mut Cursor,
+) -> Result<StoredHead, ReadFault>
+    ensures reads { ReadsOr (λ head. head) (head_by (λ _. true) frame.now frag) cursor.old cursor.new result }
+    ensures inside { IfOk result (λ head. IsHull frame.now.domain head.hull) }
+{
+    read_fields_by(alloc, frame, frag, true, cursor)
+}
+
+// What stands before the cells. Any fragment has as many cells as its hull, or only an ordinary one of
+// a dense array.
+#[tactic(auto, using(crate::proofs::Insides::hull_sides), unfolding(crate::specs::Plain::head_by))]
+fn read_fields_by(
+    alloc: Global,
+    frame: &Frame,
+    frag: FragKey,
+    any: bool,
+    cursor: &mut Cursor,
+) -> Result<StoredHead, ReadFault>
+    ensures reads { ReadsOr (λ head. head) (head_by (full_by any frame.now.dense) frame.now frag) cursor.old cursor.new result }
+    ensures inside { IfOk result (λ head. IsHull frame.now.domain head.hull) }
+{
     let schema = cursor.key()?;
     let dense = read_dense(frame.dense, cursor)?;
     let consolidated = read_consolidated(frag, cursor)?;
     let hull = read_hull(alloc, frame.domain.as_slice(), cursor)?;
-    let full = is_full(frame.dense, consolidated);
+    let full = any || is_full(frame.dense, consolidated);
     let cells = read_cell_count(full, hull.as_slice(), cursor)?;
     let origins = read_origins(alloc, frag, consolidated, cursor)?;
     Ok(StoredHead {

@@ -18,7 +18,7 @@ use Rattle.ts_plain.specs.Pieces.{version_in, head_of, piece_of}
 use Rattle.ts_plain.proofs.WrittenPieces.{stored_back}
 use Rattle.ts_footer.specs.declared.footers.Footer.{Footer}
 use Rattle.ts_footer.specs.Footers.{footer_stored}
-use Rattle.ts_footer.specs.Metas.{meta_of, meta_in, head_in}
+use Rattle.ts_footer.specs.Metas.{meta_of, laid_meta_in, meta_in, head_in}
 use Rattle.ts_footer.proofs.MetaObjects.{meta_found, only_head}
 use Rattle.ts_model.specs.Consolidated.{IsStorable}
 use Rattle.ts_model.specs.States.{all_of}
@@ -37,7 +37,7 @@ use Rattle.ts_actor.specs.PlainStores.{taken_whole, names_own}
 -- the head that is read of an object is that of its metadata
 head_same : (frame : Frame) (attrs : List Attr) (frag : FragKey) (object : List ℕ) (head : Head) (footer : Footer) → IsBytes object → IsShort object → footer_stored frame attrs frag object ≡ Ok footer
     → head_in frame frag object ≡ Ok head → head_of frag footer.head ≡ head
-unfolding meta_in meta_of head_of
+unfolding laid_meta_in meta_of head_of
 head_same frame attrs frag object head footer all short read found =
     let meta : meta_in frame attrs frag object ≡ Ok (meta_of frag footer) =
     goes_on (footer_stored frame attrs frag object) (λ f. Ok (meta_of frag f)) footer (Ok (meta_of frag footer)) read refl in

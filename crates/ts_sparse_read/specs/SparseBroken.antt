@@ -26,7 +26,7 @@ use Rattle.ts_footer.specs.declared.columns.ColumnSize.{ColumnSize}
 use Rattle.ts_footer.specs.declared.footers.Footer.{Footer}
 use Rattle.ts_footer.specs.Columns.{column_forms}
 use Rattle.ts_footer.specs.Footers.{footer_stored, leaves_in}
-use Rattle.ts_footer.specs.Metas.{meta_of, meta_in}
+use Rattle.ts_footer.specs.Metas.{meta_of, laid_meta_in, meta_in}
 use Rattle.ts_footer.proofs.MetaObjects.{broken_head}
 use Rattle.ts_model.specs.Codecs.{Breaks, Takes}
 use Rattle.ts_actor.specs.PieceLaws.{whole_got, RefusesBroken, OpensUnbroken, EndsWith, JudgesRight}
@@ -71,7 +71,7 @@ before_step (Err there) f at h = let same : there ≡ at = cc in ap Err same
 
 -- an object that is refused is broken at the offset that is told
 pub sparse_broken : RefusesBroken sparse_codec IsSparseBroken
-unfolding meta_in sparse_opens
+unfolding laid_meta_in sparse_opens
 sparse_broken = record {
   head = λ frame s frag object at h.
       let broken : meta_in frame s.attrs frag object ≡ Err at = broken_head frame s.attrs frag object (Err (fault.Damaged (record { at = at }))) h in

@@ -1,5 +1,5 @@
 -- The head in the metadata of a sparse fragment bears the name of its fragment, and what stands before the number of tiles settles it.
-use Rattle.std.proofs.Common.{◌≡◌, ℕ, zero, suc, ◌+◌, ◌≤◌, Bool, true, false, nat_lt, nat_eq, if◌then◌else◌, List, [], ◌∷◌, ◌++◌, length, take, drop, zip, Result, Ok, Err, Some, refl, sym, ap, ◌∙◌, subst, arith}
+use Rattle.std.proofs.Common.{◌≡◌, ℕ, zero, suc, ◌+◌, ◌≤◌, Bool, true, false, nat_lt, nat_eq, if◌then◌else◌, List, [], ◌∷◌, ◌++◌, length, take, drop, zip, Option, Some, Result, Ok, Err, refl, sym, ap, ◌∙◌, subst, arith}
 use Rattle.std.proofs.lemmas.List.{take_at, drop_at, drop-take, take-append-drop}
 use Rattle.ts_base.specs.declared.keys.FragKey.{FragKey}
 use Rattle.ts_base.specs.declared.heads.Head.{Head}
@@ -25,17 +25,17 @@ use Rattle.ts_footer.specs.declared.columns.ColumnForm.{ColumnForm}
 use Rattle.ts_footer.specs.declared.columns.ColumnForm.TheVariants.{Fixed, Var}
 use Rattle.ts_footer.specs.declared.columns.ColumnSize.{ColumnSize}
 use Rattle.ts_footer.specs.declared.footers.Footer.{Footer}
-use Rattle.ts_footer.specs.Columns.{tile_count_at, column_forms, fixed_length, fixed_at, start_at, starts_at, size_at, sizes_at}
-use Rattle.ts_footer.specs.TreeTexts.{same_at, bounds_at, leaf_at, leaves_at, fields_of, topped, boxes_at, one_at, many_at}
-use Rattle.ts_footer.specs.Footers.{tiles_at, footer_at, footer_stored, head_stored}
-use Rattle.ts_footer.specs.Metas.{head_in}
+use Rattle.ts_footer.specs.Columns.{tiles_for, tile_count_at, column_forms, fixed_length, fixed_at, start_at, starts_at, size_at, sizes_at}
+use Rattle.ts_footer.specs.TreeTexts.{same_at, bounds_at, leaf_at, leaves_at, fields_of, topped, boxes_at, one_at, many_at, tree_at}
+use Rattle.ts_footer.specs.Footers.{laid_tiles_at, laid_footer_at, laid_footer_stored, laid_head_stored, tiles_at, footer_at, footer_stored, head_stored}
+use Rattle.ts_footer.specs.Metas.{laid_head_in, head_in}
 use Rattle.ts_actor.specs.PieceLaws.{NamesHead, SettlesHeads}
 use Rattle.ts_sparse_read.specs.Codecs.{sparse_codec, IsSparseBroken}
 use Rattle.ts_sparse_read.specs.SparseBroken.{broken_meta}
 
 -- the head bears the name under which it is read
 pub sparse_names : NamesHead sparse_codec
-unfolding head_in head_of
+unfolding laid_head_in head_of
 sparse_names frame frag object head h =
     let b = bound (head_stored frame frag object) (λ stored. Ok (head_of frag stored)) head h in
     sym (ap (λ (x : Head). x.frag) (same_ok (Ok (head_of frag b.first)) (head_of frag b.first) head refl b.next))
@@ -212,25 +212,25 @@ onward_tree hull count false = onward_mapped _ (both (leaves_at (length hull.low
 
 -- the reader of all that stands behind a head
 onward_tiles : (frame : Frame) (attrs : List Attr) (head : StoredHead) → Onward (tiles_at frame attrs head)
-unfolding tiles_at tile_count_at
+unfolding laid_tiles_at tile_count_at
 onward_tiles frame attrs head =
-    onward_both (tile_count_at frame.capacity head.cells) _ (onward_ruled _ (number_at 4) (onward_number 4)) (λ tiles.
+    onward_both (tile_count_at (tiles_for frame.capacity head.cells)) _ (onward_ruled _ (number_at 4) (onward_number 4)) (λ tiles.
     onward_both (sizes_at head.cells tiles (column_forms frame.domain attrs head.consolidated)) _ (onward_sizes head.cells tiles (column_forms frame.domain attrs head.consolidated)) (λ _.
-    onward_tree (box_of head.hull) tiles (nat_eq tiles 1)))
+    onward_mapped Some (tree_at (box_of head.hull) tiles) (onward_tree (box_of head.hull) tiles (nat_eq tiles 1))))
 
 -- ---- what is broken is behind the head
 
 -- what is stored of these parts
-abbrev footer_from : StoredHead × (ℕ × (List ColumnSize × Rooted)) → Footer
-footer_from x = record { head = x.0; tiles = x.1.0; sizes = x.1.1.0; tree = Some x.1.1.1 }
+abbrev footer_from : StoredHead × (ℕ × (List ColumnSize × Option Rooted)) → Footer
+footer_from x = record { head = x.0; tiles = x.1.0; sizes = x.1.1.0; tree = x.1.1.1 }
 
 module _ (frame : Frame) (attrs : List Attr) (frag : FragKey) (stored : StoredHead) (behind : Place) (at : ℕ) where
   -- the head, and what was read behind it
-  abbrev with_tiles : Read (ℕ × (List ColumnSize × Rooted)) → Read (StoredHead × (ℕ × (List ColumnSize × Rooted)))
+  abbrev with_tiles : Read (ℕ × (List ColumnSize × Option Rooted)) → Read (StoredHead × (ℕ × (List ColumnSize × Option Rooted)))
   with_tiles r = r >>= pair_of (stored, behind)
 
   -- the metadata with these parts
-  abbrev made : (StoredHead × (ℕ × (List ColumnSize × Rooted))) × Place → Read Footer
+  abbrev made : (StoredHead × (ℕ × (List ColumnSize × Option Rooted))) × Place → Read Footer
   made x = value_of footer_from x
 
   -- the metadata, unless something follows it
@@ -238,7 +238,7 @@ module _ (frame : Frame) (attrs : List Attr) (frag : FragKey) (stored : StoredHe
   end x = if nat_eq (length x.1.rest) 0 then Ok x.0 else Err x.1.at
 
   -- a fault of the tiles, or of what follows them
-  tiles_behind : (r : Read (ℕ × (List ColumnSize × Rooted))) → tiles_at frame attrs stored behind ≡ r → ((with_tiles r >>= made) >>= end) ≡ Err at → behind.at ≤ at
+  tiles_behind : (r : Read (ℕ × (List ColumnSize × Option Rooted))) → tiles_at frame attrs stored behind ≡ r → ((with_tiles r >>= made) >>= end) ≡ Err at → behind.at ≤ at
   tiles_behind (Err there) was e = let same : there ≡ at = cc in (onward_tiles frame attrs stored).stops behind at (was ∙ ap Err same)
   tiles_behind (Ok b) was e =
       let more = (onward_tiles frame attrs stored).on behind b was in
@@ -251,7 +251,7 @@ module _ (frame : Frame) (attrs : List Attr) (frag : FragKey) (stored : StoredHe
 
   -- where the head was read, what breaks the whole object is behind it
   behind_head : (object body : List ℕ) → unwrapped kind.Meta object ≡ Ok body → head_at frame frag (place body 14) ≡ Ok (stored, behind) → footer_stored frame attrs frag object ≡ Err at → behind.at ≤ at
-  unfolding footer_stored footer_at object_at
+  unfolding laid_footer_stored laid_footer_at object_at
   behind_head object body unwraps reads h =
       let in_body : whole (footer_at frame attrs frag) (place body 14) ≡ Err at = sym (ap (λ r. r >>= λ bytes. whole (footer_at frame attrs frag) (place bytes 14)) unwraps) ∙ h in
       let after : Read StoredHead → Result Footer ℕ = λ r. ((r >>= λ a. tiles_at frame attrs a.0 a.1 >>= pair_of a) >>= made) >>= end in
@@ -269,7 +269,7 @@ record ReadsHead (frame : Frame) (frag : FragKey) (object : List ℕ) (head : He
   is : head ≡ head_of frag stored
 
 head_read : (frame : Frame) (frag : FragKey) (object : List ℕ) (head : Head) → head_in frame frag object ≡ Ok head → ReadsHead frame frag object head
-unfolding head_in head_stored
+unfolding laid_head_in laid_head_stored
 head_read frame frag object head h =
     let b = bound (head_stored frame frag object) (λ stored. Ok (head_of frag stored)) head h in
     let c = bound (unwrapped kind.Meta object) (λ body. head_at frame frag (place body 14) >>= λ x. Ok x.0) b.first b.was in
