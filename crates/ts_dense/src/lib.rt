@@ -3,4 +3,10 @@
 #![tactic(auto)]
 
 mod building;
+mod columns;
 mod laws;
+mod metadata;
+mod slots;
+mod starts;
+
+pub use building::build;

@@ -1,0 +1,90 @@
+-- What is laid of a piece: the versions that its slots have, and their columns.
+use Rattle.std.specs.Prelude.{◌≡◌, ℕ, ◌<◌, ℤ, if◌then◌else◌, List, [], ◌∷◌, ◌++◌, length, map, get_or, Option, Some, None}
+use Rattle.std.specs.Borrow.{Bor}
+use Rattle.std.specs.List.{All, flat_map}
+use Rattle.std.specs.Option.{option_copied, IfSome}
+use Rattle.ts_base.specs.declared.keys.Key.{Key}
+use Rattle.ts_base.specs.declared.heads.Head.{Head}
+use Rattle.ts_base.specs.declared.heads.Piece.{Piece}
+use Rattle.ts_base.specs.declared.heads.Version.{Version}
+use Rattle.ts_base.specs.declared.values.Val.{Val}
+use Rattle.ts_base.specs.declared.values.Val.TheVariants.{Null}
+use Rattle.ts_base.specs.Coords.{coords_eq}
+use Rattle.ts_domain.specs.declared.boxes.SubBox.{SubBox}
+use Rattle.ts_wire.specs.Numbers.{number_bytes}
+use Rattle.ts_schema.specs.declared.attrs.Attr.{Attr}
+use Rattle.ts_schema.specs.declared.frames.Frame.{Frame}
+use Rattle.ts_plain.specs.declared.stored.StoredCell.{StoredCell}
+use Rattle.ts_plain.specs.Plain.{head_bytes, FitsValue}
+use Rattle.ts_plain.specs.Writes.{place_of, HasPlace, box_of, stored_head, stored_cell}
+use Rattle.ts_dense.specs.declared.slots.Slots.{Slots}
+use Rattle.ts_dense.specs.Slots.{counts_over, coords_over, no_origin, hole}
+
+-- ---- slots
+
+-- the versions behind references
+abbrev pub held : List (Option (Bor Version)) → List (Option Version)
+held slots = map option_copied slots
+
+-- the versions at these coordinates, which stand in the same order, and none where there is no version
+abbrev pub versions_at : List (List ℤ) → List Version → List (Option Version)
+versions_at [] versions = []
+versions_at (at ∷ coords) [] = None ∷ versions_at coords []
+versions_at (at ∷ coords) (v ∷ versions) = if coords_eq v.coords at then Some v ∷ versions_at coords versions else None ∷ versions_at coords (v ∷ versions)
+
+-- the box of a head
+abbrev pub hull_of_head : Head → SubBox
+hull_of_head head = box_of (stored_head head).hull
+
+-- the slots are those of a piece
+pub record IsSlots (frame : Frame) (piece : Piece) (slots : Slots) : Type 0 where
+  pub origins : slots.origins.now ≡ piece.head.origins
+  pub counts : slots.counts ≡ counts_over frame (hull_of_head piece.head)
+  pub versions : held slots.versions.items ≡ versions_at (coords_over frame (hull_of_head piece.head)) piece.versions
+
+-- the cell of a slot, but for the coordinates of a hole, which no column has
+abbrev pub cell_in : List Key → Option Version → StoredCell
+cell_in origins None = hole []
+cell_in origins (Some v) = stored_cell origins v
+
+-- the cells of slots
+abbrev pub slot_cells : Slots → List StoredCell
+slot_cells slots = map (cell_in slots.origins.now) (held slots.versions.items)
+
+-- ---- columns
+
+-- the value of an attribute in a slot, null in a hole
+abbrev pub value_in : ℕ → Option Version → Val
+value_in k None = Null
+value_in k (Some v) = get_or v.row k Null
+
+-- the values of an attribute in slots
+abbrev pub values_along : ℕ → List (Option Version) → List Val
+values_along k slots = map (value_in k) slots
+
+-- which write the cell of a slot is of
+abbrev pub origin_in : List Key → Option Version → ℕ
+origin_in origins None = no_origin
+origin_in origins (Some v) = place_of origins v.key
+
+-- which write the cell of each slot is of
+abbrev pub origins_along : List Key → List (Option Version) → List ℕ
+origins_along origins slots = map (origin_in origins) slots
+
+-- the versions in slots name their writes
+abbrev pub NamedIn : List Key → List (Option Version) → Type 0
+NamedIn origins slots = All (λ slot. IfSome slot (λ (v : Version). HasPlace origins v.key)) slots
+
+-- the value that a slot has of the attribute at a place fits it
+abbrev pub ValueFits : Attr → ℕ → Option Version → Type 0
+ValueFits a k slot = IfSome slot (λ (v : Version). FitsValue a (get_or v.row k Null))
+
+-- the values of slots fit their attributes
+abbrev pub ValuesFit : List Attr → List (Option Version) → Type 0
+ValuesFit attrs slots = (k : ℕ) (a : Attr) → k < length attrs → All (ValueFits (get_or attrs k a) k) slots
+
+-- ---- metadata
+
+-- the body of the metadata of so many tiles, in which these are the sizes of objects
+unfoldable pub meta_with : Head → ℕ → List ℕ → List ℕ
+meta_with head tiles sizes = head_bytes (stored_head head) ++ (number_bytes 4 tiles ++ flat_map (number_bytes 8) sizes)
