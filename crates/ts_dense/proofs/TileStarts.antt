@@ -27,7 +27,7 @@ part_none texts place end over =
     ap (λ n. take n (drop place texts)) none
 
 joined-append : (xs ys : List (List ℕ)) → length (joined (xs ++ ys)) ≡ length (joined xs) + length (joined ys)
-joined-append [] ys = refl
+joined-append [] ys = omega arith
 joined-append (x ∷ xs) ys = omega (arith, length-append x (joined (xs ++ ys)), length-append x (joined xs), joined-append xs ys)
 
 -- a part has no more bytes than all
@@ -69,10 +69,6 @@ tile_more old new pushed texts first end at more place x (whole, room) before wi
     ∙ ap (λ i. new ++ (number_bytes 8 at ++ flat_map (number_bytes 8) (starts_from i tail))) grown
     ∙ ap (λ ts. new ++ flat_map (number_bytes 8) (starts_from at ts)) (sym rest) ∙ whole, omega arith)
 
-pub tile_done : (old new : List ℕ) (texts : List (List ℕ)) (first end at place : ℕ) → InTile old texts first end new at place → end ≤ place → new ≡ old ++ flat_map (number_bytes 8) (starts_from 0 (part texts first end))
-tile_done old new texts first end at place (whole, room) over =
-    sym (append-nil new) ∙ ap (λ ts. new ++ flat_map (number_bytes 8) (starts_from at ts)) (sym (part_none texts place end over)) ∙ whole
-
 -- how many bytes of a tile are counted, and how many are left
 abbrev pub Counting : List (List ℕ) → ℕ → ℕ → ℕ → ℕ → Type 0
 Counting texts first end size place = size + length (joined (part texts place end)) ≡ length (joined (part texts first end))
@@ -90,11 +86,6 @@ count_room texts first end size place grown x whole before within is few sized =
     let long : length (joined (part texts place end)) ≡ length x + length (joined tail) = ap (λ ts. length (joined ts)) (part_more texts place end x before within is) ∙ length-append x (joined tail) in
     omega (arith, part_small texts first end)
 
-pub count_done : (texts : List (List ℕ)) (first end size place : ℕ) → Counting texts first end size place → end ≤ place → size ≡ length (joined (part texts first end))
-count_done texts first end size place whole over =
-    let none = ap (λ ts. length (joined ts)) (part_none texts place end over) in
-    omega (arith, none, whole)
-
 -- ---- tile by tile
 
 -- a tile of so many byte lists ends there, or with the last
@@ -110,9 +101,9 @@ rest_is : (texts : List (List ℕ)) (first count end : ℕ) → first ≤ length
 rest_is texts first count end within is = drop-drop_min
   where
     drop_min : {X : Type 0} (n : ℕ) (xs : List X) → drop (min n (length xs)) xs ≡ drop n xs
-    drop_min zero xs = refl
-    drop_min (suc n) [] = refl
-    drop_min (suc n) (x ∷ xs) = drop_min n xs
+    drop_min zero xs = let none : min 0 (length xs) ≡ 0 = omega arith in ap (λ k. drop k xs) none
+    drop_min (suc n) [] = let none : min (suc n) 0 ≡ 0 = omega arith in ap (λ k. drop k []) none
+    drop_min (suc n) (x ∷ xs) = let one : min (suc n) (suc (length xs)) ≡ suc (min n (length xs)) = omega arith in ap (λ k. drop k (x ∷ xs)) one ∙ drop_min n xs
 
     drop-drop_min : drop end texts ≡ drop count (drop first texts)
     drop-drop_min =
@@ -123,26 +114,6 @@ rest_is texts first count end within is = drop-drop_min
 abbrev pub Writing : List ℕ → List ℕ → List (List ℕ) → List ℕ → ℕ → ℕ → Type 0
 Writing old counts texts new first i =
     (new ++ flat_map (number_bytes 8) (starts_in (tiles_by (drop i counts) (drop first texts))) ≡ old ++ flat_map (number_bytes 8) (starts_in (tiles_by counts texts))) × (first ≤ length texts)
-
-pub writing_more : (old counts : List ℕ) (texts : List (List ℕ)) (new pushed : List ℕ) (first end i count : ℕ) → Writing old counts texts new first i → i < length counts → count ≡ get_or counts i count → EndsAt texts first count end
-    → pushed ≡ new ++ flat_map (number_bytes 8) (starts_from 0 (part texts first end)) → Writing old counts texts pushed end (i + 1)
-writing_more old counts texts new pushed first end i count (whole, within) before is ends push =
-    let tile = take count (drop first texts) in
-    let others = drop (i + 1) counts in
-    let rest : drop i counts ≡ count ∷ others = drop_more counts i count before ∙ ap (λ n. n ∷ others) (sym is) in
-    let more = flat_map (number_bytes 8) (starts_in (tiles_by others (drop count (drop first texts)))) in (
-      ap (λ text. text ++ flat_map (number_bytes 8) (starts_in (tiles_by others (drop end texts)))) push
-          ∙ ap (λ ts. (new ++ flat_map (number_bytes 8) (starts_from 0 ts)) ++ flat_map (number_bytes 8) (starts_in (tiles_by others (drop end texts)))) (tile_is texts first count end ends)
-          ∙ ap (λ ts. (new ++ flat_map (number_bytes 8) (starts_from 0 tile)) ++ flat_map (number_bytes 8) (starts_in (tiles_by others ts))) (rest_is texts first count end within ends)
-          ∙ append_assoc new (flat_map (number_bytes 8) (starts_from 0 tile)) more
-          ∙ ap (λ text. new ++ text) (sym (flat_map-append (number_bytes 8) (starts_from 0 tile) (starts_in (tiles_by others (drop count (drop first texts))))))
-          ∙ ap (λ ns. new ++ flat_map (number_bytes 8) (starts_in (tiles_by ns (drop first texts)))) (sym rest) ∙ whole,
-      omega arith,
-    )
-
-pub written_all : (old counts : List ℕ) (texts : List (List ℕ)) (new : List ℕ) (first i : ℕ) → Writing old counts texts new first i → length counts ≤ i → new ≡ old ++ flat_map (number_bytes 8) (starts_in (tiles_by counts texts))
-written_all old counts texts new first i (whole, within) over =
-    sym (append-nil new) ∙ ap (λ ns. new ++ flat_map (number_bytes 8) (starts_in (tiles_by ns (drop first texts)))) (sym (drop_all i counts over)) ∙ whole
 
 -- what is found, and what is left to find
 abbrev pub Finding : List ℕ → List (List ℕ) → List ℕ → ℕ → ℕ → ℕ → Type 0
@@ -158,12 +129,12 @@ parts_long texts first count end within ends =
     ap (λ ts. length (joined ts)) (sym (take-append-drop count (drop first texts))) ∙ joined-append tile behind
     ∙ ap (λ ts. length (joined ts) + length (joined behind)) (sym (tile_is texts first count end ends)) ∙ ap (λ ts. length (joined (part texts first end)) + length (joined ts)) (sym (rest_is texts first count end within ends))
 
-pub finding_more : (counts : List ℕ) (texts : List (List ℕ)) (found pushed : List ℕ) (first end at more i count : ℕ) → Finding counts texts found first at i → i < length counts → count ≡ get_or counts i count → EndsAt texts first count end
+pub finding_more : (counts : List ℕ) (texts : List (List ℕ)) (found pushed : List ℕ) (first end at more i : ℕ) → Finding counts texts found first at i → i < length counts → EndsAt texts first (get_or counts i 0) end
     → pushed ≡ found ++ at ∷ [] → more ≡ at + length (joined (part texts first end)) → Finding counts texts pushed end more (i + 1)
-finding_more counts texts found pushed first end at more i count (whole, room, within) before is ends push grown =
-    let tile = take count (drop first texts) in
+finding_more counts texts found pushed first end at more i (whole, room, within) before ends push grown =
+    let count = get_or counts i 0 in
     let others = drop (i + 1) counts in
-    let rest : drop i counts ≡ count ∷ others = drop_more counts i count before ∙ ap (λ n. n ∷ others) (sym is) in
+    let rest : drop i counts ≡ count ∷ others = drop_more counts i 0 before in
     let behind = drop count (drop first texts) in (
       ap (λ text. text ++ tile_starts more (tiles_by others (drop end texts))) push ∙ append_assoc found (at ∷ []) (tile_starts more (tiles_by others (drop end texts)))
           ∙ ap (λ ts. found ++ (at ∷ tile_starts more (tiles_by others ts))) (rest_is texts first count end within ends)
@@ -175,7 +146,3 @@ finding_more counts texts found pushed first end at more i count (whole, room, w
 
 pub finding_room : (counts : List ℕ) (texts : List (List ℕ)) (found : List ℕ) (first end at i count size : ℕ) → Finding counts texts found first at i → EndsAt texts first count end → size ≡ length (joined (part texts first end)) → at + size < 2 ^ 64
 finding_room counts texts found first end at i count size (whole, room, within) ends sized = omega (arith, parts_long texts first count end within ends)
-
-pub found_all : (counts : List ℕ) (texts : List (List ℕ)) (found : List ℕ) (first at i : ℕ) → Finding counts texts found first at i → length counts ≤ i → found ≡ tile_starts 14 (tiles_by counts texts)
-found_all counts texts found first at i (whole, room, within) over =
-    sym (append-nil found) ∙ ap (λ ns. found ++ tile_starts at (tiles_by ns (drop first texts))) (sym (drop_all i counts over)) ∙ whole

@@ -9,14 +9,18 @@ use Rattle.ts_base.specs.declared.heads.Piece.{Piece}
 use Rattle.ts_base.specs.declared.heads.Version.{Version}
 use Rattle.ts_base.specs.declared.values.Val.{Val}
 use Rattle.ts_base.specs.declared.values.Val.TheVariants.{Null}
+use Rattle.ts_base.specs.declared.values.ValType.{ValType}
+use Rattle.ts_base.specs.Values.{width_of}
 use Rattle.ts_base.specs.Coords.{coords_eq}
 use Rattle.ts_domain.specs.declared.boxes.SubBox.{SubBox}
-use Rattle.ts_wire.specs.Numbers.{number_bytes}
+use Rattle.ts_wire.specs.Numbers.{number_bytes, FitsInt}
 use Rattle.ts_schema.specs.declared.attrs.Attr.{Attr}
 use Rattle.ts_schema.specs.declared.frames.Frame.{Frame}
 use Rattle.ts_plain.specs.declared.stored.StoredCell.{StoredCell}
 use Rattle.ts_plain.specs.Plain.{head_bytes, FitsValue}
 use Rattle.ts_plain.specs.Writes.{place_of, HasPlace, box_of, stored_head, stored_cell}
+use Rattle.ts_column.specs.Spelled.{number_of}
+use Rattle.ts_column.specs.Tiles.{is_signed}
 use Rattle.ts_dense.specs.declared.slots.Slots.{Slots}
 use Rattle.ts_dense.specs.Slots.{counts_over, coords_over, no_origin, hole}
 
@@ -72,16 +76,20 @@ abbrev pub origins_along : List Key → List (Option Version) → List ℕ
 origins_along origins slots = map (origin_in origins) slots
 
 -- the versions in slots name their writes
-abbrev pub NamedIn : List Key → List (Option Version) → Type 0
-NamedIn origins slots = All (λ slot. IfSome slot (λ (v : Version). HasPlace origins v.key)) slots
+abbrev pub NamedIn : List Key → List (Option (Bor Version)) → Type 0
+NamedIn origins slots = All (λ (slot : Option (Bor Version)). IfSome (option_copied slot) (λ (v : Version). HasPlace origins v.key)) slots
 
--- the value that a slot has of the attribute at a place fits it
-abbrev pub ValueFits : Attr → ℕ → Option Version → Type 0
-ValueFits a k slot = IfSome slot (λ (v : Version). FitsValue a (get_or v.row k Null))
+-- the integers that are stored for the values of an attribute have room in the width of the type
+abbrev pub NumbersFit : ValType → ℕ → List (Option (Bor Version)) → Type 0
+NumbersFit ty k slots = All (λ (slot : Option (Bor Version)). FitsInt (width_of ty) (is_signed ty) (number_of (value_in k (option_copied slot)))) slots
+
+-- the values that slots have of the attribute at a place fit it
+abbrev pub ValuesFitOne : Attr → ℕ → List (Option (Bor Version)) → Type 0
+ValuesFitOne a k slots = All (λ (slot : Option (Bor Version)). IfSome (option_copied slot) (λ (v : Version). FitsValue a (get_or v.row k Null))) slots
 
 -- the values of slots fit their attributes
-abbrev pub ValuesFit : List Attr → List (Option Version) → Type 0
-ValuesFit attrs slots = (k : ℕ) (a : Attr) → k < length attrs → All (ValueFits (get_or attrs k a) k) slots
+abbrev pub ValuesFit : List Attr → List (Option (Bor Version)) → Type 0
+ValuesFit attrs slots = (k : ℕ) (a : Attr) → k < length attrs → ValuesFitOne (get_or attrs k a) k slots
 
 -- ---- metadata
 

@@ -1,20 +1,19 @@
 //! The objects of columns, over slots.
-ghost use Rattle.std.specs.Prelude.{◌≡◌, ◌<◌, ◌^◌, [], true, length, map, get_or, All, IfOk};
+ghost use Rattle.std.specs.Prelude.{◌≡◌, ◌<◌, ◌^◌, [], true, length, map, IfOk};
 ghost use Rattle.std.specs.List.{flat_map};
 ghost use Rattle.std.specs.List.Sorted.{IsStrictlySortedBy};
 ghost use Rattle.std.specs.Option.{option_copied, IfSome};
 ghost use Rattle.ts_base.specs.Keys.{key_cmp};
 ghost use Rattle.ts_base.specs.Values.{width_of, is_integer};
 ghost use Rattle.ts_base.specs.declared.heads.Version.{Version as AnyVersion};
-ghost use Rattle.ts_base.specs.declared.values.Val.{Val as AnyVal};
 ghost use Rattle.ts_wire.specs.declared.kinds.Kind.TheVariants as kind;
 ghost use Rattle.ts_wire.specs.Envelope.{wrapped};
 ghost use Rattle.ts_wire.specs.Fields.{bool_bytes};
-ghost use Rattle.ts_wire.specs.Numbers.{FitsInt, number_bytes, int_bytes};
+ghost use Rattle.ts_wire.specs.Numbers.{number_bytes, int_bytes};
 ghost use Rattle.ts_column.specs.Spelled.{number_of, text_of};
-ghost use Rattle.ts_column.specs.Tiles.{is_signed, is_there};
+ghost use Rattle.ts_column.specs.Tiles.{is_there};
 ghost use Rattle.ts_plain.specs.Writes.{HasPlace};
-ghost use Rattle.ts_dense.specs.Laying.{held, value_in, values_along, origin_in, origins_along, NamedIn};
+ghost use Rattle.ts_dense.specs.Laying.{held, value_in, values_along, origin_in, origins_along, NamedIn, NumbersFit};
 
 use std::alloc::Global;
 use ts_base::{ByteList, KeyList, OutOfMemory, ValType, Version};
@@ -38,7 +37,7 @@ fn room_for(alloc: Global, slots: &[Option<&Version>], width: u8) -> Result<Scri
 
 // The integer that is stored for the value of an attribute: 0 for a null and in a hole.
 fn number_in(slot: Option<&Version>, attr: u8) -> i128
-    ensures { result ≡ number_of (value_in attr (option_copied slot)) }
+    ensures { result ≡ number_of (value_in attr (option_copied slot.entry)) }
 {
     match slot {
         Some(version) => ts_sparse::number_of(version, attr),
@@ -55,7 +54,7 @@ pub(crate) fn numbers_object(
     slots: &[Option<&Version>],
 ) -> Result<ByteList, OutOfMemory>
     requires integer { is_integer ty ≡ true }
-    requires fits { All (λ (v : AnyVal). FitsInt (width_of ty) (is_signed ty) (number_of v)) (values_along attr (held slots.now)) }
+    requires fits { NumbersFit ty attr slots.now }
     ensures { IfOk result (λ bytes. bytes ≡ wrapped kind.Column (flat_map (int_bytes (width_of ty)) (map number_of (values_along attr (held slots.now))))) }
 {
     let mut scribe = room_for(alloc, slots, ty.width())?;
@@ -67,7 +66,7 @@ pub(crate) fn numbers_object(
 
 // Whether a slot has a value of an attribute that is no null.
 fn is_there(slot: Option<&Version>, attr: u8) -> bool
-    ensures { result ≡ is_there (value_in attr (option_copied slot)) }
+    ensures { result ≡ is_there (value_in attr (option_copied slot.entry)) }
 {
     match slot {
         Some(version) => ts_sparse::is_there(version, attr),
@@ -92,7 +91,7 @@ pub(crate) fn validity_object(
 
 // The bytes that are stored for the value of an attribute: none for a null and in a hole.
 fn text_in(slot: Option<&Version>, attr: u8) -> &[u8]
-    ensures { result.now ≡ text_of (value_in attr (option_copied slot)) }
+    ensures { result.now ≡ text_of (value_in attr (option_copied slot.entry)) }
 {
     match slot {
         Some(version) => ts_sparse::text_of(version, attr),
@@ -120,7 +119,7 @@ fn origin_in(origins: &KeyList, slot: Option<&Version>) -> u32
     requires few { length origins.now < 2 ^ 32 }
     requires ascend { IsStrictlySortedBy key_cmp origins.now }
     requires known { IfSome (option_copied slot) (λ (v : AnyVersion). HasPlace origins.now v.key) }
-    ensures { result ≡ origin_in origins.now (option_copied slot) }
+    ensures { result ≡ origin_in origins.now (option_copied slot.entry) }
 {
     match slot {
         Some(version) => place_of(origins, version.key),
@@ -136,7 +135,7 @@ pub(crate) fn origins_object(
 ) -> Result<ByteList, OutOfMemory>
     requires few { length origins.now < 2 ^ 32 }
     requires ascend { IsStrictlySortedBy key_cmp origins.now }
-    requires known { NamedIn origins.now (held slots.now) }
+    requires known { NamedIn origins.now slots.now }
     ensures { IfOk result (λ bytes. bytes ≡ wrapped kind.Column (flat_map (number_bytes 4) (origins_along origins.now (held slots.now)))) }
 {
     let mut scribe = room_for(alloc, slots, 4)?;
