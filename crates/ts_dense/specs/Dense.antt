@@ -16,6 +16,7 @@ use Rattle.ts_wire.specs.Envelope.{wrapped}
 use Rattle.ts_schema.specs.declared.attrs.Attr.{Attr}
 use Rattle.ts_schema.specs.declared.frames.Frame.{Frame}
 use Rattle.ts_schema.specs.declared.schemas.Schema.{Schema}
+use Rattle.ts_schema.specs.FrameTexts.{IsFrame}
 use Rattle.ts_plain.specs.declared.stored.StoredCell.{StoredCell}
 use Rattle.ts_plain.specs.declared.stored.StoredPiece.{StoredPiece}
 use Rattle.ts_plain.specs.Rules.{volume}
@@ -73,6 +74,7 @@ parts_of frame attrs stored = map column_part (objects_of frame attrs stored) ++
 
 -- what can be stored in space tiles: each field keeps its rule, and the metadata counts the cells of the hull, holes among them; a fragment that no consolidation made has none
 pub record FitsDense (frame : Frame) (attrs : List Attr) (frag : FragKey) (stored : StoredPiece) : Type 0 where
+  pub sound : IsFrame frame
   pub dense : frame.dense ≡ true
   pub head : FitsHead frame frag stored.head
   pub full : stored.head.cells ≡ volume stored.head.hull

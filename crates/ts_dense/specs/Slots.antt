@@ -54,6 +54,10 @@ slots_from (at ∷ coords) (c ∷ cells) = if coords_eq c.coords at then c ∷ s
 unfoldable pub slots_of : Frame → StoredPiece → List StoredCell
 slots_of frame stored = slots_from (coords_over frame (box_of stored.head.hull)) stored.cells
 
+-- the slots of each space tile
+abbrev pub slot_tiles : Frame → StoredPiece → List (List StoredCell)
+slot_tiles frame stored = tiles_by (counts_over frame (box_of stored.head.hull)) (slots_of frame stored)
+
 -- the cells that slots have
 abbrev pub cells_in : List StoredCell → List StoredCell
 cells_in slots = filter (λ (slot : StoredCell). not (is_hole slot)) slots

@@ -8,3 +8,5 @@ pub mod OrderedCoords
 pub mod TileLaws
 pub mod TilesLemmas
 pub mod TileSteps
+pub mod InOrder
+pub mod HullCells

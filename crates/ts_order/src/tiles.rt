@@ -1,5 +1,5 @@
 //! The space tiles that meet a box.
-ghost use Rattle.std.specs.Prelude.{◌≡◌, ◌<◌, ◌≤◌, ◌^◌, ◌≤ℤ◌, ℤ, pos, length, slice_index_or, IfOk, IsTrue};
+ghost use Rattle.std.specs.Prelude.{◌≡◌, ◌<◌, ◌-◌, ◌^◌, ◌≤ℤ◌, ℤ, pos, length, slice_index_or, IfOk, IsTrue};
 ghost use Rattle.std.specs.List.{All};
 ghost use Rattle.ts_domain.specs.Boxes.{IsBox, cells_of};
 ghost use Rattle.ts_domain.specs.Dims.{IsSoundDim, tile_number, tile_start, tile_end};
@@ -21,7 +21,7 @@ pub fn tiles_of(
 ) -> Result<BoxList, OutOfMemory>
     requires valid { IsBox sub.now }
     requires inside { LiesInDomain domain.now sub.now }
-    requires few { cells_of sub.now ≤ 2 ^ 24 }
+    requires few { cells_of sub.now < 2 ^ 64 - 1 }
     ensures value { IfOk result (λ tiles. tiles ≡ tiles_in domain.now tile sub.now) }
     ensures tiles { IfOk result (AreTiles domain.now tile sub.now) }
 {
