@@ -3,3 +3,7 @@ pub mod TileLists
 pub mod HullOrder
 pub mod SlotLaws
 pub mod SpaceTiles
+pub mod FillLaws
+pub mod SlotLays
+pub mod SlotFits
+pub mod PartLaws

@@ -1,5 +1,5 @@
 -- What is laid of a piece: the versions that its slots have, and their columns.
-use Rattle.std.specs.Prelude.{◌≡◌, ℕ, ◌<◌, ℤ, if◌then◌else◌, List, [], ◌∷◌, ◌++◌, length, map, get_or, Option, Some, None}
+use Rattle.std.specs.Prelude.{◌≡◌, ℕ, ◌<◌, ℤ, Bool, if◌then◌else◌, List, [], ◌∷◌, ◌++◌, length, map, get_or, Option, Some, None}
 use Rattle.std.specs.Borrow.{Bor}
 use Rattle.std.specs.List.{All, flat_map}
 use Rattle.std.specs.Option.{option_copied, IfSome}
@@ -21,7 +21,9 @@ use Rattle.ts_plain.specs.Plain.{head_bytes, FitsValue}
 use Rattle.ts_plain.specs.Writes.{place_of, HasPlace, box_of, stored_head, stored_cell}
 use Rattle.ts_column.specs.Spelled.{number_of}
 use Rattle.ts_column.specs.Tiles.{is_signed}
+use Rattle.ts_sparse.specs.Sparse.{Object, origin_objects}
 use Rattle.ts_dense.specs.declared.slots.Slots.{Slots}
+use Rattle.ts_dense.specs.Dense.{attr_objects}
 use Rattle.ts_dense.specs.Slots.{counts_over, coords_over, no_origin, hole}
 
 -- ---- slots
@@ -35,6 +37,11 @@ abbrev pub versions_at : List (List ℤ) → List Version → List (Option Versi
 versions_at [] versions = []
 versions_at (at ∷ coords) [] = None ∷ versions_at coords []
 versions_at (at ∷ coords) (v ∷ versions) = if coords_eq v.coords at then Some v ∷ versions_at coords versions else None ∷ versions_at coords (v ∷ versions)
+
+-- the version, if it has these coordinates
+abbrev pub taken_at : List ℤ → Option Version → Option Version
+taken_at at None = None
+taken_at at (Some v) = if coords_eq v.coords at then Some v else None
 
 -- the box of a head
 abbrev pub hull_of_head : Head → SubBox
@@ -90,6 +97,10 @@ ValuesFitOne a k slots = All (λ (slot : Option (Bor Version)). IfSome (option_c
 -- the values of slots fit their attributes
 abbrev pub ValuesFit : List Attr → List (Option (Bor Version)) → Type 0
 ValuesFit attrs slots = (k : ℕ) (a : Attr) → k < length attrs → ValuesFitOne (get_or attrs k a) k slots
+
+-- all objects of columns of slots
+abbrev pub slot_objects : List Attr → Bool → Slots → List Object
+slot_objects attrs consolidated slots = attr_objects slots.counts 0 attrs (slot_cells slots) ++ origin_objects consolidated (slot_cells slots)
 
 -- ---- metadata
 
