@@ -2,18 +2,28 @@
 use Rattle.std.proofs.Common.{◌≡◌, ℕ, suc, ◌+◌, ◌<◌, ◌≤◌, ℤ, Bool, true, false, List, [], ◌∷◌, ◌++◌, length, map, take, drop, get_or, Option, Some, None, refl, sym, ap, ◌∙◌, subst, arith, append_assoc, inl, inr}
 use Rattle.std.specs.Prelude.{if◌then◌else◌, slice_get}
 use Rattle.std.specs.Borrow.{Bor}
-use Rattle.std.specs.List.{flat_map}
+use Rattle.std.specs.List.{flat_map, All}
 use Rattle.std.specs.Option.{is_some, option_copied}
 use Rattle.std.proofs.lemmas.List.{drop_more, drop_all, take_more, take_all, append-nil, map-append}
-use Rattle.std.proofs.lemmas.Option.{get_or_from_slice_get, slice_get_cases, slice_get_within}
+use Rattle.std.proofs.lemmas.Bool.{true≢false}
+use Rattle.std.proofs.lemmas.Option.{get_or_from_slice_get, slice_get_cases, slice_get_within, slice_get-get_or}
 use Rattle.ts_base.specs.declared.heads.Version.{Version}
+use Rattle.ts_base.specs.declared.heads.Head.{Head}
 use Rattle.ts_base.specs.declared.heads.Piece.{Piece}
 use Rattle.ts_base.specs.Coords.{coords_eq}
 use Rattle.ts_domain.specs.declared.orders.Order.{Order}
 use Rattle.ts_domain.specs.declared.boxes.SubBox.{SubBox}
-use Rattle.ts_domain.specs.Boxes.{cells_of}
+use Rattle.ts_domain.specs.declared.dims.Dim.{Dim}
+use Rattle.ts_domain.specs.Boxes.{IsBox, cells_of}
+use Rattle.ts_domain.specs.Domains.{LiesInDomain}
+use Rattle.ts_order.specs.Tiles.{AreTiles}
+use Rattle.ts_schema.specs.declared.attrs.Attr.{Attr}
+use Rattle.ts_plain.specs.Writes.{stored_head, stored_for, NamesWrites}
+use Rattle.ts_sparse.proofs.FormLaws.{lows_back, highs_back}
 use Rattle.ts_order.specs.Orders.{coords_in_order}
 use Rattle.ts_schema.specs.declared.frames.Frame.{Frame}
+use Rattle.ts_dense.specs.Dense.{FitsDense}
+use Rattle.ts_dense.proofs.HullOrder.{hull_box}
 use Rattle.ts_dense.specs.declared.slots.Slots.{Slots}
 use Rattle.ts_dense.specs.Slots.{tiles_over, coords_over}
 use Rattle.ts_dense.specs.Laying.{held, taken_at, versions_at, hull_of_head, IsSlots}
@@ -46,6 +56,14 @@ next_slot at coords versions next = elim (slice_get_cases versions next).1 [
       ap (versions_at (at ∷ coords)) over ∙ ap (λ vs. None ∷ versions_at coords vs) (sym over) ∙ ap (λ n. None ∷ versions_at coords (drop n versions)) (sym same)
       ∙ ap (λ o. taken_at at o ∷ versions_at coords (drop (next + taken (taken_at at o)) versions)) (sym none.1)
 ]
+
+pub taken_one : (s : Option (Bor Version)) (b : Bool) → b ≡ is_some s → b ≡ true → taken (option_copied s) ≡ 1
+taken_one None b is some = absurd (true≢false (sym some ∙ is))
+taken_one (Some v) b is some = refl
+
+pub taken_none : (s : Option (Bor Version)) (b : Bool) → b ≡ is_some s → b ≡ false → taken (option_copied s) ≡ 0
+taken_none None b is none = refl
+taken_none (Some v) b is none = absurd (true≢false (sym is ∙ none))
 
 -- ---- one tile
 
@@ -80,6 +98,10 @@ pub record Placing (order : Order) (tiles : List SubBox) (versions : List Versio
   pub counted : counts ≡ map cells_of (take i tiles)
   pub filled : held slots ++ versions_at (flat_map (coords_in_order order) (drop i tiles)) (drop next versions) ≡ versions_at (flat_map (coords_in_order order) tiles) versions
 
+pub placing_none : (order : Order) (tiles : List SubBox) (versions : List Version) (counts : List ℕ) (slots : List (Option (Bor Version))) → counts ≡ [] → slots ≡ [] → Placing order tiles versions counts slots 0 0
+placing_none order tiles versions counts slots none empty =
+    record { counted = none; filled = ap (λ os. held os ++ versions_at (flat_map (coords_in_order order) tiles) versions) empty }
+
 pub placing_more : (order : Order) (tiles : List SubBox) (versions : List Version) (counts longer : List ℕ) (slots fuller : List (Option (Bor Version))) (next after i cells : ℕ) (tile : SubBox) → Placing order tiles versions counts slots next i
     → i < length tiles → tile ≡ get_or tiles i tile → longer ≡ counts ++ cells ∷ [] → cells ≡ cells_of tile
     → ((more : List (List ℤ)) → held slots ++ versions_at (coords_in_order order tile ++ more) (drop next versions) ≡ held fuller ++ versions_at more (drop after versions)) → Placing order tiles versions longer fuller after (i + 1)
@@ -98,6 +120,24 @@ placed_all order tiles versions counts slots next i placed over = (
   placed.counted ∙ ap (map cells_of) (take_all i tiles over),
   sym (append-nil (held slots)) ∙ ap (λ ts. held slots ++ versions_at (flat_map (coords_in_order order) ts) (drop next versions)) (sym (drop_all i tiles over)) ∙ placed.filled,
 )
+
+-- ---- the tiles of a hull
+
+pub hull_is : (head : Head) → length head.high ≡ length head.low → hull_of_head head ≡ record { low = head.low; high = head.high }
+hull_is head same =
+    let low = lows_back head.low head.high same in
+    let high = highs_back head.low head.high same in
+    λ i. record { low = low i; high = high i }
+
+module _ (frame : Frame) (attrs : List Attr) (piece : Piece) (names : NamesWrites piece) (fits : FitsDense frame attrs piece.head.frag (stored_for piece)) where
+  pub hull_valid : IsBox (record { low = piece.head.low; high = piece.head.high })
+  hull_valid = subst IsBox (hull_is piece.head names.corners) (hull_box frame.domain (stored_head piece.head).hull (fits.head).hull).0
+
+  pub hull_inside : LiesInDomain frame.domain (record { low = piece.head.low; high = piece.head.high })
+  hull_inside = subst (LiesInDomain frame.domain) (hull_is piece.head names.corners) (hull_box frame.domain (stored_head piece.head).hull (fits.head).hull).1
+
+pub each_is_box : (dims : List Dim) (tile : Order) (sub : SubBox) (tiles : List SubBox) → AreTiles dims tile sub tiles → All IsBox tiles
+each_is_box dims tile sub tiles are i d within = are.valid i (get_or tiles i d) (slice_get-get_or tiles i d within)
 
 -- the slots of a piece
 pub slots_are : (frame : Frame) (piece : Piece) (tiles : List SubBox) (versions : List Version) (slots : Slots) (next i : ℕ) → tiles ≡ tiles_over frame (hull_of_head piece.head) → versions ≡ piece.versions

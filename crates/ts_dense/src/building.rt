@@ -55,7 +55,6 @@ pub fn build(
 }
 
 // Lays the objects of all columns.
-#[tactic(auto, using(crate::proofs::PartLaws::columns_laid))]
 fn lay_columns(
     alloc: Global,
     schema: &Schema,
@@ -79,7 +78,6 @@ fn lay_columns(
 }
 
 // Lays the values of each attribute, and which of them are there.
-#[tactic(auto, using(crate::proofs::SlotLays::attrs_more, crate::proofs::SlotLays::attrs_all))]
 fn lay_attrs(
     alloc: Global,
     laid: &mut Laid,
@@ -116,7 +114,7 @@ fn lay_attr(
 }
 
 // Lays the values of an attribute that are integers.
-#[tactic(auto, using(crate::proofs::SlotLays::numbers_laid, crate::proofs::SlotFits::numbers_fit))]
+#[tactic(auto, using(crate::proofs::SlotFits::numbers_fit))]
 fn lay_numbers(
     alloc: Global,
     laid: &mut Laid,
@@ -134,7 +132,7 @@ fn lay_numbers(
 }
 
 // Lays the values of an attribute that are byte lists: where each starts, and then all bytes.
-#[tactic(auto, using(crate::proofs::SlotLays::texts_laid, ts_sparse::proofs::LayLaws::texts_room))]
+#[tactic(auto, using(ts_sparse::proofs::LayLaws::texts_room))]
 fn lay_texts(
     alloc: Global,
     laid: &mut Laid,
@@ -157,7 +155,6 @@ fn lay_texts(
 }
 
 // Lays which values of an attribute are there, where there may be nulls.
-#[tactic(auto, using(crate::proofs::SlotLays::validity_laid))]
 fn lay_validity(
     alloc: Global,
     laid: &mut Laid,
@@ -176,7 +173,6 @@ fn lay_validity(
 }
 
 // Lays which write each cell is of, where the fragment is a consolidated one.
-#[tactic(auto, using(crate::proofs::SlotLays::origins_laid))]
 fn lay_origins(
     alloc: Global,
     laid: &mut Laid,
