@@ -64,10 +64,12 @@ pub tile_more : (old new pushed : List ℕ) (texts : List (List ℕ)) (first end
 tile_more old new pushed texts first end at more place x (whole, room) before within is push grown =
     let rest = part_more texts place end x before within is in
     let tail = part texts (place + 1) end in
-    let long : length (joined (part texts place end)) ≡ length x + length (joined tail) = ap (λ ts. length (joined ts)) rest ∙ length-append x (joined tail) in
-    (ap (λ text. text ++ flat_map (number_bytes 8) (starts_from more tail)) push ∙ append_assoc new (number_bytes 8 at) (flat_map (number_bytes 8) (starts_from more tail))
-    ∙ ap (λ i. new ++ (number_bytes 8 at ++ flat_map (number_bytes 8) (starts_from i tail))) grown
-    ∙ ap (λ ts. new ++ flat_map (number_bytes 8) (starts_from at ts)) (sym rest) ∙ whole, omega arith)
+    let long : length (joined (part texts place end)) ≡ length x + length (joined tail) = ap (λ ts. length (joined ts)) rest ∙ length-append x (joined tail) in (
+      ap (λ text. text ++ flat_map (number_bytes 8) (starts_from more tail)) push ∙ append_assoc new (number_bytes 8 at) (flat_map (number_bytes 8) (starts_from more tail))
+          ∙ ap (λ i. new ++ (number_bytes 8 at ++ flat_map (number_bytes 8) (starts_from i tail))) grown
+          ∙ ap (λ ts. new ++ flat_map (number_bytes 8) (starts_from at ts)) (sym rest) ∙ whole,
+      omega arith,
+    )
 
 -- how many bytes of a tile are counted, and how many are left
 abbrev pub Counting : List (List ℕ) → ℕ → ℕ → ℕ → ℕ → Type 0
