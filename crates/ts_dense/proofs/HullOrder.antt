@@ -11,7 +11,7 @@ use Rattle.ts_domain.specs.Dims.{IsSoundDim}
 use Rattle.ts_domain.specs.Domains.{is_in_domain, LiesInDomain}
 use Rattle.ts_order.specs.Orders.{global_cmp, coords_in_order}
 use Rattle.ts_order.proofs.InOrder.{InOrder, IsAmong, NoneTwice}
-use Rattle.ts_order.proofs.HullCells.{cells_in_order, cells_once, cells_covered, cells_inside, cells_many, counts_many, tiles_counted, tiles_valid}
+use Rattle.ts_order.proofs.HullCells as laid
 use Rattle.ts_wire.specs.Exact.{EachFits}
 use Rattle.ts_schema.specs.declared.frames.Frame.{Frame}
 use Rattle.ts_plain.specs.declared.stored.Side.{Side}
@@ -67,37 +67,37 @@ module _ (frame : Frame) (hull : List Side) (sound : All IsSoundDim frame.domain
   -- they ascend in global order
   pub coords_in_turn : InOrder (global_cmp frame.domain frame.tile frame.cell) (coords_over frame (box_of hull))
   unfolding coords_over
-  coords_in_turn = cells_in_order frame.domain frame.tile frame.cell (box_of hull) sound box inside
+  coords_in_turn = laid.cells_in_order frame.domain frame.tile frame.cell (box_of hull) sound box inside
 
   -- none stands twice
   pub coords_once : NoneTwice (coords_over frame (box_of hull))
   unfolding coords_over
-  coords_once = cells_once frame.domain frame.tile frame.cell (box_of hull) sound box inside
+  coords_once = laid.cells_once frame.domain frame.tile frame.cell (box_of hull) sound box inside
 
   -- each cell of the hull is among them
   pub coords_covered : (x : List ℤ) → IsTrue (is_in_box (box_of hull) x) → IsAmong (coords_over frame (box_of hull)) x
   unfolding coords_over
-  coords_covered x in_box = cells_covered frame.domain frame.tile frame.cell (box_of hull) sound box inside x in_box
+  coords_covered x in_box = laid.cells_covered frame.domain frame.tile frame.cell (box_of hull) sound box inside x in_box
 
   -- and no other
   pub coords_inside : AllByRecursion (λ x. IsTrue (is_in_box (box_of hull) x)) (coords_over frame (box_of hull))
   unfolding coords_over
-  coords_inside = cells_inside frame.domain frame.tile frame.cell (box_of hull) sound box inside
+  coords_inside = laid.cells_inside frame.domain frame.tile frame.cell (box_of hull) sound box inside
 
   -- there are as many as the hull has cells
   pub coords_many : length (coords_over frame (box_of hull)) ≡ volume hull
   unfolding coords_over
-  coords_many = cells_many frame.domain frame.tile frame.cell (box_of hull) sound box inside ∙ cells_of-box_of hull
+  coords_many = laid.cells_many frame.domain frame.tile frame.cell (box_of hull) sound box inside ∙ cells_of-box_of hull
 
   -- and as many as the space tiles have together
-  pub counts_sum : sum (counts_over frame (box_of hull)) ≡ length (coords_over frame (box_of hull))
-  counts_sum = counts_many frame.domain frame.tile frame.cell (box_of hull) sound box inside ∙ cells_of-box_of hull ∙ sym coords_many
+  pub counts_many : sum (counts_over frame (box_of hull)) ≡ length (coords_over frame (box_of hull))
+  counts_many = laid.counts_many frame.domain frame.tile frame.cell (box_of hull) sound box inside ∙ cells_of-box_of hull ∙ sym coords_many
 
   -- each space tile is a box
   pub tiles_over_valid : AllByRecursion IsBox (tiles_over frame (box_of hull))
-  tiles_over_valid = tiles_valid frame.domain frame.tile frame.cell (box_of hull) sound box inside
+  tiles_over_valid = laid.tiles_valid frame.domain frame.tile frame.cell (box_of hull) sound box inside
 
   -- in tiles they are the cells of each space tile
   pub coords_by_tiles : tiles_by (counts_over frame (box_of hull)) (coords_over frame (box_of hull)) ≡ map (coords_in_order frame.cell) (tiles_over frame (box_of hull))
   unfolding coords_over
-  coords_by_tiles = tiles_of_parts (coords_in_order frame.cell) cells_of (tiles_over frame (box_of hull)) (tiles_counted frame.domain frame.tile frame.cell (box_of hull) sound box inside)
+  coords_by_tiles = tiles_of_parts (coords_in_order frame.cell) cells_of (tiles_over frame (box_of hull)) (laid.tiles_counted frame.domain frame.tile frame.cell (box_of hull) sound box inside)

@@ -7,3 +7,11 @@ pub mod FillLaws
 pub mod SlotLays
 pub mod SlotFits
 pub mod PartLaws
+pub mod TileTexts
+pub mod SlotColumns
+pub mod RoomLaws
+pub mod OnePiece
+pub mod FormLaws
+pub mod OnceLaws
+pub mod WorkedSizes
+pub mod WorkedFits

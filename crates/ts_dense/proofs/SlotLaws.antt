@@ -239,6 +239,16 @@ slots_full frame attrs frag s fits plain =
     let count = ap length (cells_back frame attrs frag s fits) in
     no_holes (slots_of frame s) (all_pass (λ (slot : StoredCell). not (is_hole slot)) (slots_of frame s) (count ∙ fits.whole plain ∙ fits.full ∙ sym (slots_of_many frame attrs frag s fits)))
 
+-- slots that all have cells are these cells
+all_cells : (slots : List StoredCell) → All (λ slot. is_hole slot ≡ false) slots → cells_in slots ≡ slots
+all_cells [] full = refl
+all_cells (slot ∷ slots) full =
+    kept slot slots (All-head (λ slot. is_hole slot ≡ false) slot slots full) ∙ ap (λ more. slot ∷ more) (all_cells slots (All-tail (λ slot. is_hole slot ≡ false) slot slots full))
+
+-- so its slots are its cells
+pub slots_are_cells : (frame : Frame) (attrs : List Attr) (frag : FragKey) (s : StoredPiece) → FitsDense frame attrs frag s → s.head.consolidated ≡ false → slots_of frame s ≡ s.cells
+slots_are_cells frame attrs frag s fits plain = sym (all_cells (slots_of frame s) (slots_full frame attrs frag s fits plain)) ∙ cells_back frame attrs frag s fits
+
 -- ---- slots from their cells
 
 -- cells that stand elsewhere leave a hole

@@ -28,19 +28,15 @@ use Rattle.ts_plain.specs.Pieces.{version_in}
 use Rattle.ts_plain.specs.Writes.{box_of}
 use Rattle.ts_sparse.specs.Cuts.{taken_at}
 use Rattle.ts_sparse.proofs.MeetLaws.{CutOf, IsInLeaf, leaves_in, versions_by_tile, all_versions, tiles_suffice}
-use Rattle.ts_dense.specs.Slots.{tiles_over, counts_over, coords_over, tiles_by, is_hole, slots_of, slot_tiles, cells_in}
+use Rattle.ts_dense.specs.Slots.{tiles_over, counts_over, coords_over, tiles_by, is_hole, slots_of, slot_tiles, cells_in, versions_of}
 use Rattle.ts_dense.specs.Dense.{FitsDense}
 use Rattle.ts_dense.proofs.TileLists.{all_tiles, map_tiles}
-use Rattle.ts_dense.proofs.HullOrder.{coords_once, coords_by_tiles, counts_sum, tiles_over_valid}
+use Rattle.ts_dense.proofs.HullOrder.{coords_once, coords_by_tiles, counts_many, tiles_over_valid}
 use Rattle.ts_dense.proofs.SlotLaws.{slots_at, cells_back, IsPlainHole, slots_by_cells}
 
 -- the coordinates of slots
 abbrev pub coords_of : List StoredCell → List (List ℤ)
 coords_of slots = map (λ (c : StoredCell). c.coords) slots
-
--- the versions that the slots of a tile hold
-abbrev pub versions_of : StoredHead → List StoredCell → List Version
-versions_of head tile = map (version_in head) (cells_in tile)
 
 -- ---- slots that are read
 
@@ -72,7 +68,7 @@ module _ (frame : Frame) (attrs : List Attr) (frag : FragKey) (s : StoredPiece) 
   slots_in_tiles =
       let counts = counts_over frame (box_of s.head.hull) in
       let long : length (slots_of frame s) ≡ length (coords_over frame (box_of s.head.hull)) = sym (length-map (slots_of frame s) (λ (c : StoredCell). c.coords)) ∙ ap length slots_stand in
-      all_tiles counts (slots_of frame s) (long ∙ sym (counts_sum frame s.head.hull sound (fits.head).hull))
+      all_tiles counts (slots_of frame s) (long ∙ sym (counts_many frame s.head.hull sound (fits.head).hull))
 
   -- there are as many as space tiles
   pub tiles_many : length (slot_tiles frame s) ≡ length (tiles_over frame (box_of s.head.hull))

@@ -1,14 +1,17 @@
 -- The slots of a dense fragment: one for each cell of its hull, space tile by space tile, with the cell that the fragment has there, or a hole.
 use Rattle.std.specs.Prelude.{ℕ, ℤ, Bool, not, nat_eq, if◌then◌else◌, List, [], ◌∷◌, map, filter, take, drop}
 use Rattle.std.specs.List.{flat_map}
+use Rattle.ts_base.specs.declared.heads.Version.{Version}
 use Rattle.ts_base.specs.Coords.{coords_eq}
 use Rattle.ts_domain.specs.declared.boxes.SubBox.{SubBox}
 use Rattle.ts_domain.specs.Boxes.{cells_of}
 use Rattle.ts_order.specs.Orders.{coords_in_order}
 use Rattle.ts_order.specs.Tiles.{tiles_in}
 use Rattle.ts_schema.specs.declared.frames.Frame.{Frame}
+use Rattle.ts_plain.specs.declared.stored.StoredHead.{StoredHead}
 use Rattle.ts_plain.specs.declared.stored.StoredCell.{StoredCell}
 use Rattle.ts_plain.specs.declared.stored.StoredPiece.{StoredPiece}
+use Rattle.ts_plain.specs.Pieces.{version_in}
 use Rattle.ts_plain.specs.Writes.{box_of}
 
 -- ---- the cells of a hull
@@ -61,3 +64,7 @@ slot_tiles frame stored = tiles_by (counts_over frame (box_of stored.head.hull))
 -- the cells that slots have
 abbrev pub cells_in : List StoredCell → List StoredCell
 cells_in slots = filter (λ (slot : StoredCell). not (is_hole slot)) slots
+
+-- the versions that slots hold
+abbrev pub versions_of : StoredHead → List StoredCell → List Version
+versions_of head slots = map (version_in head) (cells_in slots)

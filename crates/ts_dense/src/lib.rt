@@ -10,3 +10,4 @@ mod slots;
 mod starts;
 
 pub use building::build;
+pub use laws::{parts_spell_their_piece, parts_store_one_piece, pieces_have_one_form};

@@ -100,7 +100,7 @@ module _ (a : Attr) where
   bools_fit [] = All-nil (λ (b : Bool). Unit {0})
   bools_fit (b ∷ bs) = All-cons (λ (b : Bool). Unit {0}) b bs tt (bools_fit bs)
 
-  marks_same : (t : Bool) (k : ℕ) (vs ws : List Val) → a.nullable ≡ t → length vs ≡ length ws → Fitting vs → Fitting ws → validity_objects t k vs ≡ validity_objects t k ws → map is_there vs ≡ map is_there ws
+  pub marks_same : (t : Bool) (k : ℕ) (vs ws : List Val) → a.nullable ≡ t → length vs ≡ length ws → Fitting vs → Fitting ws → validity_objects t k vs ≡ validity_objects t k ws → map is_there vs ≡ map is_there ws
   marks_same false k vs ws is long fv fw same = all_there vs ws long is fv fw
   marks_same true k vs ws is long fv fw same =
       lists_same bool_exact (map is_there vs) (map is_there ws) (length-map vs is_there ∙ long ∙ sym (length-map ws is_there)) (bools_fit (map is_there vs)) (bools_fit (map is_there ws)) (ap first_body same)
@@ -119,7 +119,7 @@ module _ (a : Attr) where
       ap (λ x. x ∷ vs) (int_same a.ty a.nullable v w is (All-head (FitsValue a) v vs fv).1 (All-head (FitsValue a) w ws fw).1 one.0 two.0)
       ∙ ap (λ xs. w ∷ xs) (ints_same vs ws is (All-tail (FitsValue a) v vs fv) (All-tail (FitsValue a) w ws fw) one.1 two.1)
 
-  bytes_same : (vs ws : List Val) → is_integer a.ty ≡ false → Fitting vs → Fitting ws → map text_of vs ≡ map text_of ws → map is_there vs ≡ map is_there ws → vs ≡ ws
+  pub bytes_same : (vs ws : List Val) → is_integer a.ty ≡ false → Fitting vs → Fitting ws → map text_of vs ≡ map text_of ws → map is_there vs ≡ map is_there ws → vs ≡ ws
   bytes_same [] [] is fv fw texts marks = refl
   bytes_same [] (w ∷ ws) is fv fw texts marks = absurd (omega (arith, ap length texts))
   bytes_same (v ∷ vs) [] is fv fw texts marks = absurd (omega (arith, ap length texts))
@@ -144,13 +144,13 @@ module _ (a : Attr) where
   joined-append [] ys = refl
   joined-append (x ∷ xs) ys = ap (λ more. x ++ more) (joined-append xs ys) ∙ sym (append_assoc x (joined xs) (joined ys))
 
-  inside_small : (tiles : List (List (List ℕ))) → length (joined (flat_map (λ t. t) tiles)) < 256 ^ 8 → All Small (starts_in tiles)
+  pub inside_small : (tiles : List (List (List ℕ))) → length (joined (flat_map (λ t. t) tiles)) < 256 ^ 8 → All Small (starts_in tiles)
   inside_small [] few = All-nil Small
   inside_small (t ∷ tiles) few =
       let long = ap length (joined-append t (flat_map (λ t. t) tiles)) ∙ length-append (joined t) (joined (flat_map (λ t. t) tiles)) in
       All-append Small (starts_from 0 t) (starts_in tiles) (starts_small 0 t (omega arith)) (inside_small tiles (omega arith))
 
-  length-starts_in : (ts us : List (List (List ℕ))) → Shaped ts us → length (starts_in ts) ≡ length (starts_in us)
+  pub length-starts_in : (ts us : List (List (List ℕ))) → Shaped ts us → length (starts_in ts) ≡ length (starts_in us)
   length-starts_in [] [] s = refl
   length-starts_in [] (u ∷ us) s = absurd s
   length-starts_in (t ∷ ts) [] s = absurd s

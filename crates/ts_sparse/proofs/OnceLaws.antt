@@ -57,14 +57,14 @@ number (kind_of.Validity k) = k
 number _ = 0
 
 -- each part keeps a rule, and no part is another's
-abbrev AllParts : (Part → Type 0) → List PartBytes → Type 0
+abbrev pub AllParts : (Part → Type 0) → List PartBytes → Type 0
 AllParts P [] = Unit {0}
 AllParts P (o ∷ os) = P o.part × AllParts P os
 
-abbrev Apart : Part → List PartBytes → Type 0
+abbrev pub Apart : Part → List PartBytes → Type 0
 Apart p os = AllParts (λ q. p ≡ q → ⊥) os
 
-abbrev Distinct : List PartBytes → Type 0
+abbrev pub Distinct : List PartBytes → Type 0
 Distinct [] = Unit {0}
 Distinct (o ∷ os) = Apart o.part os × Distinct os
 
@@ -170,7 +170,7 @@ origin_of false cells = (tt, tt)
 
 -- ---- all parts
 
-parts_distinct : (frame : Frame) (attrs : List Attr) (s : StoredPiece) → Distinct (parts_of frame attrs s)
+pub parts_distinct : (frame : Frame) (attrs : List Attr) (s : StoredPiece) → Distinct (parts_of frame attrs s)
 unfolding parts_of objects_of
 parts_distinct frame attrs s =
     let dims = map column_part (dim_objects 0 frame.domain s.cells) in
@@ -192,7 +192,7 @@ parts_distinct frame attrs s =
     subst (λ xs. Distinct (xs ++ meta_part frame attrs s ∷ [])) (sym split) three
 
 -- a look into a list in which no part comes twice finds each part
-looks_there : (parts : List PartBytes) → Distinct parts → All (λ p. length p.bytes < 2 ^ 64) parts → All (IsThere (look_in parts)) parts
+pub looks_there : (parts : List PartBytes) → Distinct parts → All (λ p. length p.bytes < 2 ^ 64) parts → All (IsThere (look_in parts)) parts
 looks_there [] distinct short = All-nil (IsThere (look_in []))
 looks_there (x ∷ xs) distinct short =
     let here : look_in (x ∷ xs) x.part ≡ Some x.bytes = ap (λ b. cond b (Some x.bytes) (look_in xs x.part)) (equals_itself x.part) in

@@ -51,29 +51,29 @@ Alike [] (p ∷ ps) = ⊥
 Alike (o ∷ os) [] = ⊥
 Alike (o ∷ os) (p ∷ ps) = (o.part ≡ p.part) × ((length o.starts ≡ length p.starts) × Alike os ps)
 
-alike-append : (os ps more rest : List Object) → Alike os ps → Alike more rest → Alike (os ++ more) (ps ++ rest)
+pub alike-append : (os ps more rest : List Object) → Alike os ps → Alike more rest → Alike (os ++ more) (ps ++ rest)
 alike-append [] [] more rest a b = b
 alike-append [] (p ∷ ps) more rest a b = absurd a
 alike-append (o ∷ os) [] more rest a b = absurd a
 alike-append (o ∷ os) (p ∷ ps) more rest a b = (a.0, (a.1.0, alike-append os ps more rest a.1.1 b))
 
-alike_many : (os ps : List Object) → Alike os ps → length os ≡ length ps
+pub alike_many : (os ps : List Object) → Alike os ps → length os ≡ length ps
 alike_many [] [] a = refl
 alike_many [] (p ∷ ps) a = absurd a
 alike_many (o ∷ os) [] a = absurd a
 alike_many (o ∷ os) (p ∷ ps) a = ap suc (alike_many os ps a.1.1)
 
-alike_sizes : (os ps : List Object) → Alike os ps → length (sizes_of os) ≡ length (sizes_of ps)
+pub alike_sizes : (os ps : List Object) → Alike os ps → length (sizes_of os) ≡ length (sizes_of ps)
 alike_sizes [] [] a = refl
 alike_sizes [] (p ∷ ps) a = absurd a
 alike_sizes (o ∷ os) [] a = absurd a
 alike_sizes (o ∷ os) (p ∷ ps) a = omega (arith, length-append o.starts (sizes_of os), length-append p.starts (sizes_of ps), a.1.0, alike_sizes os ps a.1.1)
 
 -- no body is longer than a length can say
-abbrev AllShort : List Object → Type 0
+abbrev pub AllShort : List Object → Type 0
 AllShort os = All (λ o. length o.body < 2 ^ 64) os
 
-short_parts : (os ps : List Object) → AllShort (os ++ ps) → AllShort os × AllShort ps
+pub short_parts : (os ps : List Object) → AllShort (os ++ ps) → AllShort os × AllShort ps
 short_parts [] ps short = (All-nil (λ o. length o.body < 2 ^ 64), short)
 short_parts (o ∷ os) ps short =
     let rest = short_parts os ps (All-tail (λ o. length o.body < 2 ^ 64) o (os ++ ps) short) in
@@ -84,7 +84,7 @@ module _ (cs es : List StoredCell) (long : length cs ≡ length es) where
   dims_alike k [] = tt
   dims_alike k (d ∷ ds) = (refl, (refl, dims_alike (suc k) ds))
 
-  columns_long : (k : ℕ) → length (value_column k cs) ≡ length (value_column k es)
+  pub columns_long : (k : ℕ) → length (value_column k cs) ≡ length (value_column k es)
   columns_long k = length-map cs (λ c. _) ∙ long ∙ sym (length-map es (λ c. _))
 
   fixed_alike : (b : Bool) (n k : ℕ) (a : Attr) → Alike (fixed_objects b n k a.ty (value_column k cs)) (fixed_objects b n k a.ty (value_column k es))
@@ -95,7 +95,7 @@ module _ (cs es : List StoredCell) (long : length cs ≡ length es) where
       let same : length xs ≡ length ys = length-map (value_column k cs) text_of ∙ columns_long k ∙ sym (length-map (value_column k es) text_of) in
       (refl, (refl, (refl, (length-tile_starts 14 (tiles_of n xs) ∙ shaped_many (tiles_of n xs) (tiles_of n ys) (shaped n xs ys same) ∙ sym (length-tile_starts 14 (tiles_of n ys)), tt))))
 
-  validity_alike : (b : Bool) (k : ℕ) → Alike (validity_objects b k (value_column k cs)) (validity_objects b k (value_column k es))
+  pub validity_alike : (b : Bool) (k : ℕ) → Alike (validity_objects b k (value_column k cs)) (validity_objects b k (value_column k es))
   validity_alike true k = (refl, (refl, tt))
   validity_alike false k = tt
 
@@ -105,7 +105,7 @@ module _ (cs es : List StoredCell) (long : length cs ≡ length es) where
       alike-append (fixed_objects (is_integer a.ty) n k a.ty (value_column k cs)) (fixed_objects (is_integer a.ty) n k a.ty (value_column k es)) _ _ (fixed_alike (is_integer a.ty) n k a)
       (alike-append (validity_objects a.nullable k (value_column k cs)) (validity_objects a.nullable k (value_column k es)) _ _ (validity_alike a.nullable k) (attrs_alike n (suc k) attrs))
 
-  origins_alike : (b : Bool) → Alike (origin_objects b cs) (origin_objects b es)
+  pub origins_alike : (b : Bool) → Alike (origin_objects b cs) (origin_objects b es)
   origins_alike true = (refl, (refl, tt))
   origins_alike false = tt
 
@@ -155,7 +155,7 @@ module _ (cs es : List StoredCell) (long : length cs ≡ length es) where
       ((column, others.0), others.1)
 
   -- origins
-  origins_same : (b : Bool) → All (λ i. i < 256 ^ 4) (origin_column cs) → All (λ i. i < 256 ^ 4) (origin_column es)
+  pub origins_same : (b : Bool) → All (λ i. i < 256 ^ 4) (origin_column cs) → All (λ i. i < 256 ^ 4) (origin_column es)
       → (b ≡ false → All (λ i. i ≡ 0) (origin_column cs)) → (b ≡ false → All (λ i. i ≡ 0) (origin_column es)) → origin_objects b cs ≡ origin_objects b es → origin_column cs ≡ origin_column es
   origins_same true fc fe zc ze same = lists_same (number_exact 4) (origin_column cs) (origin_column es) (length-map cs (λ c. _) ∙ long ∙ sym (length-map es (λ c. _))) fc fe (ap first_body same)
   origins_same false fc fe zc ze same = zeros (origin_column cs) (origin_column es) (length-map cs (λ c. _) ∙ long ∙ sym (length-map es (λ c. _))) (zc refl) (ze refl)
@@ -168,7 +168,7 @@ module _ (cs es : List StoredCell) (long : length cs ≡ length es) where
           ap (λ i. i ∷ xs) (All-head (λ i. i ≡ 0) x xs a ∙ sym (All-head (λ i. i ≡ 0) y ys b)) ∙ ap (λ is. y ∷ is) (zeros xs ys (omega arith) (All-tail (λ i. i ≡ 0) x xs a) (All-tail (λ i. i ≡ 0) y ys b))
 
 -- cells with the same coordinates, origins and rows
-cells_same : (cs es : List StoredCell) → map (λ c. c.coords) cs ≡ map (λ c. c.coords) es → map (λ c. c.row) cs ≡ map (λ c. c.row) es → origin_column cs ≡ origin_column es → cs ≡ es
+pub cells_same : (cs es : List StoredCell) → map (λ c. c.coords) cs ≡ map (λ c. c.coords) es → map (λ c. c.row) cs ≡ map (λ c. c.row) es → origin_column cs ≡ origin_column es → cs ≡ es
 cells_same [] [] a b o = refl
 cells_same [] (e ∷ es) a b o = absurd (omega (arith, ap length a))
 cells_same (c ∷ cs) [] a b o = absurd (omega (arith, ap length a))
@@ -190,12 +190,12 @@ body_same k a b fa fb same =
     same_ok (unwrapped k (wrapped k a)) a b one (ap (unwrapped k) same ∙ two)
 
 module _ (look : Part → Option (List ℕ)) where
-  there_same : (k : Kind) (p q : Part) (a b : List ℕ) → p ≡ q → IsThere look (record { part = p; bytes = wrapped k a }) → IsThere look (record { part = q; bytes = wrapped k b }) → a ≡ b
+  pub there_same : (k : Kind) (p q : Part) (a b : List ℕ) → p ≡ q → IsThere look (record { part = p; bytes = wrapped k a }) → IsThere look (record { part = q; bytes = wrapped k b }) → a ≡ b
   there_same k p q a b same one two =
       body_same k a b one.few two.few (same_Some (wrapped k a) (wrapped k b) (sym one.there ∙ ap look same ∙ two.there))
 
   -- objects that are alike, are there and have the same sizes are the same
-  objects_same : (os ps : List Object) → Alike os ps → All (IsThere look) (map column_part os) → All (IsThere look) (map column_part ps) → sizes_of os ≡ sizes_of ps → os ≡ ps
+  pub objects_same : (os ps : List Object) → Alike os ps → All (IsThere look) (map column_part os) → All (IsThere look) (map column_part ps) → sizes_of os ≡ sizes_of ps → os ≡ ps
   objects_same [] [] a fo fp sizes = refl
   objects_same [] (p ∷ ps) a fo fp sizes = absurd a
   objects_same (o ∷ os) [] a fo fp sizes = absurd a
@@ -207,7 +207,7 @@ module _ (look : Part → Option (List ℕ)) where
       let part = a.0 in let begun = starts.0 in
       λ i. record { part = part i; body = body i; starts = begun i } ∷ rest i
 
-  there_short : (os : List Object) → All (IsThere look) (map column_part os) → AllShort os
+  pub there_short : (os : List Object) → All (IsThere look) (map column_part os) → AllShort os
   there_short [] there = All-nil (λ o. length o.body < 2 ^ 64)
   there_short (o ∷ os) there =
       let here = All-head (IsThere look) (column_part o) (map column_part os) there in

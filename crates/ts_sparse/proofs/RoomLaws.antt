@@ -19,7 +19,7 @@ use Rattle.ts_sparse.specs.Sparse.{value_column, Object, dim_objects, starts_obj
 use Rattle.ts_sparse.proofs.Shapes.{all_parts, all_tiles}
 
 -- no start lies behind the end of its object
-abbrev Inside : Object → Type 0
+abbrev pub Inside : Object → Type 0
 Inside o = All (λ i. i ≤ 14 + length o.body) o.starts
 
 pub starts_inside : (end at : ℕ) (tiles : List (List (List ℕ))) → at + length (joined (flat_map (λ t. t) tiles)) ≤ end → All (λ i. i ≤ end) (tile_starts at tiles)
@@ -43,7 +43,7 @@ fixed_inside false n k a vals =
     let room : 14 + length (joined (flat_map (λ t. t) (tiles_of n xs))) ≤ 14 + length (joined xs) = let same = ap (λ ts. length (joined ts)) (all_tiles n xs) in omega (arith, same) in
     All-cons Inside (starts_object n k vals) (bytes_object n k vals ∷ []) (All-nil (λ i. i ≤ _)) (All-cons Inside (bytes_object n k vals) [] (starts_inside (14 + length (joined xs)) 14 (tiles_of n xs) room) (All-nil Inside))
 
-validity_inside : (b : Bool) (k : ℕ) (vals : List Val) → All Inside (validity_objects b k vals)
+pub validity_inside : (b : Bool) (k : ℕ) (vals : List Val) → All Inside (validity_objects b k vals)
 validity_inside true k vals = All-cons Inside _ [] (All-nil (λ i. i ≤ _)) (All-nil Inside)
 validity_inside false k vals = All-nil Inside
 
@@ -53,11 +53,11 @@ attrs_inside n k (a ∷ attrs) cells =
     All-append Inside (fixed_objects (is_integer a.ty) n k a.ty (value_column k cells)) _ (fixed_inside (is_integer a.ty) n k a (value_column k cells))
     (All-append Inside (validity_objects a.nullable k (value_column k cells)) (attr_objects n (suc k) attrs cells) (validity_inside a.nullable k (value_column k cells)) (attrs_inside n (suc k) attrs cells))
 
-origins_inside : (b : Bool) (cells : List StoredCell) → All Inside (origin_objects b cells)
+pub origins_inside : (b : Bool) (cells : List StoredCell) → All Inside (origin_objects b cells)
 origins_inside true cells = All-cons Inside _ [] (All-nil (λ i. i ≤ _)) (All-nil Inside)
 origins_inside false cells = All-nil Inside
 
-sizes_small : (os : List Object) → All Inside os → All (λ (p : PartBytes). length p.bytes < 2 ^ 64) (map column_part os) → All (λ size. size < 2 ^ 64) (sizes_of os)
+pub sizes_small : (os : List Object) → All Inside os → All (λ (p : PartBytes). length p.bytes < 2 ^ 64) (map column_part os) → All (λ size. size < 2 ^ 64) (sizes_of os)
 sizes_small [] inside short = All-nil (λ size. size < 2 ^ 64)
 sizes_small (o ∷ os) inside short =
     let few = All-head (λ (p : PartBytes). length p.bytes < 2 ^ 64) (column_part o) (map column_part os) short in

@@ -37,7 +37,7 @@ module _ {D A : Type 0} (F : D → A → Type 0) (other : A) (row : StoredCell �
   Same k (d ∷ ds) cells more = (column k cells ≡ column k more) × Same (suc k) ds cells more
 
   -- the item at a place, and what follows it
-  at_front : (d : D) (ds : List D) (k : ℕ) (xs : List A) → EachFits F (d ∷ ds) (drop k xs) → F d (get_or xs k other) × (EachFits F ds (drop (suc k) xs) × (drop k xs ≡ get_or xs k other ∷ drop (suc k) xs))
+  pub at_front : (d : D) (ds : List D) (k : ℕ) (xs : List A) → EachFits F (d ∷ ds) (drop k xs) → F d (get_or xs k other) × (EachFits F ds (drop (suc k) xs) × (drop k xs ≡ get_or xs k other ∷ drop (suc k) xs))
   at_front d ds zero [] fits = absurd fits
   at_front d ds zero (x ∷ xs) fits = (fits.0, (fits.1, refl))
   at_front d ds (suc k) [] fits = absurd fits

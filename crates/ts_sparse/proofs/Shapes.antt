@@ -89,12 +89,12 @@ tile_same at (x ∷ a ∷ xs) (y ∷ b ∷ ys) long starts bytes =
     behind_first [] = []
     behind_first (i ∷ more) = more
 
-joined_parts : (tile : List (List ℕ)) (tiles : List (List (List ℕ))) → joined (tile ++ flat_map (λ t. t) tiles) ≡ joined tile ++ joined (flat_map (λ t. t) tiles)
+pub joined_parts : (tile : List (List ℕ)) (tiles : List (List (List ℕ))) → joined (tile ++ flat_map (λ t. t) tiles) ≡ joined tile ++ joined (flat_map (λ t. t) tiles)
 joined_parts [] tiles = refl
 joined_parts (t ∷ tile) tiles = ap (λ more. t ++ more) (joined_parts tile tiles) ∙ sym (append_assoc t (joined tile) (joined (flat_map (λ t. t) tiles)))
 
 -- all tiles: the starts in the tiles, the starts of the tiles and all bytes tell the byte lists
-tiles_same : (at : ℕ) (ts us : List (List (List ℕ))) → Shaped ts us → starts_in ts ≡ starts_in us → tile_starts at ts ≡ tile_starts at us → joined (flat_map (λ t. t) ts) ≡ joined (flat_map (λ t. t) us) → ts ≡ us
+pub tiles_same : (at : ℕ) (ts us : List (List (List ℕ))) → Shaped ts us → starts_in ts ≡ starts_in us → tile_starts at ts ≡ tile_starts at us → joined (flat_map (λ t. t) ts) ≡ joined (flat_map (λ t. t) us) → ts ≡ us
 tiles_same at [] [] s inside starts bytes = refl
 tiles_same at [] (u ∷ us) s inside starts bytes = absurd s
 tiles_same at (t ∷ ts) [] s inside starts bytes = absurd s
