@@ -1,8 +1,9 @@
 -- The objects of slots are those of what is stored of the piece, and with the metadata they are all parts.
-use Rattle.std.proofs.Common.{◌≡◌, ℕ, suc, ℤ, Bool, true, false, List, [], ◌∷◌, ◌++◌, length, get_or, map, refl, sym, ap, ◌∙◌, arith}
+use Rattle.std.proofs.Common.{◌≡◌, ℕ, suc, ℤ, Bool, true, false, List, [], ◌∷◌, ◌++◌, length, get_or, map, refl, sym, ap, ◌∙◌, subst, ◌<◌, ◌^◌, arith}
 use Rattle.std.specs.Prelude.{Option, Some, None, if◌then◌else◌}
-use Rattle.std.specs.List.{flat_map}
+use Rattle.std.specs.List.{flat_map, All}
 use Rattle.std.proofs.lemmas.List.{length-map}
+use Rattle.std.proofs.lemmas.List.Elements.{All-nil, All-cons, All-append}
 use Rattle.ts_base.specs.declared.heads.Head.{Head}
 use Rattle.ts_base.specs.declared.heads.Piece.{Piece}
 use Rattle.ts_base.specs.declared.heads.Version.{Version}
@@ -19,16 +20,21 @@ use Rattle.ts_wire.specs.Envelope.{wrapped}
 use Rattle.ts_wire.specs.Numbers.{number_bytes}
 use Rattle.ts_schema.specs.declared.attrs.Attr.{Attr}
 use Rattle.ts_schema.specs.declared.frames.Frame.{Frame}
+use Rattle.ts_schema.specs.declared.schemas.Schema.{Schema}
+use Rattle.ts_schema.specs.Parts.{look_in}
 use Rattle.ts_plain.specs.declared.stored.StoredCell.{StoredCell}
 use Rattle.ts_plain.specs.Plain.{head_bytes}
-use Rattle.ts_plain.specs.Writes.{stored_head, stored_cell, stored_for}
+use Rattle.ts_plain.specs.Writes.{stored_head, stored_cell, stored_for, NamesWrites}
 use Rattle.ts_sparse.specs.declared.laying.Laid.{Laid}
 use Rattle.ts_sparse.specs.Sparse.{Object, value_column, validity_objects, origin_column, origin_objects, sizes_of, column_part}
 use Rattle.ts_sparse.specs.Laying.{with_objects, none_laid}
 use Rattle.ts_sparse.proofs.LayLaws.{with_both, laid_all}
+use Rattle.ts_sparse.proofs.FormLaws.{piece_back}
+use Rattle.ts_sparse.proofs.BuildLaws.{short_objects}
 use Rattle.ts_dense.specs.declared.slots.Slots.{Slots}
 use Rattle.ts_dense.specs.Slots.{tiles_over, counts_over, coords_over, hole, slots_from, slots_of}
-use Rattle.ts_dense.specs.Dense.{fixed_objects, attr_objects, objects_of, meta_bytes, parts_of}
+use Rattle.ts_dense.specs.Dense.{fixed_objects, attr_objects, objects_of, meta_bytes, meta_part, parts_of, FitsDense, IsDense}
+use Rattle.ts_dense.proofs.OnceLaws.{parts_spell}
 use Rattle.ts_dense.specs.Laying.{held, versions_at, hull_of_head, cell_in, slot_cells, slot_objects, meta_with, IsSlots}
 
 -- ---- columns do not tell where holes stand
@@ -99,6 +105,29 @@ module _ (frame : Frame) (attrs : List Attr) (piece : Piece) (slots : Slots) (ar
       ∙ ap (λ (l : Laid). l.parts ++ record { part = part.Meta; bytes = wrapped kind.Meta (meta_with piece.head (length slots.counts) l.sizes) } ∷ []) all
       ∙ ap (λ body. map column_part objects ++ record { part = part.Meta; bytes = wrapped kind.Meta body } ∷ []) meta_same
       ∙ ap (λ os. map column_part os ++ record { part = part.Meta; bytes = wrapped kind.Meta (meta_bytes frame attrs (stored_for piece)) } ∷ []) objects_are
+
+  -- so what is built is short
+  short_built : (laid : Laid) (bytes : List ℕ) → laid ≡ with_objects none_laid (slot_objects attrs piece.head.consolidated slots) → bytes ≡ wrapped kind.Meta (meta_bytes frame attrs (stored_for piece)) → length bytes < 2 ^ 64
+      → All (λ size. size < 2 ^ 64) laid.sizes → All (λ (p : PartBytes). length p.bytes < 2 ^ 64) (parts_of frame attrs (stored_for piece))
+  unfolding parts_of
+  short_built laid bytes columns text few room =
+      let short = λ (p : PartBytes). length p.bytes < 2 ^ 64 in
+      let objects = objects_of frame attrs (stored_for piece) in
+      let sizes : laid.sizes ≡ sizes_of objects = ap (λ (l : Laid). l.sizes) (columns ∙ laid_all (slot_objects attrs piece.head.consolidated slots)) ∙ ap sizes_of objects_are in
+      All-append short (map column_part objects) (meta_part frame attrs (stored_for piece) ∷ []) (short_objects frame attrs piece objects (subst (All (λ size. size < 2 ^ 64)) sizes room))
+      (All-cons short (meta_part frame attrs (stored_for piece)) [] (subst (λ (body : List ℕ). length body < 2 ^ 64) text few) (All-nil short))
+
+-- so what is built spells the piece
+pub built_spells : (frame : Frame) (schema : Schema) (piece : Piece) (slots : Slots) (tiles : ℕ) (laid : Laid) (bytes : List ℕ) (parts : List PartBytes) → IsSlots frame piece slots → NamesWrites piece
+    → FitsDense frame schema.attrs piece.head.frag (stored_for piece) → tiles ≡ length slots.counts → laid ≡ with_objects none_laid (slot_objects schema.attrs piece.head.consolidated slots) → bytes ≡ wrapped kind.Meta (meta_with piece.head tiles laid.sizes)
+    → length bytes < 2 ^ 64 → All (λ size. size < 2 ^ 64) laid.sizes → parts ≡ laid.parts ++ record { part = part.Meta; bytes = bytes } ∷ [] → All (λ (v : Version). v.schema ≡ piece.head.schema) piece.versions → IsDense frame schema piece (look_in parts)
+built_spells frame schema piece slots tiles laid bytes parts are names fits count columns spelled few room push schemas =
+    let objects = slot_objects schema.attrs piece.head.consolidated slots in
+    let sizes : laid.sizes ≡ sizes_of objects = ap (λ (l : Laid). l.sizes) (columns ∙ laid_all objects) in
+    let text : bytes ≡ wrapped kind.Meta (meta_bytes frame schema.attrs (stored_for piece)) =
+    spelled ∙ ap (λ n. wrapped kind.Meta (meta_with piece.head n laid.sizes)) count ∙ ap (λ ns. wrapped kind.Meta (meta_with piece.head (length slots.counts) ns)) sizes ∙ ap (wrapped kind.Meta) (meta_same frame schema.attrs piece slots are) in
+    let short = short_built frame schema.attrs piece slots are laid bytes columns text few room in
+    subst (λ all. IsDense frame schema piece (look_in all)) (sym (all_parts_built frame schema.attrs piece slots are tiles laid bytes parts count columns spelled push)) (parts_spell frame schema piece fits (piece_back piece names schemas) short)
 
 -- attributes and origins are all columns
 pub columns_laid : (attrs fields : List Attr) (consolidated : Bool) (slots : Slots) (parts : List PartBytes) (sizes : List ℕ) (one two : Laid) → parts ≡ [] → sizes ≡ [] → fields ≡ attrs

@@ -1,12 +1,14 @@
 //! Building the parts of a dense fragment.
-ghost use Rattle.std.specs.Prelude.{◌≡◌, ◌≤◌, ◌<◌, ◌^◌, ◌∷◌, [], true, length, IfOk, OnOk};
+ghost use Rattle.std.specs.Prelude.{◌≡◌, ◌≤◌, ◌<◌, ◌^◌, ◌∷◌, [], true, length, All, IfOk, OnOk};
 ghost use Rattle.std.specs.List.Sorted.{IsStrictlySortedBy};
 ghost use Rattle.ts_base.specs.Keys.{key_cmp};
 ghost use Rattle.ts_base.specs.Values.{is_integer};
+ghost use Rattle.ts_base.specs.declared.heads.Version.{Version as AnyVersion};
+ghost use Rattle.ts_schema.specs.Parts.{look_in};
 ghost use Rattle.ts_plain.specs.Writes.{stored_for, NamesWrites};
 ghost use Rattle.ts_sparse.specs.Laying.{with_objects, none_laid};
 ghost use Rattle.ts_sparse.specs.Sparse.{value_column, numbers_object, validity_objects, origin_objects};
-ghost use Rattle.ts_dense.specs.Dense.{starts_object, bytes_object, fixed_objects, attr_objects, parts_of, FitsDense};
+ghost use Rattle.ts_dense.specs.Dense.{starts_object, bytes_object, fixed_objects, attr_objects, parts_of, FitsDense, IsDense};
 ghost use Rattle.ts_dense.specs.Laying.{slot_cells, slot_objects, NamedIn, ValuesFit, ValuesFitOne};
 
 use crate::columns::{numbers_object, origins_object, texts_of, validity_object};
@@ -31,7 +33,7 @@ use ts_wire::{Kind, wrap};
 ///
 /// The versions have to name their writes, as [`ts_plain::write_plain`] asks too, and the piece has to be
 /// one that a dense fragment of the array can store. There is no error but want of memory.
-#[tactic(auto, using(crate::proofs::PartLaws::all_parts_built))]
+#[tactic(auto, using(crate::proofs::PartLaws::all_parts_built, crate::proofs::PartLaws::built_spells))]
 pub fn build(
     alloc: Global,
     frame: &Frame,
@@ -41,12 +43,15 @@ pub fn build(
     requires names { NamesWrites piece.now }
     requires fits { FitsDense frame.now schema.now.attrs piece.now.head.frag (stored_for piece.now) }
     ensures parts { IfOk result (λ parts. parts ≡ parts_of frame.now schema.now.attrs (stored_for piece.now)) }
+    ensures spelled { All (λ (v : AnyVersion). v.schema ≡ piece.now.head.schema) piece.now.versions → IfOk result (λ parts. IsDense frame.now schema.now piece.now (look_in parts)) }
 {
     let slots = slots_of(alloc, frame, schema, piece)?;
     let tiles = slots.counts.len() as u32;
     let laid = lay_columns(alloc, schema, piece.head.consolidated, &slots)?;
     let Laid { mut parts, sizes } = laid;
     let bytes = meta_object(alloc, &piece.head, tiles, sizes.as_slice())?;
+    // No object has 2^64 bytes.
+    let _size = bytes.len();
     parts.push(PartBytes {
         part: Part::Meta,
         bytes,

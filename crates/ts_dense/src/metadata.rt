@@ -1,5 +1,5 @@
 //! The metadata of a dense fragment.
-ghost use Rattle.std.specs.Prelude.{◌≡◌, ◌<◌, ◌^◌, length, IfOk};
+ghost use Rattle.std.specs.Prelude.{◌≡◌, ◌<◌, ◌^◌, length, All, IfOk};
 ghost use Rattle.ts_wire.specs.declared.kinds.Kind.TheVariants as kind;
 ghost use Rattle.ts_wire.specs.Envelope.{wrapped};
 ghost use Rattle.ts_dense.specs.Laying.{meta_with};
@@ -20,7 +20,8 @@ pub(crate) fn meta_object(
 ) -> Result<ByteList, OutOfMemory>
     requires corners { length head.now.high ≡ length head.now.low }
     requires few { length head.now.origins < 2 ^ 32 }
-    ensures { IfOk result (λ bytes. bytes ≡ wrapped kind.Meta (meta_with head.now tiles sizes.now)) }
+    ensures spelled { IfOk result (λ bytes. bytes ≡ wrapped kind.Meta (meta_with head.now tiles sizes.now)) }
+    ensures lengths { All (λ size. size < 2 ^ 64) sizes.now }
 {
     let mut scribe = Scribe::new(alloc);
     write_head(&mut scribe, head)?;
