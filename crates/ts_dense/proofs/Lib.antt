@@ -1,8 +1,13 @@
+pub mod TileStarts
 pub mod TileLists
 pub mod HullOrder
 pub mod SlotLaws
 pub mod SpaceTiles
 pub mod SlotOrder
+pub mod FillLaws
+pub mod SlotLays
+pub mod SlotFits
+pub mod PartLaws
 pub mod TileTexts
 pub mod SlotColumns
 pub mod RoomLaws

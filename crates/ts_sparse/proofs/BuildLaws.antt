@@ -52,7 +52,7 @@ module _ (frame : Frame) (attrs : List Attr) (piece : Piece) where
       ∙ ap (λ body. map column_part objects ++ record { part = part.Meta; bytes = wrapped kind.Meta body } ∷ []) (meta_same frame attrs piece)
 
   -- an object whose sizes are small is short
-  short_objects : (objects : List Object) → All (λ size. size < 2 ^ 64) (sizes_of objects) → All (λ (p : PartBytes). length p.bytes < 2 ^ 64) (map column_part objects)
+  pub short_objects : (objects : List Object) → All (λ size. size < 2 ^ 64) (sizes_of objects) → All (λ (p : PartBytes). length p.bytes < 2 ^ 64) (map column_part objects)
   short_objects [] small = All-nil (λ (p : PartBytes). length p.bytes < 2 ^ 64)
   short_objects (o ∷ objects) small =
       let long = length-wrapped kind.Column o.body in

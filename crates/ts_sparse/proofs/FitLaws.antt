@@ -24,14 +24,14 @@ use Rattle.ts_sparse.proofs.ColumnLaws.{number_in}
 use Rattle.ts_sparse.proofs.OnePiece.{in_turn_all}
 
 -- what holds of the cells of versions
-of_versions : (P : StoredCell → Type 0) (origins : List Key) (versions : List Version) → All P (map (stored_cell origins) versions) → All (λ v. P (stored_cell origins v)) versions
+pub of_versions : (P : StoredCell → Type 0) (origins : List Key) (versions : List Version) → All P (map (stored_cell origins) versions) → All (λ v. P (stored_cell origins v)) versions
 of_versions P origins [] all = All-nil (λ v. P (stored_cell origins v))
 of_versions P origins (v ∷ versions) all =
     let cells = map (stored_cell origins) versions in
     All-cons (λ v. P (stored_cell origins v)) v versions (All-head P (stored_cell origins v) cells all) (of_versions P origins versions (All-tail P (stored_cell origins v) cells all))
 
 -- each value fits its item
-each_at : {D A : Type 0} (F : D → A → Type 0) (ds : List D) (xs : List A) (k : ℕ) (d : D) (e : A) → EachFits F ds xs → k < length ds → F (get_or ds k d) (get_or xs k e)
+pub each_at : {D A : Type 0} (F : D → A → Type 0) (ds : List D) (xs : List A) (k : ℕ) (d : D) (e : A) → EachFits F ds xs → k < length ds → F (get_or ds k d) (get_or xs k e)
 each_at F [] xs k d e fits within = absurd (omega arith)
 each_at F (c ∷ ds) [] k d e fits within = absurd fits
 each_at F (c ∷ ds) (x ∷ xs) zero d e fits within = fits.0

@@ -32,12 +32,12 @@ module _ (frame : Frame) (attrs : List Attr) where
 
 -- ---- a piece is that of its stored form
 
-lows_back : (low high : List ℤ) → length high ≡ length low → map (λ (side : Side). side.low) (sides_of low high) ≡ low
+pub lows_back : (low high : List ℤ) → length high ≡ length low → map (λ (side : Side). side.low) (sides_of low high) ≡ low
 lows_back [] high same = refl
 lows_back (l ∷ low) [] same = absurd (omega (arith, same))
 lows_back (l ∷ low) (h ∷ high) same = ap (λ ls. l ∷ ls) (lows_back low high (omega (arith, same)))
 
-highs_back : (low high : List ℤ) → length high ≡ length low → map (λ (side : Side). side.high) (sides_of low high) ≡ high
+pub highs_back : (low high : List ℤ) → length high ≡ length low → map (λ (side : Side). side.high) (sides_of low high) ≡ high
 highs_back [] [] same = refl
 highs_back [] (h ∷ high) same = absurd (omega (arith, same))
 highs_back (l ∷ low) [] same = absurd (omega (arith, same))

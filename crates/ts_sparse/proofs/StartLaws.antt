@@ -58,7 +58,7 @@ abbrev pub Writing : ℕ → List ℕ → List (List ℕ) → List ℕ → ℕ �
 Writing n old texts new left at place =
     (new ++ flat_map (number_bytes 8) (starts_on n left at (drop place texts)) ≡ old ++ flat_map (number_bytes 8) (starts_on n 0 0 texts)) × (at + length (joined (drop place texts)) < 2 ^ 64) × (left ≤ n)
 
-its_rest : (texts : List (List ℕ)) (place : ℕ) (x : List ℕ) → place < length texts → slice_get texts place ≡ Some x → drop place texts ≡ x ∷ drop (place + 1) texts
+pub its_rest : (texts : List (List ℕ)) (place : ℕ) (x : List ℕ) → place < length texts → slice_get texts place ≡ Some x → drop place texts ≡ x ∷ drop (place + 1) texts
 its_rest texts place x within is = drop_more texts place x within ∙ ap (λ y. y ∷ drop (place + 1) texts) (get_or_from_slice_get texts place x x is)
 
 pub writing_next : (n : ℕ) (old : List ℕ) (texts : List (List ℕ)) (new pushed other : List ℕ) (left fewer at more place : ℕ) (x : List ℕ) → Writing n old texts new left at place → left ≡ 0 → 1 ≤ n → place < length texts → slice_get texts place ≡ Some x

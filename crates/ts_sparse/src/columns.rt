@@ -61,8 +61,8 @@ pub(crate) fn coords_object(
     scribe.into_object(Kind::Column)
 }
 
-// The integer that is stored for the value of an attribute: 0 for a null.
-fn number_of(version: &Version, attr: u8) -> i128
+/// The integer that is stored for the value of an attribute: 0 for a null.
+pub fn number_of(version: &Version, attr: u8) -> i128
     ensures { result ≡ number_of (get_or version.now.row attr val.Null) }
 {
     match version.row.as_slice().get(attr as usize) {
@@ -90,8 +90,8 @@ pub(crate) fn numbers_object(
     scribe.into_object(Kind::Column)
 }
 
-// Whether the value of an attribute is no null.
-fn is_there(version: &Version, attr: u8) -> bool
+/// Whether the value of an attribute is no null.
+pub fn is_there(version: &Version, attr: u8) -> bool
     ensures { result ≡ is_there (get_or version.now.row attr val.Null) }
 {
     match version.row.as_slice().get(attr as usize) {
@@ -115,8 +115,8 @@ pub(crate) fn validity_object(
     scribe.into_object(Kind::Column)
 }
 
-// The bytes that are stored for the value of an attribute: none for a null.
-fn text_of(version: &Version, attr: u8) -> &[u8]
+/// The bytes that are stored for the value of an attribute: none for a null.
+pub fn text_of(version: &Version, attr: u8) -> &[u8]
     ensures { result.now ≡ text_of (get_or version.now.row attr val.Null) }
 {
     match version.row.as_slice().get(attr as usize) {

@@ -6,7 +6,7 @@ use ts_base::{LengthList, OutOfMemory, PartBytes, PartList};
 
 /// The objects of columns so far.
 #[derive(Debug, Drop)]
-pub(crate) struct Laid {
+pub struct Laid {
     /// The parts, in the order of their puts.
     pub parts: PartList,
     /// What the metadata says of them: the length of each object in bytes, and behind it where its
@@ -16,7 +16,7 @@ pub(crate) struct Laid {
 
 impl Laid {
     /// A part more, whose tiles start at these bytes of the object. `starts` is empty but for byte lists.
-    pub(crate) fn lay(&mut self, part: PartBytes, starts: &[u64]) -> Result<(), OutOfMemory>
+    pub fn lay(&mut self, part: PartBytes, starts: &[u64]) -> Result<(), OutOfMemory>
         ensures { OnOk result (self.new ≡ with_part self.old part starts.now) }
     {
         self.sizes.push(part.bytes.len())?;

@@ -10,8 +10,11 @@ mod metadata;
 mod starts;
 
 pub use building::build;
+pub use columns::{is_there, number_of, text_of};
 pub use laws::{
     a_leaf_is_the_hull_of_its_cells, metadata_is_read_back, parts_spell_their_piece,
     parts_store_one_piece, pieces_have_one_form, the_last_box_is_the_hull, tiles_are_ranges,
     tiles_keep_the_order, tiles_that_meet_suffice,
 };
+pub use laying::Laid;
+pub use metadata::write_sizes;

@@ -41,8 +41,8 @@ pub(crate) fn meta_object(
     scribe.into_object(Kind::Meta)
 }
 
-// Writes sizes in eight bytes each.
-fn write_sizes(scribe: &mut Scribe, sizes: &[u64]) -> Result<(), OutOfMemory>
+/// Writes sizes in eight bytes each.
+pub fn write_sizes(scribe: &mut Scribe, sizes: &[u64]) -> Result<(), OutOfMemory>
     ensures { OnOk result (scribe.new ≡ scribe.old ++ flat_map (number_bytes 8) sizes.now) }
 {
     for size in sizes {

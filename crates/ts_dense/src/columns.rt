@@ -1,0 +1,146 @@
+//! The objects of columns, over slots.
+ghost use Rattle.std.specs.Prelude.{◌≡◌, ◌<◌, ◌^◌, [], true, length, map, IfOk};
+ghost use Rattle.std.specs.List.{flat_map};
+ghost use Rattle.std.specs.List.Sorted.{IsStrictlySortedBy};
+ghost use Rattle.std.specs.Option.{option_copied, IfSome};
+ghost use Rattle.ts_base.specs.Keys.{key_cmp};
+ghost use Rattle.ts_base.specs.Values.{width_of, is_integer};
+ghost use Rattle.ts_base.specs.declared.heads.Version.{Version as AnyVersion};
+ghost use Rattle.ts_wire.specs.declared.kinds.Kind.TheVariants as kind;
+ghost use Rattle.ts_wire.specs.Envelope.{wrapped};
+ghost use Rattle.ts_wire.specs.Fields.{bool_bytes};
+ghost use Rattle.ts_wire.specs.Numbers.{number_bytes, int_bytes};
+ghost use Rattle.ts_column.specs.Spelled.{number_of, text_of};
+ghost use Rattle.ts_column.specs.Tiles.{is_there};
+ghost use Rattle.ts_plain.specs.Writes.{HasPlace};
+ghost use Rattle.ts_dense.specs.Laying.{held, value_in, values_along, origin_in, origins_along, NamedIn, NumbersFit};
+
+use std::alloc::Global;
+use ts_base::{ByteList, KeyList, OutOfMemory, ValType, Version};
+use ts_column::is_signed;
+use ts_plain::place_of;
+use ts_table::Texts;
+use ts_wire::{Kind, Scribe};
+
+// What stands for the origin of a slot without a cell.
+const NO_ORIGIN: u32 = 4_294_967_295;
+
+// A scribe with room for so many bytes for each slot.
+fn room_for(alloc: Global, slots: &[Option<&Version>], width: u8) -> Result<Scribe, OutOfMemory>
+    ensures { IfOk result (λ scribe. scribe ≡ []) }
+{
+    let mut scribe = Scribe::new(alloc);
+    let count = slots.len() as u64;
+    scribe.reserve(count.saturating_mul(u64::from(width)))?;
+    Ok(scribe)
+}
+
+// The integer that is stored for the value of an attribute: 0 for a null and in a hole.
+fn number_in(slot: Option<&Version>, attr: u8) -> i128
+    ensures { result ≡ number_of (value_in attr (option_copied slot.entry)) }
+{
+    match slot {
+        Some(version) => ts_sparse::number_of(version, attr),
+        None => 0,
+    }
+}
+
+/// The object of the values of an attribute that are integers, of which each takes the width of the type.
+#[tactic(auto, using(ts_sparse::proofs::Widths::width_is))]
+pub(crate) fn numbers_object(
+    alloc: Global,
+    ty: ValType,
+    attr: u8,
+    slots: &[Option<&Version>],
+) -> Result<ByteList, OutOfMemory>
+    requires integer { is_integer ty ≡ true }
+    requires fits { NumbersFit ty attr slots.now }
+    ensures { IfOk result (λ bytes. bytes ≡ wrapped kind.Column (flat_map (int_bytes (width_of ty)) (map number_of (values_along attr (held slots.now))))) }
+{
+    let mut scribe = room_for(alloc, slots, ty.width())?;
+    for slot in slots {
+        scribe.int(ty.width(), is_signed(ty), number_in(*slot, attr))?;
+    }
+    scribe.into_object(Kind::Column)
+}
+
+// Whether a slot has a value of an attribute that is no null.
+fn is_there(slot: Option<&Version>, attr: u8) -> bool
+    ensures { result ≡ is_there (value_in attr (option_copied slot.entry)) }
+{
+    match slot {
+        Some(version) => ts_sparse::is_there(version, attr),
+        None => false,
+    }
+}
+
+/// The object that tells of each slot whether its value of an attribute is there: one byte each.
+pub(crate) fn validity_object(
+    alloc: Global,
+    attr: u8,
+    slots: &[Option<&Version>],
+) -> Result<ByteList, OutOfMemory>
+    ensures { IfOk result (λ bytes. bytes ≡ wrapped kind.Column (flat_map bool_bytes (map is_there (values_along attr (held slots.now))))) }
+{
+    let mut scribe = room_for(alloc, slots, 1)?;
+    for slot in slots {
+        scribe.bool(is_there(*slot, attr))?;
+    }
+    scribe.into_object(Kind::Column)
+}
+
+// The bytes that are stored for the value of an attribute: none for a null and in a hole.
+fn text_in(slot: Option<&Version>, attr: u8) -> &[u8]
+    ensures { result.now ≡ text_of (value_in attr (option_copied slot.entry)) }
+{
+    match slot {
+        Some(version) => ts_sparse::text_of(version, attr),
+        None => &[],
+    }
+}
+
+/// The values of an attribute that are byte lists, a null and a hole as the empty one.
+pub(crate) fn texts_of(
+    alloc: Global,
+    attr: u8,
+    slots: &[Option<&Version>],
+) -> Result<Texts, OutOfMemory>
+    ensures { IfOk result (λ texts. texts ≡ map text_of (values_along attr (held slots.now))) }
+{
+    let mut texts = Texts::new(alloc);
+    for slot in slots {
+        texts.push(text_in(*slot, attr))?;
+    }
+    Ok(texts)
+}
+
+// Which write the cell of a slot is of: its place among the origins.
+fn origin_in(origins: &KeyList, slot: Option<&Version>) -> u32
+    requires few { length origins.now < 2 ^ 32 }
+    requires ascend { IsStrictlySortedBy key_cmp origins.now }
+    requires known { IfSome (option_copied slot) (λ (v : AnyVersion). HasPlace origins.now v.key) }
+    ensures { result ≡ origin_in origins.now (option_copied slot.entry) }
+{
+    match slot {
+        Some(version) => place_of(origins, version.key),
+        None => NO_ORIGIN,
+    }
+}
+
+/// The object that tells of each slot which write laid its cell, in four bytes.
+pub(crate) fn origins_object(
+    alloc: Global,
+    origins: &KeyList,
+    slots: &[Option<&Version>],
+) -> Result<ByteList, OutOfMemory>
+    requires few { length origins.now < 2 ^ 32 }
+    requires ascend { IsStrictlySortedBy key_cmp origins.now }
+    requires known { NamedIn origins.now slots.now }
+    ensures { IfOk result (λ bytes. bytes ≡ wrapped kind.Column (flat_map (number_bytes 4) (origins_along origins.now (held slots.now)))) }
+{
+    let mut scribe = room_for(alloc, slots, 4)?;
+    for slot in slots {
+        scribe.u32(origin_in(origins, *slot))?;
+    }
+    scribe.into_object(Kind::Column)
+}
