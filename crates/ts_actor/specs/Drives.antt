@@ -11,7 +11,7 @@ use Rattle.ts_model.specs.declared.answers.Driven.{Driven}
 use Rattle.ts_model.specs.declared.answers.Driven.TheVariants as driven
 use Rattle.ts_model.specs.States.{Exchange}
 use Rattle.ts_model.specs.Stops.{cuts, Uncut}
-use Rattle.ts_model.specs.Told.{IsShortCall}
+use Rattle.ts_model.specs.Told.{Told, IsShortCall}
 use Rattle.ts_actor.specs.Traces.{Trace, asking}
 
 -- a call was made of a store, from what it was before to what it is after; the store's own members say what that is
@@ -24,17 +24,17 @@ pub record Exchanged {S : Type 0} (held : S → Option Held) (last : S → Fate)
   pub noted : notes before x.call x.reply after
 
 -- these calls, one after the other, lead from one store to another
-abbrev pub MadeInTurn : {S : Type 0} → (S → Exchange → S → Type 0) → S → List Exchange → S → Type 0
+abbrev pub MadeInTurn : {S X : Type 0} → (S → X → S → Type 0) → S → List X → S → Type 0
 MadeInTurn call before [] after = after ≡ before
 MadeInTurn {S} call before (x ∷ xs) after = (between : S) × call before x between × MadeInTurn call between xs after
 
--- a call was made of a store, or there was no memory for it and the store is as it was
-abbrev pub MayBeMade : {S : Type 0} → (S → Exchange → S → Type 0) → S → Exchange → S → Type 0
-MayBeMade call before x after = call before x after ⊎ ((after ≡ before) × (is_no_memory x.reply ≡ true))
+-- a call was made of a store, and the fate that is told of it is the one that the store has for its last call; or there was no memory for it and the store is as it was
+abbrev pub MayBeMade : {S : Type 0} → (S → Fate) → (S → Exchange → S → Type 0) → S → Told → S → Type 0
+MayBeMade last call before e after = (call before (record { call = e.call; reply = e.reply }) after × (e.fate ≡ last after)) ⊎ ((after ≡ before) × (is_no_memory e.reply ≡ true))
 
--- these calls and no others were made of a store, but for such as found no memory
-abbrev pub MadeOf : {S : Type 0} → (S → Exchange → S → Type 0) → S → List Exchange → S → Type 0
-MadeOf call before xs after = MadeInTurn (MayBeMade call) before xs after
+-- these calls and no others were made of a store, each with the fate that is told of it, but for such as found no memory
+abbrev pub MadeOf : {S : Type 0} → (S → Fate) → (S → Exchange → S → Type 0) → S → List Told → S → Type 0
+MadeOf last call before told after = MadeInTurn (MayBeMade last call) before told after
 
 -- each call was asked for by a machine of the task that followed the calls before it
 abbrev pub AreAsked : {A T : Type 0} → (A → T) → (A → Trace → Type 0) → T → List Exchange → List Exchange → Type 0

@@ -39,7 +39,7 @@ use Rattle.ts_model.specs.Jobs.{key_of, frag_of_job, written_as, refused_before}
 use Rattle.ts_model.specs.Stages.{first_stage, goes_on, lease_of, stage_from, stage_of}
 use Rattle.ts_model.specs.Stops.{cuts}
 use Rattle.ts_model.specs.States.{Exchange, goes, begins, begun, refuse, unless_refused, get_schema, get_frame, list_schemas, list_commits, looked_into, committed_in, meets, commit_of, put_of, putting, puts_cells, schema_object_of, write_objects, frame_put, is_own_frame, nothing_listed, asks_for, reading_of, puts_delete, delete_object_of}
-use Rattle.ts_model.specs.Driven.{AskedFrom, EndsBy, MayAsk}
+use Rattle.ts_model.specs.Driven.{AskedFrom, EndsBy, MayAsk, lacks_from}
 use Rattle.ts_law.specs.Courses.{EndsUnder, IsCutAlong, IsCutOff, Found, cell_puts, evolve_puts, course_of, IsSchemaIn, IsFrameIn, SaysFound, IsGot, AreFound, LooksForSchema, IsLookOf, lets_on, refused_in, IsCause, EndsAlong, MayEndAs, delete_puts}
 use Rattle.ts_model.proofs.ListLemmas.{Contains-nil, Contains-here, Contains-only, filter-Contains}
 use Rattle.ts_law.proofs.CourseBacked.{AreBacked, IsIdle, backed_idle}
@@ -57,7 +57,7 @@ use Rattle.ts_law.proofs.CourseLeased.{leased_cut, leased_finds}
 use Rattle.ts_law.proofs.CourseSweeps.{sweep_finds}
 use Rattle.ts_law.proofs.CourseUnlocks.{commits_finds, unlock_finds}
 use Rattle.ts_law.proofs.CutOff.{as_if, found_before, backed_before, no_calls, unmade_of}
-use Rattle.ts_law.proofs.CourseStages.{bare_asks, bare_from, same_work}
+use Rattle.ts_law.proofs.CourseStages.{bare_asks, bare_from, bare_lacks, same_work}
 use Rattle.ts_law.proofs.CourseSeeks.{no_schema, no_frame, found_as, OfBytes, schemas_found}
 use Rattle.ts_base.specs.declared.names.Name.TheVariants as name
 use Rattle.ts_store.specs.declared.call.Reply.TheVariants as reply
@@ -251,8 +251,8 @@ module _ {F : Type 0} (codec : Codec F) (any : Job) where
           schemas_found codec job tt (λ found seen c look. inl look) (λ found r. tt) (λ found k r is. tt) (λ found r is. tt) (λ found. []) (before ++ y ∷ []) (looked_into (Read from to query) names)
           (λ there frame seen z zs end' since got says on look. read_works looks from to query names there frame seen z zs end' (since y (Contains-push before y)) got on look (ready_in frame there.attrs query) refl (ready_fails frame there.attrs query))
           (before ++ y ∷ []) xs end (λ z at. at) in
-          (there, frame, follows_on codec job before (found_as there frame) (list_commits ∷ list_schemas ∷ []) (list_schemas ∷ []) y xs end (Seeks (ListsSchemas (looked_into (Read from to query) names))) tt refl (inr refl) later)
-      by_reply r = (no_schema, no_frame, follows_ended codec job before (found_as no_schema no_frame) (list_commits ∷ list_schemas ∷ []) (list_schemas ∷ []) list_commits r xs end tt tt (inr refl))
+          (there, frame, follows_on codec job before (found_as there frame) (list_commits ∷ list_schemas ∷ []) (list_schemas ∷ []) y xs end (Seeks (ListsSchemas (looked_into (Read from to query) names))) tt refl (inr (refl, tt)) later)
+      by_reply r = (no_schema, no_frame, follows_ended codec job before (found_as no_schema no_frame) (list_commits ∷ list_schemas ∷ []) (list_schemas ∷ []) list_commits r xs end tt tt (inr (refl, tt)))
 
   -- ---- a create
 
@@ -286,16 +286,16 @@ module _ {F : Type 0} (codec : Codec F) (any : Job) where
       where
         by_names : (names : List Name) → Follows codec creating seen (found_by true) (list_schemas ∷ put_of first_object ∷ []) (record { call = list_schemas; reply = reply.Names names }) xs end
             (cond (nat_eq (length names) 0) (putting (first_object ∷ []) 0 outcome.Created) (refuse refusal.ArrayExists))
-        by_names [] = first_follows true seen (list_schemas ∷ put_of first_object ∷ []) (record { call = list_schemas; reply = reply.Names [] }) xs end tt refl (inr refl)
+        by_names [] = first_follows true seen (list_schemas ∷ put_of first_object ∷ []) (record { call = list_schemas; reply = reply.Names [] }) xs end tt refl (inr (refl, tt))
         by_names (n ∷ names) =
             subst (λ b. Follows codec creating seen (found_by true) (list_schemas ∷ put_of first_object ∷ []) (record { call = list_schemas; reply = reply.Names (n ∷ names) }) xs end (cond b (putting (first_object ∷ []) 0 outcome.Created) (refuse refusal.ArrayExists)))
             (sym (ne_eqb (suc (length names)) 0 (λ e. absurd (omega arith))))
-            (follows_refused codec creating seen (found_by true) (list_schemas ∷ put_of first_object ∷ []) (put_of first_object ∷ []) (record { call = list_schemas; reply = reply.Names (n ∷ names) }) xs end refusal.ArrayExists tt (inr refl)
+            (follows_refused codec creating seen (found_by true) (list_schemas ∷ put_of first_object ∷ []) (put_of first_object ∷ []) (record { call = list_schemas; reply = reply.Names (n ∷ names) }) xs end refusal.ArrayExists tt (inr (refl, tt))
             (f, refl, inr (n ∷ names, refl, lt-ltb 0 (suc (length names)) (omega arith))))
 
         by_reply : (r : Reply) → Follows codec creating seen (found_by true) (list_schemas ∷ put_of first_object ∷ []) (record { call = list_schemas; reply = r }) xs end (goes codec creating (Creates ListsDeclared) r)
         by_reply (reply.Names names) = by_names names
-        by_reply r = follows_ended codec creating seen (found_by true) (list_schemas ∷ put_of first_object ∷ []) (put_of first_object ∷ []) list_schemas r xs end tt tt (inr refl)
+        by_reply r = follows_ended codec creating seen (found_by true) (list_schemas ∷ put_of first_object ∷ []) (put_of first_object ∷ []) list_schemas r xs end tt tt (inr (refl, tt))
 
     -- the get of the frame that was there
     compare_goes : (seen xs : List Exchange) (end : Outcome) → Contains seen (record { call = frame_put f; reply = reply.Taken }) → Goes codec creating seen (found_by true) (list_schemas ∷ put_of first_object ∷ []) xs end (Creates ComparesFrame)
@@ -322,9 +322,9 @@ module _ {F : Type 0} (codec : Codec F) (any : Job) where
         FrameFor r = (taken : Bool) × Follows codec creating [] (found_by taken) (course_of codec creating (found_by taken)) (record { call = frame_put f; reply = r }) xs end (goes codec creating (Creates PutsFrame) r)
 
         by_reply : (r : Reply) → FrameFor r
-        by_reply reply.Made = (false, first_follows false [] (course_of codec creating (found_by false)) (record { call = frame_put f; reply = reply.Made }) xs end refl refl (inr refl))
-        by_reply reply.Taken = (true, follows_on codec creating [] (found_by true) (course_of codec creating (found_by true)) (list_schemas ∷ put_of first_object ∷ []) (record { call = frame_put f; reply = reply.Taken }) xs end (Creates ComparesFrame) refl refl (inr refl) (compare_goes (record { call = frame_put f; reply = reply.Taken } ∷ []) xs end (Contains-here (record { call = frame_put f; reply = reply.Taken }) [])))
-        by_reply r = (false, follows_ended codec creating [] (found_by false) (course_of codec creating (found_by false)) (put_of first_object ∷ []) (frame_put f) r xs end tt tt (inr refl))
+        by_reply reply.Made = (false, first_follows false [] (course_of codec creating (found_by false)) (record { call = frame_put f; reply = reply.Made }) xs end refl refl (inr (refl, λ e. cc)))
+        by_reply reply.Taken = (true, follows_on codec creating [] (found_by true) (course_of codec creating (found_by true)) (list_schemas ∷ put_of first_object ∷ []) (record { call = frame_put f; reply = reply.Taken }) xs end (Creates ComparesFrame) refl refl (inr (refl, λ e. cc)) (compare_goes (record { call = frame_put f; reply = reply.Taken } ∷ []) xs end (Contains-here (record { call = frame_put f; reply = reply.Taken }) [])))
+        by_reply r = (false, follows_ended codec creating [] (found_by false) (course_of codec creating (found_by false)) (put_of first_object ∷ []) (frame_put f) r xs end tt tt (inr (refl, λ e. cc)))
 
   -- ---- a job of any command
 
@@ -340,14 +340,18 @@ module _ {F : Type 0} (codec : Codec F) (any : Job) where
   begins_finds (Consolidate from to limits) none whole end = absurd (none-some _ (sym none))
   begins_finds Vacuum none whole end = absurd (none-some _ (sym none))
 
+  -- how a job without a lease ends: where its calls have led it, or for want of memory where that can be wanting
+  abbrev BareEnds : Command → List Exchange → Outcome → Type 0
+  BareEnds command whole end = (stage_from codec (with command) (Works (begun command)) whole ≡ Works (Over end)) ⊎ ((end ≡ outcome.OutOfMemory) × (lacks_from codec (with command) true (Works (begun command)) whole ≡ true))
+
   -- the ends of its work
-  bare_ends : (command : Command) → lease_of (with command) ≡ None → (whole : List Exchange) (end : Outcome) → (stage_from codec (with command) (Works (begun command)) whole ≡ Works (Over end)) ⊎ (end ≡ outcome.OutOfMemory) → WorkEnds codec (with command) (begun command) whole end
+  bare_ends : (command : Command) → lease_of (with command) ≡ None → (whole : List Exchange) (end : Outcome) → BareEnds command whole end → WorkEnds codec (with command) (begun command) whole end
   bare_ends command none whole end (inl over) = inl (same_work codec (with command) (sym (bare_from codec (with command) none (begun command) whole) ∙ over))
-  bare_ends command none whole end (inr short) = inr short
+  bare_ends command none whole end (inr (is, lacks)) = inr (is, inl (sym (bare_lacks codec (with command) none true (begun command) whole) ∙ lacks))
 
   -- a job without a lease
   pub bare_finds : (command : Command) → lease_of (with command) ≡ None → (whole : List Exchange) (end : Outcome) → AskedFrom codec (with command) (Works (begun command)) whole
-      → (stage_from codec (with command) (Works (begun command)) whole ≡ Works (Over end)) ⊎ (end ≡ outcome.OutOfMemory) → (found : Found) × AreFound (with command) found whole × AreBacked codec (with command) found whole × MayEndAs codec (with command) found whole end (refused_before command)
+      → BareEnds command whole end → (found : Found) × AreFound (with command) found whole × AreBacked codec (with command) found whole × MayEndAs codec (with command) found whole end (refused_before command)
   bare_finds command none whole end asked ends = by_refusal (refused_before command) (bare_asks codec (with command) none (begun command) whole asked) (bare_ends command none whole end ends)
     where
       under : (found : Found) → EndsAlong codec (with command) found (course_of codec (with command) found) whole end → EndsUnder codec (with command) found (lease_of (with command)) whole end
@@ -364,9 +368,9 @@ module _ {F : Type 0} (codec : Codec F) (any : Job) where
 
   -- how a job without a lease ended
   bare_by : (command : Command) (whole : List Exchange) (end : Outcome) → first_stage {F = F} (with command) ≡ Works (begun command) → EndsBy codec (with command) whole end
-      → (stage_from codec (with command) (Works (begun command)) whole ≡ Works (Over end)) ⊎ (end ≡ outcome.OutOfMemory)
+      → BareEnds command whole end
   bare_by command whole end first (inl over) = inl (ap (λ g. stage_from codec (with command) g whole) (sym first) ∙ over)
-  bare_by command whole end first (inr short) = inr short.0
+  bare_by command whole end first (inr (is, short)) = inr (is, ap (λ g. lacks_from codec (with command) true g whole) (sym first) ∙ short.1)
 
   -- a job of any command
   pub begun_finds : AsksLooks codec → (command : Command) (whole : List Exchange) (end : Outcome) → AskedFrom codec (with command) (first_stage (with command)) whole → EndsBy codec (with command) whole end
@@ -403,7 +407,7 @@ module _ {F : Type 0} (codec : Codec F) (any : Job) where
       by_refusal : (found : Found) (r : Option Refusal) → refused_before command ≡ r → MayEndAs codec (with command) found (whole ++ as_if c ∷ []) outcome.OutOfMemory r → IsCutAlong codec (with command) found whole
       by_refusal found None is h =
           let ended = subst (λ o. EndsUnder codec (with command) found o (whole ++ as_if c ∷ []) outcome.OutOfMemory) none h in
-          let u = unmade_of (IsLookOf codec (with command) found) (course_of codec (with command) found) whole c ended in
+          let u = unmade_of (IsLookOf codec (with command) found) (course_of codec (with command) found) whole c (elim ended [ inl made ↦ inl made | inr at ↦ inr (at.0, at.1) ]) in
           record { begins = is; left = u.0; along = u.2; unmade = c; rest = u.1; next = u.3; cut = cut; free = λ lease some. absurd (none-some lease (sym none ∙ some)) }
       by_refusal found (Some r) is h = absurd (no_calls whole (as_if c) h.0)
 

@@ -25,12 +25,12 @@ use Rattle.ts_model.specs.Jobs.{key_of, refused_before}
 use Rattle.ts_model.specs.Stages.{after_lease, after_leases, begins_at, end_at, first_stage, goes_on, holds_lease, is_leased, is_release, is_removal, lease_of, mode_of, on_verdict, put_lease, released, releases, settled, stage_asks, stage_asks_memory, stage_from, stage_goes, stage_of, stage_takes_memory}
 use Rattle.ts_model.specs.States.{Exchange, begun, end_by, list_leases, refuse}
 use Rattle.ts_model.specs.Stops.{cuts}
-use Rattle.ts_model.proofs.Lacks.{lacks-push, other_goes}
+use Rattle.ts_model.proofs.Lacks.{lacks-push, no_memory_ends, other_goes}
 use Rattle.ts_model.proofs.Asked.{gives_up_held}
 use Rattle.ts_law.specs.Courses.{Along, AreFound, EndsAlong, EndsUnder, FindsOpposed, Found, HasPut, HeedsLeases, IsCutOff, IsLookOf, LeaseEnds, MayEndAs, NotBegun, NotOwn, Removed, SaysFound, course_by, course_of, removal, under_lease}
-use Rattle.ts_law.proofs.CourseCalls.{Ends, WorkAsks, WorkEnds, ends_along, ends_cons, follows_ended, follows_refused, work_from}
+use Rattle.ts_law.proofs.CourseCalls.{Ends, WorkAsks, WorkEnds, lacking, lacking_more, ends_along, ends_cons, follows_ended, follows_refused, work_from}
 use Rattle.ts_law.proofs.CourseBacked.{AreBacked, IsIdle, backed_idle, backed_stays}
-use Rattle.ts_law.proofs.CourseStages.{Closed, IsWas, Open, OpenAsks, Split, open-push, open_from, releasing_asks, settled_leased, split, work_open, work_was}
+use Rattle.ts_law.proofs.CourseStages.{Closed, IsWas, Open, OpenAsks, Split, open-push, open_from, open_lacks, releasing_asks, settled_leased, split, work_open, work_was}
 use Rattle.ts_law.proofs.CutOff.{as_if, found_before, last_same, backed_before, no_calls, Unmade, unmade_of}
 use Rattle.ts_law.proofs.KeptLaws.{no_removal}
 use Rattle.ts_law.proofs.LeaseSteps.{release_is}
@@ -88,6 +88,19 @@ module _ {F : Type 0} (codec : Codec F) (job : Job) (mode : LeaseMode) (leased :
       let before = lacks_after codec job true (PutsLease own_lease) (lease_put reply.Made) in
       ap (λ g. lacks_after codec job before g y) first ∙ lacks_other before (ListsLeases own_lease) y other
 
+  -- whether it can be after that listing
+  abbrev lacks_at_list : Exchange → Bool
+  lacks_at_list y = lacks_after codec job (lacks_after {F = F} codec job true (PutsLease own_lease) (lease_put reply.Made)) (ListsLeases own_lease) y
+
+  -- and after the calls behind it
+  lacks_behind : (y : Exchange) (ys : List Exchange) → is_release job y.call ≡ false
+      → lacks_from codec job true (PutsLease own_lease) (lease_put reply.Made ∷ y ∷ ys) ≡ lacks_from codec job (lacks_at_list y) (after_leases own_lease (begun job.command) y.reply) ys
+  lacks_behind y ys other =
+      let first : goes_on codec job (PutsLease own_lease) (lease_put reply.Made) ≡ ListsLeases own_lease = other_goes codec job (PutsLease own_lease) (lease_put reply.Made) put_other in
+      let before = lacks_after codec job true (PutsLease own_lease) (lease_put reply.Made) in
+      ap (λ g. lacks_from codec job (lacks_after codec job before g y) (goes_on codec job g y) ys) first
+      ∙ ap (λ g. lacks_from codec job (lacks_at_list y) g ys) (other_goes codec job (ListsLeases own_lease) y other)
+
   -- the course of the job at its work
   abbrev works_course : Found → List Call
   works_course found = course_by codec job found job.command
@@ -115,7 +128,7 @@ module _ {F : Type 0} (codec : Codec F) (job : Job) (mode : LeaseMode) (leased :
     NoCall : front ≡ [] → Began front
     WasTaken : front ≡ lease_put reply.Taken ∷ [] → Began front
     HeldLease : HasPut own_lease front → is_leased (open_from codec job own_lease some (PutsLease own_lease) front) ≡ true
-        → ((was : Outcome) → IsWas codec job own_lease some (open_from codec job own_lease some (PutsLease own_lease) front) was → ComesTo front was)
+        → ((was : Outcome) → IsWas codec job own_lease some (lacks_from codec job true (PutsLease own_lease) front) (open_from codec job own_lease some (PutsLease own_lease) front) was → ComesTo front was)
         → Heeds front → Began front
 
   -- so do calls of which the second one is no listing of the leases that told names
@@ -127,9 +140,9 @@ module _ {F : Type 0} (codec : Codec F) (job : Job) (mode : LeaseMode) (leased :
   heeds_end front heeds more other finds = let found = heeds more other finds in (found.0, ap end_at found.1)
 
   -- an end that the job may come to where it removes its lease is one that it came to, or want of memory
-  of_was : (e was : Outcome) → IsWas codec job own_lease some (Releases own_lease e) was → ◌≡◌ {A = State F} (Over e) (Over was) ⊎ (was ≡ outcome.OutOfMemory)
-  of_was e was (inl is) = inl (ap Over (sym is))
-  of_was e was (inr none) = inr none
+  of_was : (lacks : Bool) (e was : Outcome) → IsWas codec job own_lease some lacks (Releases own_lease e) was → WorkEnds codec job (Over e) [] was
+  of_was lacks e was (inl (is, may)) = inl (ap Over (sym is))
+  of_was lacks e was (inr (none, is)) = inr (none, inl refl)
 
   -- where the listing of the leases led
   after_list : (r : Reply) (ys : List Exchange) → OpenAsks codec job own_lease some (after_leases own_lease (begun job.command) r) ys → Began (lease_put reply.Made ∷ leases_listed r ∷ ys)
@@ -157,12 +170,19 @@ module _ {F : Type 0} (codec : Codec F) (job : Job) (mode : LeaseMode) (leased :
           ap (λ v. open_from codec job own_lease some (on_verdict own_lease (begun job.command) v) ys) is ∙ same in
           HeldLease (refl, λ e. cc) (ap is_leased leads ∙ settled_leased codec job own_lease some (work_from codec job (begun job.command) ys))
           (λ was is_was.
-          let ends = work_was codec job own_lease some (begun job.command) ys was (subst (λ g. IsWas codec job own_lease some g was) leads is_was) in
+          let short : Bool = lacks_from codec job true (PutsLease own_lease) (lease_put reply.Made ∷ y ∷ ys) in
+          let wanting : short ≡ true → lacking codec job true (begun job.command) ys ≡ true =
+          λ lacks.
+          let before = lacks_at_list y in
+          let at : lacks_from codec job before (on_verdict own_lease (begun job.command) (verdict_in names own_lease)) ys ≡ lacking codec job before (begun job.command) ys =
+          ap (λ v. lacks_from codec job before (on_verdict own_lease (begun job.command) v) ys) is ∙ open_lacks codec job own_lease some before (begun job.command) ys a in
+          lacking_more codec job before (begun job.command) ys (sym (lacks_behind y ys list_other ∙ at) ∙ lacks) in
+          let ends = work_was codec job own_lease some short (begun job.command) ys was wanting (subst (λ g. IsWas codec job own_lease some short g was) leads is_was) in
           let (found, (said, ended), merged) = work_finds (lease_put reply.Made ∷ y ∷ []) ys was work ends in
           comes_to found (lease_put reply.Made ∷ y ∷ ys) was (
             All-cons (λ z. SaysFound found job.command z.call z.reply) (lease_put reply.Made) (y ∷ ys) (silent found (put_lease own_lease) reply.Made) (All-cons (λ z. SaysFound found job.command z.call z.reply) y ys (silent found list_leases (reply.Names names)) said),
-            ends_cons codec job [] found (leased_course found) (list_leases ∷ works_course found) (lease_put reply.Made) (y ∷ ys) was refl (inr refl)
-                (ends_cons codec job (lease_put reply.Made ∷ []) found (list_leases ∷ works_course found) (works_course found) y ys was refl (inr refl) ended),
+            ends_cons codec job [] found (leased_course found) (list_leases ∷ works_course found) (lease_put reply.Made) (y ∷ ys) was refl (inr refl) (λ _ _ e. cc)
+                (ends_cons codec job (lease_put reply.Made ∷ []) found (list_leases ∷ works_course found) (works_course found) y ys was refl (inr refl) (λ _ _. tt) ended),
           ) merged)
           (λ more other (put, others, same, opposes).
           let same_names : others ≡ names = listed_same put others more same in
@@ -175,11 +195,12 @@ module _ {F : Type 0} (codec : Codec F) (job : Job) (mode : LeaseMode) (leased :
           (HeldLease (refl, λ e. cc) (ap is_leased at)
           (λ was is_was.
           let found = none_found in
-          let ends : WorkEnds codec job (refuse (refusal.Leased other)) [] was = of_was (outcome.Refused (refusal.Leased other)) was (subst (λ g. IsWas codec job own_lease some g was) at is_was) in
-          let told = follows_refused codec job (lease_put reply.Made ∷ []) found (list_leases ∷ works_course found) (works_course found) y [] was (refusal.Leased other) (silent found list_leases (reply.Names names)) (inr refl) (own_lease, some, names, refl, is) tt ends in
+          let short : Bool = lacks_from codec job true (PutsLease own_lease) (lease_put reply.Made ∷ y ∷ []) in
+          let ends : WorkEnds codec job (refuse (refusal.Leased other)) [] was = of_was short (outcome.Refused (refusal.Leased other)) was (subst (λ g. IsWas codec job own_lease some short g was) at is_was) in
+          let told = follows_refused codec job (lease_put reply.Made ∷ []) found (list_leases ∷ works_course found) (works_course found) y [] was (refusal.Leased other) (silent found list_leases (reply.Names names)) (inr (refl, tt)) (own_lease, some, names, refl, is) tt ends in
           comes_to found (lease_put reply.Made ∷ y ∷ []) was (
             All-cons (λ z. SaysFound found job.command z.call z.reply) (lease_put reply.Made) (y ∷ []) (silent found (put_lease own_lease) reply.Made) told.0,
-            ends_cons codec job [] found (leased_course found) (list_leases ∷ works_course found) (lease_put reply.Made) (y ∷ []) was refl (inr refl) told.1,
+            ends_cons codec job [] found (leased_course found) (list_leases ∷ works_course found) (lease_put reply.Made) (y ∷ []) was refl (inr refl) (λ _ _ e. cc) told.1,
           ) (backed_idle codec job found (lease_put reply.Made ∷ y ∷ []) none_idle))
           (λ more another (put, others, same, opposes).
           let same_names : others ≡ names = one_names (lease_put reply.Made) put others more [] same in
@@ -193,10 +214,10 @@ module _ {F : Type 0} (codec : Codec F) (job : Job) (mode : LeaseMode) (leased :
       (HeldLease (refl, λ e. cc) refl
       (λ was is_was.
       let found = none_found in
-      let told = follows_ended codec job (lease_put reply.Made ∷ []) found (list_leases ∷ works_course found) (works_course found) list_leases r [] was tt (silent found list_leases r) (inr refl) tt (of_was (end_by list_leases r) was is_was) in
+      let told = follows_ended codec job (lease_put reply.Made ∷ []) found (list_leases ∷ works_course found) (works_course found) list_leases r [] was tt (silent found list_leases r) (inr (refl, tt)) tt (of_was (lacks_from codec job true (PutsLease own_lease) (lease_put reply.Made ∷ leases_listed r ∷ [])) (end_by list_leases r) was is_was) in
       comes_to found (lease_put reply.Made ∷ leases_listed r ∷ []) was (
         All-cons (λ z. SaysFound found job.command z.call z.reply) (lease_put reply.Made) (leases_listed r ∷ []) (silent found (put_lease own_lease) reply.Made) told.0,
-        ends_cons codec job [] found (leased_course found) (list_leases ∷ works_course found) (lease_put reply.Made) (leases_listed r ∷ []) was refl (inr refl) told.1,
+        ends_cons codec job [] found (leased_course found) (list_leases ∷ works_course found) (lease_put reply.Made) (leases_listed r ∷ []) was refl (inr refl) (λ _ _ e. cc) told.1,
       ) (backed_idle codec job found (lease_put reply.Made ∷ leases_listed r ∷ []) none_idle))
       (none_listed (lease_put reply.Made ∷ leases_listed r ∷ [])
       (λ put names more same.
@@ -210,10 +231,10 @@ module _ {F : Type 0} (codec : Codec F) (job : Job) (mode : LeaseMode) (leased :
       HeldLease (refl, λ e. cc) refl
       (λ was is_was.
       let found = none_found in
-      let none : was ≡ outcome.OutOfMemory = elim is_was [ inl is ↦ is | inr is ↦ is ] in
+      let none : was ≡ outcome.OutOfMemory = elim is_was [ inl is ↦ is.0 | inr is ↦ is.0 ] in
       comes_to found (lease_put reply.Made ∷ []) was (
         All-cons (λ z. SaysFound found job.command z.call z.reply) (lease_put reply.Made) [] (silent found (put_lease own_lease) reply.Made) (All-nil (λ z. SaysFound found job.command z.call z.reply)),
-        subst (Ends codec job [] found (leased_course found) (lease_put reply.Made ∷ [])) (sym none) (inl (list_leases ∷ works_course found, (refl, (list_leases ∷ works_course found, inr refl, refl)))),
+        subst (Ends codec job [] found (leased_course found) (lease_put reply.Made ∷ [])) (sym none) (inr (lease_put reply.Made, record { front = []; left = leased_course found; rest = list_leases ∷ works_course found; parts = refl; along = refl; next = inr refl }, λ e. cc)),
       ) (backed_idle codec job found (lease_put reply.Made ∷ []) none_idle))
       (none_listed (lease_put reply.Made ∷ []) (λ put names more same. cc))
   after_put reply.Made (y ∷ ys) (asked, other, rest) =
@@ -227,13 +248,25 @@ module _ {F : Type 0} (codec : Codec F) (job : Job) (mode : LeaseMode) (leased :
       (λ was is_was.
       let found = none_found in
       comes_to found (lease_put r ∷ []) was
-      (follows_ended codec job [] found (leased_course found) (list_leases ∷ works_course found) (put_lease own_lease) r [] was tt (silent found (put_lease own_lease) r) (inr refl) tt (of_was (end_by (put_lease own_lease) r) was is_was)) (backed_idle codec job found (lease_put r ∷ []) none_idle))
+      (follows_ended codec job [] found (leased_course found) (list_leases ∷ works_course found) (put_lease own_lease) r [] was tt (silent found (put_lease own_lease) r) (inr (refl, λ e. cc)) tt (of_was (lacks_from codec job true (PutsLease own_lease) (lease_put r ∷ [])) (end_by (put_lease own_lease) r) was is_was)) (backed_idle codec job found (lease_put r ∷ []) none_idle))
       (none_listed (lease_put r ∷ []) (λ put names more same. cc)))
 
   -- the calls before the removal of the lease
   began : (front : List Exchange) → OpenAsks codec job own_lease some (PutsLease own_lease) front → Began front
   began [] asked = NoCall refl
   began (x ∷ xs) (asked, other, rest) = subst (λ c. Began (record { call = c; reply = x.reply } ∷ xs)) (same_Some (put_lease own_lease) x.call asked) (after_put x.reply xs rest)
+
+  -- one more call leads on from where those before it have led
+  open_from-push : (g : Stage F) (xs : List Exchange) (x : Exchange) → open_from codec job own_lease some g (xs ++ x ∷ []) ≡ stage_goes codec job (open_from codec job own_lease some g xs) x.reply
+  open_from-push g [] x = refl
+  open_from-push g (y ∷ xs) x = open_from-push (stage_goes codec job g y.reply) xs x
+
+  -- a job under its lease for whose call there was no memory removes the lease
+  short_releases : (g : Stage F) (c : Call) → stage_asks codec job g ≡ Some c → is_leased (stage_goes codec job g reply.NoMemory) ≡ true → (own : Name) × (stage_goes codec job g reply.NoMemory ≡ Releases own outcome.OutOfMemory)
+  short_releases (PutsLease lease) c asked held = (lease, refl)
+  short_releases (ListsLeases lease) c asked held = (lease, refl)
+  short_releases (Works s) c asked held = (own_lease, ap (settled (lease_of job)) (no_memory_ends F codec job s c asked) ∙ ap (λ o. settled o (Over outcome.OutOfMemory)) some)
+  short_releases (Releases lease end) c asked held = absurd (true≢false (sym held))
 
   -- a lease that is not put is not removed
   none_before : MayAsk codec job (PutsLease own_lease) (call.Remove own_lease) → ⊥
@@ -327,8 +360,8 @@ module _ {F : Type 0} (codec : Codec F) (job : Job) (mode : LeaseMode) (leased :
       by_closed front r may same e (NoCall none) = absurd (none_before (subst (λ t. MayAsk codec job (g_of t) (call.Remove own_lease)) none may))
       by_closed front r may same e (WasTaken is) = absurd (none_over (outcome.Refused (refusal.Taken own_lease)) (call.Remove own_lease) (subst (λ t. MayAsk codec job (g_of t) (call.Remove own_lease)) is may))
       by_closed front r may same (inl over) (HeldLease put held comes heeds) =
-          removed_ends front r (end_at (g_of front)) end put (heeds_end front heeds) (comes (end_at (g_of front)) (inl refl)) (one_end (released own_lease (end_at (g_of front)) r) end (sym same ∙ over))
-      by_closed front r may same (inr short) (HeldLease put held comes heeds) = removed_ends front r outcome.OutOfMemory end put (λ more other finds. absurd (true≢false (sym (lacked front r short.2) ∙ (heeds more other finds).2))) (comes outcome.OutOfMemory (inr refl)) short.0
+          removed_ends front r (end_at (g_of front)) end put (heeds_end front heeds) (comes (end_at (g_of front)) (inl (refl, inr may))) (one_end (released own_lease (end_at (g_of front)) r) end (sym same ∙ over))
+      by_closed front r may same (inr short) (HeldLease put held comes heeds) = removed_ends front r outcome.OutOfMemory end put (λ more other finds. absurd (true≢false (sym (lacked front r short.2) ∙ (heeds more other finds).2))) (comes outcome.OutOfMemory (inr (refl, lacked front r short.2))) short.0
 
       by_split : Split codec job own_lease some (PutsLease own_lease) whole → Comes whole
       by_split (Open opened same) = by_open whole same (ends_led whole end ends) (began whole opened)
@@ -357,7 +390,7 @@ module _ {F : Type 0} (codec : Codec F) (job : Job) (mode : LeaseMode) (leased :
       at_removal m k (NoCall none) = absurd (none_before (subst (λ t. MayAsk codec job (g_of t) (call.Remove own_lease)) none m))
       at_removal m k (WasTaken is) = absurd (none_over (outcome.Refused (refusal.Taken own_lease)) (call.Remove own_lease) (subst (λ t. MayAsk codec job (g_of t) (call.Remove own_lease)) is m))
       at_removal m k (HeldLease put held comes heeds) =
-          let (found, told, ended, merged) = comes (end_at (g_of whole)) (inl refl) in (
+          let (found, told, ended, merged) = comes (end_at (g_of whole)) (inl (refl, inr m)) in (
             found,
             told,
             merged,
@@ -374,7 +407,7 @@ module _ {F : Type 0} (codec : Codec F) (job : Job) (mode : LeaseMode) (leased :
 
       cut_along : (x : Exchange) → x ≡ as_if c → (found : Found) → AreFound job found (whole ++ x ∷ []) → EndsAlong codec job found (leased_course found) (whole ++ x ∷ []) outcome.OutOfMemory → AreBacked codec job found (whole ++ x ∷ []) → Heeds (whole ++ x ∷ []) → Cut
       cut_along x is found told ended merged heeds =
-          let u : Unmade (IsLookOf codec job found) (leased_course found) whole c = unmade_of (IsLookOf codec job found) (leased_course found) whole c (subst (λ y. EndsAlong codec job found (leased_course found) (whole ++ y ∷ []) outcome.OutOfMemory) is ended) in (
+          let u : Unmade (IsLookOf codec job found) (leased_course found) whole c = unmade_of (IsLookOf codec job found) (leased_course found) whole c (elim (subst (λ y. EndsAlong codec job found (leased_course found) (whole ++ y ∷ []) outcome.OutOfMemory) is ended) [ inl made ↦ inl made | inr at ↦ inr (at.0, at.1) ]) in (
             found,
             found_before job found whole x told,
             backed_before codec job found whole c (subst (λ y. AreBacked codec job found (whole ++ y ∷ [])) is merged),
@@ -392,10 +425,17 @@ module _ {F : Type 0} (codec : Codec F) (job : Job) (mode : LeaseMode) (leased :
             }),
           )
 
-      along : (x : Exchange) → x ≡ as_if c → Began (whole ++ x ∷ []) → Cut
-      along x is (NoCall none) = absurd (no_calls whole x none)
-      along x is (WasTaken taken) = let last = last_same whole [] x (lease_put reply.Taken) taken in absurd (not_taken (ap (λ y. y.reply) (sym is ∙ last.1)))
-      along x is (HeldLease put held comes heeds) = let (found, told, ended, merged) = comes outcome.OutOfMemory (inr refl) in cut_along x is found told ended merged heeds
+      -- the stage to which want of memory for the call leads
+      short_of : List Exchange → Stage F
+      short_of front = open_from codec job own_lease some (PutsLease own_lease) front
+
+      along : stage_asks codec job (g_of whole) ≡ Some c → (x : Exchange) → x ≡ as_if c → Began (whole ++ x ∷ []) → Cut
+      along asks_next x is (NoCall none) = absurd (no_calls whole x none)
+      along asks_next x is (WasTaken taken) = let last = last_same whole [] x (lease_put reply.Taken) taken in absurd (not_taken (ap (λ y. y.reply) (sym is ∙ last.1)))
+      along asks_next x is (HeldLease put held comes heeds) =
+          let leads : short_of (whole ++ x ∷ []) ≡ stage_goes codec job (g_of whole) reply.NoMemory = open_from-push (PutsLease own_lease) whole x ∙ ap (λ (y : Exchange). stage_goes codec job (g_of whole) y.reply) is in
+          let (own, at) = short_releases (g_of whole) c asks_next (ap is_leased (sym leads) ∙ held) in
+          let (found, told, ended, merged) = comes outcome.OutOfMemory (inl (sym (ap end_at (leads ∙ at)), inl (own, outcome.OutOfMemory, leads ∙ at))) in cut_along x is found told ended merged heeds
 
       by_kind : (b : Bool) → is_release job c ≡ b → OpenAsks codec job own_lease some (PutsLease own_lease) whole → led_to whole ≡ g_of whole → Cut
       by_kind true is opened same =
@@ -403,7 +443,7 @@ module _ {F : Type 0} (codec : Codec F) (job : Job) (mode : LeaseMode) (leased :
           let own : c ≡ call.Remove own_lease = removes_it ∙ ap call.Remove (sym (same_Some own_lease lease (sym some ∙ has))) in
           at_removal (subst (MayAsk codec job (g_of whole)) own (subst (λ g. MayAsk codec job g c) same may)) (ap (cuts job.stop (length whole)) (sym own) ∙ cut) (began whole opened)
       by_kind false other opened same = elim may [
-        | inl asks_next ↦ along (as_if c) refl (began (whole ++ as_if c ∷ []) (open-push codec job own_lease some (PutsLease own_lease) whole (as_if c) opened (ap (stage_asks codec job) (sym same) ∙ asks_next) other))
+        | inl asks_next ↦ along (ap (stage_asks codec job) (sym same) ∙ asks_next) (as_if c) refl (began (whole ++ as_if c ∷ []) (open-push codec job own_lease some (PutsLease own_lease) whole (as_if c) opened (ap (stage_asks codec job) (sym same) ∙ asks_next) other))
         | inr gives_up ↦ absurd (true≢false (sym gives_up.0 ∙ other))
       ]
 

@@ -40,11 +40,11 @@ use Rattle.ts_model.specs.declared.states.State.TheVariants.{Merges, Over}
 use Rattle.ts_model.specs.declared.states.Survey.{Survey}
 use Rattle.ts_model.specs.Codecs.{Codec, Stepped, Asks, Takes, Breaks, is_look, AsksLooks}
 use Rattle.ts_model.specs.Jobs.{looked_at}
-use Rattle.ts_model.specs.States.{Exchange, asks, after_names, after_opened, after_source, after_surveyed, all_of, attributes_among, can_be_named, candidates_in, committed_in, counting_in, ended, frags_of, get_frame, get_head_in, get_schema, get_vac, getting_names, goes, heads_of, list_commits, list_schemas, merge_objects, merges_all, merges_in, merging_from, on_bytes, on_plan, on_read, opened_among, opening_next, piece_merged, plan_for, put_of, puts_piece, putting, refuse, schema_among, schemas_in, schemas_named, source_begins, source_leads, survey_with, surveying, vac_object_of, vac_of}
+use Rattle.ts_model.specs.States.{Exchange, asks, after_names, after_opened, after_source, after_surveyed, all_of, attributes_among, can_be_named, candidates_in, committed_in, counting_in, ended, frags_of, get_frame, get_head_in, get_schema, get_vac, getting_names, goes, heads_of, list_commits, list_schemas, merge_objects, merges_all, merges_in, merging_from, on_bytes, on_plan, on_read, opened_among, opening_next, piece_merged, plan_for, put_of, puts_piece, putting, refuse, schema_among, schemas_in, schemas_named, source_begins, source_leads, survey_with, surveying, vac_object_of, vac_of, takes_memory}
 use Rattle.ts_model.proofs.KeyLemmas.{key_itself, key_same}
 use Rattle.ts_model.proofs.ListLemmas.{Contains-cons, Contains-here, Contains-nil, Contains-only, Contains-there, filter-Contains, find-Some, find_member}
 use Rattle.ts_law.specs.Courses.{AreFound, AtFrame, AtNamed, AtNames, AtOpened, BreaksPart, EachTaken, Found, GotNames, GotSchema, HasOpened, HasTaken, InSource, IsCause, IsConsolidate, IsFramed, IsCurrentKey, IsListedInside, IsLookBy, IsLookOf, IsMergeBy, IsNamedFor, IsOpened, IsUnderWay, LooksForSources, MayFetch, Merge, MergesFound, PlansBy, SaysFound, lets_on, merge_puts, IsWantOf}
-use Rattle.ts_law.proofs.CourseCalls.{Ends, Follows, Goes, Well, WorkAsks, WorkEnds, follows_ended, follows_none, follows_on, follows_putting, follows_refused, goes_by, goes_none, item_in, lets_bytes, lets_length, lets_memory, look_leaves, parts_apart, puts_go}
+use Rattle.ts_law.proofs.CourseCalls.{Ends, Follows, Goes, Well, WorkAsks, WorkEnds, follows_anyhow, follows_ended, follows_none, follows_on, follows_putting, follows_refused, goes_by, goes_none, item_in, lets_bytes, lets_length, lets_memory, look_leaves, parts_apart, puts_go}
 use Rattle.ts_law.proofs.CourseBacked.{AreBacked}
 use Rattle.ts_law.proofs.CourseGrows.{AreAmong, among_more, each_stays, merged_nothing, names_stay, schema_stays, way_stays}
 use Rattle.ts_law.proofs.CourseReads.{fetched_on}
@@ -268,7 +268,9 @@ module _ {F : Type 0} (codec : Codec F) (job : Job) (looks : AsksLooks codec) (f
     -- a call that a state asks, and where it leads
     asks_on : (seen : List Exchange) (x : Exchange) (xs : List Exchange) (end : Outcome) (s : State F) (c : Call) → asks codec job s ≡ Some c → FollowsOn seen (record { call = c; reply = x.reply }) xs end (goes codec job s x.reply) → GoesOn seen (x ∷ xs) end s
     asks_on seen x xs end s c asked (merged, follows, merges) =
-        (merged, goes_by codec job seen (found merged) (merge_puts codec frame merged) x xs end s c asked (λ same. follows), merged_by codec job (found merged) seen x xs s c asked merges)
+        let y : Exchange = record { call = c; reply = x.reply } in
+        let leads = follows_anyhow codec job (takes_memory s) seen (found merged) (merge_puts codec frame merged) y xs end (goes codec job s x.reply) follows in
+        (merged, goes_by codec job seen (found merged) (merge_puts codec frame merged) x xs end s c asked (λ same. leads), merged_by codec job (found merged) seen x xs s c asked merges)
 
     -- where it came to no puts it merged nothing
     nothing_merged : (trace : List Exchange) → MergesFound codec job (found None) trace
@@ -729,19 +731,19 @@ module _ {F : Type 0} (codec : Codec F) (any : Job) (looks : AsksLooks codec) (f
           let (frame, merged, later, merges) = frame_from names k (seen ++ y ∷ []) xs end (among_more seen y _ listed) (record { names = declared; listed = Contains-push seen y; newest = holds }) in (
             frame,
             merged,
-            rw holds (follows_on codec merging_job seen (found_so frame merged) (list_schemas ∷ merge_puts codec frame merged) (merge_puts codec frame merged) y xs end (Merges (merging.GetsFrame (candidates_in from to names))) tt refl (inr refl) later),
+            rw holds (follows_on codec merging_job seen (found_so frame merged) (list_schemas ∷ merge_puts codec frame merged) (merge_puts codec frame merged) y xs end (Merges (merging.GetsFrame (candidates_in from to names))) tt refl (inr (refl, tt)) later),
             rw holds (λ a. subst (MergesFound codec merging_job (found_so frame merged)) (append_assoc seen (y ∷ []) xs) (merges a)),
           )
       by_key declared None holds = (
         no_frame,
         None,
-        rw holds (follows_refused codec merging_job seen (found_so no_frame None) (list_schemas ∷ []) [] (record { call = list_schemas; reply = reply.Names declared }) xs end (refusal.NoSchema (looked_at merging_job)) tt (inr refl) (tt, declared, refl, refl, holds)),
+        rw holds (follows_refused codec merging_job seen (found_so no_frame None) (list_schemas ∷ []) [] (record { call = list_schemas; reply = reply.Names declared }) xs end (refusal.NoSchema (looked_at merging_job)) tt (inr (refl, tt)) (tt, declared, refl, refl, holds)),
         rw holds (λ a. nothing_so (seen ++ record { call = list_schemas; reply = reply.Names declared } ∷ xs)),
       )
 
       by_reply : (r : Reply) → SchemasFor r
       by_reply (reply.Names declared) = by_key declared (schema_at (schemas_in declared) (looked_at merging_job)) refl
-      by_reply r = (no_frame, None, follows_ended codec merging_job seen (found_so no_frame None) (list_schemas ∷ []) [] list_schemas r xs end tt tt (inr refl), λ a. nothing_so (seen ++ record { call = list_schemas; reply = r } ∷ xs))
+      by_reply r = (no_frame, None, follows_ended codec merging_job seen (found_so no_frame None) (list_schemas ∷ []) [] list_schemas r xs end tt tt (inr (refl, tt)), λ a. nothing_so (seen ++ record { call = list_schemas; reply = r } ∷ xs))
 
   -- a consolidation goes along its course, and ends by it
   pub merge_finds : (before xs : List Exchange) (end : Outcome) → WorkAsks codec merging_job (Merges merging.ListsCommits) xs → WorkEnds codec merging_job (Merges merging.ListsCommits) xs end
@@ -762,7 +764,7 @@ module _ {F : Type 0} (codec : Codec F) (any : Job) (looks : AsksLooks codec) (f
           let (frame, merged, later, merges) = listed_from names (before ++ y ∷ []) xs end (Contains-push before y) in (
             frame,
             merged,
-            follows_on codec merging_job before (found_so frame merged) (list_commits ∷ list_schemas ∷ merge_puts codec frame merged) (list_schemas ∷ merge_puts codec frame merged) y xs end (Merges (merging.ListsSchemas (candidates_in from to names))) tt refl (inr refl) later,
+            follows_on codec merging_job before (found_so frame merged) (list_commits ∷ list_schemas ∷ merge_puts codec frame merged) (list_schemas ∷ merge_puts codec frame merged) y xs end (Merges (merging.ListsSchemas (candidates_in from to names))) tt refl (inr (refl, tt)) later,
             λ a. subst (MergesFound codec merging_job (found_so frame merged)) (append_assoc before (y ∷ []) xs) (merges a),
           )
-      by_reply r = (no_frame, None, follows_ended codec merging_job before (found_so no_frame None) (list_commits ∷ list_schemas ∷ []) (list_schemas ∷ []) list_commits r xs end tt tt (inr refl), λ a. nothing_so (before ++ record { call = list_commits; reply = r } ∷ xs))
+      by_reply r = (no_frame, None, follows_ended codec merging_job before (found_so no_frame None) (list_commits ∷ list_schemas ∷ []) (list_schemas ∷ []) list_commits r xs end tt tt (inr (refl, tt)), λ a. nothing_so (before ++ record { call = list_commits; reply = r } ∷ xs))

@@ -28,7 +28,7 @@ use Rattle.ts_model.specs.declared.states.Collecting.TheVariants.{GetsVacs, Gets
 use Rattle.ts_model.specs.declared.commands.Command.TheVariants.{Read}
 use Rattle.ts_model.specs.Codecs.{Codec, Stepped, Asks, Takes, Breaks, is_look, AsksLooks}
 use Rattle.ts_model.specs.States.{Exchange, get_all, get_head, get_schema, on_bytes, after_fetched, opening, gathering, fetching, fetches_one, fetch_leads, fetch_begins, after_head, after_schema, known_schema, keys_named, want_of, answer_of, on_read, getting_deletes, with_deletion, deletion_named, get_delete, after_delete, get_vac, after_vac, getting_vacs, heads_of, loaded_of, loads, opened_among, vac_of, with_clipped, with_vac, committed_in, deletes_in, list_commits, meets}
-use Rattle.ts_law.specs.Courses.{Found, SaysFound, GotSchema, IsGot, IsOpened, IsFetched, IsUnderWay, IsListedIn, IsCountingIn, IsLookedInto, LooksInside, MayFetch, AtVac, AtHead, AtSchema, AtDelete, InFetch, IsLookBy, IsLookOf, IsNamedFor, AreDeletesOf, GotDelete, IsWantOf, BreaksPart, IsNext, lets_on, refused_in}
+use Rattle.ts_law.specs.Courses.{Found, SaysFound, GotSchema, IsGot, IsOpened, IsFetched, IsUnderWay, IsListedIn, IsCountingIn, IsLookedInto, LooksInside, MayFetch, AtVac, AtHead, AtSchema, AtDelete, InFetch, IsLookBy, IsLookOf, IsNamedFor, AreDeletesOf, GotDelete, IsWantOf, BreaksPart, lets_on, refused_in}
 use Rattle.ts_model.proofs.KeyLemmas.{key_same, key_itself}
 use Rattle.ts_model.proofs.ListLemmas.{Contains-here, Contains-there, filter-Contains, find-Some, take_next}
 use Rattle.ts_model.specs.declared.deeds.Deletion.{Deletion}
@@ -41,7 +41,7 @@ use Rattle.ts_commit.specs.Vacs.{names_of}
 use Rattle.ts_cond.specs.Tests.{Condition}
 use Rattle.ts_base.specs.declared.names.CommitKind.TheVariants.{Del}
 use Rattle.ts_model.specs.Queries.{ready_in}
-use Rattle.ts_law.proofs.CourseCalls.{lets_bytes, lets_length, look_leaves, dropped, item_in, Goes, Follows, follows_on, follows_over, follows_none, follows_refused, follows_ended, goes_none, goes_by}
+use Rattle.ts_law.proofs.CourseCalls.{lets_bytes, lets_length, look_leaves, dropped, item_in, Goes, Follows, Next, next_is, follows_on, follows_over, follows_none, follows_refused, follows_ended, goes_none, goes_by}
 use Rattle.ts_law.proofs.CourseGrows.{counting_stays, deletes_more, deletes_stay, among_more, schema_stays, got_stays, listed_stays, way_stays}
 use Rattle.ts_law.proofs.ReadSteps.{named_apart}
 use Rattle.ts_base.specs.declared.names.Name.TheVariants as name
@@ -183,7 +183,7 @@ module _ {F : Type 0} (codec : Codec F) (job : Job) where
           → Goes codec job seen found [] xs end (Collects (Fetches r opened schemas next frag got f c))
 
     -- after a call that lets the read go on
-    module _ (seen : List Exchange) (course : List Call) (x : Exchange) (xs : List Exchange) (end : Outcome) (on : IsTrue (lets_on x.call x.reply)) (following : IsNext (IsLookOf codec job found) seen course x.call []) (later : ReadsOn (seen ++ x ∷ []) xs end) where
+    module _ (seen : List Exchange) (course : List Call) (x : Exchange) (xs : List Exchange) (end : Outcome) (on : IsTrue (lets_on x.call x.reply)) (following : Next codec job seen found course x.call []) (later : ReadsOn (seen ++ x ∷ []) xs end) where
       -- the calls with this one
       abbrev now : List Exchange
       now = seen ++ x ∷ []
@@ -218,7 +218,7 @@ module _ {F : Type 0} (codec : Codec F) (job : Job) where
       follows_fetching : (r : Reading) (opened : List Opened) (schemas : List Schema) (next : ℕ) (rest : List Opened) (got : List Version)
           → HasGot now r opened schemas → HasAll now r → ((o : Opened) → Contains rest o → Contains opened o) → Follows codec job seen found course x xs end (fetching codec r opened schemas next rest got)
       follows_fetching r opened schemas next [] got objects all among =
-          follows_over codec job seen found course [] x xs end (outcome.Read (answer_of r schemas got)) (silent x.call x.reply) following ((on, ([], following, refl)), (from, to, query, is), objects.got, unrefused)
+          follows_over codec job seen found course [] x xs end (outcome.Read (answer_of r schemas got)) (silent x.call x.reply) following ((on, ([], next_is codec job seen found course x.call [] following, refl)), (from, to, query, is), objects.got, unrefused)
       follows_fetching r opened schemas next (o ∷ rest) got objects all among =
           follows_one r opened schemas next o got (λ vs. fetching codec r opened schemas (suc next) rest (got ++ vs)) (known_schema r schemas o.head.schema) refl objects all (among o (Contains-here o rest))
           (λ vs. follows_fetching r opened schemas (suc next) rest (got ++ vs) objects all (λ p at. among p (Contains-there o rest p at)))

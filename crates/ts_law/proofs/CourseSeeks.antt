@@ -178,16 +178,16 @@ module _ {F : Type 0} (codec : Codec F) (job : Job) (works : WorksInSchema job.c
             there,
             frame,
             rw is (follows_on codec job seen (found_as there frame) (list_schemas ∷ tail (found_as there frame)) (tail (found_as there frame)) y xs end (Seeks (GetsSchema looked k))
-                (says_list (found_as there frame) (reply.Names names)) refl (inr refl) (later (record { names = names; listed = Contains-push seen y; newest = is }))),
+                (says_list (found_as there frame) (reply.Names names)) refl (inr (refl, tt)) (later (record { names = names; listed = Contains-push seen y; newest = is }))),
           )
       by_key names None is = (
         no_schema,
         no_frame,
         rw is (follows_refused codec job seen (found_as no_schema no_frame) (list_schemas ∷ tail (found_as no_schema no_frame)) (tail (found_as no_schema no_frame)) (record { call = list_schemas; reply = reply.Names names }) xs end
-            (refusal.NoSchema (looked_at job)) (says_list (found_as no_schema no_frame) (reply.Names names)) (inr refl) (works, names, refl, refl, is)),
+            (refusal.NoSchema (looked_at job)) (says_list (found_as no_schema no_frame) (reply.Names names)) (inr (refl, tt)) (works, names, refl, refl, is)),
       )
 
       by_reply : (r : Reply) → ListedFor r
       by_reply (reply.Names names) = by_key names (schema_at (schemas_in names) (looked_at job)) refl
       by_reply r =
-          (no_schema, no_frame, follows_ended codec job seen (found_as no_schema no_frame) (list_schemas ∷ tail (found_as no_schema no_frame)) (tail (found_as no_schema no_frame)) list_schemas r xs end tt (says_list (found_as no_schema no_frame) r) (inr refl))
+          (no_schema, no_frame, follows_ended codec job seen (found_as no_schema no_frame) (list_schemas ∷ tail (found_as no_schema no_frame)) (tail (found_as no_schema no_frame)) list_schemas r xs end tt (says_list (found_as no_schema no_frame) r) (inr (refl, tt)))

@@ -1,5 +1,5 @@
 -- The calls of a vacuum at its work: it finds what to remove, and removes it.
-use Rattle.std.proofs.Common.{length, ◌≡◌, ℕ, ◌+◌, suc, Bool, true, false, cond, List, [], ◌∷◌, ◌++◌, drop, take, Option, Some, None, Result, Ok, Err, IsTrue, arith, refl, sym, ◌∙◌, ap, inl, inr, subst, slice_get, append_assoc}
+use Rattle.std.proofs.Common.{length, ◌≡◌, ◌||◌, ℕ, ◌+◌, suc, Bool, true, false, cond, List, [], ◌∷◌, ◌++◌, drop, take, Option, Some, None, Result, Ok, Err, IsTrue, arith, refl, sym, ◌∙◌, ap, inl, inr, subst, slice_get, append_assoc}
 use Rattle.std.specs.Prelude.{Contains, option_map, nat_lt, map as list_map}
 use Rattle.std.proofs.lemmas.Bool.{ltb-false}
 use Rattle.std.proofs.lemmas.List.{append-nil, take_all}
@@ -22,12 +22,12 @@ use Rattle.ts_model.specs.declared.states.State.TheVariants.{Over, Sweeps}
 use Rattle.ts_model.specs.declared.states.Sweep.{Sweep}
 use Rattle.ts_model.specs.Codecs.{Codec}
 use Rattle.ts_model.specs.Jobs.{looked_at}
-use Rattle.ts_model.specs.States.{Exchange, after_swept, asks, counting_in, get_vac, goes, list_commits, list_parts, list_schemas, listing_parts, names_removed, on_bytes, on_names, on_read, removing, schemas_in, sweep_with, sweeping_vacs, vac_of, where_swept}
+use Rattle.ts_model.specs.States.{Exchange, after_swept, asks, asks_memory, counting_in, get_vac, goes, list_commits, list_parts, list_schemas, listing_parts, names_removed, on_bytes, on_names, on_read, removing, schemas_in, sweep_with, sweeping_vacs, takes_memory, vac_of, where_swept}
 use Rattle.ts_model.proofs.ListLemmas.{Contains-nil, take_next}
 use Rattle.ts_law.specs.Courses.{AreFound, ChoosesBy, EachListed, Found, GotNames, IsCurrentKey, RemovesBy, SaysFound, SweepsFound, lets_on, sweep_calls}
 use Rattle.ts_law.specs.Swept.{sweep_over}
 use Rattle.ts_law.proofs.CourseBacked.{AreBacked, parts_stay, swept_stays, told_among}
-use Rattle.ts_law.proofs.CourseCalls.{Ends, Follows, Next, Well, WorkAsks, WorkEnds, drop_item, drop_past, ends_cons, follows_ended, follows_refused, goes_none, item_in}
+use Rattle.ts_law.proofs.CourseCalls.{Ends, Follows, Next, Well, WorkAsks, WorkEnds, drop_item, drop_past, ends_cons, ends_more, next_is, next_short, follows_ended, follows_refused, goes_none, item_in}
 use Rattle.ts_law.proofs.CourseGrows.{AreAmong, among_more, key_stays, merged_nothing, names_stay}
 use Rattle.ts_law.proofs.CourseMerges.{all_of_them, one_longer}
 use Rattle.ts_law.proofs.CourseRemoves.{follows_removing, removes_go}
@@ -74,7 +74,7 @@ module _ {F : Type 0} (codec : Codec F) (any : Job) where
     finds_by seen course x xs end s c is follows a e =
         subst
         (λ d. (i : I) × (AreFound sweeping_job (found_of i) (record { call = d; reply = x.reply } ∷ xs) × Ends codec sweeping_job seen (found_of i) (course i) (record { call = d; reply = x.reply } ∷ xs) end) × SweepsFound sweeping_job (found_of i) (seen ++ record { call = d; reply = x.reply } ∷ xs))
-        (same_Some c x.call (sym is ∙ a.0)) (follows a.1 e)
+        (same_Some c x.call (sym is ∙ a.0)) (follows a.1 (ends_more codec sweeping_job (takes_memory s || asks_memory (goes codec sweeping_job s x.reply)) (goes codec sweeping_job s x.reply) xs end e))
 
     -- a call that leads on
     finds_on : (seen : List Exchange) (course rest : I → List Call) (x : Exchange) (xs : List Exchange) (end : Outcome) (s : State F) → IsTrue (lets_on x.call x.reply) → ((i : I) → Next codec sweeping_job seen (found_of i) (course i) x.call (rest i))
@@ -82,7 +82,7 @@ module _ {F : Type 0} (codec : Codec F) (any : Job) where
     finds_on seen course rest x xs end s on next goes_on a e =
         let (i, (told, ended), swept) = goes_on a e in (
           i,
-          (All-cons (λ y. SaysFound (found_of i) Vacuum y.call y.reply) x xs tt told, ends_cons codec sweeping_job seen (found_of i) (course i) (rest i) x xs end on (next i) ended),
+          (All-cons (λ y. SaysFound (found_of i) Vacuum y.call y.reply) x xs tt told, ends_cons codec sweeping_job seen (found_of i) (course i) (rest i) x xs end on (next_is codec sweeping_job seen (found_of i) (course i) x.call (rest i) (next i)) (λ _ _. next_short codec sweeping_job seen (found_of i) (course i) x.call x.reply (rest i) (next i)) ended),
           subst (SweepsFound sweeping_job (found_of i)) (append_assoc seen (x ∷ []) xs) swept,
         )
 
@@ -220,12 +220,12 @@ module _ {F : Type 0} (codec : Codec F) (any : Job) where
                   let y : Exchange = record { call = list_parts f; reply = reply.Names parts } in
                   let more = parts_push seen listed f parts is has in
                   follows_listing seen (calls_left (f ∷ drop (suc (length listed)) set)) y xs end (listed ++ parts ∷ []) refl
-                  (λ removed. inr (ap (λ n. list_parts f ∷ calls_left (drop n set) removed) (sym (one_longer listed parts)))) more (later y (listed ++ parts ∷ []) more)
+                  (λ removed. inr (ap (λ n. list_parts f ∷ calls_left (drop n set) removed) (sym (one_longer listed parts)), tt)) more (later y (listed ++ parts ∷ []) more)
               by_reply r =
                   let y : Exchange = record { call = list_parts f; reply = r } in
                   finds_with (found_swept set) seen (calls_left (f ∷ drop (suc (length listed)) set)) y xs end (on_names (list_parts f) (λ parts. listing_parts sweep set (listed ++ parts ∷ [])) r) []
                   (swept_stays sweeping_job (found_swept set []) seen (seen ++ y ∷ []) (told_among seen (seen ++ y ∷ []) (among_more seen y)) (choosing seen listed has))
-                  (follows_ended codec sweeping_job seen (found_swept set []) (calls_left (f ∷ drop (suc (length listed)) set) []) (calls_left (drop (suc (length listed)) set) []) (list_parts f) r xs end tt tt (inr refl))
+                  (follows_ended codec sweeping_job seen (found_swept set []) (calls_left (f ∷ drop (suc (length listed)) set) []) (calls_left (drop (suc (length listed)) set) []) (list_parts f) r xs end tt tt (inr (refl, tt)))
 
     -- ---- the `.vac` objects that count
 
@@ -337,17 +337,17 @@ module _ {F : Type 0} (codec : Codec F) (any : Job) where
               vacs_are = refl;
               each_vac = λ v at. absurd (Contains-nil v at);
             } in
-            follows_sweeping seen (λ p. list_schemas ∷ calls_pair p) y xs end [] refl (λ p. inr refl) has (vacs_go (seen ++ y ∷ []) xs end [] has)
+            follows_sweeping seen (λ p. list_schemas ∷ calls_pair p) y xs end [] refl (λ p. inr (refl, tt)) has (vacs_go (seen ++ y ∷ []) xs end [] has)
         by_key declared None holds =
             let y : Exchange = record { call = list_schemas; reply = reply.Names declared } in
             finds_with found_pair seen (λ p. list_schemas ∷ calls_pair p) y xs end (where_swept (sweep_over names []) (looked_at sweeping_job) None) ([], []) (inl refl, inl refl)
-            (follows_refused codec sweeping_job seen (found_pair ([], [])) (list_schemas ∷ []) [] y xs end (refusal.NoSchema (looked_at sweeping_job)) tt (inr refl) (tt, declared, refl, refl, holds))
+            (follows_refused codec sweeping_job seen (found_pair ([], [])) (list_schemas ∷ []) [] y xs end (refusal.NoSchema (looked_at sweeping_job)) tt (inr (refl, tt)) (tt, declared, refl, refl, holds))
 
         by_reply : (r : Reply) → FindsAfter found_pair seen (λ p. list_schemas ∷ calls_pair p) (record { call = list_schemas; reply = r }) xs end (goes codec sweeping_job here r)
         by_reply (reply.Names declared) = by_key declared (schema_at (schemas_in declared) (looked_at sweeping_job)) refl
         by_reply r =
             finds_with found_pair seen (λ p. list_schemas ∷ calls_pair p) (record { call = list_schemas; reply = r }) xs end (goes codec sweeping_job here r) ([], []) (inl refl, inl refl)
-            (follows_ended codec sweeping_job seen (found_pair ([], [])) (list_schemas ∷ []) [] list_schemas r xs end tt tt (inr refl))
+            (follows_ended codec sweeping_job seen (found_pair ([], [])) (list_schemas ∷ []) [] list_schemas r xs end tt tt (inr (refl, tt)))
 
   -- ---- from its first call on
 
@@ -370,10 +370,10 @@ module _ {F : Type 0} (codec : Codec F) (any : Job) where
       by_reply : (r : Reply) (ys : List Exchange) → FindsAfter of_both before course (record { call = list_commits; reply = r }) ys end (goes codec sweeping_job here r)
       by_reply (reply.Names names) ys =
           let y : Exchange = record { call = list_commits; reply = reply.Names names } in
-          finds_on of_both before course (λ p. list_schemas ∷ calls_left p.0 p.1) y ys end (Sweeps (sweeping.ListsSchemas (sweep_over names []))) refl (λ p. inr refl) (schemas_go names (before ++ y ∷ []) ys end (Contains-push before y))
+          finds_on of_both before course (λ p. list_schemas ∷ calls_left p.0 p.1) y ys end (Sweeps (sweeping.ListsSchemas (sweep_over names []))) refl (λ p. inr (refl, tt)) (schemas_go names (before ++ y ∷ []) ys end (Contains-push before y))
       by_reply r ys =
           finds_with of_both before course (record { call = list_commits; reply = r }) ys end (goes codec sweeping_job here r) ([], []) (inl refl, inl refl)
-          (follows_ended codec sweeping_job before (of_both ([], [])) (course ([], [])) (list_schemas ∷ []) list_commits r ys end tt tt (inr refl))
+          (follows_ended codec sweeping_job before (of_both ([], [])) (course ([], [])) (list_schemas ∷ []) list_commits r ys end tt tt (inr (refl, tt)))
 
       by_calls : (ys : List Exchange) → Finds of_both before course ys end here
       by_calls [] = finds_none of_both before course end here ([], []) (λ o q. cc) (inl refl, inl refl)

@@ -56,10 +56,10 @@ module _ {F : Type 0} (codec : Codec F) (any : Job) where
             let leases = leases_unlocked seed lane names in
             let y : Exchange = record { call = list_leases; reply = reply.Names names } in (
               leases,
-              follows_removing codec unlocking_job [] (found_leases leases) (list_leases ∷ list_map call.Remove leases) y xs end leases 0 (outcome.Unlocked (length leases)) (well (y ∷ []) leases) refl refl (inr refl)
+              follows_removing codec unlocking_job [] (found_leases leases) (list_leases ∷ list_map call.Remove leases) y xs end leases 0 (outcome.Unlocked (length leases)) (well (y ∷ []) leases) refl refl (inr (refl, tt))
                   (removes_go codec unlocking_job (y ∷ []) (found_leases leases) leases (outcome.Unlocked (length leases)) (well (y ∷ []) leases) (λ n r. tt) xs end 0),
             )
-        by_reply r = ([], follows_ended codec unlocking_job [] (found_leases []) (list_leases ∷ []) [] list_leases r xs end tt tt (inr refl))
+        by_reply r = ([], follows_ended codec unlocking_job [] (found_leases []) (list_leases ∷ []) [] list_leases r xs end tt tt (inr (refl, tt)))
 
   -- ---- a list of the commits
 
@@ -75,6 +75,6 @@ module _ {F : Type 0} (codec : Codec F) (any : Job) where
       by_reply : (r : Reply) → Follows codec listing_job [] (found_leases []) (list_commits ∷ []) (record { call = list_commits; reply = r }) xs end (goes codec listing_job Lists r)
       by_reply (reply.Names names) =
           let y : Exchange = record { call = list_commits; reply = reply.Names names } in
-          follows_over codec listing_job [] (found_leases []) (list_commits ∷ []) [] y xs end (outcome.Listed names) tt (inr refl)
+          follows_over codec listing_job [] (found_leases []) (list_commits ∷ []) [] y xs end (outcome.Listed names) tt (inr (refl, tt))
           (well_ended codec listing_job [] (found_leases []) (list_commits ∷ []) (y ∷ []) (outcome.Listed names) (refl, Contains-push [] y) (refl, ([], inr refl, refl)))
-      by_reply r = follows_ended codec listing_job [] (found_leases []) (list_commits ∷ []) [] list_commits r xs end tt tt (inr refl)
+      by_reply r = follows_ended codec listing_job [] (found_leases []) (list_commits ∷ []) [] list_commits r xs end tt tt (inr (refl, tt))

@@ -12,14 +12,6 @@ use Rattle.ts_store.specs.declared.call.Reply.TheVariants as reply
 
 -- ---- a job that is cut off
 
--- the calls up to one more along a course, and that one
-pub along_last : (looks : Looks) (seen : List Exchange) (course : List Call) (trace : List Exchange) (x : Exchange) (left : List Call) → Along looks seen course (trace ++ x ∷ []) left
-    → (here : List Call) × (rest : List Call) × Along looks seen course trace here × IsNext looks (seen ++ trace) here x.call rest
-along_last looks seen course [] x left (on, (rest, next, more)) = (course, rest, refl, subst (λ t. IsNext looks t course x.call rest) (sym (append-nil seen)) next)
-along_last looks seen course (y ∷ trace) x left (on, (rest, next, more)) =
-    let last = along_last looks (seen ++ y ∷ []) rest trace x left more in
-    (last.0, last.1, (on, (rest, next, last.2)), subst (λ t. IsNext looks t last.0 x.call last.1) (append_assoc seen (y ∷ []) trace) last.3)
-
 -- lists with one last item are one
 pub last_same : (a b : List Exchange) (x y : Exchange) → a ++ x ∷ [] ≡ b ++ y ∷ [] → (a ≡ b) × (x ≡ y)
 last_same [] [] x y e = (refl, cc)
@@ -41,21 +33,21 @@ as_if c = record { call = c; reply = reply.NoMemory }
 abbrev pub Unmade : Looks → List Call → List Exchange → Call → Type 0
 Unmade looks course trace c = (left : List Call) × (rest : List Call) × Along looks [] course trace left × IsNext looks trace left c rest
 
+-- a trace with one more call has some
+pub no_calls : (trace : List Exchange) (x : Exchange) → trace ++ x ∷ [] ≡ [] → ⊥
+no_calls [] x e = cc
+no_calls (y ∷ trace) x e = cc
+
 -- the call that was not made would have come along the course
 pub unmade_of : (looks : Looks) (course : List Call) (trace : List Exchange) (c : Call)
-    → ((left : List Call) × Along looks [] course (trace ++ as_if c ∷ []) left) ⊎ ((last : Exchange) × EndsAt looks [] course (trace ++ as_if c ∷ []) last) → Unmade looks course trace c
-unmade_of looks course trace c (inl h) = along_last looks [] course trace (as_if c) h.0 h.1
+    → (trace ++ as_if c ∷ [] ≡ []) ⊎ ((last : Exchange) × EndsAt looks [] course (trace ++ as_if c ∷ []) last) → Unmade looks course trace c
+unmade_of looks course trace c (inl none) = absurd (no_calls trace (as_if c) none)
 unmade_of looks course trace c (inr (last, at)) =
     let same = last_same trace at.front (as_if c) last at.parts in
     let P : List Exchange → Type 0 = λ t. Along looks [] course t at.left in
     let Q : Exchange → Type 0 = λ x. IsNext looks trace at.left x.call at.rest in
     let R : List Exchange → Type 0 = λ t. IsNext looks t at.left last.call at.rest in
     (at.left, at.rest, subst P (sym same.0) at.along, subst Q (sym same.1) (subst R (sym same.0) at.next))
-
--- a trace with one more call has some
-pub no_calls : (trace : List Exchange) (x : Exchange) → trace ++ x ∷ [] ≡ [] → ⊥
-no_calls [] x e = cc
-no_calls (y ∷ trace) x e = cc
 
 -- what all replies say, those before the last say
 pub found_before : (job : Job) (found : Found) (trace : List Exchange) (x : Exchange) → AreFound job found (trace ++ x ∷ []) → AreFound job found trace

@@ -16,13 +16,12 @@ use Rattle.ts_model.specs.Stages.{first_stage, stage_of}
 use Rattle.ts_model.specs.Stops.{Uncut}
 use Rattle.ts_model.specs.Driven.{AskedFrom, ComesOut, IsDriven}
 use Rattle.ts_model.specs.Driving.{Leaves, RanTo, Ran}
-use Rattle.ts_model.specs.Told.{Suits}
+use Rattle.ts_model.specs.Told.{Told, Suits}
 use Rattle.ts_model.proofs.Driving.{Makes, ran-none, ran-step}
 use Rattle.ts_model.proofs.Asked.{starts_unleased}
 use Rattle.ts_model.proofs.Traces.{stage_from-append}
 use Rattle.ts_law.specs.Doing.{RanOver}
-use Rattle.ts_law.specs.Runs.{exchanges}
-use Rattle.ts_law.proofs.Lanes.{own_exchanges}
+use Rattle.ts_law.proofs.Lanes.{exchanges, own_exchanges}
 
 -- stores that tell what they hold and the journal of their calls, and lists of calls that lead from one to another
 module _ {F : Type 0} (codec : Codec F) {S : Type 0} (held : S → Option Held) (journal : S → List Entry) (leads : S → List Exchange → S → Type 0) (number lane : ℕ) (job : Job)
@@ -54,7 +53,7 @@ module _ {F : Type 0} (codec : Codec F) {S : Type 0} (held : S → Option Held) 
       )
 
 -- a job for which there was no memory made no call
-pub ran-no_call : {F S : Type 0} (codec : Codec F) (held : S → Option Held) (made : S → List Exchange → S → Type 0) (number lane : ℕ) (job : Job) (store : S) (journal : List Entry)
+pub ran-no_call : {F S : Type 0} (codec : Codec F) (held : S → Option Held) (made : S → List Told → S → Type 0) (number lane : ℕ) (job : Job) (store : S) (journal : List Entry)
     → made store [] store → RanOver codec held made number lane job store store journal journal (Done OutOfMemory)
 ran-no_call {F} codec held made number lane job store journal none = record {
   ran = record {

@@ -1,6 +1,6 @@
 -- The calls of jobs that come one after the other in a lane.
 use Rattle.std.proofs.Common.{◌≡◌, ℕ, cond, inl, inr, List, [], ◌∷◌, ◌++◌, Option, Some, None, refl, sym, ◌∙◌, ap, subst, arith}
-use Rattle.std.specs.Prelude.{All, Contains, slice_get}
+use Rattle.std.specs.Prelude.{All, Contains, slice_get, map as list_map}
 use Rattle.std.specs.List.{cons_option}
 use Rattle.std.proofs.lemmas.Bool.{cases_eq}
 use Rattle.std.proofs.lemmas.List.{length_push}
@@ -18,7 +18,6 @@ use Rattle.ts_model.proofs.Asked.{asked-push}
 use Rattle.ts_model.proofs.ListLemmas.{Contains-here, Contains-there, slice_get_push}
 use Rattle.ts_model.proofs.Traces.{exchange_of_own, exchange_of_other, trace_of-own, trace_of-other}
 use Rattle.ts_law.specs.Lanes.{lane_by, one_lane, own_lane, IsBefore, IsWithin, InTurn, AreInLanes}
-use Rattle.ts_law.specs.Runs.{exchanges}
 use Rattle.ts_law.specs.Sweeps.{IsNoSweep}
 use Rattle.ts_model.specs.declared.commands.Command.TheVariants.{Vacuum}
 
@@ -49,6 +48,10 @@ none_made number (e ∷ told) none =
 pub none_by : (number other : ℕ) (own : List Told) → AreBy number own → (number ≡ other → ⊥) → trace_of other own ≡ []
 none_by number other own by_it apart =
     none_made other own (All-weaker (λ e. e.job ≡ Some number) (λ e. e.job ≡ Some other → ⊥) (λ e mine others. apart (same_Some number other (sym mine ∙ others))) own by_it)
+
+-- the calls with their replies, whoever made them
+abbrev pub exchanges : List Told → List Exchange
+exchanges told = list_map (λ e. record { call = e.call; reply = e.reply }) told
 
 -- the trace of a job in its own calls has all of them
 pub own_exchanges : (number : ℕ) (own : List Told) → AreBy number own → exchanges own ≡ trace_of number own

@@ -2,7 +2,7 @@
 use Rattle.std.proofs.Common.{◌≡◌, ℕ, inl, inr, List, [], ◌∷◌, ◌++◌, Option, Some, None, refl, sym, ◌∙◌, ap, subst, append_assoc, append-nil, arith, length, Bool, All}
 use Rattle.std.specs.Prelude.{IfSome, slice_get}
 use Rattle.std.proofs.lemmas.Option.{same_Some, none-some, slice_get_within}
-use Rattle.std.proofs.lemmas.List.{length_push, map-append}
+use Rattle.std.proofs.lemmas.List.{length_push}
 use Rattle.std.proofs.lemmas.List.Elements.{All-nil, All-append, All-contains, All-weaker, filter_map-append}
 use Rattle.ts_base.specs.Held.{Held}
 use Rattle.ts_store.specs.declared.journal.Entry.{Entry}
@@ -11,7 +11,6 @@ use Rattle.ts_model.specs.declared.commands.Line.{Line}
 use Rattle.ts_model.specs.declared.answers.Driven.{Driven}
 use Rattle.ts_model.specs.declared.answers.Outcome.{Outcome}
 use Rattle.ts_model.specs.Codecs.{Codec}
-use Rattle.ts_model.specs.States.{Exchange}
 use Rattle.ts_model.specs.Told.{Told, trace_of, Suits, Replied, after_told, held_told, entry_of, entries_of}
 use Rattle.ts_model.specs.Driven.{IsDriven}
 use Rattle.ts_model.specs.Driving.{Leaves}
@@ -20,7 +19,7 @@ use Rattle.ts_model.proofs.Traces.{held_told-append, trace_of-append}
 use Rattle.ts_law.specs.Doing.{RanOver, AllRan}
 use Rattle.ts_law.specs.Fresh.{Numbered, IsStampOf, IsJobOf, AreJobsOf, job_from, id_of}
 use Rattle.ts_law.specs.Lanes.{lane_by, one_lane, IsOwned, IsWithin, IsBefore}
-use Rattle.ts_law.specs.Runs.{exchanges, AreDriven}
+use Rattle.ts_law.specs.Runs.{AreDriven}
 use Rattle.ts_law.proofs.Lanes.{AreBy, none_made, none_by, own_entries, in_turn-append, own_in_turn}
 
 -- calls that are made where others left off are replied to
@@ -80,8 +79,8 @@ driven-push {F} codec jobs results told own number job result all within last by
         (subst (λ t. IsDriven codec job t result) (sym (trace_of-append number told own ∙ ap (λ t. t ++ trace_of number own) none)) driven)))
 
 -- a job that was done after the others
-pub ran-one_more : {F S : Type 0} (codec : Codec F) (held : S → Option Held) (made : S → List Exchange → S → Type 0)
-    → ((a b c : S) (xs ys : List Exchange) → made a xs b → made b ys c → made a (xs ++ ys) c)
+pub ran-one_more : {F S : Type 0} (codec : Codec F) (held : S → Option Held) (made : S → List Told → S → Type 0)
+    → ((a b c : S) (xs ys : List Told) → made a xs b → made b ys c → made a (xs ++ ys) c)
     → (lanes : ℕ → ℕ) (jobs : List Job) (first now later : S) (before journal after_ : List Entry) (results : List (Driven Outcome)) (number : ℕ) (job : Job) (result : Driven Outcome)
     → AllRan codec held made lanes jobs first now before journal results → number ≡ length jobs → RanOver codec held made number (lanes number) job now later journal after_ result
     → AllRan codec held made lanes (jobs ++ job ∷ []) first later before after_ (results ++ result ∷ [])
@@ -99,7 +98,7 @@ ran-one_more codec held made joins lanes jobs first now later before journal aft
           (λ d at. All-weaker (λ e. e.job ≡ Some number) (IsBefore one_lane d)
           (λ e mine i j di ej same. let less = All-contains (IsWithin jobs) all.told d all.within at i di in let last = same_Some number j (sym mine ∙ ej) in omega (arith, less, last, is)) ran.told own);
       suit = All-append Suits all.told ran.told all.suit ran.calls.suit;
-      made_of = subst (λ xs. made first xs later) (sym (map-append (λ (e : Told). record { call = e.call; reply = e.reply }) all.told ran.told)) (joins first now later (exchanges all.told) (exchanges ran.told) all.made_of over.made_of);
+      made_of = joins first now later all.told ran.told all.made_of over.made_of;
       entries =
           ran.calls.entries ∙ ap (λ es. journal ++ es) (own_entries lanes number ran.told own)
           ∙ ap (λ es. es ++ entries_of (lane_by lanes) ran.told) all.entries ∙ append_assoc before (entries_of (lane_by lanes) all.told) (entries_of (lane_by lanes) ran.told)
@@ -109,7 +108,7 @@ ran-one_more codec held made joins lanes jobs first now later before journal aft
     }
 
 -- no job was done yet
-pub ran-no_job : {F S : Type 0} (codec : Codec F) (held : S → Option Held) (made : S → List Exchange → S → Type 0) (lanes : ℕ → ℕ) (store : S) (journal : List Entry)
+pub ran-no_job : {F S : Type 0} (codec : Codec F) (held : S → Option Held) (made : S → List Told → S → Type 0) (lanes : ℕ → ℕ) (store : S) (journal : List Entry)
     → made store [] store → AllRan codec held made lanes [] store store journal journal []
 ran-no_job codec held made lanes store journal none = record {
   told = [];

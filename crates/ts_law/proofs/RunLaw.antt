@@ -9,7 +9,6 @@ use Rattle.ts_model.specs.declared.commands.Job.{Job}
 use Rattle.ts_model.specs.declared.answers.Driven.{Driven}
 use Rattle.ts_model.specs.declared.answers.Outcome.{Outcome}
 use Rattle.ts_model.specs.Codecs.{Codec, Spelled, Tracking, CodecLaws}
-use Rattle.ts_model.specs.States.{Exchange}
 use Rattle.ts_model.specs.Stages.{first_stage}
 use Rattle.ts_model.specs.Told.{Told, trace_of}
 use Rattle.ts_model.specs.Driven.{AskedFrom}
@@ -34,7 +33,7 @@ asked_by codec jobs results told all number job at =
 
 -- ---- a run
 
-module _ {F S : Type 0} (codec : Codec F) (held : S → Option Held) (made : S → List Exchange → S → Type 0) (gives : ℕ → Bool) (seed : ℕ) (items : List Numbered) (lanes : ℕ → ℕ) (jobs : List Job) (store later : S) (journal : List Entry) (results : List (Driven Outcome))
+module _ {F S : Type 0} (codec : Codec F) (held : S → Option Held) (made : S → List Told → S → Type 0) (gives : ℕ → Bool) (seed : ℕ) (items : List Numbered) (lanes : ℕ → ℕ) (jobs : List Job) (store later : S) (journal : List Entry) (results : List (Driven Outcome))
     (are : AreJobsOf gives seed items jobs) (order : AreInOrder items) (ran : AllRan codec held made lanes jobs store later [] journal results) where
   module _ (spelled : Spelled) (tracks : Tracking F) (laws : CodecLaws codec spelled tracks) where
     -- over a store that told what it held, the jobs are a run of it

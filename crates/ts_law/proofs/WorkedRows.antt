@@ -2,7 +2,7 @@
 use Rattle.std.proofs.Common.{Ok, Err, inl, inr, ap, ◌∙◌, arith, ◌≡◌, ℕ, ℤ, Bool, ◌+◌, ◌*◌, ◌^◌, true, false, List, [], ◌∷◌, ◌++◌, Option, Some, None, refl, sym}
 use Rattle.std.specs.Prelude.{pos, map}
 use Rattle.std.proofs.lemmas.Bool.{true≢false}
-use Rattle.std.proofs.lemmas.Option.{same_Some}
+use Rattle.std.proofs.lemmas.Option.{none-some, same_Some}
 use Rattle.ts_base.specs.Held.{Held}
 use Rattle.ts_base.specs.declared.keys.FragKey.{FragKey}
 use Rattle.ts_model.specs.Jobs.{frag_of_job}
@@ -15,7 +15,7 @@ use Rattle.ts_store.specs.Journals.{entry}
 use Rattle.ts_model.specs.Codecs.{Codec}
 use Rattle.ts_model.proofs.ListLemmas.{Contains-here, Contains-only}
 use Rattle.ts_law.specs.Histories.{found_by, deed_entered, history_of}
-use Rattle.ts_law.specs.Courses.{Found, IsLookedInto, IsLookOf, course_by}
+use Rattle.ts_law.specs.Courses.{Found, IsLookedInto, IsLookOf, RunsShort, course_by}
 use Rattle.ts_base.specs.declared.heads.Cell.{Cell}
 use Rattle.ts_base.specs.declared.heads.Stop.TheVariants.{Never, Calls}
 use Rattle.ts_base.specs.declared.values.Val.{Val}
@@ -479,6 +479,31 @@ unlock_course codec job found = refl
 -- it may look at no object
 unlock_looks_not : {F : Type 0} (codec : Codec F) (job : Job) (found : Found) (trace : List Exchange) (c : Call) → IsLookOf codec (record job { command = Unlock 9 3 }) found trace c → ⊥
 unlock_looks_not codec job found trace c look = look
+
+-- ---- where a job may be out of memory
+
+-- the write is not so once its commit was put
+whole_write : RunsShort a_write (call.Put (commit_of a_write) []) reply.Made [] → ⊥
+whole_write left = left refl
+
+-- nor where the put of its commit failed
+failed_write : RunsShort a_write (call.Put (commit_of a_write) []) reply.Failed [] → ⊥
+failed_write left = left refl
+
+-- it may be so after a put before that of its commit, and where the store had no memory for that
+part_write : (n : Name) (bytes : List ℕ) → RunsShort a_write (call.Put n bytes) reply.Made (call.Put (commit_of a_write) [] ∷ [])
+part_write n bytes e = cc
+
+no_room_write : RunsShort a_write (call.Put (commit_of a_write) []) reply.NoMemory []
+no_room_write = tt
+
+-- an unlock is not so after a removal, whatever is left
+part_unlock : (job : Job) (n : Name) (left : List Call) → RunsShort (record job { command = Unlock 9 3 }) (call.Remove n) reply.Removed left → ⊥
+part_unlock job n left (lease, own, more, is) = none-some lease own
+
+-- a read may be so after its last listing
+listed_read : (job : Job) → RunsShort job list_schemas (reply.Names []) []
+listed_read job = tt
 
 -- ---- what a job may look at
 

@@ -521,10 +521,25 @@ IsCause codec job found trace last r = IsGot job found trace × (refused_in foun
 
 -- ---- ends
 
--- how the calls may end where `course` is a job's course: well, at the end of the course; refused; or out of memory, which may come anywhere
+-- the next call of what is left of a course removes the lease of the job
+abbrev pub ReleasesNext : Job → List Call → Type 0
+ReleasesNext job left = (lease : Name) × (lease_of job ≡ Some lease) × (more : List Call) × (left ≡ call.Remove lease ∷ more)
+
+-- after a call with its reply a job may be out of memory, where `left` is left of its course
+-- So it may be after a look or a listing, and after a put where more is left. Where the store had no memory for the call it is.
+-- After a removal it may be only where the next one is that of its own lease, which then was listed among the parts that it removes.
+abbrev pub RunsShort : Job → Call → Reply → List Call → Type 0
+RunsShort job (call.Put n bytes) reply.Made left = left ≢ []
+RunsShort job (call.Put n bytes) reply.Taken left = left ≢ []
+RunsShort job (call.Put n bytes) reply.Failed left = left ≢ []
+RunsShort job (call.Remove n) reply.Removed left = ReleasesNext job left
+RunsShort job (call.Remove n) reply.Failed left = ⊥
+RunsShort job c r left = ⊤
+
+-- how the calls may end where `course` is a job's course: well, at the end of the course; refused; or out of memory, before its first call or where a call may leave it so
 abbrev pub EndsAlong : {F : Type 0} → Codec F → Job → Found → List Call → List Exchange → Outcome → Type 0
 EndsAlong codec job found course trace (outcome.Refused r) = (last : Exchange) × EndsAt (IsLookOf codec job found) [] course trace last × IsCause codec job found trace last r
-EndsAlong codec job found course trace outcome.OutOfMemory = ((left : List Call) × Along (IsLookOf codec job found) [] course trace left) ⊎ ((last : Exchange) × EndsAt (IsLookOf codec job found) [] course trace last)
+EndsAlong codec job found course trace outcome.OutOfMemory = (trace ≡ []) ⊎ ((last : Exchange) × (at : EndsAt (IsLookOf codec job found) [] course trace last) × RunsShort job last.call last.reply at.rest)
 EndsAlong codec job found course trace outcome.Created = Along (IsLookOf codec job found) [] course trace [] × ((f : FrameIn) × (job.command ≡ Create f))
 EndsAlong codec job found course trace (outcome.Evolved k) = Along (IsLookOf codec job found) [] course trace [] × ((change : Evolution) × (job.command ≡ Evolve change)) × (k ≡ key_of job) × IsGot job found trace × (refused_in found job.command ≡ None)
 EndsAlong codec job found course trace (outcome.Written f) = Along (IsLookOf codec job found) [] course trace [] × ((w : WriteIn) × (job.command ≡ Write w)) × (f ≡ frag_of_job job) × IsGot job found trace × (refused_in found job.command ≡ None)

@@ -1,5 +1,5 @@
 -- Runs: what the jobs of some lanes did, those of a lane one after the other.
-use Rattle.std.specs.Prelude.{◌≡◌, ℕ, List, ◌++◌, Option, Some, length, slice_get, IfSome, All, map as list_map}
+use Rattle.std.specs.Prelude.{◌≡◌, ℕ, List, ◌++◌, Option, Some, length, slice_get, IfSome, All}
 use Rattle.ts_store.specs.declared.journal.Entry.{Entry}
 use Rattle.ts_model.specs.declared.commands.Job.{Job}
 use Rattle.ts_model.specs.declared.answers.Outcome.{Outcome}
@@ -8,7 +8,6 @@ use Rattle.ts_base.specs.Held.{Held}
 use Rattle.ts_store.specs.Journals.{held_after}
 use Rattle.ts_model.specs.declared.answers.Driven.TheVariants.{Done}
 use Rattle.ts_model.specs.Driven.{IsDriven}
-use Rattle.ts_model.specs.States.{Exchange}
 use Rattle.ts_model.specs.Told.{Told, trace_of, Suits, Replied, entries_of, held_told, history_told}
 use Rattle.ts_law.specs.Fresh.{IsFreshSeed}
 use Rattle.ts_law.specs.Lanes.{lane_by, IsOwned, AreInLanes}
@@ -25,10 +24,6 @@ use Rattle.ts_model.specs.declared.answers.Refusal.{Refusal}
 use Rattle.ts_model.specs.Deeds.{History}
 use Rattle.ts_law.specs.Courses.{IsSegment}
 use Rattle.ts_model.specs.declared.answers.Outcome.TheVariants as outcome
-
--- the calls with their replies, whoever made them
-abbrev pub exchanges : List Told → List Exchange
-exchanges told = list_map (λ e. record { call = e.call; reply = e.reply }) told
 
 -- each job was driven by its own calls, to its end or to its stop
 pub record AreDriven {F : Type 0} (codec : Codec F) (jobs : List Job) (results : List (Driven Outcome)) (told : List Told) : Type 0 where
@@ -63,14 +58,14 @@ pub record IsRunOver (spelled : Spelled) (seed : ℕ) (lanes : ℕ → ℕ) (job
   -- where the objects stand for a history that the seed is fresh over, the run is true of it
   pub true_run : (h : History) → Stands spelled m h → IsFreshSeed m h seed → IsTrueRun spelled lanes jobs h m told results
 
--- the jobs ran in these lanes over a store, made the entries of the journal, and came out so; `held` is what a store holds, where it tells that, and `made` says that just these calls were made of it
-pub record IsRun {F S : Type 0} (codec : Codec F) (spelled : Spelled) (held : S → Option Held) (made : S → List Exchange → S → Type 0) (seed : ℕ) (lanes : ℕ → ℕ) (jobs : List Job) (store later : S) (journal : List Entry) (results : List (Driven Outcome)) : Type 0 where
+-- the jobs ran in these lanes over a store, made the entries of the journal, and came out so; `held` is what a store holds, where it tells that, and `made` says that just these calls were made of it, with these fates
+pub record IsRun {F S : Type 0} (codec : Codec F) (spelled : Spelled) (held : S → Option Held) (made : S → List Told → S → Type 0) (seed : ℕ) (lanes : ℕ → ℕ) (jobs : List Job) (store later : S) (journal : List Entry) (results : List (Driven Outcome)) : Type 0 where
   pub told : List Told
   -- each call is one that a job made
   pub owned : All IsOwned told
-  -- just these calls were made of the store
-  pub calls : made store (exchanges told) later
-  -- the journal has them, but for those that found no memory
+  -- just these calls were made of the store, and the fate that is told of each is the one that the store has for it
+  pub calls : made store told later
+  -- the journal has them with these fates, but for those that found no memory
   pub entries : entries_of (lane_by lanes) told ≡ journal
   -- each reply suits its call: it tells of a failure just where the journal does
   pub suit : All Suits told

@@ -10,7 +10,7 @@ use Rattle.ts_model.specs.declared.answers.Driven.{Driven}
 use Rattle.ts_model.specs.declared.answers.Driven.TheVariants.{Done, Stopped}
 use Rattle.ts_model.specs.declared.answers.Outcome.{Outcome}
 use Rattle.ts_model.specs.declared.answers.Outcome.TheVariants.{Created, Evolved, Written, Deleted, Read, Consolidated, Vacuumed, Unlocked, Listed, Refused, OutOfMemory as NoMemory}
-use Rattle.ts_model.specs.States.{Exchange}
+use Rattle.ts_model.specs.Told.{Told}
 use Rattle.ts_top.specs.declared.top.Stop.TheVariants.{Usage, BadScript, ReadFault, OutOfMemory}
 use Rattle.ts_script.specs.declared.words.Asked.{Asked}
 use Rattle.ts_script.specs.declared.words.Asked.TheVariants.{Play, Object, Command as Alone, Generate}
@@ -97,7 +97,7 @@ prints_status out text report results status (whole is unhurt all) = elim (print
 prints_status out text report results status (sink_failed is rose front) = inr (inl is)
 prints_status out text report results status (no_text is nothing) = inr (inr (inr is))
 
-module _ {S : Type 0} (held : S → Option Held) (made : S → List Exchange → S → Type 0) where
+module _ {S : Type 0} (held : S → Option Held) (made : S → List Told → S → Type 0) where
   -- the status of a run that did its commands
   played_status : (seen : Seen S) (report : Report) (lines : List Line) → Plays held made seen report lines → IsEnding seen.status
   played_status seen report lines (ended ends performed printed) = prints_status seen.out _ report ends seen.status printed

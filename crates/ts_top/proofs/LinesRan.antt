@@ -10,7 +10,7 @@ use Rattle.ts_model.specs.declared.commands.Line.{Line}
 use Rattle.ts_model.specs.declared.answers.Driven.{Driven}
 use Rattle.ts_model.specs.declared.answers.Outcome.{Outcome}
 use Rattle.ts_model.specs.Jobs.{IsFitLine}
-use Rattle.ts_model.specs.States.{Exchange}
+use Rattle.ts_model.specs.Told.{Told}
 use Rattle.ts_law.specs.Doing.{RanOver}
 use Rattle.ts_law.specs.Fresh.{Numbered, id_of, in_lane_order, job_from, lane_of, lanes_of}
 use Rattle.ts_law.proofs.LineJobs.{among_lines}
@@ -33,7 +33,7 @@ numbered_at [] i d within = absurd (omega (arith, within))
 numbered_at (x ∷ items) zero d within = refl
 numbered_at (x ∷ items) (suc i) d within = numbered_at items i d (omega (arith, within))
 
-module _ {S : Type 0} (held : S → Option Held) (made : S → List Exchange → S → Type 0) (joins : (a b c : S) (xs ys : List Exchange) → made a xs b → made b ys c → made a (xs ++ ys) c)
+module _ {S : Type 0} (held : S → Option Held) (made : S → List Told → S → Type 0) (joins : (a b c : S) (xs ys : List Told) → made a xs b → made b ys c → made a (xs ++ ys) c)
     (gives : ℕ → Bool) (seed : ℕ) (lanes : ℕ → ℕ) where
   -- no line is done yet
   pub ran-no_line : (store : S) (journal : List Entry) → made store [] store → RanLines held made gives seed lanes [] store store journal journal []

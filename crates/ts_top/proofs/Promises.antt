@@ -65,7 +65,7 @@ use Rattle.ts_law.specs.Lanes.{lane_by, one_lane, IsOwned, IsWithin, IsBefore, I
 use Rattle.ts_law.specs.Courses.{IsSegment}
 use Rattle.ts_law.specs.Sweeps.{IsNoSweep}
 use Rattle.ts_law.specs.Kept.{HeldSince}
-use Rattle.ts_law.specs.Runs.{AreDriven, AreSegments, exchanges, IsRunOver, IsTrueRun}
+use Rattle.ts_law.specs.Runs.{AreDriven, AreSegments, IsRunOver, IsTrueRun}
 use Rattle.ts_law.proofs.TrueOver.{true_end_of}
 use Rattle.ts_law.specs.Stands.{IsNoLease, Stands}
 use Rattle.ts_law.proofs.FirstStands.{nothing_stands, fresh_over_nothing}
@@ -491,18 +491,13 @@ no_trace number [] none = refl
 no_trace number (e ∷ told) none =
     ap (λ o. cons_option o (trace_of number told)) (exchange_of_other number e (none e (Contains-here e told))) ∙ no_trace number told (λ x at. none x (Contains-there e told x at))
 
--- where no exchange was made, nothing was told
-none_made : (told : List Told) → exchanges told ≡ [] → told ≡ []
-none_made [] is = refl
-none_made (e ∷ told) is = absurd (let none : suc (length (exchanges told)) ≡ 0 = ap length is in omega (arith, none))
-
 -- a job may have run short before its first call
 short_driven : (job : Job) → IsDriven run_codec job [] (Done outcome.OutOfMemory)
 short_driven job =
     let nowhere : ℕ → Option Held = λ n. None in
-    let nothing : ℕ → List Exchange → ℕ → Type 0 = λ n xs k. xs ≡ [] in
+    let nothing : ℕ → List Told → ℕ → Type 0 = λ n told k. told ≡ [] in
     let short = ran-no_call run_codec nowhere nothing 0 0 job 0 [] refl in
-    subst (λ t. IsDriven run_codec job t (Done outcome.OutOfMemory)) (ap (trace_of 0) (none_made short.ran.told short.made_of)) short.ran.driven
+    subst (λ t. IsDriven run_codec job t (Done outcome.OutOfMemory)) (ap (trace_of 0) short.made_of) short.ran.driven
 
 -- calls in turn, cut at the first one of a job from a number on
 pub cut : (n : ℕ) (told : List Told) → All IsOwned told → InTurn one_lane told → (a : List Told) × (b : List Told) × (told ≡ a ++ b) × Early n a × Late n b
@@ -766,7 +761,7 @@ whole_front old later text all = (text, [], sym (append-nil text), all)
 none_front : (old later : Option (List ℕ)) (text : List ℕ) → Appends old later [] → AppendsFront old later text
 none_front old later text nothing = ([], text, refl, nothing)
 
-module _ {S : Type 0} (held : S → Option Held) (made : S → List Exchange → S → Type 0) (seen : Seen S) (lines : List Line) (results : List (Driven Outcome)) (performed : Performed held made seen lines results) where
+module _ {S : Type 0} (held : S → Option Held) (made : S → List Told → S → Type 0) (seen : Seen S) (lines : List Line) (results : List (Driven Outcome)) (performed : Performed held made seen lines results) where
   -- the lines in lane order
   abbrev items : List Numbered
   items = in_lane_order lines
@@ -822,7 +817,7 @@ module _ {S : Type 0} (held : S → Option Held) (made : S → List Exchange →
 
 -- ---- every run
 
-module _ {S : Type 0} (held : S → Option Held) (made : S → List Exchange → S → Type 0) (seen : Seen S) where
+module _ {S : Type 0} (held : S → Option Held) (made : S → List Told → S → Type 0) (seen : Seen S) where
   -- a run that stopped before its first command had another status, and made no call
   not_begun : (stop : Stop) → HasStopped seen stop → Began seen → ⊥
   not_begun stop h (inr (inr (inr called))) = called h.journal

@@ -13,7 +13,7 @@ use Rattle.ts_model.specs.declared.answers.Outcome.{Outcome}
 use Rattle.ts_model.specs.declared.commands.Job.{Job}
 use Rattle.ts_model.specs.Codecs.{Codec, Spelled, Tracking}
 use Rattle.ts_model.specs.Gets.{MostGets}
-use Rattle.ts_model.specs.States.{Exchange}
+use Rattle.ts_model.specs.Told.{Told}
 use Rattle.ts_law.specs.Doing.{AllRan, RanOver}
 use Rattle.ts_law.specs.Fresh.{AreJobsOf, IsStampOf, Numbered, id_of, job_from}
 use Rattle.ts_plain.specs.Pieces.{IsPlain}
@@ -29,9 +29,9 @@ use Rattle.ts_sparse_read.specs.Codecs.{sparse_codec, sparse_gets, SparseTracks,
 abbrev pub KeepsCount : ℕ → ℕ → List Entry → List Entry → Type 0
 KeepsCount before now journal longer = (base : ℕ) → capped (base + failures journal) ≤ before → capped (base + failures longer) ≤ now
 
--- just these calls were made of a store, but for such as found no memory; the store's own members say what each did
-abbrev pub JustMade : {S : Type 0} → (S → Option Held) → (S → Fate) → (S → ℕ) → (S → Call → Reply → S → Type 0) → S → List Exchange → S → Type 0
-JustMade held last faults notes before calls later = MadeOf (Exchanged held last faults notes) before calls later
+-- just these calls were made of a store, but for such as found no memory; the store's own members say what each did, and the fate that is told of it is the store's own
+abbrev pub JustMade : {S : Type 0} → (S → Option Held) → (S → Fate) → (S → ℕ) → (S → Call → Reply → S → Type 0) → S → List Told → S → Type 0
+JustMade held last faults notes before told later = MadeOf last (Exchanged held last faults notes) before told later
 
 -- how far a fetch of the program has come: in a dense array it found all versions at once, in a sparse one it goes through the tiles of its plan
 abbrev pub RunFetch : Type 0
@@ -54,13 +54,13 @@ abbrev pub run_most : MostGets
 run_most = either_most (λ _ _ _ _. 0) sparse_gets
 
 -- the command of a line was done, as a job of it in its lane, at a stamp of the line
-pub record RanLine {S : Type 0} (held : S → Option Held) (made : S → List Exchange → S → Type 0) (gives : ℕ → Bool) (seed : ℕ) (item : Numbered) (store later : S) (before after : List Entry) (result : Driven Outcome) : Type 0 where
+pub record RanLine {S : Type 0} (held : S → Option Held) (made : S → List Told → S → Type 0) (gives : ℕ → Bool) (seed : ℕ) (item : Numbered) (store later : S) (before after : List Entry) (result : Driven Outcome) : Type 0 where
   pub at : ℕ
   pub stamp : IsStampOf gives item.line at
   pub ran : (number : ℕ) → RanOver run_codec held made number item.line.lane (job_from (id_of seed item.line.lane item.number) item.line at) store later before after result
 
 -- the commands of lines, whose jobs have these lanes, were done one after the other
-pub record RanLines {S : Type 0} (held : S → Option Held) (made : S → List Exchange → S → Type 0) (gives : ℕ → Bool) (seed : ℕ) (lanes : ℕ → ℕ) (items : List Numbered) (store later : S) (before after : List Entry) (results : List (Driven Outcome)) : Type 0 where
+pub record RanLines {S : Type 0} (held : S → Option Held) (made : S → List Told → S → Type 0) (gives : ℕ → Bool) (seed : ℕ) (lanes : ℕ → ℕ) (items : List Numbered) (store later : S) (before after : List Entry) (results : List (Driven Outcome)) : Type 0 where
   pub jobs : List Job
   pub of_lines : AreJobsOf gives seed items jobs
   pub ran : AllRan run_codec held made lanes jobs store later before after results

@@ -10,7 +10,7 @@ use Rattle.ts_model.specs.declared.answers.Driven.{Driven}
 use Rattle.ts_model.specs.declared.answers.Outcome.{Outcome}
 use Rattle.ts_model.specs.declared.commands.Job.{Job}
 use Rattle.ts_model.specs.Deeds.{History}
-use Rattle.ts_model.specs.States.{Exchange}
+use Rattle.ts_model.specs.Told.{Told}
 use Rattle.ts_law.specs.Bounds.{ReadsFew}
 use Rattle.ts_law.specs.Fresh.{AreJobsOf, IsFreshSeed, in_lane_order, lanes_of}
 use Rattle.ts_law.specs.Lanes.{InTurn, one_lane}
@@ -145,10 +145,10 @@ pub data PrintsEnds (out : Stream) (text : List ℕ) (printed status : ℕ) : Ty
   sink_failed : status ≡ 5 → Rose out.before out.now → AppendsFront out.old out.new text → PrintsEnds out text printed status
   no_text : status ≡ 7 → Appends out.old out.new [] → PrintsEnds out text printed status
 
--- below `held` is what a store holds, where it tells that, and `made` that just these calls were made of it
+-- below `held` is what a store holds, where it tells that, and `made` that just these calls were made of it, with these fates
 
 -- the commands were done one after the other in lane order, each as a job of its line: the journal and how they came out are a run of these, each in its lane
-pub record Performed {S : Type 0} (held : S → Option Held) (made : S → List Exchange → S → Type 0) (seen : Seen S) (lines : List Line) (results : List (Driven Outcome)) : Type 0 where
+pub record Performed {S : Type 0} (held : S → Option Held) (made : S → List Told → S → Type 0) (seen : Seen S) (lines : List Line) (results : List (Driven Outcome)) : Type 0 where
   pub jobs : List Job
   pub of_lines : AreJobsOf seen.gives seen.seed (in_lane_order lines) jobs
   pub run : IsRun run_codec run_spelled held made seen.seed (lanes_of (in_lane_order lines)) jobs seen.store seen.later seen.journal results
@@ -157,29 +157,29 @@ pub record Performed {S : Type 0} (held : S → Option Held) (made : S → List 
   pub few_gets : IfSome (held seen.store) (λ m. (h : History) → Stands run_spelled m h → IsFreshSeed m h seen.seed → ReadsFew run_spelled run_most jobs h m run.told)
 
 -- the commands were done and their ends printed, or there was no memory to begin with them
-pub data Plays {S : Type 0} (held : S → Option Held) (made : S → List Exchange → S → Type 0) (seen : Seen S) (report : Report) (lines : List Line) : Type 0 where
+pub data Plays {S : Type 0} (held : S → Option Held) (made : S → List Told → S → Type 0) (seen : Seen S) (report : Report) (lines : List Line) : Type 0 where
   ended : (results : List (Driven Outcome)) → Performed held made seen lines results → PrintsEnds seen.out (report_text report (in_lane_order lines) results) (status_printed report results) seen.status → Plays held made seen report lines
   ran_short : seen.status ≡ 7 → seen.journal ≡ [] → seen.later ≡ seen.store → Appends seen.out.old seen.out.new [] → Plays held made seen report lines
 
 -- the run had its lines, and did their commands or found no memory to begin
-pub record Played {S : Type 0} (held : S → Option Held) (made : S → List Exchange → S → Type 0) (seen : Seen S) (job : Asked) (lines : List Line) : Type 0 where
+pub record Played {S : Type 0} (held : S → Option Held) (made : S → List Told → S → Type 0) (seen : Seen S) (job : Asked) (lines : List Line) : Type 0 where
   pub read : IsRead seen.words seen.input job lines
   pub plays : Plays held made seen (report_of job) lines
 
 -- what a run may be
-pub data IsRunOf {S : Type 0} (held : S → Option Held) (made : S → List Exchange → S → Type 0) (seen : Seen S) : Type 0 where
+pub data IsRunOf {S : Type 0} (held : S → Option Held) (made : S → List Told → S → Type 0) (seen : Seen S) : Type 0 where
   stopped : (stop : Stop) → Stopped seen stop → IsRunOf held made seen
   played : (job : Asked) (lines : List Line) → Played held made seen job lines → IsRunOf held made seen
 
 -- the commands came out so that one of them counts as refused, and its line was printed: the single command, or the first of a generated script
-pub record EndsRefused {S : Type 0} (held : S → Option Held) (made : S → List Exchange → S → Type 0) (seen : Seen S) (report : Report) (lines : List Line) : Type 0 where
+pub record EndsRefused {S : Type 0} (held : S → Option Held) (made : S → List Told → S → Type 0) (seen : Seen S) (report : Report) (lines : List Line) : Type 0 where
   pub results : List (Driven Outcome)
   pub performed : Performed held made seen lines results
   pub refused : status_printed report results ≡ 6
   pub printed : Appends seen.out.old seen.out.new (report_text report (in_lane_order lines) results)
 
 -- a single command or a generated script was asked for; a command was refused, and its line was printed
-pub record WasRefused {S : Type 0} (held : S → Option Held) (made : S → List Exchange → S → Type 0) (seen : Seen S) : Type 0 where
+pub record WasRefused {S : Type 0} (held : S → Option Held) (made : S → List Told → S → Type 0) (seen : Seen S) : Type 0 where
   pub job : Asked
   pub lines : List Line
   pub read : IsRead seen.words seen.input job lines

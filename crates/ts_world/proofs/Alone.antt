@@ -19,10 +19,10 @@ use Rattle.ts_model.specs.States.{Exchange}
 use Rattle.ts_model.specs.Told.{Told, held_told}
 use Rattle.ts_model.proofs.Driving.{Makes}
 use Rattle.ts_law.specs.Fresh.{IsNewId}
-use Rattle.ts_law.specs.Runs.{exchanges}
 use Rattle.ts_law.specs.Stands.{Stands}
 use Rattle.ts_law.proofs.Alone.{IsTrueAlone, true_alone}
 use Rattle.ts_law.proofs.Doing.{ran-told}
+use Rattle.ts_law.proofs.Lanes.{exchanges}
 use Rattle.ts_actor.specs.Drives.{Exchanged, MadeInTurn, AreAsked, EndsAs, Drove}
 use Rattle.ts_actor.proofs.JobRuns.{job_ends, asked_by, comes_out}
 use Rattle.ts_commands.specs.declared.actors.AnyActor.{AnyActor}
