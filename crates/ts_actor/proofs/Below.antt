@@ -17,7 +17,7 @@ module _ {S : Type 0} (held : S → Option Held) (last : S → Fate) (faults ask
   CalledAbove = Exchanged (λ r. held r.store) (λ r. r.book.last) (λ r. faults r.store) (WasMade (λ (r : Recorder S). r.book.asked) (λ (before : Recorder S) call said now. Recorded faults asked last notes before now call said))
 
   -- the store below made it, and has the fate for it that the store above tells, unless there was no memory
-  pub made_below : (a b : Recorder S) (e : Told) → CalledAbove a (record { call = e.call; reply = e.reply }) b → e.fate ≡ b.book.last → MayBeMade last (Exchanged held last faults notes) a.store e b.store
+  pub made_below : (a b : Recorder S) (e : Told) → CalledAbove a (record { call = e.call; reply = e.reply }) b → e.fate ≡ b.book.last → MayBeMade last (Exchanged held last faults (WasMade asked notes)) a.store e b.store
   made_below a b e called fate_is = elim (called.noted.0.noted) [
     | inl unmade ↦ inr unmade
     | inr made ↦
@@ -28,7 +28,7 @@ module _ {S : Type 0} (held : S → Option Held) (last : S → Fate) (faults ask
             spelled = called.spelled;
             answers = subst (λ fate. Answers (held a.store) (held b.store) fate e.call e.reply) made.1 called.answers;
             cause = called.cause;
-            noted = made.0.0;
+            noted = made.0;
           },
           fate_is ∙ made.1,
         )

@@ -237,7 +237,7 @@ slots_of_many frame attrs frag s fits =
 pub slots_full : (frame : Frame) (attrs : List Attr) (frag : FragKey) (s : StoredPiece) → FitsDense frame attrs frag s → s.head.consolidated ≡ false → All (λ slot. is_hole slot ≡ false) (slots_of frame s)
 slots_full frame attrs frag s fits plain =
     let count = ap length (cells_back frame attrs frag s fits) in
-    no_holes (slots_of frame s) (all_pass (λ (slot : StoredCell). not (is_hole slot)) (slots_of frame s) (count ∙ fits.whole plain ∙ fits.full ∙ sym (slots_of_many frame attrs frag s fits)))
+    no_holes (slots_of frame s) (all_pass (λ (slot : StoredCell). not (is_hole slot)) (slots_of frame s) (count ∙ fits.no_hole plain ∙ fits.counts_hull ∙ sym (slots_of_many frame attrs frag s fits)))
 
 -- slots that all have cells are these cells
 all_cells : (slots : List StoredCell) → All (λ slot. is_hole slot ≡ false) slots → cells_in slots ≡ slots

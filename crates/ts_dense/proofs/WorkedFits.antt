@@ -60,8 +60,8 @@ corners_fit = record {
   sound = sound;
   dense = refl;
   head = head;
-  full = refl;
-  whole = λ single. absurd (true≢false single);
+  counts_hull = refl;
+  no_hole = λ single. absurd (true≢false single);
   some = omega arith;
   cells = (
     record { coords = ((omega arith, refl), ((omega arith, refl), tt)); rises = refl; origin = omega arith; known = refl; row = ((omega arith, refl), tt) },

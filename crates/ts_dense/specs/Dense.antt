@@ -77,8 +77,8 @@ pub record FitsDense (frame : Frame) (attrs : List Attr) (frag : FragKey) (store
   pub sound : IsFrame frame
   pub dense : frame.dense ≡ true
   pub head : FitsHead frame frag stored.head
-  pub full : stored.head.cells ≡ volume stored.head.hull
-  pub whole : stored.head.consolidated ≡ false → length stored.cells ≡ stored.head.cells
+  pub counts_hull : stored.head.cells ≡ volume stored.head.hull
+  pub no_hole : stored.head.consolidated ≡ false → length stored.cells ≡ stored.head.cells
   pub some : 1 ≤ length stored.cells
   pub cells : InTurn (FitsCell frame attrs stored.head) [] stored.cells
   pub few_attrs : length attrs ≤ 64

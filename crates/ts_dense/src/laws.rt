@@ -42,14 +42,14 @@ pub fn parts_spell_their_piece()
 
 /// A fragment has a slot for each cell of its hull, and they stand in global order (`ascend`, `stand`,
 /// `many`). The cells that they have are those of the fragment (`cells`). Where no consolidation made it,
-/// no slot is a hole (`full`).
+/// no slot is a hole (`no_hole`).
 #[tactic(auto, using(crate::proofs::SlotOrder::slots_ascend, crate::proofs::SlotOrder::slots_at_cells, crate::proofs::SlotLaws::slots_of_many, crate::proofs::SlotLaws::cells_back, crate::proofs::SlotLaws::slots_full))]
 pub fn slots_stand_in_global_order()
     ensures ascend { (frame : AnyFrame) (attrs : List AnyAttr) (frag : AnyFragKey) (s : AnyStoredPiece) → FitsDense frame attrs frag s → Ascends (global_cmp frame.domain frame.tile frame.cell) (map (λ (c : AnyStoredCell). c.coords) (slots_of frame s)) }
     ensures stand { (frame : AnyFrame) (attrs : List AnyAttr) (frag : AnyFragKey) (s : AnyStoredPiece) → FitsDense frame attrs frag s → map (λ (c : AnyStoredCell). c.coords) (slots_of frame s) ≡ coords_over frame (box_of s.head.hull) }
     ensures many { (frame : AnyFrame) (attrs : List AnyAttr) (frag : AnyFragKey) (s : AnyStoredPiece) → FitsDense frame attrs frag s → length (slots_of frame s) ≡ volume s.head.hull }
     ensures cells { (frame : AnyFrame) (attrs : List AnyAttr) (frag : AnyFragKey) (s : AnyStoredPiece) → FitsDense frame attrs frag s → cells_in (slots_of frame s) ≡ s.cells }
-    ensures full { (frame : AnyFrame) (attrs : List AnyAttr) (frag : AnyFragKey) (s : AnyStoredPiece) → FitsDense frame attrs frag s → s.head.consolidated ≡ false → All (λ (slot : AnyStoredCell). is_hole slot ≡ false) (slots_of frame s) }
+    ensures no_hole { (frame : AnyFrame) (attrs : List AnyAttr) (frag : AnyFragKey) (s : AnyStoredPiece) → FitsDense frame attrs frag s → s.head.consolidated ≡ false → All (λ (slot : AnyStoredCell). is_hole slot ≡ false) (slots_of frame s) }
 {}
 
 /// The space tiles that meet a box have all that is wanted in it.

@@ -526,8 +526,8 @@ abbrev pub ReleasesNext : Job → List Call → Type 0
 ReleasesNext job left = (lease : Name) × (lease_of job ≡ Some lease) × (more : List Call) × (left ≡ call.Remove lease ∷ more)
 
 -- after a call with its reply a job may be out of memory, where `left` is left of its course
--- So it may be after a look or a listing, and after a put where more is left. Where the store had no memory for the call it is.
--- After a removal it may be only where the next one is that of its own lease, which then was listed among the parts that it removes.
+-- So it may be after a look or a listing, after a put where more is left, and after a call for which the store had no memory.
+-- After a removal it may be so only where the next one is that of its own lease, which a course has only where a store listed it among the parts of a fragment.
 abbrev pub RunsShort : Job → Call → Reply → List Call → Type 0
 RunsShort job (call.Put n bytes) reply.Made left = left ≢ []
 RunsShort job (call.Put n bytes) reply.Taken left = left ≢ []

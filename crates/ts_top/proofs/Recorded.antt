@@ -85,7 +85,7 @@ module _ {S : Type 0} (held : S → Option Held) (told : S → Fate) (faults ask
 
   -- calls of which the journal has the entries were made of the store below, and the fate that is told of each is the one that the store has for it
   made_of_below : (lane : ℕ) (a b : Recorder S) (ts : List Told) → a.book.lane ≡ lane → MadeInTurn RecorderCalled a (exchanges ts) b → b.book.journal ≡ a.book.journal ++ entries_of (only_lane lane) ts → All Suits ts
-      → JustMade held told faults notes a.store ts b.store
+      → JustMade held told faults asked notes a.store ts b.store
   made_of_below lane a b [] in_lane is entered suit = ap (λ (r : Recorder S). r.store) is
   made_of_below lane a b (e ∷ ts) in_lane (between, called, rest) entered suit =
       let (more, grows) = grown between b (exchanges ts) rest in
@@ -108,7 +108,7 @@ module _ {S : Type 0} (held : S → Option Held) (told : S → Fate) (faults ask
     -- an actor that was driven is its job that ran, and just its calls were made of the store below
     pub recorder_ran : (number : ℕ) (job : Job) (first last : AnyActor W F) (before after_ : Recorder S) (result : Driven Outcome) → job_of first ≡ job → job_of last ≡ job
         → Drove job_of (Follows codec) (job_ends codec) RecorderCalled first last before after_ job.stop result
-        → RanOver codec held (JustMade held told faults notes) number before.book.lane job before.store after_.store before.book.journal after_.book.journal result
+        → RanOver codec held (JustMade held told faults asked notes) number before.book.lane job before.store after_.store before.book.journal after_.book.journal result
     recorder_ran number job first last before after_ result first_is last_is drove =
         let Q : Job → Type 0 = λ j. AreAsked (job_of {P = W} {F = F}) (Follows {P = W} codec) j [] drove.trace in
         let P : Job → Type 0 = λ j. EndsAs (job_ends codec j) (Follows codec last) job.stop drove.trace result in

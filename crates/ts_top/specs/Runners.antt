@@ -8,6 +8,7 @@ use Rattle.ts_store.specs.declared.fate.Fate.{Fate}
 use Rattle.ts_store.specs.declared.journal.Entry.{Entry}
 use Rattle.ts_store.specs.Counts.{capped}
 use Rattle.ts_store.specs.Journals.{failures}
+use Rattle.ts_store.specs.Recorders.{WasMade}
 use Rattle.ts_model.specs.declared.answers.Driven.{Driven}
 use Rattle.ts_model.specs.declared.answers.Outcome.{Outcome}
 use Rattle.ts_model.specs.declared.commands.Job.{Job}
@@ -29,9 +30,9 @@ use Rattle.ts_sparse_read.specs.Codecs.{sparse_codec, sparse_gets, SparseTracks,
 abbrev pub KeepsCount : ℕ → ℕ → List Entry → List Entry → Type 0
 KeepsCount before now journal longer = (base : ℕ) → capped (base + failures journal) ≤ before → capped (base + failures longer) ≤ now
 
--- just these calls were made of a store, but for such as found no memory; the store's own members say what each did, and the fate that is told of it is the store's own
-abbrev pub JustMade : {S : Type 0} → (S → Option Held) → (S → Fate) → (S → ℕ) → (S → Call → Reply → S → Type 0) → S → List Told → S → Type 0
-JustMade held last faults notes before told later = MadeOf last (Exchanged held last faults notes) before told later
+-- just these calls were made of a store, but for such as found no memory; the store's own members say what each did, each get raised its count of gets by one, and the fate that is told of a call is the store's own
+abbrev pub JustMade : {S : Type 0} → (S → Option Held) → (S → Fate) → (S → ℕ) → (S → ℕ) → (S → Call → Reply → S → Type 0) → S → List Told → S → Type 0
+JustMade held last faults asked notes before told later = MadeOf last (Exchanged held last faults (WasMade asked notes)) before told later
 
 -- how far a fetch of the program has come: in a dense array it found all versions at once, in a sparse one it goes through the tiles of its plan
 abbrev pub RunFetch : Type 0

@@ -25,7 +25,7 @@ pub(crate) fn run_job<R: Threads + Sync, S: Store>(
     job: Job,
 ) -> Driven<Outcome>
     requires { IsFit job }
-    ensures ran { (number : ℕ) → RanOver run_codec S.held (JustMade S.held S.last S.faults S.notes) number recorder.old.book.lane job recorder.old.store recorder.new.store recorder.old.book.journal recorder.new.book.journal result }
+    ensures ran { (number : ℕ) → RanOver run_codec S.held (JustMade S.held S.last S.faults S.asked S.notes) number recorder.old.book.lane job recorder.old.store recorder.new.store recorder.old.book.journal recorder.new.book.journal result }
     ensures lane { recorder.new.book.lane ≡ recorder.old.book.lane }
     ensures counted { KeepsCount (S.faults recorder.old.store) (S.faults recorder.new.store) recorder.old.book.journal recorder.new.book.journal }
 {
@@ -47,7 +47,7 @@ pub(crate) fn run_items<R: Threads + Sync, S: Store, C: Clock>(
     items: &[Item],
 ) -> Result<Vec<Driven<Outcome>>, OutOfMemory>
     requires fit { All (λ item. IsFitLine item.line.now) items.now }
-    ensures ran { IfOk result (λ results. RanLines S.held (JustMade S.held S.last S.faults S.notes) (C.gives clock.now) seed (lanes_of (numbered items.now)) (numbered items.now) recorder.old.store recorder.new.store recorder.old.book.journal recorder.new.book.journal results.items) }
+    ensures ran { IfOk result (λ results. RanLines S.held (JustMade S.held S.last S.faults S.asked S.notes) (C.gives clock.now) seed (lanes_of (numbered items.now)) (numbered items.now) recorder.old.store recorder.new.store recorder.old.book.journal recorder.new.book.journal results.items) }
     ensures count { IfOk result (λ results. length results.items ≡ length items.now) }
     ensures counted { KeepsCount (S.faults recorder.old.store) (S.faults recorder.new.store) recorder.old.book.journal recorder.new.book.journal }
     ensures short { OnErr result (recorder.new ≡ recorder.old) }
@@ -71,7 +71,7 @@ fn run_line<R: Threads + Sync, S: Store, C: Clock>(
     item: &Item,
 ) -> Driven<Outcome>
     requires fit { IsFitLine item.now.line.now }
-    ensures ran { RanLine S.held (JustMade S.held S.last S.faults S.notes) (C.gives clock.now) seed (numbered_line item.now) recorder.old.store recorder.new.store recorder.old.book.journal recorder.new.book.journal result }
+    ensures ran { RanLine S.held (JustMade S.held S.last S.faults S.asked S.notes) (C.gives clock.now) seed (numbered_line item.now) recorder.old.store recorder.new.store recorder.old.book.journal recorder.new.book.journal result }
     ensures counted { KeepsCount (S.faults recorder.old.store) (S.faults recorder.new.store) recorder.old.book.journal recorder.new.book.journal }
 {
     let line = item.line;

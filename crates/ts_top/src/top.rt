@@ -211,7 +211,7 @@ fn play<R: Threads + Sync, S: Store, O: Sink, C: Clock>(
     clock: &C,
 ) -> Ran<S>
     requires { AreLimited lines.now }
-    ensures plays { (words : List (List ℕ)) (input : Stream) → Plays S.held (JustMade S.held S.last S.faults S.notes) (record { words = words; seed = seed; gives = C.gives clock.now; input = input; out = stream O.contents O.faults out.old out.new; store = store; later = result.store; status = result.status; journal = result.journal }) report lines.now }
+    ensures plays { (words : List (List ℕ)) (input : Stream) → Plays S.held (JustMade S.held S.last S.faults S.asked S.notes) (record { words = words; seed = seed; gives = C.gives clock.now; input = input; out = stream O.contents O.faults out.old out.new; store = store; later = result.store; status = result.status; journal = result.journal }) report lines.now }
     ensures counted { capped (S.faults store + failures result.journal) ≤ S.faults result.store }
 {
     let mut recorder = Recorder::new(store, Journal::new(alloc), 0);
@@ -273,7 +273,7 @@ pub fn run<R: Threads + Sync, S: Store, I: Source, O: Sink, C: Clock>(
     out: &mut O,
     clock: &C,
 ) -> Ran<S>
-    ensures run { IsRunOf S.held (JustMade S.held S.last S.faults S.notes) (record {
+    ensures run { IsRunOf S.held (JustMade S.held S.last S.faults S.asked S.notes) (record {
       words = word_texts words.entry.now;
       seed = seed;
       gives = C.gives clock.now;
@@ -309,7 +309,7 @@ pub fn run<R: Threads + Sync, S: Store, I: Source, O: Sink, C: Clock>(
         → (result.status ≡ 3) ⊎ (result.status ≡ 4) ⊎ (result.status ≡ 7) }
     ensures read_fault { result.status ≡ 4 → IsSomeAnd (asked (word_texts words.entry.now)) (λ job. has_input job ≡ true) × Rose (I.faults input.old) (I.faults input.new) }
     ensures write_fault { result.status ≡ 5 → Rose (O.faults out.old) (O.faults out.new) }
-    ensures refused { result.status ≡ 6 → WasRefused S.held (JustMade S.held S.last S.faults S.notes) (record {
+    ensures refused { result.status ≡ 6 → WasRefused S.held (JustMade S.held S.last S.faults S.asked S.notes) (record {
       words = word_texts words.entry.now;
       seed = seed;
       gives = C.gives clock.now;

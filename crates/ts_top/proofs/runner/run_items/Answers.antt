@@ -4,6 +4,7 @@ use Rattle.std.proofs.lemmas.Grind.{common_steps}
 use Rattle.ts_model.specs.declared.answers.Driven.{Driven}
 use Rattle.ts_model.specs.declared.answers.Outcome.{Outcome}
 use Rattle.ts_law.specs.Fresh.{lanes_of}
+use Rattle.ts_store.specs.Recorders.{WasMade}
 use Rattle.ts_actor.specs.Drives.{Exchanged, MayBeMade}
 use Rattle.ts_top.specs.Items.{numbered, numbered_line}
 use Rattle.ts_top.specs.declared.items.Item.{Item}
@@ -18,8 +19,8 @@ loop-item-init g c =
     let held = g.S.Store.held in
     let gives = g.C.Clock.gives c.args.clock.now in
     let lanes = lanes_of (numbered c.args.items.now) in
-    let made = JustMade held g.S.Store.last g.S.Store.faults g.S.Store.notes in
-    let joins = leads-append (MayBeMade g.S.Store.last (Exchanged held g.S.Store.last g.S.Store.faults g.S.Store.notes)) in
+    let made = JustMade held g.S.Store.last g.S.Store.faults g.S.Store.asked g.S.Store.notes in
+    let joins = leads-append (MayBeMade g.S.Store.last (Exchanged held g.S.Store.last g.S.Store.faults (WasMade g.S.Store.asked g.S.Store.notes))) in
     let P : List (Driven Outcome) → Type 0 = λ rs. RanLines held made gives c.args.seed lanes [] first.store first.store first.book.journal first.book.journal rs in
     record {
       ran = subst P (sym c.in_ok-results.ensures.items) (ran-no_line held made joins gives c.args.seed lanes first.store first.book.journal refl);
@@ -37,8 +38,8 @@ loop-item-preserved g c =
     let held = g.S.Store.held in
     let gives = g.C.Clock.gives c.args.clock.now in
     let lanes = lanes_of (numbered items) in
-    let made = JustMade held g.S.Store.last g.S.Store.faults g.S.Store.notes in
-    let joins = leads-append (MayBeMade g.S.Store.last (Exchanged held g.S.Store.last g.S.Store.faults g.S.Store.notes)) in
+    let made = JustMade held g.S.Store.last g.S.Store.faults g.S.Store.asked g.S.Store.notes in
+    let joins = leads-append (MayBeMade g.S.Store.last (Exchanged held g.S.Store.last g.S.Store.faults (WasMade g.S.Store.asked g.S.Store.notes))) in
     let Q : List (Driven Outcome) → Type 0 = λ rs. RanLines held made gives c.args.seed lanes (numbered (take (c.loop-item.item-index + 1) items)) first.store next.store first.book.journal next.book.journal rs in
     let N : Item → Type 0 = λ x. RanLine held made gives c.args.seed (numbered_line x) before.store next.store before.book.journal next.book.journal c.run_line-result.result in
     record {

@@ -15,7 +15,7 @@ returns-in-Ok-clause-ran g c =
     let before = c.args.recorder.now in
     let line = c.args.item.now.line.now in
     let later = c.run_job.new.recorder in
-    let made = JustMade g.S.Store.held g.S.Store.last g.S.Store.faults g.S.Store.notes in
+    let made = JustMade g.S.Store.held g.S.Store.last g.S.Store.faults g.S.Store.asked g.S.Store.notes in
     let moved : Recorder g.row.S.Denot = record before { book = record before.book { lane = line.lane } } in
     let P : Job → Recorder g.row.S.Denot → Type 0 = λ j r. (n : ℕ) → RanOver run_codec g.S.Store.held made n r.book.lane j r.store later.store r.book.journal later.book.journal c.run_job.result in
     record {
@@ -28,7 +28,7 @@ pub returns-in-Err-clause-ran : goal.returns-in-Err-clause-ran
 returns-in-Err-clause-ran g c =
     let before = c.args.recorder.now in
     let line = c.args.item.now.line.now in
-    let made = JustMade g.S.Store.held g.S.Store.last g.S.Store.faults g.S.Store.notes in
+    let made = JustMade g.S.Store.held g.S.Store.last g.S.Store.faults g.S.Store.asked g.S.Store.notes in
     let job : Job = job_from (id_of c.args.seed line.lane c.args.item.now.number) line c.stamp_of-at.result in
     let P : Recorder g.row.S.Denot → Type 0 = λ r. (n : ℕ) → RanOver run_codec g.S.Store.held made n line.lane job before.store r.store before.book.journal r.book.journal (Done OutOfMemory) in
     record {

@@ -15,7 +15,7 @@ use Rattle.ts_top.proofs.top.run.Goals as goal
 pub returns-in-Ok : goal.returns-in-Ok
 returns-in-Ok g c =
     let held = g.S.Store.held in
-    let made = JustMade held g.S.Store.last g.S.Store.faults g.S.Store.notes in
+    let made = JustMade held g.S.Store.last g.S.Store.faults g.S.Store.asked g.S.Store.notes in
     let words = word_texts c.args.words.now in
     let input : Stream = stream g.I.Source.left g.I.Source.faults c.args.input.now c.prepare.new.input in
     let out : Stream = stream g.O.Sink.contents g.O.Sink.faults c.args.out.now c.play.new.out in
@@ -43,7 +43,7 @@ returns-in-Ok g c =
 pub returns-in-Err : goal.returns-in-Err
 returns-in-Err g c =
     let held = g.S.Store.held in
-    let made = JustMade held g.S.Store.last g.S.Store.faults g.S.Store.notes in
+    let made = JustMade held g.S.Store.last g.S.Store.faults g.S.Store.asked g.S.Store.notes in
     let words = word_texts c.args.words.now in
     let input : Stream = stream g.I.Source.left g.I.Source.faults c.args.input.now c.prepare.new.input in
     let out : Stream = stream g.O.Sink.contents g.O.Sink.faults c.args.out.now c.print_stop.new.out in
