@@ -28,8 +28,8 @@ pub struct Meta {
     /// What is said of the fragment as a whole.
     pub head: Head,
     /// The length of the object of each column in bytes, its envelope counted. The objects of the
-    /// coordinates come first, then for each attribute those of its values and their validity, then
-    /// that of the origins.
+    /// coordinates come first, where they are stored, then for each attribute those of its values and
+    /// their validity, then that of the origins.
     pub lengths: LengthList,
     /// For each object `aN_var.tdb` where each of its tiles starts, in bytes from the object's start.
     pub var_starts: StartList,
