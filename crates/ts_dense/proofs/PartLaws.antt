@@ -1,10 +1,9 @@
 -- The objects of slots are those of what is stored of the piece, and with the metadata they are all parts.
-use Rattle.std.proofs.Common.{◌≡◌, ℕ, suc, ℤ, Bool, true, false, List, [], ◌∷◌, ◌++◌, length, get_or, map, refl, sym, ap, ◌∙◌, subst, ◌<◌, ◌^◌, arith}
-use Rattle.std.specs.Prelude.{Option, Some, None, if◌then◌else◌}
+use Rattle.std.proofs.Common.{◌≡◌, ℕ, suc, ℤ, Bool, true, false, List, [], ◌∷◌, ◌++◌, length, get_or, map, refl, sym, ap, ◌∙◌, subst, ◌<◌, ◌^◌}
+use Rattle.std.specs.Prelude.{Some, None, if◌then◌else◌}
 use Rattle.std.specs.List.{flat_map, All}
 use Rattle.std.proofs.lemmas.List.{length-map}
 use Rattle.std.proofs.lemmas.List.Elements.{All-nil, All-cons, All-append}
-use Rattle.ts_base.specs.declared.heads.Head.{Head}
 use Rattle.ts_base.specs.declared.heads.Piece.{Piece}
 use Rattle.ts_base.specs.declared.heads.Version.{Version}
 use Rattle.ts_base.specs.declared.keys.Key.{Key}
@@ -13,7 +12,6 @@ use Rattle.ts_base.specs.declared.names.PartBytes.{PartBytes}
 use Rattle.ts_base.specs.declared.values.Val.TheVariants.{Null}
 use Rattle.ts_base.specs.Values.{is_integer}
 use Rattle.ts_base.specs.Coords.{coords_eq}
-use Rattle.ts_domain.specs.declared.boxes.SubBox.{SubBox}
 use Rattle.ts_domain.specs.Boxes.{cells_of}
 use Rattle.ts_wire.specs.declared.kinds.Kind.TheVariants as kind
 use Rattle.ts_wire.specs.Envelope.{wrapped}
@@ -26,7 +24,7 @@ use Rattle.ts_plain.specs.declared.stored.StoredCell.{StoredCell}
 use Rattle.ts_plain.specs.Plain.{head_bytes}
 use Rattle.ts_plain.specs.Writes.{stored_head, stored_cell, stored_for, NamesWrites}
 use Rattle.ts_sparse.specs.declared.laying.Laid.{Laid}
-use Rattle.ts_sparse.specs.Sparse.{Object, value_column, validity_objects, origin_column, origin_objects, sizes_of, column_part}
+use Rattle.ts_sparse.specs.Sparse.{value_column, validity_objects, origin_column, origin_objects, sizes_of, column_part}
 use Rattle.ts_sparse.specs.Laying.{with_objects, none_laid}
 use Rattle.ts_sparse.proofs.LayLaws.{with_both, laid_all}
 use Rattle.ts_sparse.proofs.FormLaws.{piece_back}
@@ -35,7 +33,7 @@ use Rattle.ts_dense.specs.declared.slots.Slots.{Slots}
 use Rattle.ts_dense.specs.Slots.{tiles_over, counts_over, coords_over, hole, slots_from, slots_of}
 use Rattle.ts_dense.specs.Dense.{fixed_objects, attr_objects, objects_of, meta_bytes, meta_part, parts_of, FitsDense, IsDense}
 use Rattle.ts_dense.proofs.OnceLaws.{parts_spell}
-use Rattle.ts_dense.specs.Laying.{held, versions_at, hull_of_head, cell_in, slot_cells, slot_objects, meta_with, IsSlots}
+use Rattle.ts_dense.specs.Laying.{versions_at, hull_of_head, cell_in, slot_cells, slot_objects, meta_with, IsSlots}
 
 -- ---- columns do not tell where holes stand
 

@@ -1,5 +1,5 @@
 -- What a stored piece that fits says of the versions in its slots.
-use Rattle.std.proofs.Common.{◌≡◌, ℕ, ◌<◌, ℤ, Bool, true, false, List, [], ◌∷◌, length, get_or, map, refl, sym, subst, arith}
+use Rattle.std.proofs.Common.{◌≡◌, ℕ, ◌<◌, ℤ, Bool, true, false, List, [], ◌∷◌, length, get_or, refl, sym, subst}
 use Rattle.std.specs.Prelude.{Option, Some, None, if◌then◌else◌}
 use Rattle.std.specs.Borrow.{Bor}
 use Rattle.std.specs.Option.{option_copied, IfSome}
@@ -8,7 +8,6 @@ use Rattle.std.proofs.lemmas.List.Elements.{All-head, All-tail, All-nil, All-con
 use Rattle.ts_base.specs.declared.heads.Piece.{Piece}
 use Rattle.ts_base.specs.declared.heads.Version.{Version}
 use Rattle.ts_base.specs.declared.keys.Key.{Key}
-use Rattle.ts_base.specs.declared.values.ValType.{ValType}
 use Rattle.ts_base.specs.declared.values.Val.TheVariants.{Null}
 use Rattle.ts_base.specs.Values.{width_of, is_integer}
 use Rattle.ts_base.specs.Coords.{coords_eq}
@@ -18,7 +17,7 @@ use Rattle.ts_schema.specs.declared.attrs.Attr.{Attr}
 use Rattle.ts_schema.specs.declared.frames.Frame.{Frame}
 use Rattle.ts_plain.specs.declared.stored.StoredCell.{StoredCell}
 use Rattle.ts_plain.specs.Plain.{FitsValue, FitsCell}
-use Rattle.ts_plain.specs.Writes.{HasPlace, NamesWrites, stored_cell, stored_for}
+use Rattle.ts_plain.specs.Writes.{HasPlace, NamesWrites, stored_for}
 use Rattle.ts_column.specs.Spelled.{number_of}
 use Rattle.ts_column.specs.Tiles.{is_signed}
 use Rattle.ts_sparse.proofs.ColumnLaws.{number_in}

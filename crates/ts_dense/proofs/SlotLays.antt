@@ -7,7 +7,6 @@ use Rattle.std.proofs.lemmas.List.{drop_more, drop_all}
 use Rattle.ts_base.specs.declared.heads.Version.{Version}
 use Rattle.ts_base.specs.declared.keys.Key.{Key}
 use Rattle.ts_base.specs.declared.names.Part.TheVariants as part
-use Rattle.ts_base.specs.declared.values.Val.{Val}
 use Rattle.ts_base.specs.declared.values.Val.TheVariants.{Null}
 use Rattle.ts_base.specs.Values.{width_of, is_integer}
 use Rattle.ts_table.specs.Texts.{joined}

@@ -1,8 +1,7 @@
 -- Where byte lists start in tiles of these sizes, and the steps of the loops that write it.
-use Rattle.std.proofs.Common.{◌≡◌, ℕ, zero, suc, ◌+◌, ◌-◌, ◌<◌, ◌≤◌, ◌^◌, min, List, [], ◌∷◌, ◌++◌, length, take, drop, Some, refl, sym, ap, ◌∙◌, arith, append_assoc, length-append, get_or}
+use Rattle.std.proofs.Common.{◌≡◌, ℕ, zero, suc, ◌+◌, ◌-◌, ◌<◌, ◌≤◌, ◌^◌, min, List, [], ◌∷◌, ◌++◌, length, take, drop, Some, sym, ap, ◌∙◌, arith, append_assoc, length-append, get_or}
 use Rattle.std.specs.List.{flat_map, slice_get}
-use Rattle.std.proofs.lemmas.List.{drop-drop, take_min, length-drop, drop_more, drop_all, append-nil, take-append-drop}
-use Rattle.std.proofs.lemmas.Grind.{flat_map-append}
+use Rattle.std.proofs.lemmas.List.{drop-drop, take_min, length-drop, drop_more, take-append-drop}
 use Rattle.ts_wire.specs.Numbers.{number_bytes}
 use Rattle.ts_table.specs.Texts.{joined, starts_from}
 use Rattle.ts_sparse.specs.Tilings.{tile_starts, starts_in}

@@ -1,5 +1,4 @@
 -- The values of each attribute fit it, and its objects are laid.
-use Rattle.std.proofs.Common.{refl}
 use Rattle.ts_dense.proofs.SlotFits.{values_at}
 use Rattle.ts_dense.proofs.SlotLays.{attrs_more, attrs_all}
 use Rattle.ts_dense.proofs.building.lay_attrs.Goals as goal

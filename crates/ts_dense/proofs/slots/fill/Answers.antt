@@ -1,8 +1,8 @@
 -- The next slot is filled, with or without a version.
-use Rattle.std.proofs.Common.{◌≡◌, ◌≤◌, ◌+◌, length, sym, ap, ◌∙◌, arith}
+use Rattle.std.proofs.Common.{◌≤◌, ◌+◌, length, sym, ap, ◌∙◌, arith}
 use Rattle.ts_order.specs.Orders.{coords_in_order}
 use Rattle.ts_order.proofs.OrderedCoords.{length-coords_in_order}
-use Rattle.ts_dense.proofs.FillLaws.{taken, taken_one, taken_none, filling_more, filled_all}
+use Rattle.ts_dense.proofs.FillLaws.{taken_one, taken_none, filling_more, filled_all}
 use Rattle.ts_dense.proofs.slots.fill.Goals as goal
 use Rattle.ts_dense.proofs.slots.fill.Goals.{then-is_some, else-is_some}
 

@@ -1,5 +1,5 @@
 -- The tiles one after another, and the slots of all.
-use Rattle.std.proofs.Common.{refl, sym, ◌∙◌}
+use Rattle.std.proofs.Common.{refl, ◌∙◌}
 use Rattle.ts_dense.proofs.FillLaws.{placing_none, placing_more, slots_are}
 use Rattle.ts_dense.proofs.slots.slots_of.Goals as goal
 

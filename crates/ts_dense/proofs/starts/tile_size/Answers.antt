@@ -1,5 +1,5 @@
 -- The next byte list is counted.
-use Rattle.std.proofs.Common.{◌<◌, refl, rules}
+use Rattle.std.proofs.Common.{refl, rules}
 use Rattle.ts_dense.proofs.TileStarts.{count_more, count_room}
 use Rattle.ts_dense.proofs.starts.tile_size.Goals as goal
 
