@@ -1,5 +1,5 @@
 -- The cells that columns hold, one by one.
-use Rattle.std.proofs.Common.{◌≡◌, ℕ, zero, suc, ◌+◌, ◌<◌, ◌≤◌, ℤ, pos, List, [], ◌∷◌, ◌++◌, length, map, take, get_or, replicate, Some, refl, sym, ap, ◌∙◌, arith}
+use Rattle.std.proofs.Common.{◌≡◌, ℕ, zero, suc, ◌+◌, ◌<◌, ◌≤◌, ℤ, pos, List, [], ◌∷◌, ◌++◌, length, map, take, get_or, replicate, Some, None, refl, sym, ap, ◌∙◌, arith}
 use Rattle.std.specs.List.{All}
 use Rattle.std.specs.Prelude.{slice_get}
 use Rattle.std.proofs.Math.ListN.{length-replicate}
@@ -61,7 +61,7 @@ cell_here (x ∷ coords) (o ∷ origins) (r ∷ rows) zero e a b c = refl
 cell_here (x ∷ coords) (o ∷ origins) (r ∷ rows) (suc k) e a b c = cell_here coords origins rows k e (omega (arith, a)) (omega (arith, b)) (omega (arith, c))
 
 -- all cells that columns hold
-abbrev pub cells_in : ℕ → List (List ℤ) → List ℕ → List (List Val) → List StoredCell
+abbrev cells_in : ℕ → List (List ℤ) → List ℕ → List (List Val) → List StoredCell
 cells_in count coords origins vals = cells_from (rows_in count coords) origins (rows_in count vals)
 
 -- there are so many cells
@@ -70,34 +70,29 @@ pub cells_long : (count : ℕ) (coords : List (List ℤ)) (origins : List ℕ) (
 cells_long count coords origins vals a b c = cells_many count (rows_in count coords) origins (rows_in count vals) (rows_long count coords a) b (rows_long count vals c)
 
 -- the cell at a place is that of the columns there
-pub cells_more : (count : ℕ) (coords : List (List ℤ)) (origins : List ℕ) (vals : List (List Val)) (cells other : List StoredCell) (k : ℕ) (cell : StoredCell)
-    → All (λ (xs : List ℤ). length xs ≡ count) coords → length origins ≡ count → All (λ (xs : List Val). length xs ≡ count) vals
-    → cells ≡ take k (cells_in count coords origins vals) → k < count → cell ≡ cell_of coords origins vals k → other ≡ cells ++ cell ∷ []
-    → other ≡ take (k + 1) (cells_in count coords origins vals)
-cells_more count coords origins vals cells other k cell a b c sofar within is push =
-    let all = cells_in count coords origins vals in
-    let long = cells_long count coords origins vals a b c in
+pub cell_there : (count : ℕ) (coords : List (List ℤ)) (origins : List ℕ) (vals : List (List Val)) (k : ℕ) (cell : StoredCell)
+    → All (λ (xs : List ℤ). length xs ≡ count) coords → length origins ≡ count → All (λ (xs : List Val). length xs ≡ count) vals → k < count
+    → get_or (cells_in count coords origins vals) k cell ≡ cell_of coords origins vals k
+cell_there count coords origins vals k cell a b c within =
     let at = cell_here (rows_in count coords) origins (rows_in count vals) k cell (omega (arith, rows_long count coords a)) (omega (arith, b)) (omega (arith, rows_long count vals c)) in
     let x = row_of (pos 0) count coords k a within in
     let r = row_of Null count vals k c within in
-    let same : get_or all k cell ≡ cell_of coords origins vals k = at ∙ (λ i. record { coords = x i; origin = get_or origins k 0; row = r i }) in
-    push ∙ ap (λ cs. cs ++ cell ∷ []) sofar ∙ ap (λ (d : StoredCell). take k all ++ d ∷ []) (is ∙ sym same) ∙ sym (take_more all k cell (omega (arith, long)))
+    at ∙ (λ i. record { coords = x i; origin = get_or origins k 0; row = r i })
 
--- the cells at all places are all of them
-pub cells_all_of : (count : ℕ) (coords : List (List ℤ)) (origins : List ℕ) (vals : List (List Val)) (cells : List StoredCell) (k : ℕ)
-    → All (λ (xs : List ℤ). length xs ≡ count) coords → length origins ≡ count → All (λ (xs : List Val). length xs ≡ count) vals
-    → cells ≡ take k (cells_in count coords origins vals) → count ≤ k → cells ≡ cells_in count coords origins vals
-cells_all_of count coords origins vals cells k a b c sofar over = sofar ∙ take_all k (cells_in count coords origins vals) (omega (arith, cells_long count coords origins vals a b c))
+-- the value that a column has at a place
+pub val_there : (columns : List (List Val)) (place attr : ℕ) (column : List Val) (v x : Val) → slice_get columns attr ≡ Some column → slice_get column place ≡ Some v → x ≡ v
+    → x ≡ get_or (map (λ xs. get_or xs place Null) columns) attr Null
+val_there [] place attr column v x is got same = absurd (cc)
+val_there (xs ∷ columns) place zero column v x is got same =
+    let here : xs ≡ column = cc in
+    same ∙ sym (get_or_from_slice_get column place v Null got) ∙ ap (λ (ys : List Val). get_or ys place Null) (sym here)
+val_there (xs ∷ columns) place (suc attr) column v x is got same = val_there columns place attr column v x is got same
 
--- the value of one column more
-pub row_more : (columns : List (List Val)) (place k : ℕ) (row other column : List Val) (v x : Val) → row ≡ map (λ xs. get_or xs place Null) (take k columns) → k < length columns → column ≡ get_or columns k column
-    → slice_get column place ≡ Some v → x ≡ v → other ≡ row ++ x ∷ [] → other ≡ map (λ xs. get_or xs place Null) (take (k + 1) columns)
-row_more columns place k row other column v x sofar within is got same push =
-    let f = λ (xs : List Val). get_or xs place Null in
-    push ∙ ap (λ ys. ys ++ x ∷ []) sofar
-    ∙ ap (λ y. map f (take k columns) ++ y ∷ []) (same ∙ sym (get_or_from_slice_get column place v Null got))
-    ∙ sym (map-append f (take k columns) (column ∷ []))
-    ∙ ap (map f) (ap (λ (c : List Val). take k columns ++ c ∷ []) is ∙ sym (take_more columns k column within))
+-- null stands where there is no column
+pub val_missing : (columns : List (List Val)) (place attr : ℕ) → slice_get columns attr ≡ None → Null ≡ get_or (map (λ xs. get_or xs place Null) columns) attr Null
+val_missing [] place attr is = refl
+val_missing (xs ∷ columns) place zero is = absurd (cc)
+val_missing (xs ∷ columns) place (suc attr) is = val_missing columns place attr is
 
--- the steps of the loop over the places
-pub ruleset steps = (cells_more, cells_all_of)
+-- the value of an attribute
+pub ruleset val_steps = (val_there, val_missing)

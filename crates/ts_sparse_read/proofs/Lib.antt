@@ -3,9 +3,9 @@ pub mod RangeLaws
 pub mod SpanLaws
 pub mod CellSteps
 pub mod ColumnSteps
-pub mod OrderSteps
 pub mod TileSteps
-pub mod WalkLaws
+pub mod SiftLaws
+pub mod TileSifts
 pub mod BoundLaws
 pub mod TileLaws
 pub mod PieceParts

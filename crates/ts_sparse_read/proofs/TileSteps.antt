@@ -1,5 +1,5 @@
--- The columns of a tile, one after another, and its cells.
-use Rattle.std.proofs.Common.{◌≡◌, ℕ, true, ◌&&◌, ℤ, int_le, List, [], ◌∷◌, length, map, Option, None, Result, Ok, Err, refl, sym, ap, subst, ◌∙◌, arith}
+-- The columns of a tile whose leaf lies in the domain.
+use Rattle.std.proofs.Common.{◌≡◌, ℕ, ◌≤◌, true, ◌&&◌, ℤ, int_le, List, [], ◌∷◌, length, map, refl, sym, subst, ◌∙◌, arith}
 use Rattle.std.specs.Prelude.{IsTrue}
 use Rattle.std.specs.List.{All}
 use Rattle.std.proofs.lemmas.Int.{ints}
@@ -14,99 +14,13 @@ use Rattle.ts_domain.specs.Bounds.{is_between}
 use Rattle.ts_domain.specs.Dims.{IsDim, IsDomain}
 use Rattle.ts_domain.specs.Domains.{LiesInDomain}
 use Rattle.ts_domain.proofs.Between.{length-is_between}
-use Rattle.ts_schema.specs.declared.attrs.Attr.{Attr}
 use Rattle.ts_schema.specs.declared.frames.Frame.{Frame}
-use Rattle.ts_plain.specs.declared.stored.StoredHead.{StoredHead}
 use Rattle.ts_plain.specs.declared.stored.StoredCell.{StoredCell}
 use Rattle.ts_plain.specs.Insides.{IsInside}
-use Rattle.ts_sparse_read.specs.declared.faults.CellFault.{CellFault}
-use Rattle.ts_sparse_read.specs.declared.faults.CellFault.TheVariants as told
-use Rattle.ts_sparse_read.specs.Faults.{Fault, and_then, Ranged}
-use Rattle.ts_sparse_read.specs.TileReads.{rows_in, cells_from, coords_of_tile, vals_of_tile, origins_if, order_fault, unless, cells_of_tile}
-use Rattle.ts_sparse_read.specs.Reads.{DecodesFault, TellsFault}
+use Rattle.ts_sparse_read.specs.TileReads.{rows_in, cells_from}
 use Rattle.ts_sparse_read.specs.ReadRows.{AreSides, rows_between, cells_all}
-
--- a fault of a step is that of all steps
-then_err : {A B : Type 0} (r : Result A Fault) (next : A → Result B Fault) (fault : CellFault) → DecodesFault (λ (x : A). x) r (Err fault) → DecodesFault (λ (x : B). x) (and_then r next) (Err fault)
-then_err r next (told.Broken part at) is = ap (λ r. and_then r next) is
-then_err r next told.OutOfMemory is = tt
-
--- behind a step that gave a value come the others
-then_on : {A B : Type 0} (r : Result A Fault) (next : A → Result B Fault) (x : A) (res : Result B CellFault) → r ≡ Ok x → DecodesFault (λ (y : B). y) (next x) res → DecodesFault (λ (y : B). y) (and_then r next) res
-then_on {B = B} r next x res is found = subst (λ (q : Result _ Fault). DecodesFault (λ (y : B). y) (and_then q next) res) (sym is) found
-
-unless_err : (cells : List StoredCell) (o : Option Fault) (fault : CellFault) → TellsFault {A = Unit {0}} o (Err fault) → DecodesFault (λ (cs : List StoredCell). cs) (unless cells o) (Err fault)
-unless_err cells o (told.Broken part at) is = ap (unless cells) is
-unless_err cells o told.OutOfMemory is = tt
-
-module _ (frame : Frame) (attrs : List Attr) (places : List ℕ) (head : StoredHead) (before : Option StoredCell) (leaf : SubBox) (count : ℕ) (ranges : List Ranged) where
-  -- the cells of columns, where their order has no fault
-  abbrev last : List (List ℤ) → List (List Val) → List ℕ → Result (List StoredCell) Fault
-  last coords vals origins =
-      let cells = cells_from (rows_in count coords) origins (rows_in count vals) in
-      unless cells (order_fault frame head.consolidated ranges 0 before cells)
-
-  -- the answer is that of the tile
-  abbrev Tile : Result (List StoredCell) CellFault → Type 0
-  Tile res = DecodesFault (λ (cs : List StoredCell). cs) (cells_of_tile frame attrs places head before leaf count ranges) res
-
-  -- what is broken among the coordinates comes first
-  pub coords_err : (fault : CellFault) → DecodesFault (λ (x : List (List ℤ)). x) (coords_of_tile leaf count ranges 0 frame.domain) (Err fault) → Tile (Err fault)
-  unfolding cells_of_tile
-  coords_err fault is =
-      then_err (coords_of_tile leaf count ranges 0 frame.domain)
-      (λ coords. and_then (vals_of_tile places count ranges 0 attrs) (λ vals. and_then (origins_if head.consolidated (length head.origins) count ranges) (λ origins. last coords vals origins))) fault is
-
-  on_coords : (coords : List (List ℤ)) (res : Result (List StoredCell) CellFault) → coords_of_tile leaf count ranges 0 frame.domain ≡ Ok coords
-      → DecodesFault (λ (cs : List StoredCell). cs) (and_then (vals_of_tile places count ranges 0 attrs) (λ vals. and_then (origins_if head.consolidated (length head.origins) count ranges) (λ origins. last coords vals origins))) res
-      → Tile res
-  unfolding cells_of_tile
-  on_coords coords res is found =
-      then_on (coords_of_tile leaf count ranges 0 frame.domain)
-      (λ coords. and_then (vals_of_tile places count ranges 0 attrs) (λ vals. and_then (origins_if head.consolidated (length head.origins) count ranges) (λ origins. last coords vals origins))) coords res is found
-
-  -- then what is broken among the values
-  pub vals_err : (coords : List (List ℤ)) (fault : CellFault) → coords_of_tile leaf count ranges 0 frame.domain ≡ Ok coords
-      → DecodesFault (λ (x : List (List Val)). x) (vals_of_tile places count ranges 0 attrs) (Err fault) → Tile (Err fault)
-  vals_err coords fault a is =
-      on_coords coords (Err fault) a (then_err (vals_of_tile places count ranges 0 attrs) (λ vals. and_then (origins_if head.consolidated (length head.origins) count ranges) (λ origins. last coords vals origins)) fault is)
-
-  on_vals : (coords : List (List ℤ)) (vals : List (List Val)) (res : Result (List StoredCell) CellFault) → coords_of_tile leaf count ranges 0 frame.domain ≡ Ok coords → vals_of_tile places count ranges 0 attrs ≡ Ok vals
-      → DecodesFault (λ (cs : List StoredCell). cs) (and_then (origins_if head.consolidated (length head.origins) count ranges) (λ origins. last coords vals origins)) res → Tile res
-  on_vals coords vals res a b found =
-      on_coords coords res a (then_on (vals_of_tile places count ranges 0 attrs) (λ vals. and_then (origins_if head.consolidated (length head.origins) count ranges) (λ origins. last coords vals origins)) vals res b found)
-
-  -- then what is broken among the origins
-  pub origins_err : (coords : List (List ℤ)) (vals : List (List Val)) (entries : ℕ) (fault : CellFault) → coords_of_tile leaf count ranges 0 frame.domain ≡ Ok coords → vals_of_tile places count ranges 0 attrs ≡ Ok vals
-      → entries ≡ length head.origins → DecodesFault (λ (x : List ℕ). x) (origins_if head.consolidated entries count ranges) (Err fault) → Tile (Err fault)
-  origins_err coords vals entries fault a b many is =
-      on_vals coords vals (Err fault) a b (then_err (origins_if head.consolidated (length head.origins) count ranges) (λ origins. last coords vals origins) fault
-      (subst (λ (n : ℕ). DecodesFault (λ (x : List ℕ). x) (origins_if head.consolidated n count ranges) (Err fault)) many is))
-
-  -- behind all columns comes the order
-  pub on_origins : (coords : List (List ℤ)) (vals : List (List Val)) (origins : List ℕ) (entries : ℕ) (res : Result (List StoredCell) CellFault) → coords_of_tile leaf count ranges 0 frame.domain ≡ Ok coords
-      → vals_of_tile places count ranges 0 attrs ≡ Ok vals → entries ≡ length head.origins → origins_if head.consolidated entries count ranges ≡ Ok origins
-      → DecodesFault (λ (cs : List StoredCell). cs) (last coords vals origins) res → Tile res
-  on_origins coords vals origins entries res a b many c found =
-      on_vals coords vals res a b (then_on (origins_if head.consolidated (length head.origins) count ranges) (λ origins. last coords vals origins) origins res
-      (ap (λ n. origins_if head.consolidated n count ranges) (sym many) ∙ c) found)
-
-  -- then what is broken in the order
-  pub order_err : (coords : List (List ℤ)) (vals : List (List Val)) (origins : List ℕ) (entries : ℕ) (cells : List StoredCell) (fault : CellFault) → coords_of_tile leaf count ranges 0 frame.domain ≡ Ok coords
-      → vals_of_tile places count ranges 0 attrs ≡ Ok vals → entries ≡ length head.origins → origins_if head.consolidated entries count ranges ≡ Ok origins
-      → cells ≡ cells_from (rows_in count coords) origins (rows_in count vals) → TellsFault {A = Unit {0}} (order_fault frame head.consolidated ranges 0 before cells) (Err fault) → Tile (Err fault)
-  order_err coords vals origins entries cells fault a b many c is found =
-      on_origins coords vals origins entries (Err fault) a b many c
-      (subst (λ (cs : List StoredCell). DecodesFault (λ (cs : List StoredCell). cs) (unless cs (order_fault frame head.consolidated ranges 0 before cs)) (Err fault)) is
-      (unless_err cells (order_fault frame head.consolidated ranges 0 before cells) fault found))
-
-  -- where nothing is broken, the cells are those of the columns
-  pub tile_whole : (coords : List (List ℤ)) (vals : List (List Val)) (origins : List ℕ) (entries : ℕ) (cells : List StoredCell) → coords_of_tile leaf count ranges 0 frame.domain ≡ Ok coords
-      → vals_of_tile places count ranges 0 attrs ≡ Ok vals → entries ≡ length head.origins → origins_if head.consolidated entries count ranges ≡ Ok origins
-      → cells ≡ cells_from (rows_in count coords) origins (rows_in count vals) → order_fault frame head.consolidated ranges 0 before cells ≡ None → cells_of_tile frame attrs places head before leaf count ranges ≡ Ok cells
-  tile_whole coords vals origins entries cells a b many c is none =
-      on_origins coords vals origins entries (Ok cells) a b many c
-      (subst (λ (cs : List StoredCell). unless cs (order_fault frame head.consolidated ranges 0 before cs) ≡ Ok cells) is (ap (unless cells) none))
+use Rattle.ts_sparse_read.specs.Sifts.{AreSound}
+use Rattle.ts_sparse_read.proofs.ColumnSteps.{sides_long}
 
 -- ---- the domain
 
@@ -155,5 +69,17 @@ lies_long dims leaf lies =
 pub ints_of : (dims : List Dim) → IsDomain dims → All (λ (d : Dim). IsTrue (is_integer d.ty)) dims
 ints_of dims is = All-weaker IsDim (λ (d : Dim). IsTrue (is_integer d.ty)) (λ d dim. dim.integer) dims is.valid
 
--- the steps of the reading of a tile
-pub ruleset steps = (coords_err, vals_err, origins_err, order_err, tile_whole, cells_inside, lies_long)
+-- the columns of a tile are sound, whose coordinates span the sides of a leaf in the domain
+pub columns_sound : (frame : Frame) (leaf : SubBox) (count : ℕ) (coords : List (List ℤ)) (origins : List ℕ) (vals : List (List Val)) → 1 ≤ length frame.domain → length frame.domain ≤ 8 → LiesInDomain frame.domain leaf
+    → AreSides count leaf.low leaf.high coords → length origins ≡ count → All (λ (column : List Val). length column ≡ count) vals → AreSound frame (record { count = count; coords = coords; origins = origins; vals = vals })
+columns_sound frame leaf count coords origins vals some few lies sides many_origins many =
+    let long = sides_long count leaf.low leaf.high coords sides in
+    let lows = (lies_long frame.domain leaf lies).0 in
+    record {
+      some = omega (arith, long.1, lows, some);
+      few = omega (arith, long.1, lows, few);
+      coords = long.0;
+      origins = many_origins;
+      vals = many;
+      inside = cells_inside frame leaf count coords origins vals (cells_from (rows_in count coords) origins (rows_in count vals)) lies sides refl;
+    }

@@ -14,7 +14,7 @@ pub mod SparseHeads
 pub mod SparseGets
 pub mod Reads
 pub mod Fits
-pub mod Walks
+pub mod Sifts
 pub mod SparseWrites
 pub mod SparseMerges
 pub mod SparseLaws

@@ -5,6 +5,8 @@ use Rattle.ts_sparse_read.specs.declared.faults.CellFault.TheVariants as fault
 use Rattle.ts_base.specs.declared.names.Part.TheVariants as part
 use Rattle.ts_column.specs.declared.tiles.TileFault.{TileFault}
 use Rattle.ts_column.specs.declared.tiles.TileFault.TheVariants as tile
+use Rattle.ts_fetch.specs.declared.judging.Verdict.{Verdict}
+use Rattle.ts_fetch.specs.declared.judging.Verdict.TheVariants.{Broken}
 use Rattle.ts_sparse_read.specs.Faults.{Fault, Ranged, fault_in}
 
 -- it tells this part and this offset, unless there was no memory
@@ -30,3 +32,8 @@ TellsTile ranges k (tile.Fixed damaged) told = IsCellFault (fault_in ranges (par
 TellsTile ranges k (tile.Var damaged) told = IsCellFault (fault_in ranges (part.Var k) damaged.at) told
 TellsTile ranges k (tile.Validity damaged) told = IsCellFault (fault_in ranges (part.Validity k) damaged.at) told
 TellsTile ranges k tile.OutOfMemory told = told ≡ fault.OutOfMemory
+
+-- the verdict tells what is broken; there is none where there was no memory
+abbrev pub IsToldAs : CellFault → Verdict → Type 0
+IsToldAs (fault.Broken part at) verdict = verdict ≡ Broken part at
+IsToldAs fault.OutOfMemory verdict = ⊥

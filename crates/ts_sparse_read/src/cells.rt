@@ -3,59 +3,27 @@ ghost use Rattle.std.specs.Prelude.{◌≡◌, ◌≤◌, ◌<◌, List, ℤ, po
 ghost use Rattle.std.specs.List.{All};
 ghost use Rattle.ts_base.specs.declared.values.Val.{Val as AnyVal};
 ghost use Rattle.ts_base.specs.declared.values.Val.TheVariants as val;
-ghost use Rattle.ts_sparse_read.specs.TileReads.{rows_in, cells_from, cell_of};
+ghost use Rattle.ts_schema.specs.Wants.{value_of, cut_row};
+ghost use Rattle.ts_sparse_read.specs.Sifts.{spot_of, cell_in};
 
-use crate::columns::NumberLists;
+use crate::columns::{Columns, NumberLists};
+use crate::sifted::Spot;
 use arrayvec::ArrayVec;
 use std::alloc::Global;
-use ts_base::{Coords, IndexList, OutOfMemory, Row, Sequence};
-use ts_column::ColumnList;
-use ts_plain::{StoredCell, StoredCellList};
+use ts_base::{Coords, OutOfMemory, Row, Val};
+use ts_table::Column;
 
-/// The cells with these coordinates, origins and values, of which there are so many in each column.
-#[tactic(auto, using(crate::proofs::CellSteps::steps))]
-pub(crate) fn cells_from(
-    alloc: Global,
-    count: u64,
-    coords: &NumberLists,
-    origins: &IndexList,
-    vals: &ColumnList,
-) -> Result<StoredCellList, OutOfMemory>
-    requires some { 1 ≤ length coords.now }
-    requires few { length coords.now ≤ 8 }
-    requires coords { All (λ (column : List ℤ). length column ≡ count) coords.now }
-    requires origins { length origins.now ≡ count }
-    requires vals { All (λ (column : List AnyVal). length column ≡ count) vals.now }
-    ensures { IfOk result (λ cells. cells ≡ cells_from (rows_in count coords.now) origins.now (rows_in count vals.now)) }
+/// Where the cell at a place stands.
+pub(crate) fn spot_at(columns: &Columns, place: u64) -> Spot
+    requires some { 1 ≤ length columns.now.coords }
+    requires few { length columns.now.coords ≤ 8 }
+    requires within { place < length columns.now.origins }
+    ensures { result ≡ spot_of (cell_in columns.now place) }
 {
-    let mut cells = StoredCellList::new(alloc);
-    for place in 0..count {
-        let cell = cell_at(alloc, coords, origins, vals, place)?;
-        cells.push(cell)?;
+    Spot {
+        coords: coords_at(&columns.coords, place),
+        origin: *columns.origins.at(place),
     }
-    Ok(cells)
-}
-
-// The cell at a place.
-fn cell_at(
-    alloc: Global,
-    coords: &NumberLists,
-    origins: &IndexList,
-    vals: &ColumnList,
-    place: u64,
-) -> Result<StoredCell, OutOfMemory>
-    requires some { 1 ≤ length coords.now }
-    requires few { length coords.now ≤ 8 }
-    requires origins { place < length origins.now }
-    requires vals { All (λ (column : List AnyVal). place < length column) vals.now }
-    ensures { IfOk result (λ cell. cell ≡ cell_of coords.now origins.now vals.now place) }
-{
-    let row = row_at(alloc, vals, place)?;
-    Ok(StoredCell {
-        coords: coords_at(coords, place),
-        origin: *origins.at(place),
-        row,
-    })
 }
 
 // The coordinates of the cell at a place.
@@ -71,15 +39,31 @@ fn coords_at(coords: &NumberLists, place: u64) -> Coords
     Coords::new(numbers.as_slice())
 }
 
-// The values of the cell at a place.
-fn row_at(alloc: Global, vals: &ColumnList, place: u64) -> Result<Row, OutOfMemory>
+/// The values of the cell at a place, those of these attributes alone. One that has no column is null.
+pub(crate) fn row_at(
+    alloc: Global,
+    attrs: &[u32],
+    vals: &[Column],
+    place: u64,
+) -> Result<Row, OutOfMemory>
     requires { All (λ (column : List AnyVal). place < length column) vals.now }
-    ensures { IfOk result (λ row. row ≡ map (λ column. get_or column place val.Null) vals.now) }
+    ensures { IfOk result (λ row. row ≡ cut_row attrs.now (map (λ column. get_or column place val.Null) vals.now)) }
 {
-    let columns = vals.as_slice();
-    let mut row = Row::from_vec(Vec::with_capacity(alloc, columns.len())?);
-    for column in columns {
-        row.push(column.at(place).to_val(alloc)?)?;
+    let mut row = Row::from_vec(Vec::with_capacity(alloc, attrs.len())?);
+    for attr in attrs {
+        row.push(val_at(alloc, *attr, vals, place)?)?;
     }
     Ok(row)
+}
+
+// The value of an attribute of the cell at a place.
+#[tactic(auto, using(crate::proofs::CellSteps::val_steps))]
+fn val_at(alloc: Global, attr: u32, vals: &[Column], place: u64) -> Result<Val, OutOfMemory>
+    requires { All (λ (column : List AnyVal). place < length column) vals.now }
+    ensures { IfOk result (λ found. found ≡ value_of (map (λ column. get_or column place val.Null) vals.now) attr) }
+{
+    match vals.get(attr as usize) {
+        Some(column) => column.at(place).to_val(alloc),
+        None => Ok(Val::Null),
+    }
 }

@@ -5,6 +5,7 @@ ghost use Rattle.ts_base.specs.declared.names.Part.TheVariants as part;
 ghost use Rattle.ts_base.specs.declared.values.Val.{Val as AnyVal};
 ghost use Rattle.ts_base.specs.declared.values.Val.TheVariants as val;
 ghost use Rattle.ts_base.specs.Values.{is_integer};
+ghost use Rattle.ts_domain.specs.Domains.{LiesInDomain};
 ghost use Rattle.ts_domain.specs.declared.dims.Dim.{Dim as AnyDim};
 ghost use Rattle.ts_wire.specs.Reading.{DecodesOr};
 ghost use Rattle.ts_column.specs.Coords.{coords_in};
@@ -12,8 +13,10 @@ ghost use Rattle.ts_sparse_read.specs.Faults.{bytes_of, in_part};
 ghost use Rattle.ts_sparse_read.specs.TileReads.{coords_of_tile, tile_in, vals_if, vals_of_tile, origins_if};
 ghost use Rattle.ts_sparse_read.specs.Reads.{DecodesFault, TellsTile};
 ghost use Rattle.ts_sparse_read.specs.ReadRows.{IsSide, AreSides};
+ghost use Rattle.ts_sparse_read.specs.Sifts.{columns_of_tile, AreSound};
 
 use crate::faults::CellFault;
+use crate::opened::Opened;
 use crate::ranges::Ranges;
 use crate::used::is_among;
 use std::alloc::Global;
@@ -21,15 +24,59 @@ use ts_base::{ByteList, Coords, IndexList, OutOfMemory, Part, Sequence, ValType}
 use ts_column::{ColumnList, Tile, TileFault, decode_column, decode_coords, decode_origins};
 use ts_domain::{Dim, Domain, SubBox};
 use ts_schema::Attr;
-use ts_table::{Column, Numbers};
+use ts_table::{Column, Kind, Numbers, Texts};
 use ts_wire::ReadFault;
 
 /// A list of lists of numbers.
 pub(crate) type NumberLists = Sequence<Numbers>;
 
-/// The coordinates of so many cells along each dimension, which span the sides of the tile's leaf.
+/// The columns of a tile, of as many values each as it has cells.
+#[derive(Debug, Drop)]
+pub(crate) struct Columns {
+    /// The number of cells.
+    pub(crate) count: u64,
+    /// The coordinates, one column for each dimension.
+    pub(crate) coords: NumberLists,
+    /// Which write each cell is of, by its place among the origins.
+    pub(crate) origins: IndexList,
+    /// The values, one column for each attribute.
+    pub(crate) vals: ColumnList,
+}
+
+/// The columns of a tile of so many cells, from the bytes that were got of each part.
+///
+/// What is broken first among its coordinates, its values and its origins is told.
+#[tactic(auto, using(crate::proofs::TileSteps::lies_long))]
+pub(crate) fn read_columns(
+    alloc: Global,
+    opened: &Opened,
+    entries: u32,
+    leaf: &SubBox,
+    count: u64,
+    ranges: &Ranges,
+) -> Result<Columns, CellFault>
+    requires few { length opened.now.attrs ≤ 64 }
+    requires entries { entries ≡ length opened.now.head.origins }
+    requires leaf { LiesInDomain opened.now.frame.domain leaf.now }
+    ensures decodes { DecodesFault (λ columns. columns) (columns_of_tile opened.now leaf.now count ranges.now) result }
+    ensures sound { IfOk result (AreSound opened.now.frame) }
+{
+    let places = opened.want.attrs.as_slice();
+    let consolidated = opened.head.consolidated;
+    let coords = read_coords(alloc, &opened.frame.domain, leaf, count, ranges)?;
+    let vals = read_vals(alloc, places, opened.attrs.as_slice(), count, ranges)?;
+    let origins = read_origins(alloc, consolidated, entries, count, ranges)?;
+    Ok(Columns {
+        count,
+        coords,
+        origins,
+        vals,
+    })
+}
+
+// The coordinates of so many cells along each dimension, which span the sides of the tile's leaf.
 #[tactic(auto, using(crate::proofs::TileSteps::ints_of))]
-pub(crate) fn read_coords(
+fn read_coords(
     alloc: Global,
     domain: &Domain,
     leaf: &SubBox,
@@ -122,10 +169,10 @@ fn coord_at(coords: &Coords, dim: u8) -> i128
     }
 }
 
-/// The values of so many cells of each attribute; those of attributes at other places than these are
-/// null.
+// The values of so many cells of each attribute; those of attributes at other places than these are
+// null.
 #[tactic(auto, using(crate::proofs::ColumnSteps::vals_steps))]
-pub(crate) fn read_vals(
+fn read_vals(
     alloc: Global,
     places: &[u32],
     attrs: &[Attr],
@@ -169,15 +216,13 @@ fn vals_of(
 }
 
 // So many nulls.
-#[tactic(auto, using(crate::proofs::ColumnSteps::replicate_more))]
+#[tactic(auto, using(crate::proofs::ColumnSteps::nulls_are))]
 fn nulls(alloc: Global, count: u64) -> Result<Column, OutOfMemory>
     ensures { IfOk result (λ column. column ≡ replicate count val.Null) }
 {
-    let mut column = Column::new(alloc);
-    for _cell in 0..count {
-        column.push_null()?;
-    }
-    Ok(column)
+    let kinds = vec![in alloc; Kind::Null; count as usize]?;
+    let (numbers, texts) = (Numbers::new(alloc), Texts::new(alloc));
+    Ok(Column::of(kinds, numbers, texts))
 }
 
 // The tile of the attribute at a place.
@@ -203,9 +248,9 @@ fn fault_of(ranges: &Ranges, place: u8, fault: TileFault) -> CellFault
     }
 }
 
-/// Which write each of so many cells is of, by its place among the origins: of an ordinary fragment
-/// the first, and the only one.
-pub(crate) fn read_origins(
+// Which write each of so many cells is of, by its place among the origins: of an ordinary fragment
+// the first, and the only one.
+fn read_origins(
     alloc: Global,
     consolidated: bool,
     entries: u32,
@@ -226,13 +271,8 @@ pub(crate) fn read_origins(
 }
 
 // So many zeros.
-#[tactic(auto, using(crate::proofs::ColumnSteps::replicate_more))]
 fn zeros(alloc: Global, count: u64) -> Result<IndexList, OutOfMemory>
     ensures { IfOk result (λ origins. origins ≡ replicate count 0) }
 {
-    let mut origins = IndexList::new(alloc);
-    for _cell in 0..count {
-        origins.push(0)?;
-    }
-    Ok(origins)
+    Ok(IndexList::from_vec(vec![in alloc; 0; count as usize]?))
 }

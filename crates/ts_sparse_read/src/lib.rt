@@ -15,6 +15,7 @@ mod pieces;
 mod planning;
 mod ranges;
 mod reading;
+mod sifted;
 mod spans;
 mod tiles;
 mod used;

@@ -1,85 +1,48 @@
 //! The order of the cells of a tile.
-ghost use Rattle.std.specs.Prelude.{◌≡◌, ◌*◌, ◌<◌, length, IfSome, IsTrue};
-ghost use Rattle.std.specs.List.{All};
+ghost use Rattle.std.specs.Prelude.{◌≡◌, ◌*◌, IfSome, IsTrue};
 ghost use Rattle.std.specs.Option.{option_copied};
 ghost use Rattle.ts_domain.specs.Domains.{is_in_domain};
-ghost use Rattle.ts_plain.specs.Insides.{IsInside};
 ghost use Rattle.ts_plain.specs.Rules.{coords_rise, origin_rises};
 ghost use Rattle.ts_sparse_read.specs.Faults.{fault_in};
-ghost use Rattle.ts_sparse_read.specs.TileReads.{first_width, coords_fault, origin_fault, place_fault, cell_before, order_fault};
+ghost use Rattle.ts_sparse_read.specs.TileReads.{first_width, coords_fault, origin_fault, place_fault};
 ghost use Rattle.ts_sparse_read.specs.Reads.{IsCellFault, TellsFault};
+ghost use Rattle.ts_sparse_read.specs.Sifts.{bare, bare_if, IsSpotInside};
 
 use crate::faults::CellFault;
 use crate::ranges::Ranges;
+use crate::sifted::Spot;
 use ts_base::{Coords, Part};
 use ts_order::cmp_global;
-use ts_plain::StoredCell;
 use ts_schema::Frame;
 
-/// Nothing, where each of the cells may stand behind the one before it; else what is broken at the
-/// first that may not.
-#[tactic(auto, using(crate::proofs::OrderSteps::steps))]
-pub(crate) fn check_order(
-    frame: &Frame,
-    consolidated: bool,
-    ranges: &Ranges,
-    before: Option<&StoredCell>,
-    cells: &[StoredCell],
-) -> Result<(), CellFault>
-    requires before { IfSome (option_copied before) (IsInside frame.now) }
-    requires cells { All (IsInside frame.now) cells.now }
-    ensures { TellsFault (order_fault frame.now consolidated ranges.now 0 (option_copied before.entry) cells.now) result }
-{
-    for place in 0..cells.len() {
-        let last = cell_before(before, cells, place);
-        let cell = &cells[place];
-        check_place(frame, consolidated, ranges, place as u64, last, cell)?;
-    }
-    Ok(())
-}
-
-// The cell behind which the one at a place stands, if there is one.
-fn cell_before<'a>(
-    before: Option<&'a StoredCell>,
-    cells: &'a [StoredCell],
-    place: usize,
-) -> Option<&'a StoredCell>
-    ensures { option_copied result ≡ cell_before (option_copied before.entry) place cells.now }
-{
-    if place == 0 {
-        before
-    } else {
-        cells.get(place - 1)
-    }
-}
-
-// Whether the cell at a place may stand behind the one before it.
-fn check_place(
+/// Nothing, where the cell at a place may stand behind the one before it, each told by its spot; else
+/// what is broken there.
+pub(crate) fn check_place(
     frame: &Frame,
     consolidated: bool,
     ranges: &Ranges,
     place: u64,
-    before: Option<&StoredCell>,
-    cell: &StoredCell,
+    before: Option<&Spot>,
+    spot: &Spot,
 ) -> Result<(), CellFault>
-    requires before { IfSome (option_copied before) (IsInside frame.now) }
-    requires inside { IsInside frame.now cell.now }
-    ensures { TellsFault (place_fault frame.now consolidated ranges.now place (option_copied before.entry) cell.now) result }
+    requires before { IfSome (option_copied before) (IsSpotInside frame.now) }
+    requires inside { IsSpotInside frame.now spot.now }
+    ensures { TellsFault (place_fault frame.now consolidated ranges.now place (bare_if (option_copied before.entry)) (bare spot.now)) result }
 {
-    if !coords_rise(frame, before, &cell.coords) {
+    if !coords_rise(frame, before, &spot.coords) {
         return Err(coords_fault(frame, ranges, place));
     }
-    if !origin_rises(frame.dense, before, &cell.coords, cell.origin) {
+    if !origin_rises(frame.dense, before, &spot.coords, spot.origin) {
         return Err(origin_fault(frame, consolidated, ranges, place));
     }
     Ok(())
 }
 
 // Whether a cell of these coordinates may stand behind the one before, in global order.
-fn coords_rise(frame: &Frame, before: Option<&StoredCell>, coords: &Coords) -> bool
-    requires before { IfSome (option_copied before) (IsInside frame.now) }
+fn coords_rise(frame: &Frame, before: Option<&Spot>, coords: &Coords) -> bool
+    requires before { IfSome (option_copied before) (IsSpotInside frame.now) }
     requires inside { IsTrue (is_in_domain frame.now.domain coords.now) }
-    ensures { result ≡ coords_rise frame.now (option_copied before.entry) coords.now }
+    ensures { result ≡ coords_rise frame.now (bare_if (option_copied before.entry)) coords.now }
 {
     match before {
         None => true,
@@ -97,8 +60,8 @@ fn coords_rise(frame: &Frame, before: Option<&StoredCell>, coords: &Coords) -> b
 }
 
 // Whether a cell of this origin may stand behind one of the same coordinates.
-fn origin_rises(dense: bool, before: Option<&StoredCell>, coords: &Coords, origin: u32) -> bool
-    ensures { result ≡ origin_rises dense (option_copied before.entry) coords.now origin }
+fn origin_rises(dense: bool, before: Option<&Spot>, coords: &Coords, origin: u32) -> bool
+    ensures { result ≡ origin_rises dense (bare_if (option_copied before.entry)) coords.now origin }
 {
     match before {
         None => true,
