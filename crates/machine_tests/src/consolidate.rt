@@ -62,6 +62,17 @@ fn frame(dense: bool) -> Result<Frame, Fail>
     })
 }
 
+// The number of cells that the head of a fragment counts: in a dense array those of its box.
+fn cells_of(dense: bool, fragment: &Fragment<'_>) -> Result<u64, Fail> {
+    if !dense {
+        return Ok(fragment.versions.len() as u64);
+    }
+    if fragment.low < 0 || fragment.low > fragment.high || fragment.high > 9 {
+        return Err("no box".into());
+    }
+    Ok((fragment.high - fragment.low + 1) as u64)
+}
+
 // The head of a fragment with this identifier.
 fn head_of(alloc: Global, frame: &Frame, id: u128, fragment: &Fragment<'_>) -> Result<Head, Fail>
     requires { length frame.now.domain ≡ 1 }
@@ -91,7 +102,7 @@ fn head_of(alloc: Global, frame: &Frame, id: u128, fragment: &Fragment<'_>) -> R
         consolidated: fragment.origins.len() > 1,
         low: Coords::new(&[fragment.low]),
         high: Coords::new(&[fragment.high]),
-        cells: fragment.versions.len() as u64,
+        cells: cells_of(frame.dense, fragment)?,
         origins,
     })
 }
@@ -175,6 +186,28 @@ fn fragments_are_merged(rt: HostRuntime) -> Result<(), Fail> {
                 low: 0,
                 high: 2,
                 versions: &[Laid(1, 0, 1), Laid(5, 1, 5), Laid(5, 2, 5)],
+            },
+        },
+        Merge {
+            shows: "the head of a dense array counts holes too",
+            dense: true,
+            first: Fragment {
+                origins: &[1],
+                low: 0,
+                high: 1,
+                versions: &[Laid(1, 0, 1), Laid(1, 1, 1)],
+            },
+            second: Fragment {
+                origins: &[5],
+                low: 4,
+                high: 4,
+                versions: &[Laid(5, 4, 5)],
+            },
+            merged: Fragment {
+                origins: &[1, 5],
+                low: 0,
+                high: 4,
+                versions: &[Laid(1, 0, 1), Laid(1, 1, 1), Laid(5, 4, 5)],
             },
         },
         Merge {

@@ -1,5 +1,5 @@
 -- What the grammar of the parts says of one piece, and of the objects that are refused; and where the versions lie that a fetch takes.
-use Rattle.std.specs.Prelude.{◌≡◌, ℕ, ◌≤◌, true, List, [], ◌∷◌, ◌++◌, length, take, nat_lt, Some, Ok, Err, IsTrue, All, ◌⊎◌}
+use Rattle.std.specs.Prelude.{◌≡◌, ℕ, ◌≤◌, true, false, List, [], ◌∷◌, ◌++◌, length, take, nat_lt, Some, Ok, Err, IsTrue, All, ◌⊎◌}
 use Rattle.ts_base.specs.declared.names.Name.TheVariants as name
 use Rattle.ts_store.specs.declared.call.Call.TheVariants as call
 use Rattle.ts_store.specs.declared.call.Reply.TheVariants as reply
@@ -9,8 +9,12 @@ use Rattle.ts_base.specs.declared.names.PartBytes.{PartBytes}
 use Rattle.ts_base.specs.declared.heads.Head.{Head}
 use Rattle.ts_base.specs.declared.heads.Piece.{Piece}
 use Rattle.ts_base.specs.declared.heads.Version.{Version}
+use Rattle.ts_base.specs.declared.values.Val.{Val}
+use Rattle.ts_base.specs.declared.values.Val.TheVariants.{Null}
+use Rattle.ts_commit.specs.Selections.{has_origin}
 use Rattle.ts_domain.specs.declared.boxes.SubBox.{SubBox}
 use Rattle.ts_domain.specs.Boxes.{is_in_box}
+use Rattle.ts_domain.specs.Bounds.{is_between}
 use Rattle.ts_store.specs.declared.call.Call.{Call}
 use Rattle.ts_store.specs.declared.call.Reply.{Reply}
 use Rattle.ts_store.specs.Calls.{FitsCall}
@@ -123,11 +127,28 @@ TakesStorable {F} codec = (frame : Frame) (s : Schema) (frag : FragKey) (object 
     → EndsWith codec frame s frag object (all_of frame s.attrs) (Takes versions) gots sizes
     → IsStorable frame s.attrs (record { head = head; versions = versions }) × codec.writable frame s.attrs (record { head = head; versions = versions })
 
--- where a fetch takes versions at once, the object of the head's part spells a piece of the fragment by itself, and what it takes is what is wanted of that piece; where it takes none at once, it need not have looked at the other parts
+-- a version of one of the fragment's writes, of a cell of its hull, of which no value was read
+pub record IsBare (head : Head) (v : Version) : Type 0 where
+  pub schema : v.schema ≡ head.schema
+  pub origin : has_origin v.key head ≡ true
+  pub hull : IsTrue (is_between head.low head.high v.coords)
+  pub row : All (λ (x : Val). x ≡ Null) v.row
+
+-- the object of the head's part is read as the head of a fragment that no consolidation made, no attribute is wanted that there is, and the versions are bare ones of that head
+pub record TakesBare {F : Type 0} (codec : Codec F) (frame : Frame) (s : Schema) (frag : FragKey) (object : List ℕ) (want : Want) (versions : List Version) : Type 0 where
+  pub head : Head
+  pub reads : codec.head frame frag object ≡ Ok head
+  pub ordinary : head.consolidated ≡ false
+  pub unread : All (λ (k : ℕ). length s.attrs ≤ k) want.attrs
+  pub bare : All (IsBare head) versions
+
+-- versions that are taken at once come from the object of the head's part alone: there are none, or it spells a piece by itself and they are what is wanted of that, or no value is wanted and they are bare
 abbrev pub TakesSpelled : {F : Type 0} → Codec F → Spelled → Type 0
 TakesSpelled {F} codec spelled = (frame : Frame) (s : Schema) (frag : FragKey) (object : List ℕ) (want : Want) (fetch : F) (versions : List Version)
     → IsBytes object → IsShort object → codec.opens frame s frag object want ≡ Ok fetch → codec.steps fetch reply.Start ≡ Takes versions
-    → (versions ≡ []) ⊎ ((p : Piece) × (p.head.frag ≡ frag) × spelled frame s p (look_in (record { part = codec.head_part frame; bytes = object } ∷ [])) × (versions ≡ taken want p.versions))
+    → (versions ≡ [])
+    ⊎ (((p : Piece) × (p.head.frag ≡ frag) × spelled frame s p (look_in (record { part = codec.head_part frame; bytes = object } ∷ [])) × (versions ≡ taken want p.versions))
+    ⊎ TakesBare codec frame s frag object want versions)
 
 -- ---- heads
 

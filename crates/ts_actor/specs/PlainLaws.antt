@@ -3,7 +3,7 @@ use Rattle.std.proofs.Common.{◌≡◌, ℕ, zero, suc, Bool, true, false, cond
 use Rattle.std.specs.List.{All, AllByRecursion}
 use Rattle.std.specs.declared.cmp.Ordering.TheVariants.{Less}
 use Rattle.std.proofs.lemmas.Option.{same_Some}
-use Rattle.std.specs.Prelude.{IsTrue, filter}
+use Rattle.std.specs.Prelude.{IsTrue, ◌≤◌, length, filter}
 use Rattle.std.proofs.lemmas.Bool.{and_parts}
 use Rattle.std.proofs.lemmas.List.Elements.{All-nil, All-cons, All-head, All-contains, All-map, All-filter, All-weaker, filter_passes}
 use Rattle.ts_base.specs.declared.names.Part.TheVariants as part
@@ -32,12 +32,15 @@ use Rattle.ts_plain.specs.Writes.{stored_for}
 use Rattle.ts_plain.specs.Merges.{Order, global_order, version_cmp, VersionsAscend, LiesInside, IsOrdered}
 use Rattle.ts_plain.proofs.PlainPieces.{piece_again, piece_found, head_again, one_plain, broken_head}
 use Rattle.ts_plain.proofs.OrderedPieces as ordered
-use Rattle.ts_model.specs.Merging.{merged_piece}
+use Rattle.ts_model.specs.Merging.{AreSources, merged_piece}
+use Rattle.ts_model.proofs.ListLemmas.{Contains-here}
+use Rattle.ts_model.proofs.MergedFits.{merged_first}
 use Rattle.ts_model.specs.Codecs.{CodecLaws, OpensWell, Stepped, Asks, Takes, Breaks}
 use Rattle.ts_actor.specs.PlainCodec.{plain_object, plain_parts, plain_codec, NeverWaits, IsPlainBroken, IsPlainStorable}
 use Rattle.ts_actor.specs.PieceLaws.{whole_got, SpellsOne, RefusesBroken, OpensUnbroken, Begun, Went, AreInBox, TakesInside, IsFetchOf, First, Then, EndsWith, AtOnce, AfterReply, JudgesRight, AsksBounded, AsksOwn, TakesOrdered, TakesSpelled}
+use Rattle.ts_actor.specs.PlainWrites.{plain_storable}
 use Rattle.ts_actor.specs.PlainMerges.{storable_plain}
-use Rattle.ts_actor.specs.PlainSources.{plain_source}
+use Rattle.ts_actor.specs.PlainSources.{storable_some, plain_source}
 
 -- the object of a piece that can be stored holds it, where it is short enough to be got at once
 object_holds : (frame : Frame) (attrs : List Attr) (p : Piece) → IsPlainStorable frame attrs p → IsShort (plain_object p) → IsPlainObject frame attrs p (plain_object p)
@@ -73,14 +76,18 @@ opens_well frame s p look want object is there =
 takes_all : (f g : List Version) (c : Call) → Takes f ≡ Asks g c → ⊥
 takes_all f g c e = cc
 
+-- pieces that plain objects can hold are merged into one that has a version
+plain_kept : (frame : Frame) (attrs : List Attr) (id : ℕ) (p : Piece) (ps : List Piece) → AreSources frame attrs (p ∷ ps) → IsPlainStorable frame attrs p → 1 ≤ length (merged_piece frame id p ps).versions
+plain_kept frame attrs id p ps are is = merged_first frame id p ps (storable_some frame attrs p are.is_frame are.are_attrs is)
+
 -- the laws of plain fragments
 pub plain_laws : CodecLaws plain_codec IsPlain NeverWaits
 plain_laws = record {
-  ordinary = λ frame attrs p is close. storable_plain frame attrs p (inl is);
-  merged = λ frame attrs id p ps are each is few. storable_plain frame attrs (merged_piece frame id p ps) (inr is);
+  ordinary = λ frame attrs p any is close. storable_plain frame attrs p is.some (inl is);
+  merged = λ frame attrs id p ps any are each is few. storable_plain frame attrs (merged_piece frame id p ps) (plain_kept frame attrs id p ps are (each p (Contains-here p ps))) (inr is);
   parts = parts_spell;
   last = λ frame s p is. ([], plain_object p, refl);
-  storable = λ frame s p look is_frame are_attrs own is. let storable = plain_source frame s.attrs p is.0 is_frame are_attrs own is.2 in (storable, storable_plain frame s.attrs p storable);
+  storable = λ frame s p look is_frame are_attrs own is. (plain_source frame s.attrs p is.0 is_frame are_attrs own is.2, plain_storable frame s.attrs p (record { bytes = is.0; spelled = is.2 }));
   once = λ frame s p i k x y at_i at_k _. only_place _ x i at_i ∙ sym (only_place _ y k at_k);
   head = λ frame s p look is. (is.0, is.1, head_again frame s.attrs p is.0 is.2);
   looks = λ f r g c asked. absurd (takes_all f g c asked);
@@ -225,7 +232,7 @@ plain_found frame s frag object want fetch versions all short is e =
     let found = piece_found frame s.attrs frag object b.first all short b.was in
     let same : taken want b.first.versions ≡ fetch = cc (b.next) in
     let took : fetch ≡ versions = cc in
-    inr (b.first, found.1, (object, refl, found.0), sym (same ∙ took))
+    inr (inl (b.first, found.1, (object, refl, found.0), sym (same ∙ took)))
 
 -- it makes no get
 pub plain_bounded : AsksBounded plain_codec IsPlain (λ _. 0) (λ _ _ _ _. 0)

@@ -1,6 +1,6 @@
 -- The piece of a consolidation is one that a plain object holds.
 use Rattle.std.proofs.Common.{◌≡◌, ℕ, zero, suc, Bool, true, false, ◌&&◌, nat_lt, List, [], ◌∷◌, ◌++◌, length, map, get_or, Option, Some, None, inl, inr, refl, sym, ap, ◌∙◌, subst, arith}
-use Rattle.std.specs.Prelude.{IsTrue, Contains, nat_eq, not, ◌||◌, ◌⊎◌, ◌<◌, ◌≤◌, ◌+◌, ◌^◌, ⊤}
+use Rattle.std.specs.Prelude.{IsTrue, Contains, nat_eq, not, ◌||◌, ◌⊎◌, ◌<◌, ◌≤◌, ◌+◌, ◌-◌, ◌^◌, min, ⊤}
 use Rattle.std.specs.List.{All}
 use Rattle.std.specs.List.Sorted.{IsStrictlySortedBy}
 use Rattle.std.specs.Bool.{beq}
@@ -26,10 +26,10 @@ use Rattle.ts_wire.specs.Exact.{InTurn}
 use Rattle.ts_schema.specs.declared.attrs.Attr.{Attr}
 use Rattle.ts_schema.specs.declared.frames.Frame.{Frame}
 use Rattle.ts_plain.specs.declared.stored.StoredCell.{StoredCell}
-use Rattle.ts_plain.specs.Rules.{last_of, may_span, is_full, may_hold, may_count, rises_from, may_end, coords_rise, origin_rises}
+use Rattle.ts_plain.specs.Rules.{counted, last_of, may_span, is_full, may_hold, may_count, rises_from, may_end, coords_rise, origin_rises}
 use Rattle.ts_plain.specs.Plain.{FitsOrigin, FitsCell, FitsPlain}
 use Rattle.ts_plain.specs.Pieces.{no_key, version_in, head_of, piece_of}
-use Rattle.ts_plain.specs.Writes.{place_of, HasPlace, sides_of, stored_head, stored_cell, stored_for}
+use Rattle.ts_plain.specs.Writes.{place_of, HasPlace, sides_of, counting_head, stored_cell, stored_for, CountsCells}
 use Rattle.ts_plain.proofs.KeyLemmas.{not_below_back}
 use Rattle.ts_plain.proofs.Places.{at-place_of, place_of-at}
 use Rattle.ts_plain.proofs.WrittenPieces.{last_pushed}
@@ -39,7 +39,7 @@ use Rattle.ts_model.specs.Consolidated.{IsMergedVersion, ComesBefore, Rise, IsCo
 use Rattle.ts_model.proofs.ListLemmas.{Contains-only, Contains-there, Contains-cons}
 use Rattle.ts_model.proofs.Members.{key_there}
 use Rattle.ts_actor.specs.PlainCodec.{IsPlainStorable}
-use Rattle.ts_actor.specs.PlainWrites.{ordinary_fits, ordinary_back, hull_fits, coords_fit, lows_back, highs_back, row_fits, not_same}
+use Rattle.ts_actor.specs.PlainWrites.{ordinary_fits, ordinary_back, hull_fits, coords_fit, lows_back, highs_back, volume_between, row_fits, not_same}
 
 -- ---- places
 
@@ -103,7 +103,7 @@ origins_fit frag count front (k ∷ ks) o last_is all up keys first last =
 
 -- ---- the cells
 
-module _ (frame : Frame) (attrs : List Attr) (head : Head) (dims : All IsDim frame.domain) (up : IsStrictlySortedBy key_cmp head.origins) where
+module _ (frame : Frame) (attrs : List Attr) (head : Head) (many : ℕ) (dims : All IsDim frame.domain) (up : IsStrictlySortedBy key_cmp head.origins) where
   -- a version comes behind the cell before, if there is one
   abbrev Behind : Option StoredCell → Version → Type 0
   Behind None v = ⊤
@@ -133,7 +133,7 @@ module _ (frame : Frame) (attrs : List Attr) (head : Head) (dims : All IsDim fra
   placed : (v : Version) → IsOne v → HasPlace head.origins v.key
   placed v is = has_place head.origins v.key up (key_there v.key head.origins is.by_origin)
 
-  cell_fits : (few : length head.origins < 2 ^ 32) (front : List StoredCell) (v : Version) → IsOne v → Behind (last_of front) v → FitsCell frame attrs (stored_head head) front (stored_cell head.origins v)
+  cell_fits : (few : length head.origins < 2 ^ 32) (front : List StoredCell) (v : Version) → IsOne v → Behind (last_of front) v → FitsCell frame attrs (counting_head head many) front (stored_cell head.origins v)
   cell_fits few front v is behind =
       let place = placed v is in
       record {
@@ -152,14 +152,14 @@ module _ (frame : Frame) (attrs : List Attr) (head : Head) (dims : All IsDim fra
     | inr same ↦ inr (same.0, same.1, place_less head.origins v.key w.key up (placed v is) (placed w (All-head IsOne w ws all)) same.2)
   ]
 
-  cells_fit : (few : length head.origins < 2 ^ 32) (front : List StoredCell) (vs : List Version) → All IsOne vs → Begins (last_of front) vs → Rise frame vs → InTurn (FitsCell frame attrs (stored_head head)) front (map (stored_cell head.origins) vs)
+  cells_fit : (few : length head.origins < 2 ^ 32) (front : List StoredCell) (vs : List Version) → All IsOne vs → Begins (last_of front) vs → Rise frame vs → InTurn (FitsCell frame attrs (counting_head head many)) front (map (stored_cell head.origins) vs)
   cells_fit few front [] all first rise = tt
   cells_fit few front (v ∷ vs) all first rise =
       let own = All-head IsOne v vs all in
       let rest = All-tail IsOne v vs all in
       (cell_fits few front v own first, cells_fit few (front ++ stored_cell head.origins v ∷ []) vs rest (subst (λ o. Begins o vs) (sym (last_pushed front (stored_cell head.origins v))) (next_behind v vs own rest rise.0)) rise.1)
 
-  versions_back : (vs : List Version) → All IsOne vs → vs ≡ map (version_in (stored_head head)) (map (stored_cell head.origins) vs)
+  versions_back : (vs : List Version) → All IsOne vs → vs ≡ map (version_in (counting_head head many)) (map (stored_cell head.origins) vs)
   versions_back [] all = refl
   versions_back (v ∷ vs) all =
       let is = All-head IsOne v vs all in
@@ -170,9 +170,9 @@ module _ (frame : Frame) (attrs : List Attr) (head : Head) (dims : All IsDim fra
 
 -- ---- the piece
 
--- what is stored of the piece of a consolidation keeps all rules, where its first origin has the least timestamp and its last one the greatest
-pub merged_fits : (frame : Frame) (attrs : List Attr) (p : Piece) → IsConsolidated frame attrs p → FirstOf p.head.frag None p.head.origins → LastOf p.head.frag p.head.origins → FitsPlain frame attrs p.head.frag (stored_for p)
-merged_fits frame attrs p is first last =
+-- what is stored of the piece of a consolidation keeps all rules, where it has a version, its first origin has the least timestamp and its last one the greatest
+pub merged_fits : (frame : Frame) (attrs : List Attr) (p : Piece) → IsConsolidated frame attrs p → 1 ≤ length p.versions → FirstOf p.head.frag None p.head.origins → LastOf p.head.frag p.head.origins → FitsPlain frame attrs p.head.frag (stored_for p)
+merged_fits frame attrs p is some first last =
     let dims = (is.is_frame).domain.valid in
     let some_origin = (is.span).least in
     record {
@@ -181,28 +181,36 @@ merged_fits frame attrs p is first last =
         kind = ap (beq frame.dense) is.dense ∙ same frame.dense;
         span = ap (may_span p.head.frag) is.consolidated;
         hull = hull_fits frame.domain p.head.low p.head.high dims is.low is.high is.corners;
-        cells = omega (arith, is.cells, is.few);
-        as_many = ap (λ b. may_hold (is_full frame.dense b) (sides_of p.head.low p.head.high) p.head.cells) is.consolidated ∙ as_many frame.dense;
+        cells = omega (arith, is.few);
+        as_many = ap (λ b. may_hold (is_full frame.dense b) (sides_of p.head.low p.head.high) (length p.versions)) is.consolidated ∙ as_many frame.dense;
         few_origins = omega (arith, is.few_origins);
         some_origin = ap (λ b. may_count b (length p.head.origins)) is.consolidated ∙ le-leb 1 (length p.head.origins) (let less = some_origin.1.1 in omega (arith, less));
         origins = subst (λ b. InTurn (FitsOrigin p.head.frag b (length p.head.origins)) [] p.head.origins) (sym is.consolidated)
             (origins_fit p.head.frag (length p.head.origins) [] p.head.origins None refl (omega arith) is.ascend is.are_keys first last);
       };
-      count = length-map p.versions (stored_cell p.head.origins) ∙ sym is.cells;
-      cells = cells_fit frame attrs p.head dims is.ascend is.few_origins [] p.versions is.versions (begin p.versions) is.rise;
+      count = length-map p.versions (stored_cell p.head.origins);
+      cells = cells_fit frame attrs p.head (length p.versions) dims is.ascend is.few_origins [] p.versions is.versions (begin p.versions) is.rise;
     }
   where
     same : (b : Bool) → beq b b ≡ true
     same true = refl
     same false = refl
 
-    as_many : (dense : Bool) → IsTrue (may_hold (is_full dense true) (sides_of p.head.low p.head.high) p.head.cells)
-    as_many true = le-leb 1 p.head.cells (omega (arith, is.cells, is.some))
-    as_many false = le-leb 1 p.head.cells (omega (arith, is.cells, is.some))
+    as_many : (dense : Bool) → IsTrue (may_hold (is_full dense true) (sides_of p.head.low p.head.high) (length p.versions))
+    as_many true = le-leb 1 (length p.versions) some
+    as_many false = le-leb 1 (length p.versions) some
 
-    begin : (vs : List Version) → Begins frame attrs p.head (is.is_frame).domain.valid is.ascend None vs
+    begin : (vs : List Version) → Begins frame attrs p.head (length p.versions) (is.is_frame).domain.valid is.ascend None vs
     begin [] = tt
     begin (v ∷ vs) = tt
+
+-- the head of the piece of a consolidation counts its versions, of a dense array the cells of its hull
+merged_counts : (frame : Frame) (attrs : List Attr) (p : Piece) → IsConsolidated frame attrs p → CountsCells p
+merged_counts frame attrs p is = by p.head.dense refl
+  where
+    by : (dense : Bool) → p.head.dense ≡ dense → p.head.cells ≡ counted dense (sides_of p.head.low p.head.high) (length p.versions)
+    by true e = is.whole (sym is.dense ∙ e) ∙ ap (λ n. min n (2 ^ 64 - 1)) (sym (volume_between p.head.low p.head.high is.corners))
+    by false e = is.cells (sym is.dense ∙ e)
 
 -- the piece is the one that what is stored of it holds
 pub merged_back : (frame : Frame) (attrs : List Attr) (p : Piece) → IsConsolidated frame attrs p → p ≡ piece_of p.head.frag (stored_for p)
@@ -210,10 +218,11 @@ unfolding piece_of head_of
 merged_back frame attrs p is =
     let low = lows_back p.head.low p.head.high is.corners in
     let high = highs_back p.head.low p.head.high is.corners in
-    let versions = versions_back frame attrs p.head (is.is_frame).domain.valid is.ascend p.versions is.versions in
+    let versions = versions_back frame attrs p.head (length p.versions) (is.is_frame).domain.valid is.ascend p.versions is.versions in
+    let told = merged_counts frame attrs p is in
     let head = p.head in
     λ i. record {
-      head = record { frag = head.frag; schema = head.schema; dense = head.dense; consolidated = head.consolidated; low = low i; high = high i; cells = head.cells; origins = head.origins };
+      head = record { frag = head.frag; schema = head.schema; dense = head.dense; consolidated = head.consolidated; low = low i; high = high i; cells = told i; origins = head.origins };
       versions = versions i;
     }
 
@@ -255,16 +264,16 @@ last_in frag (k ∷ l ∷ ks) up all j at most =
       | inr there ↦ last_in frag (l ∷ ks) rest later j there most
     ]
 
--- so what is stored of the piece of a consolidation keeps all rules
-pub consolidated_fits : (frame : Frame) (attrs : List Attr) (p : Piece) → IsConsolidated frame attrs p → FitsPlain frame attrs p.head.frag (stored_for p)
-consolidated_fits frame attrs p is =
+-- so what is stored of the piece of a consolidation that has a version keeps all rules
+pub consolidated_fits : (frame : Frame) (attrs : List Attr) (p : Piece) → IsConsolidated frame attrs p → 1 ≤ length p.versions → FitsPlain frame attrs p.head.frag (stored_for p)
+consolidated_fits frame attrs p is some =
     let low = is.span.least in
     let high = is.span.greatest_is in
-    merged_fits frame attrs p is (first_in p.head.frag p.head.origins is.ascend is.span.from_on low.0 low.1 low.2) (last_in p.head.frag p.head.origins is.ascend is.span.up_to high.0 high.1 high.2)
+    merged_fits frame attrs p is some (first_in p.head.frag p.head.origins is.ascend is.span.from_on low.0 low.1 low.2) (last_in p.head.frag p.head.origins is.ascend is.span.up_to high.0 high.1 high.2)
 
 -- ---- what can be stored
 
--- each piece that a command makes can be stored
-pub storable_plain : (frame : Frame) (attrs : List Attr) (p : Piece) → IsStorable frame attrs p → IsPlainStorable frame attrs p
-storable_plain frame attrs p (inl is) = record { fits = ordinary_fits frame attrs p is; same = ordinary_back frame attrs p is }
-storable_plain frame attrs p (inr is) = record { fits = consolidated_fits frame attrs p is; same = merged_back frame attrs p is }
+-- each piece that a command makes can be stored, where it has a version
+pub storable_plain : (frame : Frame) (attrs : List Attr) (p : Piece) → 1 ≤ length p.versions → IsStorable frame attrs p → IsPlainStorable frame attrs p
+storable_plain frame attrs p some (inl is) = record { fits = ordinary_fits frame attrs p is; same = ordinary_back frame attrs p is }
+storable_plain frame attrs p some (inr is) = record { fits = consolidated_fits frame attrs p is some; same = merged_back frame attrs p is }

@@ -1,6 +1,6 @@
 -- The piece that a plain object holds can be written once more: one write made it, or a consolidation.
 use Rattle.std.proofs.Common.{◌≡◌, ℕ, zero, suc, ◌*◌, ℤ, Bool, true, false, ◌&&◌, nat_lt, List, [], ◌∷◌, ◌++◌, length, map, get_or, Some, inl, inr, refl, sym, ap, ◌∙◌, subst, arith}
-use Rattle.std.specs.Prelude.{IsTrue, Contains, int_le, nat_eq, not, ◌||◌, ◌<◌, ◌≤◌, ◌+◌}
+use Rattle.std.specs.Prelude.{IsTrue, Contains, int_le, nat_eq, not, ◌||◌, ◌<◌, ◌≤◌, ◌+◌, ◌-◌, ◌^◌, min}
 use Rattle.std.specs.List.{All, AllByRecursion}
 use Rattle.std.specs.List.Sorted.{IsStrictlySortedBy}
 use Rattle.std.specs.Bool.{beq}
@@ -40,10 +40,12 @@ use Rattle.ts_plain.specs.declared.stored.Side.{Side}
 use Rattle.ts_plain.specs.declared.stored.StoredHead.{StoredHead}
 use Rattle.ts_plain.specs.declared.stored.StoredCell.{StoredCell}
 use Rattle.ts_plain.specs.declared.stored.StoredPiece.{StoredPiece}
-use Rattle.ts_plain.specs.Rules.{volume, last_of, is_full, may_hold, may_count, rises_from, may_end, coords_rise, origin_rises}
+use Rattle.ts_plain.specs.Rules.{volume, counted, last_of, is_full, may_hold, may_count, rises_from, may_end, coords_rise, origin_rises}
 use Rattle.ts_plain.specs.Plain.{FitsCoord, FitsSide, FitsOrigin, FitsValue, FitsCell, FitsPlain}
 use Rattle.ts_plain.specs.Pieces.{no_key, origin_key, version_in, head_of, piece_of, IsPlainObject}
+use Rattle.ts_plain.specs.Writes.{stored_for}
 use Rattle.ts_plain.specs.Merges.{version_cmp, VersionsAscend, LiesInside, IsOrdered}
+use Rattle.ts_plain.proofs.Volumes.{counted_whole}
 use Rattle.ts_plain.proofs.OrderedPieces.{cells_inside, cells_ascend}
 use Rattle.ts_plain.proofs.WrittenPieces.{last_pushed, origins_ascend}
 use Rattle.ts_model.specs.Commands.{global_order}
@@ -52,6 +54,7 @@ use Rattle.ts_model.specs.Pieces.{Climb, IsVersion}
 use Rattle.ts_model.specs.Consolidated.{IsSpan, NamesOwn, IsMergedVersion, ComesBefore, Rise, IsStorable}
 use Rattle.ts_model.proofs.ListLemmas.{Contains-nil, Contains-here, Contains-there, Contains-only, Contains-cons, Contains-slice_get}
 use Rattle.ts_model.proofs.Members.{key_found, key_there}
+use Rattle.ts_actor.specs.PlainCodec.{IsPlainStorable}
 use Rattle.ts_actor.specs.PlainMerges.{LastOf, t_upto}
 
 -- ---- the hull
@@ -265,7 +268,7 @@ module _ (frame : Frame) (attrs : List Attr) (frag : FragKey) (stored : StoredPi
     consolidated = stored.head.consolidated;
     low = lows stored.head.hull;
     high = highs stored.head.hull;
-    cells = stored.head.cells;
+    cells = counted stored.head.dense stored.head.hull stored.head.cells;
     origins = stored.head.origins;
   }
 
@@ -302,6 +305,30 @@ module _ (frame : Frame) (attrs : List Attr) (frag : FragKey) (stored : StoredPi
       by : (b : Bool) → is_full frame.dense stored.head.consolidated ≡ b → 1 ≤ stored.head.cells
       by true e = let more = some_between (lows stored.head.hull) (highs stored.head.hull) bounds in let all = full e in omega (arith, more, all)
       by false e = leb-true 1 stored.head.cells (subst (λ b. may_hold b stored.head.hull stored.head.cells ≡ true) e fits.head.as_many)
+
+  -- its head counts the cells that it stores, of a dense array those of its hull
+  told_sparse : frame.dense ≡ false → held_head.cells ≡ stored.head.cells
+  told_sparse e = ap (λ d. counted d stored.head.hull stored.head.cells) (kind ∙ e)
+
+  told_dense : frame.dense ≡ true → held_head.cells ≡ min (cells_between (lows stored.head.hull) (highs stored.head.hull)) (2 ^ 64 - 1)
+  told_dense e = ap (λ d. counted d stored.head.hull stored.head.cells) (kind ∙ e) ∙ ap (λ n. min n (2 ^ 64 - 1)) (volume_is stored.head.hull)
+
+  -- where one write made it these are as many
+  told_alike : stored.head.consolidated ≡ false → held_head.cells ≡ stored.head.cells
+  told_alike ordinary = by frame.dense refl
+    where
+      by : (b : Bool) → frame.dense ≡ b → held_head.cells ≡ stored.head.cells
+      by false e = told_sparse e
+      by true e =
+          let all = full (ap (λ d. d && not stored.head.consolidated) e ∙ ap (λ b. true && not b) ordinary) in
+          ap (λ d. counted d stored.head.hull stored.head.cells) (kind ∙ e) ∙ counted_whole stored.head.hull stored.head.cells (all ∙ sym (volume_is stored.head.hull)) fits.head.cells
+
+  some_told : 1 ≤ held_head.cells
+  some_told = by frame.dense refl
+    where
+      by : (b : Bool) → frame.dense ≡ b → 1 ≤ held_head.cells
+      by false e = let same = told_sparse e in omega (arith, same, some)
+      by true e = let same = told_dense e in let more = some_between (lows stored.head.hull) (highs stored.head.hull) bounds in subst (λ n. 1 ≤ n) (sym same) (omega (arith, more))
 
   up : IsStrictlySortedBy key_cmp stored.head.origins
   up = origins_ascend frag stored.head.consolidated stored.head.origins fits.head.some_origin fits.head.origins
@@ -366,13 +393,13 @@ module _ (frame : Frame) (attrs : List Attr) (frag : FragKey) (stored : StoredPi
         origins = only;
         consolidated = ordinary;
         dense = kind;
-        cells = sym count;
+        cells = told_alike ordinary ∙ sym count;
         some = omega (arith, count, some);
         few = omega (arith, count, fits.head.cells);
         low = low_inside frame.domain stored.head.hull fits.head.hull;
         high = high_inside frame.domain stored.head.hull fits.head.hull;
         corners = bounds;
-        whole = λ dense. full (ap (λ d. d && not stored.head.consolidated) dense ∙ ap (λ b. true && not b) ordinary);
+        whole = λ dense. told_alike ordinary ∙ full (ap (λ d. d && not stored.head.consolidated) dense ∙ ap (λ b. true && not b) ordinary);
         versions = All-weaker (IsMergedVersion frame attrs held_head) (IsVersion frame attrs held_head k) of_write held_versions of_origins;
         climb = climbs frame k held_versions (by_own held_versions of_origins) ordered.ascend;
       })
@@ -385,8 +412,9 @@ module _ (frame : Frame) (attrs : List Attr) (frag : FragKey) (stored : StoredPi
       schema = record { t = fits.head.schema.0; id = fits.head.schema.1 };
       consolidated = made;
       dense = kind;
-      cells = sym count;
-      some = omega (arith, count, some);
+      cells = λ sparse. told_sparse sparse ∙ sym count;
+      whole = told_dense;
+      some = some_told;
       few = omega (arith, count, fits.head.cells);
       low = low_inside frame.domain stored.head.hull fits.head.hull;
       high = high_inside frame.domain stored.head.hull fits.head.hull;
@@ -407,6 +435,10 @@ module _ (frame : Frame) (attrs : List Attr) (frag : FragKey) (stored : StoredPi
         by : (b : Bool) → stored.head.consolidated ≡ b → IsStorable frame attrs held_piece
         by true made = many_writes made
         by false ordinary = let own = names ordinary in one_write ordinary own.0 own.1 own.2
+
+-- a piece that a plain object can hold has a version
+pub storable_some : (frame : Frame) (attrs : List Attr) (p : Piece) → IsFrame frame → AreAttrs attrs → IsPlainStorable frame attrs p → 1 ≤ length p.versions
+storable_some frame attrs p is_frame are_attrs is = some frame attrs p.head.frag (stored_for p) is.fits is_frame are_attrs
 
 -- a piece whose stored form keeps all rules can be written once more
 pub fits_storable : (frame : Frame) (attrs : List Attr) (p : Piece) (stored : StoredPiece) → IsFrame frame → AreAttrs attrs → NamesOwn p.head → FitsPlain frame attrs p.head.frag stored → p ≡ piece_of p.head.frag stored → IsStorable frame attrs p

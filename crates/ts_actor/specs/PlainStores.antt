@@ -35,8 +35,8 @@ use Rattle.ts_model.specs.States.{all_of}
 use Rattle.ts_model.proofs.KeyLemmas.{key_same}
 use Rattle.ts_model.proofs.Members.{key_there}
 use Rattle.ts_actor.specs.PieceLaws.{AtOnce, AfterReply, TakesStorable}
-use Rattle.ts_actor.specs.PlainMerges.{storable_plain}
-use Rattle.ts_actor.specs.PlainCodec.{plain_codec}
+use Rattle.ts_actor.specs.PlainWrites.{plain_storable}
+use Rattle.ts_actor.specs.PlainCodec.{IsPlainStorable, plain_codec}
 use Rattle.ts_actor.specs.PlainLaws.{waits_never}
 use Rattle.ts_actor.specs.PlainSources.{plain_source}
 
@@ -137,7 +137,8 @@ module _ (frame : Frame) (frag : FragKey) (known : IsSpelledFrag frag) where
 -- with the head it is the piece that the object holds
 module _ (frame : Frame) (s : Schema) (frag : FragKey) (object : List ℕ) (head : Head) (p : Piece) (versions : List Version) where
   held_again : IsFrame frame → AreAttrs s.attrs → IsSpelledFrag frag → plain_head frame frag object ≡ Ok head → IsPlainObject frame s.attrs p object → p.head.frag ≡ frag
-      → taken (all_of frame s.attrs) p.versions ≡ versions → IsStorable frame s.attrs (record { head = head; versions = versions })
+      → taken (all_of frame s.attrs) p.versions ≡ versions
+      → IsStorable frame s.attrs (record { head = head; versions = versions }) × IsPlainStorable frame s.attrs (record { head = head; versions = versions })
   unfolding piece_of
   held_again is_frame are_attrs known read is named took =
       let own : NamesOwn p.head = subst NamesOwn (sym (ap (λ (q : Piece). q.head) is.same)) (names_own frame p.head.frag (subst IsSpelledFrag (sym named) known) (is.stored).head (is.fits).head) in
@@ -145,7 +146,7 @@ module _ (frame : Frame) (s : Schema) (frag : FragKey) (object : List ℕ) (head
       let heads : p.head ≡ head = same_ok (plain_head frame frag object) p.head head (ap (λ f. plain_head frame f object) (sym named) ∙ head_again frame s.attrs p object is) read in
       let got : p.versions ≡ versions = sym (taken_whole frame s.attrs p storable) ∙ took in
       let same : p ≡ record { head = head; versions = versions } = λ i. record { head = heads i; versions = got i } in
-      subst (IsStorable frame s.attrs) same storable
+      subst (λ (q : Piece). IsStorable frame s.attrs q × IsPlainStorable frame s.attrs q) same (storable, plain_storable frame s.attrs p (record { bytes = object; spelled = is }))
 
 -- a fetch that wants all takes at once, and the piece that the object holds can be written
 pub plain_stores : TakesStorable plain_codec
@@ -154,6 +155,5 @@ plain_stores frame s frag object head gots sizes versions is_frame are_attrs kno
     let found = piece_found frame s.attrs frag object b.first all short b.was in
     let same : taken (all_of frame s.attrs) b.first.versions ≡ f = cc (b.next) in
     let took : f ≡ versions = cc in
-    let storable = held_again frame s frag object head b.first versions is_frame are_attrs known read found.0 found.1 (same ∙ took) in
-    (storable, storable_plain frame s.attrs (record { head = head; versions = versions }) storable)
+    held_again frame s frag object head b.first versions is_frame are_attrs known read found.0 found.1 (same ∙ took)
 plain_stores frame s frag object head gots sizes versions is_frame are_attrs known all short read named (AfterReply gs ss f c r waits may e) = absurd (waits_never frame s frag object (all_of frame s.attrs) gs ss f c waits)

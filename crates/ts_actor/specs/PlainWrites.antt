@@ -29,12 +29,13 @@ use Rattle.ts_schema.specs.declared.attrs.Attr.{Attr}
 use Rattle.ts_schema.specs.declared.frames.Frame.{Frame}
 use Rattle.ts_plain.specs.declared.stored.Side.{Side}
 use Rattle.ts_plain.specs.declared.stored.StoredCell.{StoredCell}
-use Rattle.ts_plain.specs.Rules.{volume, last_of, may_span, is_full, may_hold, may_count, coords_rise, origin_rises}
+use Rattle.ts_plain.specs.Rules.{volume, counted, last_of, may_span, is_full, may_hold, may_count, coords_rise, origin_rises}
 use Rattle.ts_plain.specs.Plain.{FitsCoord, FitsSide, FitsOrigin, FitsValue, FitsCell, FitsPlain}
 use Rattle.ts_plain.specs.Pieces.{no_key, version_in, head_of, piece_of}
-use Rattle.ts_plain.specs.Writes.{place_of, HasPlace, sides_of, stored_head, stored_cell, stored_for, HasPlain, NamesWrites}
+use Rattle.ts_plain.specs.Writes.{place_of, HasPlace, sides_of, counting_head, stored_cell, stored_for, HasPlain, CountsCells, NamesWrites}
 use Rattle.ts_plain.proofs.KeyLemmas.{key_itself}
 use Rattle.ts_plain.proofs.Places.{at-place_of}
+use Rattle.ts_plain.proofs.Volumes.{counted_whole}
 use Rattle.ts_plain.proofs.WrittenPieces.{last_pushed, stored_back, names_of}
 use Rattle.ts_model.specs.Commands.{global_order}
 use Rattle.ts_model.specs.Deeds.{RowFits}
@@ -165,10 +166,10 @@ module _ (frame : Frame) where
   origin_behind dense None coords origin h = refl
   origin_behind dense (Some before) coords origin h = rw (not_same before.coords coords h) refl
 
-  module _ (attrs : List Attr) (head : Head) (own : Key) (dims : All IsDim frame.domain) (only : head.origins ≡ own ∷ []) where
+  module _ (attrs : List Attr) (head : Head) (many : ℕ) (own : Key) (dims : All IsDim frame.domain) (only : head.origins ≡ own ∷ []) where
     -- the cell of a version keeps all rules behind the cells before it
     cell_fits : (front : List StoredCell) (v : Version) → IsVersion frame attrs head own v → Behind frame (last_of front) v.coords
-        → FitsCell frame attrs (stored_head head) front (stored_cell head.origins v)
+        → FitsCell frame attrs (counting_head head many) front (stored_cell head.origins v)
     cell_fits front v is behind =
         let place = place_own head.origins own v.key only is.by_own in
         let count : length head.origins ≡ 1 = ap length only in
@@ -183,7 +184,7 @@ module _ (frame : Frame) where
 
     -- so do the cells of all versions, each behind those before it
     cells_fit : (front : List StoredCell) (vs : List Version) → All (IsVersion frame attrs head own) vs → StartsBehind frame (last_of front) vs → Climb frame vs
-        → InTurn (FitsCell frame attrs (stored_head head)) front (map (stored_cell head.origins) vs)
+        → InTurn (FitsCell frame attrs (counting_head head many)) front (map (stored_cell head.origins) vs)
     cells_fit front [] all first climb = tt
     cells_fit front (v ∷ vs) all first climb =
         let cell = stored_cell head.origins v in
@@ -195,7 +196,7 @@ module _ (frame : Frame) where
         above (w ∷ ws) all = All-head (λ (w : Version). global_order frame v.coords w.coords ≡ Less) w ws all
 
     -- the versions of the cells that are stored of versions are those versions
-    versions_back : (vs : List Version) → All (IsVersion frame attrs head own) vs → vs ≡ map (version_in (stored_head head)) (map (stored_cell head.origins) vs)
+    versions_back : (vs : List Version) → All (IsVersion frame attrs head own) vs → vs ≡ map (version_in (counting_head head many)) (map (stored_cell head.origins) vs)
     versions_back [] all = refl
     versions_back (v ∷ vs) all =
         let is = All-head (IsVersion frame attrs head own) v vs all in
@@ -216,27 +217,36 @@ ordinary_fits frame attrs p is =
         kind = ap (beq frame.dense) is.dense ∙ same frame.dense;
         span = ap (may_span p.head.frag) is.consolidated ∙ rw is.frag (eq-eqb is.key.t is.key.t refl);
         hull = hull_fits frame.domain p.head.low p.head.high dims is.low is.high is.corners;
-        cells = omega (arith, is.cells, is.few);
-        as_many = ap (λ b. may_hold (is_full frame.dense b) (sides_of p.head.low p.head.high) p.head.cells) is.consolidated ∙ as_many frame.dense is.whole;
+        cells = omega (arith, is.few);
+        as_many = ap (λ b. may_hold (is_full frame.dense b) (sides_of p.head.low p.head.high) (length p.versions)) is.consolidated ∙ as_many frame.dense is.whole;
         few_origins = omega (arith, ap length is.origins);
         some_origin = ap (λ b. may_count b (length p.head.origins)) is.consolidated ∙ ap (λ ks. may_count false (length ks)) is.origins;
         origins = own_fits p.head.frag p.head.consolidated p.head.origins is.key (is.is_key.t, is.is_key.id) is.frag is.consolidated is.origins;
       };
-      count = length-map p.versions (stored_cell p.head.origins) ∙ sym is.cells;
-      cells = cells_fit frame attrs p.head is.key dims is.origins [] p.versions is.versions (first p.versions) is.climb;
+      count = length-map p.versions (stored_cell p.head.origins);
+      cells = cells_fit frame attrs p.head (length p.versions) is.key dims is.origins [] p.versions is.versions (first p.versions) is.climb;
     }
   where
     same : (b : Bool) → beq b b ≡ true
     same true = refl
     same false = refl
 
-    as_many : (dense : Bool) → (dense ≡ true → p.head.cells ≡ cells_between p.head.low p.head.high) → IsTrue (may_hold (is_full dense false) (sides_of p.head.low p.head.high) p.head.cells)
-    as_many true whole = eq-eqb p.head.cells (volume (sides_of p.head.low p.head.high)) (whole refl ∙ sym (volume_between p.head.low p.head.high is.corners))
-    as_many false whole = le-leb 1 p.head.cells (omega (arith, is.cells, is.some))
+    as_many : (dense : Bool) → (dense ≡ true → p.head.cells ≡ cells_between p.head.low p.head.high) → IsTrue (may_hold (is_full dense false) (sides_of p.head.low p.head.high) (length p.versions))
+    as_many true whole = eq-eqb (length p.versions) (volume (sides_of p.head.low p.head.high)) (sym is.cells ∙ whole refl ∙ sym (volume_between p.head.low p.head.high is.corners))
+    as_many false whole = le-leb 1 (length p.versions) is.some
 
     first : (vs : List Version) → StartsBehind frame None vs
     first [] = tt
     first (v ∷ vs) = tt
+
+-- the head of a piece that one write makes counts its versions, of a dense array each cell of its hull
+ordinary_counts : (frame : Frame) (attrs : List Attr) (p : Piece) → IsOrdinary frame attrs p → CountsCells p
+ordinary_counts frame attrs p is = by p.head.dense refl
+  where
+    by : (dense : Bool) → p.head.dense ≡ dense → p.head.cells ≡ counted dense (sides_of p.head.low p.head.high) (length p.versions)
+    by true e =
+        sym (counted_whole (sides_of p.head.low p.head.high) p.head.cells (is.whole (sym is.dense ∙ e) ∙ sym (volume_between p.head.low p.head.high is.corners)) (omega (arith, is.cells, is.few)))
+    by false e = is.cells
 
 -- a piece that one write makes is the one that what is stored of it holds
 pub ordinary_back : (frame : Frame) (attrs : List Attr) (p : Piece) → IsOrdinary frame attrs p → p ≡ piece_of p.head.frag (stored_for p)
@@ -244,10 +254,11 @@ unfolding piece_of head_of
 ordinary_back frame attrs p is =
     let low = lows_back p.head.low p.head.high is.corners in
     let high = highs_back p.head.low p.head.high is.corners in
-    let versions = versions_back frame attrs p.head is.key (is.is_frame).domain.valid is.origins p.versions is.versions in
+    let versions = versions_back frame attrs p.head (length p.versions) is.key (is.is_frame).domain.valid is.origins p.versions is.versions in
+    let told = ordinary_counts frame attrs p is in
     let head = p.head in
     λ i. record {
-      head = record { frag = head.frag; schema = head.schema; dense = head.dense; consolidated = head.consolidated; low = low i; high = high i; cells = head.cells; origins = head.origins };
+      head = record { frag = head.frag; schema = head.schema; dense = head.dense; consolidated = head.consolidated; low = low i; high = high i; cells = told i; origins = head.origins };
       versions = versions i;
     }
 

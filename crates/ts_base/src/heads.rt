@@ -20,7 +20,8 @@ pub struct Head {
     pub low: Coords,
     /// The greatest coordinate of the fragment's box, along each dimension.
     pub high: Coords,
-    /// The number of cells.
+    /// The number of cells: in a dense array those of the box, holes among them, and 2^64 - 1 where there
+    /// are more; in a sparse array those that are stored.
     pub cells: u64,
     /// The keys of the writes whose cells went into the fragment, ascending.
     pub origins: KeyList,

@@ -1,6 +1,6 @@
 -- What the fetches of sources take: pieces that can be written, and that can be merged.
 use Rattle.std.proofs.Common.{◌≡◌, ℕ, suc, zero, true, false, List, [], ◌∷◌, ◌++◌, length, take, Bool, not, cond, Some, Result, Ok, Err, IfOk, inl, inr, refl, sym, ap, subst, ◌∙◌, arith}
-use Rattle.std.specs.Prelude.{◌<◌, ◌^◌, slice_get, nat_lt, Contains, All, IsTrue, MatchResult}
+use Rattle.std.specs.Prelude.{◌<◌, ◌^◌, ◌&&◌, ⊤, slice_get, nat_lt, Contains, All, IsTrue, MatchResult}
 use Rattle.std.proofs.lemmas.Bool.{true≢false, and_parts, ltb-true}
 use Rattle.std.proofs.lemmas.Option.{same_Some, none-some}
 use Rattle.std.proofs.lemmas.List.Elements.{All-nil, All-cons, All-head, All-tail, All-weaker}
@@ -153,12 +153,14 @@ module _ {F : Type 0} (codec : Codec F) (frame : Frame) (attrs : List Attr) wher
 
 -- what pieces are merged into that can be written can be written too
 abbrev pub Merges : {F : Type 0} → Codec F → Type 0
-Merges codec = (frame : Frame) (attrs : List Attr) (id : ℕ) (p : Piece) (ps : List Piece) → AreSources frame attrs (p ∷ ps) → ((q : Piece) → Contains (p ∷ ps) q → codec.writable frame attrs q)
-    → IsConsolidated frame attrs (merged_piece frame id p ps) → length (merged_piece frame id p ps).versions < 2 ^ 32 → codec.writable frame attrs (merged_piece frame id p ps)
+Merges codec = (frame : Frame) (attrs : List Attr) (id : ℕ) (p : Piece) (ps : List Piece) → ⊤ → AreSources frame attrs (p ∷ ps) → ((q : Piece) → Contains (p ∷ ps) q → codec.writable frame attrs q)
+    → IsConsolidated frame attrs (merged_piece frame id p ps) → (merged_piece frame id p ps).head.cells < 2 ^ 32 → codec.writable frame attrs (merged_piece frame id p ps)
 
--- the number of versions of a piece that can be named
-few_versions : (p : Piece) → can_be_named p ≡ true → length p.versions < 2 ^ 32
-few_versions p named = ltb-true (length p.versions) (2 ^ 32) (and_parts (nat_lt (length p.head.origins) (2 ^ 32)) (nat_lt (length p.versions) (2 ^ 32)) named).1
+-- the number of cells that the head of a piece counts which can be named
+few_cells : (p : Piece) → can_be_named p ≡ true → p.head.cells < 2 ^ 32
+few_cells p named =
+    ltb-true p.head.cells (2 ^ 32) (and_parts (nat_lt (length p.versions) (2 ^ 32)) (nat_lt p.head.cells (2 ^ 32))
+    (and_parts (nat_lt (length p.head.origins) (2 ^ 32)) (nat_lt (length p.versions) (2 ^ 32) && nat_lt p.head.cells (2 ^ 32)) named).1).1
 
 -- what holds of a result, and what follows from its being there
 pub both_ok : {E : Type 0} (r : Result Piece E) (A B C : Piece → Type 0) (D : E → Type 0) → ((p : Piece) → A p → B p → C p) → IfOk r A → MatchResult r B D → IfOk r C
@@ -190,8 +192,8 @@ module _ {F : Type 0} (codec : Codec F) (s : Survey) (schema : Schema) (o : Open
           let made : IsConsolidationOf s.frame schema.attrs id p ps piece = subst (λ (f : Frame). IsConsolidationOf f schema.attrs id p ps piece) frames
           (of schema.attrs p ps (subst (λ (f : Frame). AreSources f schema.attrs (p ∷ ps)) (sym frames) sources) refl (heads_same codec s.frame schema.attrs others got are.1 ∙ sym same) (each_alike codec s.frame schema.attrs (o ∷ others) (vs ∷ got) are)) in (
             made.fits,
-            λ named. subst (codec.writable s.frame schema.attrs) (sym made.is) (merged s.frame schema.attrs id p ps sources (each_writable codec s.frame schema.attrs (o ∷ others) (vs ∷ got) are)
-                (subst (IsConsolidated s.frame schema.attrs) made.is made.fits) (few_versions (merged_piece s.frame id p ps) (ap can_be_named (sym made.is) ∙ named))),
+            λ named. subst (codec.writable s.frame schema.attrs) (sym made.is) (merged s.frame schema.attrs id p ps tt sources (each_writable codec s.frame schema.attrs (o ∷ others) (vs ∷ got) are)
+                (subst (IsConsolidated s.frame schema.attrs) made.is made.fits) (few_cells (merged_piece s.frame id p ps) (ap can_be_named (sym made.is) ∙ named))),
           )
 
 -- a piece that a consolidation makes has a fragment that runs forward

@@ -6,7 +6,7 @@ ghost use Rattle.ts_base.specs.Keys.{key_cmp};
 ghost use Rattle.ts_base.specs.declared.heads.Head.{Head as AnyHead};
 ghost use Rattle.ts_domain.specs.Boxes.{IsBox};
 ghost use Rattle.ts_model.specs.Consolidated.{box_in};
-ghost use Rattle.ts_model.specs.Merging.{HasBox, first_from, hull_from, last_from, merged_head, origins_of_all};
+ghost use Rattle.ts_model.specs.Merging.{HasBox, cells_told, first_from, hull_from, last_from, merged_head, origins_of_all};
 
 use std::alloc::{AllocError, Global};
 use std::collections::BTreeSet;
@@ -14,21 +14,25 @@ use ts_base::{FragKey, Head, Key, KeyList, OutOfMemory};
 use ts_domain::SubBox;
 use ts_schema::Frame;
 
-/// The head of a first source and others, over so many cells, with the origins of all of them.
+/// The head of a first source and others, which keep so many versions, with the origins of all of
+/// them.
+///
+/// In a dense array it counts the cells of its hull, `u64::MAX` at most; in a sparse one the versions.
 pub(crate) fn merged_head(
     frame: &Frame,
     id: u128,
     first: &Head,
     others: &[Head],
     origins: KeyList,
-    cells: u64,
+    many: u64,
 ) -> Head
     requires own { HasBox frame.now first.now }
     requires boxes { All (HasBox frame.now) others.now }
     requires all { origins ≡ origins_of_all (first.now ∷ others.now) }
-    ensures { result ≡ merged_head id first.now others.now cells }
+    ensures { result ≡ merged_head id first.now others.now many }
 {
     let hull = hull_from(frame, box_in(first), others);
+    let cells = cells_told(first.dense, &hull, many);
     Head {
         frag: FragKey {
             t1: first_from(first.frag.t1, others),
@@ -44,6 +48,14 @@ pub(crate) fn merged_head(
         cells,
         origins,
     }
+}
+
+// The number that a head has for its cells.
+fn cells_told(dense: bool, hull: &SubBox, many: u64) -> u64
+    requires own { IsBox hull.now }
+    ensures { result ≡ cells_told dense hull.now many }
+{
+    if dense { hull.cells() } else { many }
 }
 
 // The least timestamp of a fragment and of others.
@@ -73,7 +85,8 @@ fn hull_from(frame: &Frame, own: SubBox, heads: &[Head]) -> SubBox
     requires own { IsBox own }
     requires dims { length own.low ≡ length frame.now.domain }
     requires boxes { All (HasBox frame.now) heads.now }
-    ensures { result ≡ hull_from own heads.now }
+    ensures least { result ≡ hull_from own heads.now }
+    ensures valid { IsBox result }
 {
     let mut hull = own;
     for head in heads {

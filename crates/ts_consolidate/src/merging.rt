@@ -18,8 +18,8 @@ use ts_schema::Frame;
 /// Why pieces were not merged into one.
 #[derive(Clone, Copy, Debug, PartialEq, Eq)]
 pub enum Unmerged {
-    /// Together they have 2^32 origins or more, or 2^32 versions that are kept. A fragment can name
-    /// and count fewer.
+    /// Together they have 2^32 origins or more, or so many versions that are kept, or in a dense array a
+    /// hull of so many cells. A fragment can name and count fewer.
     TooMany,
     /// There was no memory for the piece.
     OutOfMemory,
@@ -64,5 +64,8 @@ pub fn merge_pieces(
         return Err(Unmerged::TooMany);
     }
     let head = merged_head(frame, id, first, others, origins, versions.len());
+    if head.cells > u64::from(u32::MAX) {
+        return Err(Unmerged::TooMany);
+    }
     Ok(Piece { head, versions })
 }

@@ -18,7 +18,7 @@ use Rattle.ts_domain.specs.Boxes.{IsBox, cells_of}
 use Rattle.ts_domain.specs.Domains.{LiesInDomain}
 use Rattle.ts_order.specs.Tiles.{AreTiles}
 use Rattle.ts_schema.specs.declared.attrs.Attr.{Attr}
-use Rattle.ts_plain.specs.Writes.{stored_head, stored_for, NamesWrites}
+use Rattle.ts_plain.specs.Writes.{stored_head, hulled_for, NamesWrites}
 use Rattle.ts_sparse.proofs.FormLaws.{lows_back, highs_back}
 use Rattle.ts_order.specs.Orders.{coords_in_order}
 use Rattle.ts_schema.specs.declared.frames.Frame.{Frame}
@@ -129,7 +129,7 @@ hull_is head same =
     let high = highs_back head.low head.high same in
     λ i. record { low = low i; high = high i }
 
-module _ (frame : Frame) (attrs : List Attr) (piece : Piece) (names : NamesWrites piece) (fits : FitsDense frame attrs piece.head.frag (stored_for piece)) where
+module _ (frame : Frame) (attrs : List Attr) (piece : Piece) (names : NamesWrites piece) (fits : FitsDense frame attrs piece.head.frag (hulled_for piece)) where
   pub hull_valid : IsBox (record { low = piece.head.low; high = piece.head.high })
   hull_valid = subst IsBox (hull_is piece.head names.corners) (hull_box frame.domain (stored_head piece.head).hull (fits.head).hull).0
 

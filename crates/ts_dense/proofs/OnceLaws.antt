@@ -14,7 +14,7 @@ use Rattle.ts_schema.specs.declared.schemas.Schema.{Schema}
 use Rattle.ts_plain.specs.declared.stored.StoredCell.{StoredCell}
 use Rattle.ts_plain.specs.declared.stored.StoredPiece.{StoredPiece}
 use Rattle.ts_plain.specs.Pieces.{piece_of}
-use Rattle.ts_plain.specs.Writes.{box_of, stored_for}
+use Rattle.ts_plain.specs.Writes.{box_of, hulled_for}
 use Rattle.ts_sparse.specs.Sparse.{Object, value_column, validity_objects, origin_objects, column_part}
 use Rattle.ts_sparse.specs.Sparse as sparse
 use Rattle.ts_sparse.proofs.Rows.{cons_parts}
@@ -91,11 +91,11 @@ module _ (frame : Frame) (attrs : List Attr) (s : StoredPiece) where
   parts_distinct = distinct_like (sparse.parts_of bare attrs filled) (parts_of frame attrs s) same_names (once.parts_distinct bare attrs filled)
 
 -- the parts of a piece whose stored form fits spell it
-pub parts_spell : (frame : Frame) (schema : Schema) (piece : Piece) → FitsDense frame schema.attrs piece.head.frag (stored_for piece) → piece ≡ piece_of piece.head.frag (stored_for piece)
-    → All (λ p. length p.bytes < 2 ^ 64) (parts_of frame schema.attrs (stored_for piece)) → IsDense frame schema piece (look_in (parts_of frame schema.attrs (stored_for piece)))
+pub parts_spell : (frame : Frame) (schema : Schema) (piece : Piece) → FitsDense frame schema.attrs piece.head.frag (hulled_for piece) → piece ≡ piece_of piece.head.frag (hulled_for piece)
+    → All (λ p. length p.bytes < 2 ^ 64) (parts_of frame schema.attrs (hulled_for piece)) → IsDense frame schema piece (look_in (parts_of frame schema.attrs (hulled_for piece)))
 parts_spell frame schema piece fits same short = record {
-  stored = stored_for piece;
+  stored = hulled_for piece;
   fits = fits;
-  parts = looks_there (parts_of frame schema.attrs (stored_for piece)) (parts_distinct frame schema.attrs (stored_for piece)) short;
+  parts = looks_there (parts_of frame schema.attrs (hulled_for piece)) (parts_distinct frame schema.attrs (hulled_for piece)) short;
   same = same;
 }

@@ -17,7 +17,7 @@ use Rattle.ts_schema.specs.declared.attrs.Attr.{Attr}
 use Rattle.ts_schema.specs.declared.frames.Frame.{Frame}
 use Rattle.ts_plain.specs.declared.stored.StoredCell.{StoredCell}
 use Rattle.ts_plain.specs.Plain.{FitsValue, FitsCell}
-use Rattle.ts_plain.specs.Writes.{HasPlace, NamesWrites, stored_for}
+use Rattle.ts_plain.specs.Writes.{HasPlace, NamesWrites, hulled_for}
 use Rattle.ts_column.specs.Spelled.{number_of}
 use Rattle.ts_column.specs.Tiles.{is_signed}
 use Rattle.ts_sparse.proofs.ColumnLaws.{number_in}
@@ -58,9 +58,9 @@ module _ (frame : Frame) (attrs : List Attr) (piece : Piece) (slots : Slots) (ar
       let P : Version → Type 0 = λ (v : Version). HasPlace piece.head.origins v.key in
       subst (λ (origins : List Key). NamedIn origins slots.versions.items) (sym are.origins) (of_slots P frame piece slots are names.known)
 
-  pub slots_fit : FitsDense frame attrs piece.head.frag (stored_for piece) → ValuesFit attrs slots.versions.items
+  pub slots_fit : FitsDense frame attrs piece.head.frag (hulled_for piece) → ValuesFit attrs slots.versions.items
   slots_fit fits k a within =
-      let rows = in_turn_all (FitsCell frame attrs (stored_for piece).head) (λ (c : StoredCell). EachFits FitsValue attrs c.row) (λ front c f. f.row) [] (stored_for piece).cells fits.cells in
+      let rows = in_turn_all (FitsCell frame attrs (hulled_for piece).head) (λ (c : StoredCell). EachFits FitsValue attrs c.row) (λ front c f. f.row) [] (hulled_for piece).cells fits.cells in
       let all = of_versions (λ (c : StoredCell). EachFits FitsValue attrs c.row) piece.head.origins piece.versions rows in
       of_slots (λ (v : Version). FitsValue (get_or attrs k a) (get_or v.row k Null)) frame piece slots are
       (All-weaker (λ (v : Version). EachFits FitsValue attrs v.row) (λ (v : Version). FitsValue (get_or attrs k a) (get_or v.row k Null)) (λ v each. each_at FitsValue attrs v.row k a Null each within) piece.versions all)

@@ -62,7 +62,6 @@ corners_fit = record {
   head = head;
   counts_hull = refl;
   no_hole = λ single. absurd (true≢false single);
-  some = omega arith;
   cells = (
     record { coords = ((omega arith, refl), ((omega arith, refl), tt)); rises = refl; origin = omega arith; known = refl; row = ((omega arith, refl), tt) },
     (record { coords = ((omega arith, refl), ((omega arith, refl), tt)); rises = refl; origin = omega arith; known = refl; row = ((omega arith, refl), tt) }, tt),

@@ -72,14 +72,13 @@ meta_part frame attrs stored = record { part = part.Meta; bytes = wrapped kind.M
 unfoldable pub parts_of : Frame → List Attr → StoredPiece → List PartBytes
 parts_of frame attrs stored = map column_part (objects_of frame attrs stored) ++ meta_part frame attrs stored ∷ []
 
--- what can be stored in space tiles: each field keeps its rule, and the metadata counts the cells of the hull, holes among them; a fragment that no consolidation made has none
+-- what can be stored in space tiles: each field keeps its rule, and the metadata counts the cells of the hull, holes among them; a fragment that no consolidation made has none, and another may have holes alone
 pub record FitsDense (frame : Frame) (attrs : List Attr) (frag : FragKey) (stored : StoredPiece) : Type 0 where
   pub sound : IsFrame frame
   pub dense : frame.dense ≡ true
   pub head : FitsHead frame frag stored.head
   pub counts_hull : stored.head.cells ≡ volume stored.head.hull
   pub no_hole : stored.head.consolidated ≡ false → length stored.cells ≡ stored.head.cells
-  pub some : 1 ≤ length stored.cells
   pub cells : InTurn (FitsCell frame attrs stored.head) [] stored.cells
   pub few_attrs : length attrs ≤ 64
   pub few : length (tiles_over frame (box_of stored.head.hull)) < 2 ^ 32

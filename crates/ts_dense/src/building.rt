@@ -5,7 +5,7 @@ ghost use Rattle.ts_base.specs.Keys.{key_cmp};
 ghost use Rattle.ts_base.specs.Values.{is_integer};
 ghost use Rattle.ts_base.specs.declared.heads.Version.{Version as AnyVersion};
 ghost use Rattle.ts_schema.specs.Parts.{look_in};
-ghost use Rattle.ts_plain.specs.Writes.{stored_for, NamesWrites};
+ghost use Rattle.ts_plain.specs.Writes.{hulled_for, NamesWrites};
 ghost use Rattle.ts_sparse.specs.Laying.{with_objects, none_laid};
 ghost use Rattle.ts_sparse.specs.Sparse.{value_column, numbers_object, validity_objects, origin_objects};
 ghost use Rattle.ts_dense.specs.Dense.{starts_object, bytes_object, fixed_objects, attr_objects, parts_of, FitsDense, IsDense};
@@ -41,8 +41,8 @@ pub fn build(
     piece: &Piece,
 ) -> Result<PartList, OutOfMemory>
     requires names { NamesWrites piece.now }
-    requires fits { FitsDense frame.now schema.now.attrs piece.now.head.frag (stored_for piece.now) }
-    ensures parts { IfOk result (λ parts. parts ≡ parts_of frame.now schema.now.attrs (stored_for piece.now)) }
+    requires fits { FitsDense frame.now schema.now.attrs piece.now.head.frag (hulled_for piece.now) }
+    ensures parts { IfOk result (λ parts. parts ≡ parts_of frame.now schema.now.attrs (hulled_for piece.now)) }
     ensures spelled { All (λ (v : AnyVersion). v.schema ≡ piece.now.head.schema) piece.now.versions → IfOk result (λ parts. IsDense frame.now schema.now piece.now (look_in parts)) }
 {
     let slots = slots_of(alloc, frame, schema, piece)?;

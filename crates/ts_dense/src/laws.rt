@@ -16,7 +16,7 @@ ghost use Rattle.ts_plain.specs.declared.stored.StoredPiece.{StoredPiece as AnyS
 ghost use Rattle.ts_plain.specs.declared.stored.StoredCell.{StoredCell as AnyStoredCell};
 ghost use Rattle.ts_plain.specs.Rules.{volume};
 ghost use Rattle.ts_plain.specs.Pieces.{piece_of, version_in};
-ghost use Rattle.ts_plain.specs.Writes.{box_of, stored_for};
+ghost use Rattle.ts_plain.specs.Writes.{box_of, hulled_for};
 ghost use Rattle.ts_sparse.specs.Cuts.{taken_at};
 ghost use Rattle.ts_sparse.specs.Sparse.{IsThere};
 ghost use Rattle.ts_dense.specs.Slots.{cells_in, coords_over, is_hole, slot_tiles, slots_of, tiles_over, versions_of};
@@ -31,13 +31,13 @@ pub fn parts_store_one_piece()
 #[tactic(auto, using(crate::proofs::FormLaws::one_form))]
 pub fn pieces_have_one_form()
     ensures form { (frame : AnyFrame) (attrs : List AnyAttr) (frag : AnyFragKey) (s t : AnyStoredPiece) → FitsDense frame attrs frag s → FitsDense frame attrs frag t → piece_of frag s ≡ piece_of frag t → s ≡ t }
-    ensures spelling { (frame : AnyFrame) (schema : AnySchema) (piece : AnyPiece) (look : AnyPart → Option (List ℕ)) → IsDense frame schema piece look → All (IsThere look) (parts_of frame schema.attrs (stored_for piece)) }
+    ensures spelling { (frame : AnyFrame) (schema : AnySchema) (piece : AnyPiece) (look : AnyPart → Option (List ℕ)) → IsDense frame schema piece look → All (IsThere look) (parts_of frame schema.attrs (hulled_for piece)) }
 {}
 
 /// The parts of a piece whose stored form fits spell it, where each is short enough to be got at once.
 #[tactic(auto, using(crate::proofs::OnceLaws::parts_spell))]
 pub fn parts_spell_their_piece()
-    ensures { (frame : AnyFrame) (schema : AnySchema) (piece : AnyPiece) → FitsDense frame schema.attrs piece.head.frag (stored_for piece) → piece ≡ piece_of piece.head.frag (stored_for piece) → All (λ (p : AnyPartBytes). length p.bytes < 2 ^ 64) (parts_of frame schema.attrs (stored_for piece)) → IsDense frame schema piece (look_in (parts_of frame schema.attrs (stored_for piece))) }
+    ensures { (frame : AnyFrame) (schema : AnySchema) (piece : AnyPiece) → FitsDense frame schema.attrs piece.head.frag (hulled_for piece) → piece ≡ piece_of piece.head.frag (hulled_for piece) → All (λ (p : AnyPartBytes). length p.bytes < 2 ^ 64) (parts_of frame schema.attrs (hulled_for piece)) → IsDense frame schema piece (look_in (parts_of frame schema.attrs (hulled_for piece))) }
 {}
 
 /// A fragment has a slot for each cell of its hull, and they stand in global order (`ascend`, `stand`,

@@ -3,7 +3,7 @@ ghost use Rattle.std.specs.Prelude.{◌≡◌, ◌-◌, ◌<◌, ◌^◌, ◌++�
 ghost use Rattle.std.specs.Option.{option_copied};
 ghost use Rattle.ts_domain.specs.Boxes.{IsBox, cells_of};
 ghost use Rattle.ts_order.specs.Orders.{coords_in_order};
-ghost use Rattle.ts_plain.specs.Writes.{stored_for, NamesWrites};
+ghost use Rattle.ts_plain.specs.Writes.{hulled_for, NamesWrites};
 ghost use Rattle.ts_dense.specs.Dense.{FitsDense};
 ghost use Rattle.ts_dense.specs.Slots.{tiles_over};
 ghost use Rattle.ts_dense.specs.Laying.{held, taken_at, versions_at, hull_of_head, IsSlots};
@@ -36,7 +36,7 @@ pub(crate) fn slots_of<'a>(
     piece: &'a Piece,
 ) -> Result<Slots<'a>, OutOfMemory>
     requires names { NamesWrites piece.now }
-    requires fits { FitsDense frame.now schema.now.attrs piece.now.head.frag (stored_for piece.now) }
+    requires fits { FitsDense frame.now schema.now.attrs piece.now.head.frag (hulled_for piece.now) }
     ensures { IfOk result (λ slots. IsSlots frame.now piece.entry.now slots) }
 {
     let tiles = tiles_over(alloc, frame, schema, piece)?;
@@ -64,7 +64,7 @@ fn tiles_over(
     piece: &Piece,
 ) -> Result<BoxList, OutOfMemory>
     requires names { NamesWrites piece.now }
-    requires fits { FitsDense frame.now schema.now.attrs piece.now.head.frag (stored_for piece.now) }
+    requires fits { FitsDense frame.now schema.now.attrs piece.now.head.frag (hulled_for piece.now) }
     ensures tiles { IfOk result (λ tiles. tiles ≡ tiles_over frame.now (hull_of_head piece.now.head)) }
     ensures valid { IfOk result (λ tiles. All IsBox tiles) }
 {

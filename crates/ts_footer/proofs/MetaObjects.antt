@@ -1,6 +1,8 @@
 -- An object of metadata holds one metadata, and its head is read without the schema.
 use Rattle.std.proofs.Common.{◌≡◌, ℕ, ◌^◌, ◌<◌, ◌≤◌, Bool, true, false, nat_eq, if◌then◌else◌, List, [], ◌∷◌, length, map, Option, Ok, Err, Result, IfOk, refl, sym, ap, ◌∙◌, subst, arith}
+use Rattle.std.specs.Bool.{beq}
 use Rattle.std.specs.List.{All}
+use Rattle.std.proofs.lemmas.Bool.{true≢false, eqb-true}
 use Rattle.std.proofs.lemmas.List.{length-map}
 use Rattle.std.proofs.lemmas.Result.{IfOk-weaker}
 use Rattle.ts_base.specs.declared.keys.FragKey.{FragKey}
@@ -20,16 +22,18 @@ use Rattle.ts_schema.specs.declared.frames.Frame.{Frame}
 use Rattle.ts_rtree.specs.Trees.{Rooted}
 use Rattle.ts_plain.specs.declared.stored.Side.{Side}
 use Rattle.ts_plain.specs.declared.stored.StoredHead.{StoredHead}
+use Rattle.ts_plain.specs.Rules.{volume, may_hold, counted}
 use Rattle.ts_plain.specs.Plain.{head_by}
 use Rattle.ts_plain.specs.Pieces.{head_of, BreaksSo}
 use Rattle.ts_plain.specs.Writes.{sides_of}
+use Rattle.ts_plain.proofs.Volumes.{counted_whole}
 use Rattle.ts_footer.specs.declared.columns.ColumnForm.{ColumnForm}
 use Rattle.ts_footer.specs.declared.columns.ColumnForm.TheVariants.{Fixed, Var}
 use Rattle.ts_footer.specs.declared.columns.ColumnSize.{ColumnSize}
 use Rattle.ts_footer.specs.declared.footers.Footer.{Footer}
 use Rattle.ts_footer.specs.declared.metas.Meta.{Meta}
 use Rattle.ts_footer.specs.declared.tilings.Tiling.{Tiling}
-use Rattle.ts_footer.specs.declared.tilings.Tiling.TheVariants.{Sparse}
+use Rattle.ts_footer.specs.declared.tilings.Tiling.TheVariants.{Sparse, Dense}
 use Rattle.ts_footer.specs.Columns.{FitsSize}
 use Rattle.ts_footer.specs.Tilings.{tiling_of, full_in, forms_in}
 use Rattle.ts_footer.specs.Footers.{laid_tiles_at, laid_footer_at, laid_footer_stored, laid_head_stored, footer_stored, footer_bytes, FitsLaidFooter, FitsFooter}
@@ -201,16 +205,26 @@ has_tiles tiling frame attrs frag footer sound fits =
     let some = some_cell (full_in tiling frame.dense) frame frag footer.head fits.head in
     subst (λ n. 1 ≤ n) (sym fits.tiles) (total_some tiling frame footer.head sound hull some)
 
+-- a head whose fields keep their rules, by the kind of the array, tells of as many cells as it stores
+told_by : (any dense consolidated : Bool) (hull : List Side) (cells : ℕ) → beq any dense ≡ true → may_hold (full_in (if any then Dense else Sparse) any consolidated) hull cells ≡ true → cells < 2 ^ 64
+    → counted dense hull cells ≡ cells
+told_by false false consolidated hull cells kind held room = refl
+told_by false true consolidated hull cells kind held room = absurd (true≢false (sym kind))
+told_by true false consolidated hull cells kind held room = absurd (true≢false (sym kind))
+told_by true true consolidated hull cells kind held room = counted_whole hull cells (eqb-true cells (volume hull) held) room
+
 -- what is stored of the metadata that an object holds is what the object stores
-footer_back : (tiling : Tiling) (frame : Frame) (attrs : List Attr) (frag : FragKey) (footer : Footer) → All IsSoundDim frame.domain → FitsLaidFooter tiling frame attrs frag footer
-    → footer_for (forms_for tiling frame attrs (meta_of frag footer)) (meta_of frag footer) ≡ footer
+footer_back : (frame : Frame) (attrs : List Attr) (frag : FragKey) (footer : Footer) → All IsSoundDim frame.domain → FitsLaidFooter (tiling_of frame) frame attrs frag footer
+    → footer_for (forms_for (tiling_of frame) frame attrs (meta_of frag footer)) (meta_of frag footer) ≡ footer
 unfolding meta_of head_of
-footer_back tiling frame attrs frag footer sound fits =
+footer_back frame attrs frag footer sound fits =
+    let tiling = tiling_of frame in
     let head = footer.head in
     let hull = hull_back head.hull in
+    let told = told_by frame.dense head.dense head.consolidated head.hull head.cells (fits.head).kind (fits.head).as_many (fits.head).cells in
     let sizes = sizes_back head.cells footer.tiles (forms_in tiling frame attrs head.consolidated) footer.sizes (has_tiles tiling frame attrs frag footer sound fits) fits.sizes in
     λ i. record {
-      head = record { schema = head.schema; dense = head.dense; consolidated = head.consolidated; hull = hull i; cells = head.cells; origins = head.origins };
+      head = record { schema = head.schema; dense = head.dense; consolidated = head.consolidated; hull = hull i; cells = told i; origins = head.origins };
       tiles = footer.tiles;
       sizes = sizes.same i;
       tree = footer.tree;
@@ -235,10 +249,10 @@ is_writable tiling frame attrs m bytes sound is =
     subst (λ n. IsWritable (forms_for tiling frame attrs n) n) (sym is.same) (footer_writable tiling frame attrs m.head.frag is.stored sound is.fits)
 
 -- what is stored of it is what each object that holds it stores
-stored_one : (tiling : Tiling) (frame : Frame) (attrs : List Attr) (m : Meta) (bytes : List ℕ) → All IsSoundDim frame.domain → IsLaidMetaObject tiling frame attrs m bytes
-    → wrapped kind.Meta (footer_bytes (footer_for (forms_for tiling frame attrs m) m)) ≡ bytes
-stored_one tiling frame attrs m bytes sound is =
-    let same : footer_for (forms_for tiling frame attrs m) m ≡ is.stored = ap (λ n. footer_for (forms_for tiling frame attrs n) n) is.same ∙ footer_back tiling frame attrs m.head.frag is.stored sound is.fits in
+stored_one : (frame : Frame) (attrs : List Attr) (m : Meta) (bytes : List ℕ) → All IsSoundDim frame.domain → IsMetaObjectBy frame attrs m bytes
+    → wrapped kind.Meta (footer_bytes (footer_by frame attrs m)) ≡ bytes
+stored_one frame attrs m bytes sound is =
+    let same : footer_by frame attrs m ≡ is.stored = ap (λ n. footer_by frame attrs n) is.same ∙ footer_back frame attrs m.head.frag is.stored sound is.fits in
     ap (λ stored. wrapped kind.Meta (footer_bytes stored)) same ∙ sym is.spelled
 
 -- ---- what the calls say
@@ -306,7 +320,7 @@ pub one_meta : {E : Type 0} (frame : Frame) (attrs : List Attr) (m : Meta) (obje
     → IfOk result (λ bytes. bytes ≡ wrapped kind.Meta (footer_bytes (footer_by frame attrs m))) → IfOk result (λ bytes. bytes ≡ object)
 one_meta frame attrs m object result sound is =
     IfOk-weaker result (λ bytes. bytes ≡ wrapped kind.Meta (footer_bytes (footer_by frame attrs m))) (λ bytes. bytes ≡ object)
-    (λ bytes h. h ∙ stored_one (tiling_of frame) frame attrs m object sound is)
+    (λ bytes h. h ∙ stored_one frame attrs m object sound is)
 
 -- so it gives such an object
 pub meta_written : {E : Type 0} (frame : Frame) (attrs : List Attr) (m : Meta) (result : Result (List ℕ) E) → All IsSoundDim frame.domain → HasMetaObjectBy frame attrs m

@@ -1,6 +1,6 @@
 -- What a consolidation knows of its sources as it puts what they are merged into: they are committed still, and hold what they held.
 use Rattle.std.proofs.Common.{◌≡◌, ℕ, ◌<◌, ◌^◌, true, ◌||◌, inl, inr, ◌⊎◌, List, [], ◌∷◌, ◌++◌, length, Result, Ok, suc, refl, sym, ◌∙◌, ap, subst, arith}
-use Rattle.std.specs.Prelude.{Contains, nat_lt, take}
+use Rattle.std.specs.Prelude.{Contains, ◌&&◌, nat_lt, take}
 use Rattle.std.specs.List.{list_any}
 use Rattle.std.proofs.lemmas.Bool.{and_parts, ltb-true}
 use Rattle.std.proofs.lemmas.List.{append-nil, append_assoc, take_all}
@@ -275,12 +275,17 @@ module _ {F : Type 0} (codec : Codec F) (spelled : Spelled) (tracks : Tracking F
         ∙ ap (λ x. merged_with s.frame job.id first.head x (all_got (all_taken_of s.frame schema.attrs ps))) (same_heads codec spelled g then s.frame schema others rest are_in.1)
         ∙ merged_taken s.frame schema.attrs job.id first rest are
 
-    -- it has few origins and versions
-    counts : (nat_lt (length (merged_piece s.frame job.id first rest).head.origins) (2 ^ 32) ≡ true) × (nat_lt (length (merged_piece s.frame job.id first rest).versions) (2 ^ 32) ≡ true)
+    -- it has few origins
+    counts : (nat_lt (length (merged_piece s.frame job.id first rest).head.origins) (2 ^ 32) ≡ true)
+        × ((nat_lt (length (merged_piece s.frame job.id first rest).versions) (2 ^ 32) && nat_lt (merged_piece s.frame job.id first rest).head.cells (2 ^ 32)) ≡ true)
     counts = and_parts _ _ (ap can_be_named (sym piece_is) ∙ can)
 
+    -- and few versions, and its head counts few cells
+    counts_cells : (nat_lt (length (merged_piece s.frame job.id first rest).versions) (2 ^ 32) ≡ true) × (nat_lt (merged_piece s.frame job.id first rest).head.cells (2 ^ 32) ≡ true)
+    counts_cells = and_parts _ _ counts.1
+
     few : length (merged_piece s.frame job.id first rest).versions < 2 ^ 64
-    few = let counted = ltb-true _ _ counts.1 in omega (arith, counted)
+    few = let counted = ltb-true _ _ counts_cells.0 in omega (arith, counted)
 
     few_origins : length (merged_piece s.frame job.id first rest).head.origins < 2 ^ 32
     few_origins = ltb-true _ _ counts.0
@@ -293,7 +298,7 @@ module _ {F : Type 0} (codec : Codec F) (spelled : Spelled) (tracks : Tracking F
 
     -- and can be written
     pub writable : codec.writable s.frame schema.attrs own_piece
-    writable = subst (codec.writable s.frame schema.attrs) (sym piece_is) (laws.merged s.frame schema.attrs job.id first rest are each_writable (sources_fit s.frame schema.attrs job.id first rest are few few_origins) (ltb-true _ _ counts.1))
+    writable = subst (codec.writable s.frame schema.attrs) (sym piece_is) (laws.merged s.frame schema.attrs job.id first rest tt are each_writable (sources_fit s.frame schema.attrs job.id first rest are few few_origins) (ltb-true _ _ counts_cells.1))
 
     -- it holds what its origins wrote
     own_holds : HoldsWrites h own_piece

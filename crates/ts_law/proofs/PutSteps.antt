@@ -487,7 +487,7 @@ module _ {F : Type 0} (codec : Codec F) (spelled : Spelled) (tracks : Tracking F
     own_spells : (c : ComesHere (Puts own_objects (length own_parts) own_end)) → Spells spelled m frame there frag own_piece
     own_spells c = record {
       look = look_in own_parts;
-      spells = laws.parts frame there own_piece (laws.ordinary frame there.attrs own_piece (own_ordinary c.fit (c.stands).history) (own_close c.fit (c.stands).history)) (λ k d within. short_at k (slice_index_or own_parts k d) (slice_get-get_or own_parts k d within));
+      spells = laws.parts frame there own_piece (laws.ordinary frame there.attrs own_piece tt (own_ordinary c.fit (c.stands).history) (own_close c.fit (c.stands).history)) (λ k d within. short_at k (slice_index_or own_parts k d) (slice_get-get_or own_parts k d within));
       held = λ p bytes found.
           let at = look_finds own_parts p bytes found in
           (c.claims).held at.0 (part_object frag (record { part = p; bytes = bytes }))

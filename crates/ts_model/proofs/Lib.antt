@@ -25,5 +25,6 @@ pub mod Members
 pub mod UnionLaws
 pub mod MergedPieces
 pub mod MergedFits
+pub mod Counted
 pub mod Alike
 pub mod WholeRows

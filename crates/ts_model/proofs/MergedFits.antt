@@ -1,6 +1,6 @@
 -- What pieces that can be written are merged into can be written.
-use Rattle.std.proofs.Common.{◌≡◌, ℕ, ℤ, ◌≤◌, ◌<◌, ◌^◌, ◌⊎◌, Bool, true, false, ◌&&◌, cond, inl, inr, List, [], ◌∷◌, ◌++◌, length, Option, Some, None, int_cmp, refl, sym, ◌∙◌, ap, subst, arith}
-use Rattle.std.specs.Prelude.{Contains, IsTrue, T, All, ⊤, map as list_map}
+use Rattle.std.proofs.Common.{◌≡◌, ℕ, ℤ, ◌≤◌, ◌<◌, ◌-◌, ◌^◌, ◌⊎◌, Bool, true, false, ◌&&◌, cond, inl, inr, List, [], ◌∷◌, ◌++◌, length, Option, Some, None, int_cmp, refl, sym, ◌∙◌, ap, subst, arith}
+use Rattle.std.specs.Prelude.{Contains, IsTrue, T, All, ⊤, min, map as list_map}
 use Rattle.std.specs.Cmp.Lexicographic.{slice_cmp}
 use Rattle.std.specs.Ordering.{ordering_then, eq_by_cmp, is_lt, is_eq}
 use Rattle.std.specs.declared.cmp.Ordering.{Ordering}
@@ -20,9 +20,11 @@ use Rattle.ts_base.specs.Exact.{key_total, key_exact}
 use Rattle.ts_base.specs.Coords.{coords_eq}
 use Rattle.ts_domain.specs.declared.dims.Dim.{Dim}
 use Rattle.ts_domain.specs.declared.boxes.SubBox.{SubBox}
+use Rattle.ts_domain.specs.Bounds.{are_bounds, cells_between}
 use Rattle.ts_domain.specs.Boxes.{IsBox, Covers, is_in_box}
 use Rattle.ts_domain.specs.Domains.{whole_domain, is_in_domain}
 use Rattle.ts_domain.proofs.Between.{length-is_between, is_between-low, is_between-high, is_between-hull_first, is_between-hull_least}
+use Rattle.ts_order.proofs.PlaceLaws.{place_of-below}
 use Rattle.ts_schema.specs.declared.attrs.Attr.{Attr}
 use Rattle.ts_schema.specs.declared.frames.Frame.{Frame}
 use Rattle.ts_schema.specs.FrameTexts.{IsFrame}
@@ -35,7 +37,7 @@ use Rattle.ts_model.specs.Places.{place_of, place_cmp}
 use Rattle.ts_model.proofs.KeyLemmas.{tie_itself, key_itself, greatest-None, greatest-Some}
 use Rattle.ts_model.proofs.ListLemmas.{Contains-nil, Contains-here, Contains-only, Contains-there, Contains-cons, Contains-filter, filter-Contains, find-Some, find_member, each_holds}
 use Rattle.ts_model.proofs.Newest.{coords_same, coords_itself, coords_tie, OwnCoords, own_newest, get_newest_of}
-use Rattle.ts_model.specs.Merging.{MergesTo, newest_at, all_versions, version_place_cmp, version_place, placed_of, in_version_order, merged_versions, origins_of_all, hull_from, heads_of, merged_piece, HasBox, AreSources}
+use Rattle.ts_model.specs.Merging.{MergesTo, newest_at, all_versions, version_place_cmp, version_place, placed_of, in_version_order, merged_versions, cells_told, origins_of_all, hull_from, heads_of, merged_piece, HasBox, AreSources}
 use Rattle.ts_model.specs.Consolidated.{box_in, IsSpan, IsMergedVersion, ComesBefore, Rise, IsConsolidated, IsStorable}
 use Rattle.ts_model.proofs.Members.{key_found, key_there, any_member, member_any, with_own_key}
 use Rattle.ts_model.proofs.UnionLaws.{place_exact, version_total, version_exact, turned_once, parts_of, less_of, below_apart, entries_all, Entry, IsNamed, versions_of, entries_in, merged_at}
@@ -225,6 +227,15 @@ merged_some frame true v vs = by (newest_at (v ∷ vs) v.coords) refl
         absurd (Contains-nil v (subst (λ l. Contains l v) (greatest-None (λ (u : Version). u.key) _ found)
         (Contains-filter (λ u. coords_eq u.coords v.coords) (v ∷ vs) v (Contains-here v vs) (coords_itself v.coords))))
 
+-- so it is, where there are some among others
+some_kept : (frame : Frame) (last : Bool) (vs : List Version) → 1 ≤ length vs → (us : List Version) → 1 ≤ length (merged_versions frame last (vs ++ us))
+some_kept frame last [] some us = absurd (omega (arith, some))
+some_kept frame last (v ∷ vs) some us = merged_some frame last v (vs ++ us)
+
+-- where the first piece has a version, what it and others are merged into has one
+pub merged_first : (frame : Frame) (id : ℕ) (p : Piece) (ps : List Piece) → 1 ≤ length p.versions → 1 ≤ length (merged_piece frame id p ps).versions
+merged_first frame id p ps some = some_kept frame (keeps_last p.head) p.versions some (all_versions ps)
+
 -- ---- the sources
 
 -- what a merge asks of a piece
@@ -236,7 +247,8 @@ record IsSource (frame : Frame) (attrs : List Attr) (q : Piece) : Type 0 where
   schema : IsKey q.head.schema
   keys : All IsKey q.head.origins
   span : IsSpan q.head.frag q.head.origins
-  some : 1 ≤ length q.versions
+  -- a dense fragment may be one of holes alone
+  some : frame.dense ≡ false → 1 ≤ length q.versions
   versions : (v : Version) → Contains q.versions v → IsMergedVersion frame attrs q.head v
 
 -- the write of a fragment of its own is its span
@@ -257,7 +269,7 @@ source_is frame attrs q (inl o) = record {
   schema = o.schema;
   keys = subst (All IsKey) (sym o.origins) (All-cons IsKey o.key [] o.is_key (All-nil IsKey));
   span = subst (λ f. IsSpan f q.head.origins) (sym o.frag) (subst (IsSpan (frag_of o.key)) (sym o.origins) (own_span o.key));
-  some = o.some;
+  some = λ sparse. o.some;
   versions = λ v at.
       let of = All-contains (IsVersion frame attrs q.head o.key) q.versions v o.versions at in
       record {
@@ -276,7 +288,7 @@ source_is frame attrs q (inr o) = record {
   schema = o.schema;
   keys = o.are_keys;
   span = o.span;
-  some = o.some;
+  some = λ sparse. let counts = o.cells sparse in let some = o.some in omega (arith, counts, some);
   versions = λ v at. All-contains (IsMergedVersion frame attrs q.head) q.versions v o.versions at;
 }
 
@@ -284,6 +296,17 @@ source_is frame attrs q (inr o) = record {
 covers_corners : (outer sub : SubBox) → IsTrue (is_in_box outer sub.low) → IsTrue (is_in_box outer sub.high) → Covers outer sub
 covers_corners outer sub low high c inside =
     is_between-hull_least outer.low outer.high sub.low sub.high sub.low sub.high c low high low high (is_between-hull_first sub.low sub.high sub.low sub.high c inside refl refl)
+
+-- between the corners of a box lies a cell
+some_between : (low high : List ℤ) → IsTrue (are_bounds low high) → 1 ≤ cells_between low high
+some_between low high bounds = let below = place_of-below low high low (is_between-low low high bounds) in omega (arith, below)
+
+-- a head counts a cell, where a sparse one has a version
+some_told : (kind dense : Bool) → dense ≡ kind → (sub : SubBox) (many : ℕ) → IsTrue (are_bounds sub.low sub.high) → (kind ≡ false → 1 ≤ many) → 1 ≤ cells_told dense sub many
+some_told true true same sub many bounds some = let cells = some_between sub.low sub.high bounds in omega (arith, cells)
+some_told true false same sub many bounds some = cc
+some_told false true same sub many bounds some = cc
+some_told false false same sub many bounds some = some refl
 
 -- ---- the piece
 
@@ -358,9 +381,9 @@ module _ (frame : Frame) (attrs : List Attr) (is_frame : IsFrame frame) (are_att
       let box = hull_from (box_in p.head) (heads_of ps) in
       (covered box.low (is_between-low box.low box.high hull.is_box.0), covered box.high (is_between-high box.low box.high hull.is_box.0))
 
-  some_kept : (vs : List Version) → 1 ≤ length vs → (us : List Version) → 1 ≤ length (merged_versions frame (keeps_last p.head) (vs ++ us))
-  some_kept [] some us = absurd (omega (arith, some))
-  some_kept (v ∷ vs) some us = merged_some frame (keeps_last p.head) v (vs ++ us)
+  -- something is kept of a sparse first one
+  sparse_kept : frame.dense ≡ false → 1 ≤ length (merged_versions frame (keeps_last p.head) (all_versions (p ∷ ps)))
+  sparse_kept sparse = merged_first frame id p ps (own.some sparse)
 
   -- it can be written
   pub merged_fits : IsConsolidated frame attrs (merged_piece frame id p ps)
@@ -370,8 +393,9 @@ module _ (frame : Frame) (attrs : List Attr) (is_frame : IsFrame frame) (are_att
     schema = own.schema;
     consolidated = refl;
     dense = own.dense;
-    cells = refl;
-    some = some_kept p.versions own.some (all_versions ps);
+    cells = λ sparse. ap (λ b. cells_told b (hull_from (box_in p.head) (heads_of ps)) (length (merged_versions frame (keeps_last p.head) (all_versions (p ∷ ps))))) (own.dense ∙ sparse);
+    whole = λ dense. ap (λ b. cells_told b (hull_from (box_in p.head) (heads_of ps)) (length (merged_versions frame (keeps_last p.head) (all_versions (p ∷ ps))))) (own.dense ∙ dense);
+    some = some_told frame.dense p.head.dense own.dense (hull_from (box_in p.head) (heads_of ps)) (length (merged_versions frame (keeps_last p.head) (all_versions (p ∷ ps)))) hull.is_box.0 sparse_kept;
     few = few;
     low = in_domain (hull_from (box_in p.head) (heads_of ps)).low (is_between-low (hull_from (box_in p.head) (heads_of ps)).low (hull_from (box_in p.head) (heads_of ps)).high hull.is_box.0);
     high = in_domain (hull_from (box_in p.head) (heads_of ps)).high (is_between-high (hull_from (box_in p.head) (heads_of ps)).low (hull_from (box_in p.head) (heads_of ps)).high hull.is_box.0);

@@ -1,5 +1,5 @@
 -- How fragments are written and read, as plain functions: what a machine that writes and reads them computes.
-use Rattle.std.specs.Prelude.{◌≡◌, ◌<◌, ◌^◌, Contains, ℕ, Bool, true, false, List, [], ◌∷◌, ◌++◌, Some, length, slice_get, Result, Ok, IsTrue, All}
+use Rattle.std.specs.Prelude.{◌≡◌, ◌<◌, ◌^◌, Contains, ℕ, Bool, true, false, List, [], ◌∷◌, ◌++◌, Some, length, slice_get, Result, Ok, IsTrue, All, ⊤}
 use Rattle.ts_base.specs.declared.keys.FragKey.{FragKey}
 use Rattle.ts_base.specs.declared.names.Name.{Name}
 use Rattle.ts_base.specs.declared.names.Part.{Part}
@@ -97,13 +97,13 @@ pub record OpensWell {F : Type 0} (codec : Codec F) (tracks : F → Call → Typ
   pub opens : codec.opens frame schema p.head.frag object want ≡ Ok fetch
   pub starts : GoesWell tracks (taken want p.versions) (codec.steps fetch reply.Start)
 
--- the laws of one way to write fragments and to read them
-pub record CodecLaws {F : Type 0} (codec : Codec F) (spelled : Spelled) (tracks : Tracking F) : Type 0 where
+-- the laws of one way to write fragments and to read them, which writes those arrays that `On` says
+pub record CodecLawsOn {F : Type 0} (On : Frame → Type 0) (codec : Codec F) (spelled : Spelled) (tracks : Tracking F) : Type 0 where
   -- a piece that one write makes can be written
-  pub ordinary : (frame : Frame) (attrs : List Attr) (p : Piece) → IsOrdinary frame attrs p → IsClose p → codec.writable frame attrs p
-  -- what pieces are merged into that can be written can be written too, where its versions can be counted in 32 bits
-  pub merged : (frame : Frame) (attrs : List Attr) (id : ℕ) (p : Piece) (ps : List Piece) → AreSources frame attrs (p ∷ ps) → ((q : Piece) → Contains (p ∷ ps) q → codec.writable frame attrs q)
-      → IsConsolidated frame attrs (merged_piece frame id p ps) → length (merged_piece frame id p ps).versions < 2 ^ 32 → codec.writable frame attrs (merged_piece frame id p ps)
+  pub ordinary : (frame : Frame) (attrs : List Attr) (p : Piece) → On frame → IsOrdinary frame attrs p → IsClose p → codec.writable frame attrs p
+  -- what pieces are merged into that can be written can be written too, where its cells can be counted in 32 bits
+  pub merged : (frame : Frame) (attrs : List Attr) (id : ℕ) (p : Piece) (ps : List Piece) → On frame → AreSources frame attrs (p ∷ ps) → ((q : Piece) → Contains (p ∷ ps) q → codec.writable frame attrs q)
+      → IsConsolidated frame attrs (merged_piece frame id p ps) → (merged_piece frame id p ps).head.cells < 2 ^ 32 → codec.writable frame attrs (merged_piece frame id p ps)
   -- the parts of a piece that can be written spell it, where each is short enough to be got at once
   pub parts : (frame : Frame) (s : Schema) (p : Piece) → codec.writable frame s.attrs p → All (λ x. IsShort x.bytes) (codec.parts frame s p) → spelled frame s p (look_in (codec.parts frame s p))
   -- the part that has the head is the last
@@ -126,3 +126,7 @@ pub record CodecLaws {F : Type 0} (codec : Codec F) (spelled : Spelled) (tracks 
   -- a fetch that is told what is held goes on well
   pub goes : (frame : Frame) (s : Schema) (p : Piece) (look : Look) (want : Want) (f : F) (c : Call) (part : Part) (bytes : List ℕ) (r : Reply)
       → tracks frame s p look want f c → look part ≡ Some bytes → SpeaksOf c (name.Part p.head.frag part) → IsToldOf c bytes r → GoesWell (tracks frame s p look want) (taken want p.versions) (codec.steps f r)
+
+-- the laws of a way to write fragments of any array
+abbrev pub CodecLaws : {F : Type 0} → Codec F → Spelled → Tracking F → Type 0
+CodecLaws codec spelled tracks = CodecLawsOn (λ (frame : Frame). ⊤) codec spelled tracks

@@ -1,5 +1,5 @@
 -- Which pieces of a consolidation can be written, and which pieces can be written at all.
-use Rattle.std.specs.Prelude.{◌≡◌, ◌^◌, ◌<◌, ◌≤◌, true, false, List, [], ◌∷◌, length, IsTrue, All, ⊤, ◌⊎◌, Contains}
+use Rattle.std.specs.Prelude.{◌≡◌, ◌-◌, ◌^◌, ◌<◌, ◌≤◌, true, false, List, [], ◌∷◌, length, min, IsTrue, All, ⊤, ◌⊎◌, Contains}
 use Rattle.std.specs.List.Sorted.{IsStrictlySortedBy}
 use Rattle.std.specs.declared.cmp.Ordering.TheVariants.{Less}
 use Rattle.ts_base.specs.declared.keys.Key.{Key}
@@ -9,7 +9,7 @@ use Rattle.ts_base.specs.declared.heads.Piece.{Piece}
 use Rattle.ts_base.specs.declared.heads.Version.{Version}
 use Rattle.ts_base.specs.Keys.{key_cmp, key_lt, frag_of}
 use Rattle.ts_domain.specs.declared.boxes.SubBox.{SubBox}
-use Rattle.ts_domain.specs.Bounds.{is_between, are_bounds}
+use Rattle.ts_domain.specs.Bounds.{is_between, are_bounds, cells_between}
 use Rattle.ts_domain.specs.Domains.{is_in_domain}
 use Rattle.ts_schema.specs.declared.attrs.Attr.{Attr}
 use Rattle.ts_schema.specs.declared.frames.Frame.{Frame}
@@ -59,8 +59,11 @@ pub record IsConsolidated (frame : Frame) (attrs : List Attr) (p : Piece) : Type
   pub schema : IsKey p.head.schema
   pub consolidated : p.head.consolidated ≡ true
   pub dense : p.head.dense ≡ frame.dense
-  pub cells : p.head.cells ≡ length p.versions
-  pub some : 1 ≤ length p.versions
+  -- the head of a sparse one counts its versions
+  pub cells : frame.dense ≡ false → p.head.cells ≡ length p.versions
+  -- that of a dense one counts the cells of its box, 2^64 - 1 at most; it need not have each of them
+  pub whole : frame.dense ≡ true → p.head.cells ≡ min (cells_between p.head.low p.head.high) (2 ^ 64 - 1)
+  pub some : 1 ≤ p.head.cells
   pub few : length p.versions < 2 ^ 64
   -- its box lies in the domain
   pub low : IsTrue (is_in_domain frame.domain p.head.low)

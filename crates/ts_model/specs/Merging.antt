@@ -1,5 +1,5 @@
 -- What the pieces of several fragments are merged into: one piece that has the origins of all of them.
-use Rattle.std.specs.Prelude.{◌≡◌, ℕ, ℤ, ◌≤◌, Bool, true, false, cond, List, [], ◌∷◌, length, min, max, ⊤, Contains, Option, Some, None, option_and_then, filter, map as list_map}
+use Rattle.std.specs.Prelude.{◌≡◌, ℕ, ℤ, ◌-◌, ◌^◌, ◌≤◌, Bool, true, false, cond, List, [], ◌∷◌, length, min, max, ⊤, Contains, Option, Some, None, option_and_then, filter, map as list_map}
 use Rattle.std.specs.BTreeSet.{insert_key}
 use Rattle.std.specs.List.{list_any, flat_map, fold}
 use Rattle.std.specs.List.Sorted.{IsStrictlySortedBy}
@@ -11,6 +11,7 @@ use Rattle.ts_base.specs.declared.heads.Version.{Version}
 use Rattle.ts_base.specs.Keys.{key_cmp, key_eq, greatest}
 use Rattle.ts_base.specs.Coords.{coords_eq}
 use Rattle.ts_domain.specs.declared.boxes.SubBox.{SubBox}
+use Rattle.ts_domain.specs.Bounds.{cells_between}
 use Rattle.ts_domain.specs.Boxes.{IsBox, Covers, hull_of}
 use Rattle.ts_schema.specs.declared.attrs.Attr.{Attr}
 use Rattle.ts_schema.specs.declared.frames.Frame.{Frame}
@@ -106,9 +107,13 @@ last_from t heads = fold (λ s head. max s head.frag.t2) t heads
 abbrev pub hull_from : SubBox → List Head → SubBox
 hull_from sub heads = fold (λ hull head. hull_of hull (box_in head)) sub heads
 
--- the head of a first one and others, over so many cells
+-- the number that a head has for its cells: of a dense fragment that of the cells of its box, 2^64 - 1 at most; of a sparse one that of its versions
+abbrev pub cells_told : Bool → SubBox → ℕ → ℕ
+cells_told dense sub many = cond dense (min (cells_between sub.low sub.high) (2 ^ 64 - 1)) many
+
+-- the head of a first one and others, with so many versions
 abbrev pub merged_head : ℕ → Head → List Head → ℕ → Head
-merged_head id first heads cells =
+merged_head id first heads many =
     let corners = hull_from (box_in first) heads in
     record {
       frag = record { t1 = first_from first.frag.t1 heads; t2 = last_from first.frag.t2 heads; id = id; v = 1 };
@@ -117,7 +122,7 @@ merged_head id first heads cells =
       consolidated = true;
       low = corners.low;
       high = corners.high;
-      cells = cells;
+      cells = cells_told first.dense corners many;
       origins = origins_of_all (first ∷ heads);
     }
 

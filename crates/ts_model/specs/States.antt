@@ -425,9 +425,9 @@ merge_objects codec frame s p names = part_objects p.head.frag (codec.parts fram
 abbrev pub piece_merged : Job → Frame → Opened → List Opened → List (List Version) → Piece
 piece_merged job frame o others got = merged_with frame job.id o.head (heads_of others) (all_got got)
 
--- the origins of a piece are so few that a fragment can name them, and its versions so few that it can count their tiles
+-- a fragment can name the origins of the piece and count its cells: of origins, of versions and of the cells that its head counts there are fewer than 2^32 each
 abbrev pub can_be_named : Piece → Bool
-can_be_named p = nat_lt (length p.head.origins) (2 ^ 32) && nat_lt (length p.versions) (2 ^ 32)
+can_be_named p = nat_lt (length p.head.origins) (2 ^ 32) && (nat_lt (length p.versions) (2 ^ 32) && nat_lt p.head.cells (2 ^ 32))
 
 -- a consolidation of so many fragments puts the piece, whose `.vac` is to have these names
 abbrev pub puts_piece : {F : Type 0} → Codec F → Frame → Schema → List FragKey → ℕ → Piece → State F

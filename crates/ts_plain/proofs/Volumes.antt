@@ -1,14 +1,15 @@
 -- The number of cells of a hull.
-use Rattle.std.proofs.Common.{◌≡◌, ℕ, ◌+◌, ◌≤◌, ◌<◌, ◌*◌, ℤ, pos, negsuc, List, [], ◌∷◌, length, drop, get_or, refl, sym, ap, ◌∙◌, arith, mul_assoc, le_refl}
+use Rattle.std.proofs.Common.{◌≡◌, ℕ, ◌+◌, ◌≤◌, ◌<◌, ◌*◌, ◌^◌, true, ℤ, pos, negsuc, List, [], ◌∷◌, length, drop, get_or, refl, sym, ap, ◌∙◌, arith, mul_assoc, le_refl}
 use Rattle.std.proofs.lemmas.List.{drop_more}
 use Rattle.std.specs.Prelude.{◌≤ℤ◌, ◌+ℤ◌, ◌-ℤ◌}
 use Rattle.std.specs.List.{All}
 use Rattle.std.proofs.lemmas.Int.{ints}
 use Rattle.std.proofs.lemmas.Nat.{mul-le}
+use Rattle.std.proofs.Math.Nat.{min-eq_left}
 use Rattle.std.proofs.lemmas.List.Elements.{All-head, All-tail, All-drop}
 use Rattle.ts_domain.specs.Bounds.{natural_of, count_between}
 use Rattle.ts_plain.specs.declared.stored.Side.{Side}
-use Rattle.ts_plain.specs.Rules.{volume}
+use Rattle.ts_plain.specs.Rules.{volume, counted}
 use Rattle.ts_plain.specs.Insides.{IsSide}
 
 -- a number that is positive, as a natural one
@@ -25,6 +26,10 @@ volume_some [] all = omega arith
 volume_some (side ∷ hull) all =
     let is = All-head IsSide side hull all in
     mul-le 1 1 (count_between side.low side.high) (volume hull) (count_is side.low side.high is.some).0 (volume_some hull (All-tail IsSide side hull all))
+
+-- where a number of cells that has its width is that of the hull, a dense head tells of so many
+pub counted_whole : (hull : List Side) (cells : ℕ) → cells ≡ volume hull → cells < 2 ^ 64 → counted true hull cells ≡ cells
+counted_whole hull cells whole room = min-eq_left (omega (arith, whole, room)) ∙ sym whole
 
 -- ---- a product of sides, of which those before i were taken
 

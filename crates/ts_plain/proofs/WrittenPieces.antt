@@ -125,9 +125,10 @@ stored_back frame attrs frag stored fits =
     let up = origins_ascend frag stored.head.consolidated stored.head.origins fits.head.some_origin fits.head.origins in
     let hull = hull_back stored.head.hull in
     let cells = cells_back frame attrs stored.head [] stored.cells up fits.cells in
+    let many : length (map (version_in stored.head) stored.cells) ≡ stored.head.cells = length-map stored.cells (version_in stored.head) ∙ fits.count in
     let head = stored.head in
     λ i. record {
-      head = record { schema = head.schema; dense = head.dense; consolidated = head.consolidated; hull = hull i; cells = head.cells; origins = head.origins };
+      head = record { schema = head.schema; dense = head.dense; consolidated = head.consolidated; hull = hull i; cells = many i; origins = head.origins };
       cells = cells i;
     }
 

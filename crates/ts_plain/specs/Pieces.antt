@@ -18,6 +18,7 @@ use Rattle.ts_schema.specs.declared.schemas.Schema.{Schema}
 use Rattle.ts_plain.specs.declared.stored.StoredHead.{StoredHead}
 use Rattle.ts_plain.specs.declared.stored.StoredCell.{StoredCell}
 use Rattle.ts_plain.specs.declared.stored.StoredPiece.{StoredPiece}
+use Rattle.ts_plain.specs.Rules.{counted}
 use Rattle.ts_plain.specs.Plain.{plain_stored, head_stored, plain_bytes, FitsPlain}
 
 -- no key, where there is no such origin
@@ -32,7 +33,7 @@ origin_key origins place = get_or origins place no_key
 abbrev pub version_in : StoredHead → StoredCell → Version
 version_in head cell = record { key = origin_key head.origins cell.origin; schema = head.schema; coords = cell.coords; row = cell.row }
 
--- the head of the fragment
+-- the head of the fragment: a dense one counts the cells of its hull
 unfoldable pub head_of : FragKey → StoredHead → Head
 head_of frag head = record {
   frag = frag;
@@ -41,7 +42,7 @@ head_of frag head = record {
   consolidated = head.consolidated;
   low = map (λ side. side.low) head.hull;
   high = map (λ side. side.high) head.hull;
-  cells = head.cells;
+  cells = counted head.dense head.hull head.cells;
   origins = head.origins;
 }
 

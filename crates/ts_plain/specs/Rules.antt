@@ -1,5 +1,5 @@
 -- The rules of the fields of a plain fragment.
-use Rattle.std.specs.Prelude.{ℕ, ◌+◌, ◌-◌, ◌*◌, ℤ, Bool, true, not, ◌&&◌, ◌||◌, if◌then◌else◌, nat_eq, nat_le, nat_lt, int_le, List, [], ◌∷◌, length, slice_get, Option, Some, None}
+use Rattle.std.specs.Prelude.{ℕ, ◌+◌, ◌-◌, ◌*◌, ◌^◌, min, ℤ, Bool, true, not, ◌&&◌, ◌||◌, if◌then◌else◌, nat_eq, nat_le, nat_lt, int_le, List, [], ◌∷◌, length, slice_get, Option, Some, None}
 use Rattle.std.specs.Ordering.{is_gt}
 use Rattle.ts_base.specs.declared.keys.Key.{Key}
 use Rattle.ts_base.specs.declared.keys.FragKey.{FragKey}
@@ -30,6 +30,10 @@ from_on side x = record { low = x; high = side.high }
 abbrev pub volume : List Side → ℕ
 volume [] = 1
 volume (side ∷ sides) = count_between side.low side.high * volume sides
+
+-- how many cells a head tells of: of a dense fragment those of its hull, 2^64 - 1 at most; it is `cells_told` of the model, over sides
+abbrev pub counted : Bool → List Side → ℕ → ℕ
+counted dense hull many = if dense then min (volume hull) (2 ^ 64 - 1) else many
 
 -- a fragment that is not consolidated has one timestamp
 abbrev pub may_span : FragKey → Bool → Bool

@@ -13,6 +13,7 @@ use Rattle.ts_plain.specs.declared.stored.Side.{Side}
 use Rattle.ts_plain.specs.declared.stored.StoredHead.{StoredHead}
 use Rattle.ts_plain.specs.declared.stored.StoredCell.{StoredCell}
 use Rattle.ts_plain.specs.declared.stored.StoredPiece.{StoredPiece}
+use Rattle.ts_plain.specs.Rules.{counted}
 use Rattle.ts_plain.specs.Pieces.{IsPlainObject}
 
 -- the piece is that of some plain object
@@ -38,16 +39,24 @@ sides_of _ _ = []
 abbrev pub box_of : List Side → SubBox
 box_of sides = record { low = map (λ side. side.low) sides; high = map (λ side. side.high) sides }
 
--- what stands before the cells
-abbrev pub stored_head : Head → StoredHead
-stored_head head = record {
+-- what stands before the cells, where so many are told of
+abbrev pub counting_head : Head → ℕ → StoredHead
+counting_head head many = record {
   schema = head.schema;
   dense = head.dense;
   consolidated = head.consolidated;
   hull = sides_of head.low head.high;
-  cells = head.cells;
+  cells = many;
   origins = head.origins;
 }
+
+-- what stands before the cells, where as many are told of as the head tells
+abbrev pub stored_head : Head → StoredHead
+stored_head head = counting_head head head.cells
+
+-- what stands before the cells of a piece: it counts the cells that are stored
+abbrev pub plain_head_for : Piece → StoredHead
+plain_head_for piece = counting_head piece.head (length piece.versions)
 
 -- the cell of a version, which names its write by a place among these origins
 abbrev pub stored_cell : List Key → Version → StoredCell
@@ -55,7 +64,15 @@ stored_cell origins version = record { coords = version.coords; origin = place_o
 
 -- what is stored of a piece
 abbrev pub stored_for : Piece → StoredPiece
-stored_for piece = record { head = stored_head piece.head; cells = map (stored_cell piece.head.origins) piece.versions }
+stored_for piece = record { head = plain_head_for piece; cells = map (stored_cell piece.head.origins) piece.versions }
+
+-- what is stored of a piece in space tiles: its head tells of the cells of its hull
+abbrev pub hulled_for : Piece → StoredPiece
+hulled_for piece = record { head = stored_head piece.head; cells = map (stored_cell piece.head.origins) piece.versions }
+
+-- the head of the piece tells of as many cells as it has to: a dense one of those of its hull, another of the versions
+abbrev pub CountsCells : Piece → Type 0
+CountsCells piece = piece.head.cells ≡ counted piece.head.dense (sides_of piece.head.low piece.head.high) (length piece.versions)
 
 -- each version of the piece can name its write: there are few origins, they ascend, and the write of each version is among them
 pub record NamesWrites (piece : Piece) : Type 0 where

@@ -3,6 +3,7 @@ ghost use Rattle.std.specs.Prelude.{◌≡◌, ◌≤◌, length, map, IfOk};
 ghost use Rattle.ts_plain.specs.Pieces.{origin_key, version_in, head_of, piece_of};
 ghost use Rattle.ts_plain.specs.Insides.{IsHull};
 
+use crate::rules::counted;
 use crate::stored::{Side, StoredCell, StoredCellList, StoredHead, StoredPiece};
 use arrayvec::ArrayVec;
 use std::alloc::Global;
@@ -78,7 +79,8 @@ pub fn highs(hull: &[Side]) -> Coords
     Coords::new(numbers.as_slice())
 }
 
-/// The head of the fragment of this name, from what its object stores before the cells.
+/// The head of the fragment of this name, from what its object stores before the cells. That of a dense
+/// fragment counts the cells of its hull, up to 2^64 - 1.
 #[tactic(auto, using(crate::proofs::Insides::hull_length), unfolding(crate::specs::Pieces::head_of))]
 pub fn head_of(frame: &Frame, frag: FragKey, head: StoredHead) -> Head
     requires { IsHull frame.now.domain head.hull }
@@ -100,7 +102,7 @@ pub fn head_of(frame: &Frame, frag: FragKey, head: StoredHead) -> Head
         consolidated,
         low: lows(hull.as_slice()),
         high: highs(hull.as_slice()),
-        cells,
+        cells: counted(dense, hull.as_slice(), cells),
         origins,
     }
 }

@@ -4,7 +4,7 @@ ghost use Rattle.std.specs.List.{All};
 ghost use Rattle.ts_base.specs.Keys.{key_eq};
 ghost use Rattle.ts_domain.specs.Bounds.{count_between};
 ghost use Rattle.ts_domain.specs.Domains.{is_in_domain};
-ghost use Rattle.ts_plain.specs.Rules.{is_on_side, volume, may_span, is_full, may_hold, may_count, own_key, last_of, rises_from, may_end, may_be_origin, coords_rise, origin_rises};
+ghost use Rattle.ts_plain.specs.Rules.{is_on_side, volume, counted, may_span, is_full, may_hold, may_count, own_key, last_of, rises_from, may_end, may_be_origin, coords_rise, origin_rises};
 ghost use Rattle.ts_plain.specs.Insides.{IsSide, IsInside};
 
 use crate::stored::{Side, StoredCellList};
@@ -60,6 +60,19 @@ fn volume(hull: &[Side]) -> Option<u64>
         cells = cells.checked_mul(count)?;
     }
     Some(cells)
+}
+
+/// How many cells the head of a fragment of this hull tells of: a dense one of those of its hull, or of
+/// 2^64 - 1 where there are more, another of so many as it stores.
+pub fn counted(dense: bool, hull: &[Side], many: u64) -> u64
+    requires { All IsSide hull.now }
+    ensures { result ≡ counted dense hull.now many }
+{
+    if dense {
+        volume(hull).unwrap_or(u64::MAX)
+    } else {
+        many
+    }
 }
 
 /// Whether a fragment of this hull may have so many cells: a full one has each cell of the hull,

@@ -27,7 +27,8 @@ pub struct StoredHead {
     pub consolidated: bool,
     /// Between which coordinates the cells lie: a side for each dimension.
     pub hull: SideList,
-    /// The number of cells.
+    /// The number of cells: in a plain object and in sparse metadata of those that are stored, in dense
+    /// metadata of those of the hull.
     pub cells: u64,
     /// The keys of the writes whose cells the fragment has, ascending.
     pub origins: KeyList,

@@ -12,7 +12,7 @@ ghost use Rattle.ts_schema.specs.declared.attrs.Attr.{Attr as AnyAttr};
 ghost use Rattle.ts_schema.specs.declared.frames.Frame.{Frame as AnyFrame};
 ghost use Rattle.ts_plain.specs.Plain.{origins_bytes, hull_bytes, head_bytes, cell_bytes, plain_bytes};
 ghost use Rattle.ts_plain.specs.Pieces.{IsPlainObject};
-ghost use Rattle.ts_plain.specs.Writes.{HasPlain, place_of, HasPlace, sides_of, stored_head, stored_cell, stored_for, NamesWrites};
+ghost use Rattle.ts_plain.specs.Writes.{HasPlain, place_of, HasPlace, sides_of, counting_head, stored_head, plain_head_for, stored_cell, stored_for, NamesWrites};
 
 use std::alloc::Global;
 use ts_base::{
@@ -70,19 +70,38 @@ fn write_origins(scribe: &mut Scribe, origins: &KeyList) -> Result<(), OutOfMemo
     Ok(())
 }
 
-/// Writes what stands before the cells: the fields that all objects of fragments begin with.
+// Writes what stands before the cells, where so many are told of.
 #[tactic(auto, unfolding(crate::specs::Plain::head_bytes))]
-pub fn write_head(scribe: &mut Scribe, head: &Head) -> Result<(), OutOfMemory>
+fn write_counting_head(scribe: &mut Scribe, head: &Head, many: u64) -> Result<(), OutOfMemory>
     requires corners { length head.now.high ≡ length head.now.low }
     requires few { length head.now.origins < 2 ^ 32 }
-    ensures { OnOk result (scribe.new ≡ scribe.old ++ head_bytes (stored_head head.now)) }
+    ensures { OnOk result (scribe.new ≡ scribe.old ++ head_bytes (counting_head head.now many)) }
 {
     scribe.key(head.schema)?;
     scribe.bool(head.dense)?;
     scribe.bool(head.consolidated)?;
     write_hull(scribe, head.low.as_slice(), head.high.as_slice())?;
-    scribe.u64(head.cells)?;
+    scribe.u64(many)?;
     write_origins(scribe, &head.origins)
+}
+
+/// Writes what stands before the cells: the fields that all objects of fragments begin with. The number
+/// of cells is the one that the head tells.
+pub fn write_head(scribe: &mut Scribe, head: &Head) -> Result<(), OutOfMemory>
+    requires corners { length head.now.high ≡ length head.now.low }
+    requires few { length head.now.origins < 2 ^ 32 }
+    ensures { OnOk result (scribe.new ≡ scribe.old ++ head_bytes (stored_head head.now)) }
+{
+    write_counting_head(scribe, head, head.cells)
+}
+
+/// Writes what stands before the cells of a piece, where the number of cells is that of the versions.
+pub fn write_plain_head(scribe: &mut Scribe, piece: &Piece) -> Result<(), OutOfMemory>
+    requires corners { length piece.now.head.high ≡ length piece.now.head.low }
+    requires few { length piece.now.head.origins < 2 ^ 32 }
+    ensures { OnOk result (scribe.new ≡ scribe.old ++ head_bytes (plain_head_for piece.now)) }
+{
+    write_counting_head(scribe, &piece.head, piece.versions.len())
 }
 
 fn write_coords(scribe: &mut Scribe, coords: &Coords) -> Result<(), OutOfMemory>
@@ -156,12 +175,13 @@ fn write_piece(alloc: Global, piece: &Piece) -> Result<ByteList, OutOfMemory>
     ensures { IfOk result (λ bytes. bytes ≡ wrapped kind.Plain (plain_bytes (stored_for piece.now))) }
 {
     let mut scribe = Scribe::new(alloc);
-    write_head(&mut scribe, &piece.head)?;
+    write_plain_head(&mut scribe, piece)?;
     write_versions(&mut scribe, &piece.head.origins, &piece.versions)?;
     scribe.into_object(Kind::Plain)
 }
 
-/// The plain object of a piece, in the layout of FORMATS.md, "The plain fragment".
+/// The plain object of a piece, in the layout of FORMATS.md, "The plain fragment". The number of cells
+/// in it is that of the versions, whatever the head of the piece tells.
 ///
 /// The origins of the piece have to ascend and to be fewer than 2^32, each version's write to be among
 /// them, and the corners of its box to have as many coordinates as one another. In each array and

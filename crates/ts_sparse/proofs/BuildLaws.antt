@@ -14,7 +14,7 @@ use Rattle.ts_wire.proofs.Objects.{length-wrapped}
 use Rattle.ts_schema.specs.declared.frames.Frame.{Frame}
 use Rattle.ts_schema.specs.declared.schemas.Schema.{Schema}
 use Rattle.ts_schema.specs.Parts.{look_in}
-use Rattle.ts_plain.specs.Writes.{stored_for, NamesWrites}
+use Rattle.ts_plain.specs.Writes.{stored_for, CountsCells, NamesWrites}
 use Rattle.ts_sparse.specs.declared.laying.Laid.{Laid}
 use Rattle.ts_sparse.specs.Sparse.{Object, dim_objects, attr_objects, origin_objects, objects_of, sizes_of, column_part, meta_part, meta_bytes, parts_of, FitsSparse, IsSparse}
 use Rattle.ts_sparse.specs.Laying.{with_objects, none_laid, cells_of, meta_with}
@@ -71,10 +71,10 @@ module _ (frame : Frame) (attrs : List Attr) (piece : Piece) where
 -- so what is built spells the piece
 pub built_spells : (frame : Frame) (schema : Schema) (piece : Piece) (laid : Laid) (bytes : List ℕ) (parts : List PartBytes) → NamesWrites piece → FitsSparse frame schema.attrs piece.head.frag (stored_for piece)
     → laid ≡ with_objects none_laid (objects_of frame schema.attrs (stored_for piece)) → bytes ≡ wrapped kind.Meta (meta_with frame piece laid.sizes) → length bytes < 2 ^ 64 → All (λ size. size < 2 ^ 64) laid.sizes
-    → parts ≡ laid.parts ++ record { part = part.Meta; bytes = bytes } ∷ [] → All (λ (v : Version). v.schema ≡ piece.head.schema) piece.versions → IsSparse frame schema piece (look_in parts)
-built_spells frame schema piece laid bytes parts names fits columns spelled few room push schemas =
+    → parts ≡ laid.parts ++ record { part = part.Meta; bytes = bytes } ∷ [] → CountsCells piece → All (λ (v : Version). v.schema ≡ piece.head.schema) piece.versions → IsSparse frame schema piece (look_in parts)
+built_spells frame schema piece laid bytes parts names fits columns spelled few room push counts schemas =
     let stored = stored_for piece in
     let sizes : laid.sizes ≡ sizes_of (objects_of frame schema.attrs stored) = ap (λ (l : Laid). l.sizes) (columns ∙ laid_all (objects_of frame schema.attrs stored)) in
     let text : bytes ≡ wrapped kind.Meta (meta_bytes frame schema.attrs stored) = spelled ∙ ap (λ sizes. wrapped kind.Meta (meta_with frame piece sizes)) sizes ∙ ap (wrapped kind.Meta) (meta_same frame schema.attrs piece) in
     let short = short_built frame schema.attrs piece (subst (All (λ size. size < 2 ^ 64)) sizes room) (subst (λ body. length body < 2 ^ 64) text few) in
-    subst (λ all. IsSparse frame schema piece (look_in all)) (sym (all_parts_built frame schema.attrs piece laid bytes parts columns spelled push)) (parts_spell frame schema piece fits (piece_back piece names schemas) short)
+    subst (λ all. IsSparse frame schema piece (look_in all)) (sym (all_parts_built frame schema.attrs piece laid bytes parts columns spelled push)) (parts_spell frame schema piece fits (piece_back piece names counts schemas) short)

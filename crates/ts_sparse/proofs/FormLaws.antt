@@ -11,8 +11,9 @@ use Rattle.ts_schema.specs.declared.frames.Frame.{Frame}
 use Rattle.ts_plain.specs.declared.stored.Side.{Side}
 use Rattle.ts_plain.specs.declared.stored.StoredHead.{StoredHead}
 use Rattle.ts_plain.specs.declared.stored.StoredPiece.{StoredPiece}
+use Rattle.ts_plain.specs.Rules.{counted}
 use Rattle.ts_plain.specs.Pieces.{no_key, version_in, head_of, piece_of}
-use Rattle.ts_plain.specs.Writes.{HasPlace, sides_of, stored_cell, stored_for, NamesWrites}
+use Rattle.ts_plain.specs.Writes.{HasPlace, sides_of, counting_head, stored_cell, stored_for, CountsCells, NamesWrites}
 use Rattle.ts_plain.proofs.Places.{at-place_of}
 use Rattle.ts_plain.proofs.WrittenPieces.{stored_back}
 use Rattle.ts_sparse.specs.Sparse.{parts_of, FitsSparse, IsThere, IsStored}
@@ -53,15 +54,21 @@ versions_back head (v ∷ versions) known schemas =
     let there = sym key in
     λ i. record { key = there i; schema = schema i; coords = v.coords; row = v.row } ∷ rest i
 
--- a piece whose versions are written in the schema of its head
-pub piece_back : (piece : Piece) → NamesWrites piece → All (λ (v : Version). v.schema ≡ piece.head.schema) piece.versions → piece ≡ piece_of piece.head.frag (stored_for piece)
+-- a piece whose versions are written in the schema of its head, where the head tells of as many cells as it has to of so many
+pub counted_back : (piece : Piece) (many : ℕ) → NamesWrites piece → piece.head.cells ≡ counted piece.head.dense (sides_of piece.head.low piece.head.high) many
+    → All (λ (v : Version). v.schema ≡ piece.head.schema) piece.versions
+    → piece ≡ piece_of piece.head.frag (record { head = counting_head piece.head many; cells = map (stored_cell piece.head.origins) piece.versions })
 unfolding piece_of head_of
-piece_back piece names schemas =
+counted_back piece many names told schemas =
     let head = piece.head in
     let low = sym (lows_back head.low head.high names.corners) in
     let high = sym (highs_back head.low head.high names.corners) in
-    let versions = versions_back (stored_for piece).head piece.versions names.known schemas in
+    let versions = versions_back (counting_head head many) piece.versions names.known schemas in
     λ i. record {
-      head = record { frag = head.frag; schema = head.schema; dense = head.dense; consolidated = head.consolidated; low = low i; high = high i; cells = head.cells; origins = head.origins };
+      head = record { frag = head.frag; schema = head.schema; dense = head.dense; consolidated = head.consolidated; low = low i; high = high i; cells = told i; origins = head.origins };
       versions = versions i;
     }
+
+-- such a piece is that of its stored form
+pub piece_back : (piece : Piece) → NamesWrites piece → CountsCells piece → All (λ (v : Version). v.schema ≡ piece.head.schema) piece.versions → piece ≡ piece_of piece.head.frag (stored_for piece)
+piece_back piece names counts schemas = counted_back piece (length piece.versions) names counts schemas

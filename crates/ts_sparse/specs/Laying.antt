@@ -16,7 +16,7 @@ use Rattle.ts_schema.specs.declared.attrs.Attr.{Attr}
 use Rattle.ts_schema.specs.declared.frames.Frame.{Frame}
 use Rattle.ts_plain.specs.declared.stored.StoredCell.{StoredCell}
 use Rattle.ts_plain.specs.Plain.{head_bytes, FitsValue}
-use Rattle.ts_plain.specs.Writes.{stored_head, stored_cell}
+use Rattle.ts_plain.specs.Writes.{plain_head_for, stored_cell}
 use Rattle.ts_column.specs.Tiles.{is_signed}
 use Rattle.ts_sparse.specs.declared.laying.Laid.{Laid}
 use Rattle.ts_sparse.specs.Sparse.{Object, column_part, leaves_of}
@@ -69,5 +69,5 @@ ValuesFit attrs versions = (k : ℕ) (a : Attr) → k < length attrs → All (λ
 -- the body of the metadata, in which these are the sizes of objects
 unfoldable pub meta_with : Frame → Piece → List ℕ → List ℕ
 meta_with frame piece sizes =
-    head_bytes (stored_head piece.head) ++ (number_bytes 4 (length (leaves_of frame.capacity (cells_of piece)))
+    head_bytes (plain_head_for piece) ++ (number_bytes 4 (length (leaves_of frame.capacity (cells_of piece)))
     ++ (flat_map (number_bytes 8) sizes ++ flat_map rect_bytes (nodes_of (leaves_of frame.capacity (cells_of piece)))))

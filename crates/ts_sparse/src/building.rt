@@ -6,7 +6,7 @@ ghost use Rattle.ts_base.specs.declared.values.Val.TheVariants as val;
 ghost use Rattle.ts_domain.specs.declared.dims.Dim.{Dim as AnyDim};
 ghost use Rattle.ts_schema.specs.Parts.{look_in};
 ghost use Rattle.ts_plain.specs.Plain.{FitsValue};
-ghost use Rattle.ts_plain.specs.Writes.{stored_for, NamesWrites};
+ghost use Rattle.ts_plain.specs.Writes.{stored_for, CountsCells, NamesWrites};
 ghost use Rattle.ts_sparse.specs.Sparse.{value_column, dim_objects, numbers_object, starts_object, bytes_object, fixed_objects, validity_objects, attr_objects, origin_objects, objects_of, parts_of, FitsSparse, IsSparse};
 ghost use Rattle.ts_sparse.specs.Laying.{with_objects, none_laid, cells_of, CoordsFit, ValuesFit};
 
@@ -30,6 +30,9 @@ use ts_wire::{Kind, wrap};
 /// The versions have to name their writes, as [`ts_plain::write_plain`] asks too, and the piece has to be
 /// one that a sparse fragment of the array can store. A tile has as many cells as the capacity of the
 /// frame, the last one the rest. There is no error but want of memory.
+///
+/// The metadata counts the versions. So the parts spell the piece where its head counts its cells as the
+/// heads of pieces do, and its versions are all in the schema of its head (`spelled`).
 #[tactic(auto, using(crate::proofs::BuildLaws::all_parts_built, crate::proofs::BuildLaws::built_spells))]
 pub fn build(
     alloc: Global,
@@ -40,7 +43,7 @@ pub fn build(
     requires names { NamesWrites piece.now }
     requires fits { FitsSparse frame.now schema.now.attrs piece.now.head.frag (stored_for piece.now) }
     ensures parts { IfOk result (λ parts. parts ≡ parts_of frame.now schema.now.attrs (stored_for piece.now)) }
-    ensures spelled { All (λ (v : AnyVersion). v.schema ≡ piece.now.head.schema) piece.now.versions → IfOk result (λ parts. IsSparse frame.now schema.now piece.now (look_in parts)) }
+    ensures spelled { CountsCells piece.now → All (λ (v : AnyVersion). v.schema ≡ piece.now.head.schema) piece.now.versions → IfOk result (λ parts. IsSparse frame.now schema.now piece.now (look_in parts)) }
 {
     let laid = lay_columns(alloc, frame, schema, piece)?;
     let Laid { mut parts, sizes } = laid;

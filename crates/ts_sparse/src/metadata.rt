@@ -13,7 +13,7 @@ ghost use Rattle.ts_sparse.specs.Laying.{box_of_version, boxes_of, cells_of, met
 use std::alloc::Global;
 use ts_base::{ByteList, OutOfMemory, Piece, Version};
 use ts_domain::{BoxList, SubBox};
-use ts_plain::write_head;
+use ts_plain::write_plain_head;
 use ts_rtree::Tree;
 use ts_schema::{Frame, Schema};
 use ts_wire::{Kind, Scribe};
@@ -34,7 +34,7 @@ pub(crate) fn meta_object(
     let leaves = leaves_of(alloc, frame, schema, piece)?;
     let tree = Tree::build(alloc, &leaves)?;
     let mut scribe = Scribe::new(alloc);
-    write_head(&mut scribe, &piece.head)?;
+    write_plain_head(&mut scribe, piece)?;
     scribe.u32(leaves.len() as u32)?;
     write_sizes(&mut scribe, sizes)?;
     scribe.bytes(tree.bytes(alloc)?.as_slice())?;

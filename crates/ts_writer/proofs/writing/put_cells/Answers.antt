@@ -12,7 +12,7 @@ piece_of-requires-clause-inside g c = cells_inside c.args.frame.now c.args.curre
 
 pub parts-requires : goal.parts-requires
 parts-requires g c =
-    (g.met.P.Pieces.laws).ordinary _ _ _ (
+    (g.met.P.Pieces.laws).ordinary _ _ _ tt (
     subst (IsOrdinary c.args.frame.now c.args.current.now.attrs) (sym c.in_ok-piece.ensures) (written_ordinary c.args.frame.now c.args.current.now.attrs c.key_of.result c.schema_key.result c.args.write.now c.args.cells c.requires.frame c.requires.attrs c.key_of.ensures.key c.schema_key.ensures.key c.requires.spelled c.requires.laid)
     ) (
     subst IsClose (sym c.in_ok-piece.ensures) (written_close c.args.frame.now c.args.current.now.attrs c.key_of.result c.schema_key.result c.args.write.now c.args.cells c.requires.frame c.requires.spelled c.requires.laid)
