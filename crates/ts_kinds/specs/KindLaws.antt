@@ -1,5 +1,5 @@
 -- Two ways to write fragments that each keep the laws keep them as one.
-use Rattle.std.proofs.Common.{◌≡◌, ℕ, ◌+◌, ◌≤◌, Bool, true, false, List, Ok, Some, refl, sym, subst}
+use Rattle.std.proofs.Common.{◌≡◌, ℕ, ◌+◌, ◌≤◌, Bool, true, false, List, Ok, Some, refl, sym, subst, inl, inr}
 use Rattle.std.specs.Prelude.{if◌then◌else◌}
 use Rattle.ts_base.specs.declared.keys.FragKey.{FragKey}
 use Rattle.ts_base.specs.declared.names.Name.TheVariants as name
@@ -13,13 +13,13 @@ use Rattle.ts_schema.specs.declared.schemas.Schema.{Schema}
 use Rattle.ts_schema.specs.declared.wants.Want.{Want}
 use Rattle.ts_schema.specs.Parts.{Look, Got, Sized}
 use Rattle.ts_schema.specs.Wants.{taken}
-use Rattle.ts_model.specs.Codecs.{Codec, Stepped, Asks, Takes, Breaks, Spelled, Tracking, CodecLaws, GoesWell, AsksLooks, AsksHeld, SpeaksOf, IsToldOf}
+use Rattle.ts_model.specs.Codecs.{Codec, Stepped, Asks, Takes, Breaks, Spelled, Tracking, CodecLaws, CodecLawsOn, GoesWell, AsksLooks, AsksHeld, SpeaksOf, IsToldOf}
 use Rattle.ts_model.specs.States.{all_of}
 use Rattle.ts_actor.specs.PieceLaws.{Off, gets_of, SpellsOne, RefusesBroken, OpensUnbroken, IsFetchIn, Begun, Went, AreInBox, TakesInside, IsFetchOf, First, Then, EndsWith, AtOnce, AfterReply, JudgesRight, AsksOwn, TakesOrdered, TakesStorable, TakesSpelled, NamesHead, SettlesHeads, AsksBounded}
 use Rattle.ts_kinds.specs.declared.either_fetch.EitherFetch.{EitherFetch}
 use Rattle.ts_kinds.specs.declared.either_fetch.EitherFetch.TheVariants.{Dense, Sparse}
 use Rattle.ts_kinds.specs.Kinds.{OfKind, seen_step, seen_ok, either_steps, either_codec, either_spelled, either_off, either_tracks, either_count, either_most}
-use Rattle.ts_kinds.specs.Seen.{opened, asked, took, well, seen_refuses, seen_unbroken, seen_settles, seen_judges, seen_own, seen_ordered, seen_stores, seen_found, seen_fair, seen_laws}
+use Rattle.ts_kinds.specs.Seen.{bare_as, opened, asked, took, well, seen_refuses, seen_unbroken, seen_settles, seen_judges, seen_own, seen_ordered, seen_stores, seen_found, seen_fair, seen_laws}
 
 -- ---- the way of one kind of array
 
@@ -160,7 +160,12 @@ module _ {F G : Type 0} (d : Codec F) (e : Codec G) where
 
   -- what a fetch takes at once is what is wanted of the piece that is spelled
   pub either_found : (sd se : Spelled) → TakesSpelled d sd → TakesSpelled e se → TakesSpelled (either_codec d e) (either_spelled sd se)
-  either_found sd se one two frame = of_kind frame.dense frame
+  either_found sd se one two frame s frag object want h versions bytes short opens takes =
+      elim (of_kind frame.dense frame s frag object want h versions bytes short opens takes) [
+        | inl none ↦ inl none
+        | inr (inl found) ↦ inr (inl found)
+        | inr (inr bare) ↦ inr (inr (bare_as (codec_in frame.dense d e) (either_codec d e) frame s frag object want versions refl bare))
+      ]
     where
       of_kind : (dense : Bool) → TakesSpelled (codec_in dense d e) (spelled_in dense sd se)
       of_kind true = seen_found (λ f. Dense f) d (either_steps d e) dense_same sd one
@@ -232,7 +237,27 @@ module _ {F G : Type 0} (d : Codec F) (e : Codec G) (od oe : Off) where
 
 -- ---- laws of what is written and read
 
-module _ {F G : Type 0} (d : Codec F) (e : Codec G) (sd se : Spelled) (td : Tracking F) (te : Tracking G) (one : CodecLaws d sd td) (two : CodecLaws e se te) where
+-- a way to write fragments of any array is one to write those of some arrays
+pub laws_on : {F : Type 0} (On : Frame → Type 0) (codec : Codec F) (spelled : Spelled) (tracks : Tracking F) → CodecLaws codec spelled tracks → CodecLawsOn On codec spelled tracks
+laws_on On codec spelled tracks laws = record {
+  ordinary = λ frame attrs p on. laws.ordinary frame attrs p tt;
+  merged = λ frame attrs id p ps on. laws.merged frame attrs id p ps tt;
+  parts = laws.parts;
+  last = laws.last;
+  storable = laws.storable;
+  once = laws.once;
+  head = laws.head;
+  looks = laws.looks;
+  opens = laws.opens;
+  asks = laws.asks;
+  goes = laws.goes;
+}
+
+-- the arrays of one kind
+abbrev pub IsOfKind : Bool → Frame → Type 0
+IsOfKind dense frame = frame.dense ≡ dense
+
+module _ {F G : Type 0} (d : Codec F) (e : Codec G) (sd se : Spelled) (td : Tracking F) (te : Tracking G) (one : CodecLawsOn (IsOfKind true) d sd td) (two : CodecLawsOn (IsOfKind false) e se te) where
   -- a fetch asks for nothing but gets and sizes
   looks : AsksLooks (either_codec d e)
   looks (Dense f) r k c asks = let step = asked (λ f. Dense f) (d.steps f r) k c asks in one.looks f r step.0 c step.1
@@ -253,15 +278,15 @@ module _ {F G : Type 0} (d : Codec F) (e : Codec G) (sd se : Spelled) (td : Trac
       well (λ g. Sparse g) (te frame s p look want) (either_tracks td te frame s p look want) (λ g c on. on) (taken want p.versions) (e.steps g r) (two.goes frame s p look want g c part bytes r on held speaks is_told)
 
   -- the laws of one kind of array
-  laws_in : (dense : Bool) → CodecLaws (codec_in dense d e) (spelled_in dense sd se) (either_tracks td te)
-  laws_in true = seen_laws (λ f. Dense f) d (either_steps d e) (dense_same d e) sd td (either_tracks td te) (λ frame s p look want f c on. on) looks asks_held goes_well one
-  laws_in false = seen_laws (λ g. Sparse g) e (either_steps d e) (sparse_same d e) se te (either_tracks td te) (λ frame s p look want g c on. on) looks asks_held goes_well two
+  laws_in : (dense : Bool) → CodecLawsOn (IsOfKind dense) (codec_in dense d e) (spelled_in dense sd se) (either_tracks td te)
+  laws_in true = seen_laws (λ f. Dense f) d (either_steps d e) (dense_same d e) (IsOfKind true) sd td (either_tracks td te) (λ frame s p look want f c on. on) looks asks_held goes_well one
+  laws_in false = seen_laws (λ g. Sparse g) e (either_steps d e) (sparse_same d e) (IsOfKind false) se te (either_tracks td te) (λ frame s p look want g c on. on) looks asks_held goes_well two
 
-  -- what is written is read again, and fetches find what was written
+  -- what is written is read again, and fetches find what was written: it is enough that the first way writes dense arrays, and the second sparse ones
   pub either_laws : CodecLaws (either_codec d e) (either_spelled sd se) (either_tracks td te)
   either_laws = record {
-    ordinary = λ frame. (laws_in frame.dense).ordinary frame;
-    merged = λ frame. (laws_in frame.dense).merged frame;
+    ordinary = λ frame attrs p any. (laws_in frame.dense).ordinary frame attrs p refl;
+    merged = λ frame attrs id p ps any. (laws_in frame.dense).merged frame attrs id p ps refl;
     parts = λ frame. (laws_in frame.dense).parts frame;
     last = λ frame. (laws_in frame.dense).last frame;
     storable = λ frame. (laws_in frame.dense).storable frame;

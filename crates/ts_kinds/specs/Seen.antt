@@ -1,5 +1,5 @@
 -- One way to write fragments keeps its laws where its fetches are seen among others.
-use Rattle.std.proofs.Common.{◌≡◌, ℕ, ◌≤◌, List, Result, Ok, Err, Some, refl, sym, ap, subst, ◌∙◌}
+use Rattle.std.proofs.Common.{◌≡◌, ℕ, ◌≤◌, List, Result, Ok, Err, Some, refl, sym, ap, subst, ◌∙◌, inl, inr}
 use Rattle.ts_base.specs.declared.keys.FragKey.{FragKey}
 use Rattle.ts_base.specs.declared.names.Name.TheVariants as name
 use Rattle.ts_base.specs.declared.names.Part.{Part}
@@ -13,8 +13,8 @@ use Rattle.ts_schema.specs.declared.schemas.Schema.{Schema}
 use Rattle.ts_schema.specs.declared.wants.Want.{Want}
 use Rattle.ts_schema.specs.Parts.{Look, Got, Sized}
 use Rattle.ts_schema.specs.Wants.{taken}
-use Rattle.ts_model.specs.Codecs.{Codec, Stepped, Asks, Takes, Breaks, Spelled, Tracking, CodecLaws, OpensWell, GoesWell, AsksLooks, AsksHeld, SpeaksOf, IsToldOf}
-use Rattle.ts_actor.specs.PieceLaws.{Off, RefusesBroken, OpensUnbroken, IsFetchOf, First, Then, EndsWith, AtOnce, AfterReply, JudgesRight, AsksOwn, TakesOrdered, TakesStorable, TakesSpelled, SettlesHeads, AsksBounded}
+use Rattle.ts_model.specs.Codecs.{Codec, Stepped, Asks, Takes, Breaks, Spelled, Tracking, CodecLawsOn, OpensWell, GoesWell, AsksLooks, AsksHeld, SpeaksOf, IsToldOf}
+use Rattle.ts_actor.specs.PieceLaws.{Off, RefusesBroken, OpensUnbroken, IsFetchOf, First, Then, EndsWith, AtOnce, AfterReply, JudgesRight, AsksOwn, TakesOrdered, TakesStorable, TakesSpelled, TakesBare, SettlesHeads, AsksBounded}
 use Rattle.ts_kinds.specs.Kinds.{seen_step, seen_ok}
 
 -- ---- one answer, one step
@@ -54,6 +54,13 @@ module _ {F H : Type 0} (seen : F → H) where
   well tracks shown on wanted (Asks f c) goes = on f c goes
   well tracks shown on wanted (Takes vs) goes = goes
   well tracks shown on wanted (Breaks part at) goes = goes
+
+-- ---- versions of which no value was read
+
+-- a way that reads the same head of an object takes the same versions as bare
+pub bare_as : {F H : Type 0} (one : Codec F) (other : Codec H) (frame : Frame) (s : Schema) (frag : FragKey) (object : List ℕ) (want : Want) (versions : List Version) → one.head frame frag object ≡ other.head frame frag object
+    → TakesBare one frame s frag object want versions → TakesBare other frame s frag object want versions
+bare_as one other frame s frag object want versions same bare = record { head = bare.head; reads = sym same ∙ bare.reads; ordinary = bare.ordinary; unread = bare.unread; bare = bare.bare }
 
 -- ---- a way whose fetches are seen among others
 
@@ -149,7 +156,11 @@ module _ {F H : Type 0} (seen : F → H) (codec : Codec F) (steps : H → Reply 
   pub seen_found : (spelled : Spelled) → TakesSpelled codec spelled → TakesSpelled (seen_codec seen codec steps) spelled
   seen_found spelled law frame s frag object want h versions bytes short opens takes =
       let begun = opened seen (codec.opens frame s frag object want) h opens in
-      law frame s frag object want begun.0 versions bytes short begun.1 (took seen (codec.steps begun.0 reply.Start) versions (steps_of begun.0 h reply.Start begun.2 ∙ takes))
+      elim (law frame s frag object want begun.0 versions bytes short begun.1 (took seen (codec.steps begun.0 reply.Start) versions (steps_of begun.0 h reply.Start begun.2 ∙ takes))) [
+        | inl none ↦ inl none
+        | inr (inl found) ↦ inr (inl found)
+        | inr (inr bare) ↦ inr (inr (bare_as codec (seen_codec seen codec steps) frame s frag object want versions refl bare))
+      ]
 
   -- a fetch of a piece may make as many gets as before
   pub seen_fair : (spelled : Spelled) (gets : F → ℕ) (most : Frame → Schema → Piece → Want → ℕ) (shown : H → ℕ) → ((f : F) → shown (seen f) ≡ gets f) → AsksBounded codec spelled gets most
@@ -162,14 +173,14 @@ module _ {F H : Type 0} (seen : F → H) (codec : Codec F) (steps : H → Reply 
       subst Fewer (sym (counts begun.0) ∙ ap shown (sym begun.2)) few
 
   -- what is written is read, where the laws of fetches hold also of those that are not seen so
-  pub seen_laws : (spelled : Spelled) (tracks : Tracking F) (shown : Tracking H)
+  pub seen_laws : (On : Frame → Type 0) (spelled : Spelled) (tracks : Tracking F) (shown : Tracking H)
       → ((frame : Frame) (s : Schema) (p : Piece) (look : Look) (want : Want) (f : F) (c : Call) → tracks frame s p look want f c → shown frame s p look want (seen f) c)
       → AsksLooks (seen_codec seen codec steps)
       → ((frame : Frame) (s : Schema) (p : Piece) (look : Look) (want : Want) (h : H) (c : Call) → shown frame s p look want h c → AsksHeld look p.head.frag c)
       → ((frame : Frame) (s : Schema) (p : Piece) (look : Look) (want : Want) (h : H) (c : Call) (part : Part) (bytes : List ℕ) (r : Reply)
       → shown frame s p look want h c → look part ≡ Some bytes → SpeaksOf c (name.Part p.head.frag part) → IsToldOf c bytes r → GoesWell (shown frame s p look want) (taken want p.versions) (steps h r))
-      → CodecLaws codec spelled tracks → CodecLaws (seen_codec seen codec steps) spelled shown
-  seen_laws spelled tracks shown on looks asks goes law = record {
+      → CodecLawsOn On codec spelled tracks → CodecLawsOn On (seen_codec seen codec steps) spelled shown
+  seen_laws On spelled tracks shown on looks asks goes law = record {
     ordinary = law.ordinary;
     merged = law.merged;
     parts = law.parts;

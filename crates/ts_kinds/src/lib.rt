@@ -1,8 +1,7 @@
-//! Two ways to write fragments as one: each array is written in the way of its kind.
+//! Two ways to write fragments as one: each array is written in the way of its kind. Here are the fetches
+//! of both, and in `specs` what holds of the two together where it holds of each.
 #![tactic(auto)]
 
-mod by_kind;
 mod either_fetch;
 
-pub use by_kind::ByKind;
 pub use either_fetch::EitherFetch;
