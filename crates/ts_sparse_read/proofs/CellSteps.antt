@@ -49,10 +49,10 @@ row_of {X = X} d count (xs ∷ columns) k all within =
     ∙ ap (λ row. get_or xs k d ∷ row) (row_of d count columns k rest within)
 
 -- the cell with the coordinates, the origin and the row at a place
-abbrev cell_with : List ℤ → ℕ → List Val → StoredCell
+abbrev pub cell_with : List ℤ → ℕ → List Val → StoredCell
 cell_with c o r = record { coords = c; origin = o; row = r }
 
-cell_here : (coords : List (List ℤ)) (origins : List ℕ) (rows : List (List Val)) (k : ℕ) (e : StoredCell) → k < length coords → k < length origins → k < length rows
+pub cell_here : (coords : List (List ℤ)) (origins : List ℕ) (rows : List (List Val)) (k : ℕ) (e : StoredCell) → k < length coords → k < length origins → k < length rows
     → get_or (cells_from coords origins rows) k e ≡ cell_with (get_or coords k []) (get_or origins k 0) (get_or rows k [])
 cell_here [] origins rows k e a b c = absurd (omega (arith, a))
 cell_here (x ∷ coords) [] rows k e a b c = absurd (omega (arith, b))

@@ -38,7 +38,7 @@ use Rattle.ts_sparse_read.specs.Fits.{HasCells, FitsLeaf, tile_over, tiles_over}
 -- ---- what is taken among columns
 
 -- what holds of all holds of those that are read
-used_keep : (P : UsedColumn → Type 0) (places : List ℕ) (columns : List UsedColumn) → All P columns → All P (used_among places columns)
+pub used_keep : (P : UsedColumn → Type 0) (places : List ℕ) (columns : List UsedColumn) → All P columns → All P (used_among places columns)
 used_keep P places [] all = All-nil P
 used_keep P places (c ∷ columns) all = go (is_used places c.part) (used_keep P places columns (All-tail P c columns all))
   where
@@ -52,7 +52,7 @@ has_cells : (cells tiles : ℕ) (p : Part) (form : ColumnForm) (size : ColumnSiz
 has_cells cells tiles p (Fixed width) size fits = fits.keeps.0
 has_cells cells tiles p Var size fits = tt
 
-told_fit : (cells tiles : ℕ) (parts : List Part) (forms : List ColumnForm) (sizes : List ColumnSize) → EachFits (FitsSize cells tiles) forms sizes → All (HasCells cells) (columns_told parts forms sizes)
+pub told_fit : (cells tiles : ℕ) (parts : List Part) (forms : List ColumnForm) (sizes : List ColumnSize) → EachFits (FitsSize cells tiles) forms sizes → All (HasCells cells) (columns_told parts forms sizes)
 told_fit cells tiles [] forms sizes fits = All-nil (HasCells cells)
 told_fit cells tiles (p ∷ parts) [] sizes fits = All-nil (HasCells cells)
 told_fit cells tiles (p ∷ parts) (f ∷ forms) [] fits = absurd fits
@@ -94,17 +94,17 @@ origins_named : (consolidated : Bool) → All IsSpelledPart (origin_parts consol
 origins_named true = All-cons IsSpelledPart part.Origin [] tt (All-nil IsSpelledPart)
 origins_named false = All-nil IsSpelledPart
 
-parts_named : (dims : List Dim) (attrs : List Attr) (consolidated : Bool) → length dims ≤ 8 → length attrs ≤ 64 → All IsSpelledPart (column_parts dims attrs consolidated)
+pub parts_named : (dims : List Dim) (attrs : List Attr) (consolidated : Bool) → length dims ≤ 8 → length attrs ≤ 64 → All IsSpelledPart (column_parts dims attrs consolidated)
 unfolding column_parts
 parts_named dims attrs consolidated few_dims few =
     All-append IsSpelledPart (dim_parts 0 dims) (attr_parts 0 attrs ++ origin_parts consolidated) (dims_named 0 dims (omega (arith, few_dims)))
     (All-append IsSpelledPart (attr_parts 0 attrs) (origin_parts consolidated) (attrs_named 0 attrs (omega (arith, few))) (origins_named consolidated))
 
 -- the part has a name
-abbrev IsNamed : UsedColumn → Type 0
+abbrev pub IsNamed : UsedColumn → Type 0
 IsNamed column = IsSpelledPart column.part
 
-told_named : (parts : List Part) (forms : List ColumnForm) (sizes : List ColumnSize) → All IsSpelledPart parts → All IsNamed (columns_told parts forms sizes)
+pub told_named : (parts : List Part) (forms : List ColumnForm) (sizes : List ColumnSize) → All IsSpelledPart parts → All IsNamed (columns_told parts forms sizes)
 told_named [] forms sizes all = All-nil IsNamed
 told_named (p ∷ parts) [] sizes all = All-nil IsNamed
 told_named (p ∷ parts) (f ∷ forms) [] all =
@@ -112,7 +112,7 @@ told_named (p ∷ parts) (f ∷ forms) [] all =
 told_named (p ∷ parts) (f ∷ forms) (s ∷ sizes) all =
     All-cons IsNamed (record { part = p; form = f; size = s }) (columns_told parts forms sizes) (All-head IsSpelledPart p parts all) (told_named parts forms sizes (All-tail IsSpelledPart p parts all))
 
-sizes_named : (used : List UsedColumn) → All IsNamed used → All IsSpelledPlanned (map size_call used)
+pub sizes_named : (used : List UsedColumn) → All IsNamed used → All IsSpelledPlanned (map size_call used)
 sizes_named [] all = All-nil IsSpelledPlanned
 sizes_named (c ∷ used) all = All-cons IsSpelledPlanned (size_call c) (map size_call used) (All-head IsNamed c used all) (sizes_named used (All-tail IsNamed c used all))
 

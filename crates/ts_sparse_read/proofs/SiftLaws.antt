@@ -80,7 +80,7 @@ order_bare frame consolidated ranges k (Some b) (c ∷ cells) = refl
 
 -- ---- what is wanted of two lists
 
-taken_join : (want : Want) (xs ys : List Version) → taken want (xs ++ ys) ≡ taken want xs ++ taken want ys
+pub taken_join : (want : Want) (xs ys : List Version) → taken want (xs ++ ys) ≡ taken want xs ++ taken want ys
 taken_join want xs ys = ap (map (cut want)) (filter-append (is_wanted want) xs ys) ∙ map-append (cut want) _ _
 
 module _ (opened : Opened) where

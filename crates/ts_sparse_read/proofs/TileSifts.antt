@@ -60,7 +60,7 @@ module _ (frame : Frame) (attrs : List Attr) (places : List ℕ) (head : StoredH
 
 -- ---- one tile more
 
-drop_here : (t : WantedTile) (i : ℕ) (tiles : List WantedTile) → i < length tiles → get_or tiles i t ≡ t → drop i tiles ≡ t ∷ drop (suc i) tiles
+pub drop_here : (t : WantedTile) (i : ℕ) (tiles : List WantedTile) → i < length tiles → get_or tiles i t ≡ t → drop i tiles ≡ t ∷ drop (suc i) tiles
 drop_here t i [] within is = absurd (omega (arith, within))
 drop_here t zero (s ∷ tiles) within is = ap (λ x. x ∷ tiles) is
 drop_here t (suc i) (s ∷ tiles) within is = drop_here t i tiles (omega (arith, within)) is
@@ -71,7 +71,7 @@ drop_min k [] = drop-nil (min 0 k) ∙ sym (drop-nil k)
 drop_min zero (y ∷ ys) = let none : min (suc (length ys)) 0 ≡ 0 = omega arith in ap (λ m. drop m (y ∷ ys)) none
 drop_min (suc k) (y ∷ ys) = let one : min (suc (length ys)) (suc k) ≡ suc (min (length ys) k) = omega arith in ap (λ m. drop m (y ∷ ys)) one ∙ drop_min k ys
 
-drop_capped : {X : Type 0} (next k : ℕ) (xs : List X) → drop (next + min (length xs - next) k) xs ≡ drop k (drop next xs)
+pub drop_capped : {X : Type 0} (next k : ℕ) (xs : List X) → drop (next + min (length xs - next) k) xs ≡ drop k (drop next xs)
 drop_capped next k xs = sym (drop-drop (min (length xs - next) k) next xs) ∙ ap (λ n. drop (min n k) (drop next xs)) (sym (length-drop next xs)) ∙ drop_min k (drop next xs)
 
 -- what is left is all that is left

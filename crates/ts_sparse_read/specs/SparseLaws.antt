@@ -271,8 +271,8 @@ SparseGoes = (frame : Frame) (s : Schema) (p : Piece) (look : Look) (want : Want
 -- the laws of sparse fragments in tiles, where fetches keep these four
 pub sparse_laws : AsksLooks sparse_codec → SparseOpens → SparseAsks → SparseGoes → CodecLaws sparse_codec IsSparseIn SparseTracks
 sparse_laws looks opens asks goes = record {
-  ordinary = sparse_ordinary;
-  merged = sparse_merged;
+  ordinary = λ frame attrs p any. sparse_ordinary frame attrs p;
+  merged = λ frame attrs id p ps any. sparse_merged frame attrs id p ps;
   parts = sparse_spells;
   last = λ frame s p is. sparse_last frame s p;
   storable = sparse_source;

@@ -1,9 +1,9 @@
 -- The piece of a consolidation of pieces that are written in tiles can be written in tiles.
-use Rattle.std.proofs.Common.{◌≡◌, ℕ, ◌^◌, ◌<◌, ◌≤◌, List, [], ◌∷◌, length, map, inl, inr, sym, ap, ◌∙◌, subst, arith}
+use Rattle.std.proofs.Common.{◌≡◌, ℕ, ◌^◌, ◌<◌, ◌≤◌, List, [], ◌∷◌, length, map, sym, ap, ◌∙◌, subst, arith}
 use Rattle.std.specs.Prelude.{IsTrue, Contains}
 use Rattle.std.specs.List.{All}
 use Rattle.std.proofs.lemmas.List.{length-map}
-use Rattle.std.proofs.lemmas.List.Elements.{All-head, All-map, All-weaker}
+use Rattle.std.proofs.lemmas.List.Elements.{All-head, All-tail, All-map, All-weaker}
 use Rattle.ts_base.specs.declared.keys.Key.{Key}
 use Rattle.ts_base.specs.declared.heads.Piece.{Piece}
 use Rattle.ts_base.specs.declared.heads.Version.{Version}
@@ -13,6 +13,8 @@ use Rattle.ts_domain.specs.Boxes.{is_in_box}
 use Rattle.ts_domain.specs.Domains.{is_in_domain}
 use Rattle.ts_domain.proofs.Between.{are_bounds-is_between, is_between-low, is_between-high}
 use Rattle.ts_wire.proofs.Laws.{EachFits-length}
+use Rattle.ts_schema.specs.FrameTexts.{IsFrame}
+use Rattle.ts_schema.specs.SchemaTexts.{AreAttrs}
 use Rattle.ts_schema.specs.declared.attrs.Attr.{Attr}
 use Rattle.ts_schema.specs.declared.frames.Frame.{Frame}
 use Rattle.ts_plain.specs.declared.stored.StoredCell.{StoredCell}
@@ -21,9 +23,12 @@ use Rattle.ts_plain.specs.Writes.{stored_cell, stored_for}
 use Rattle.ts_sparse.specs.Sparse.{leaf_of, FitsTypes}
 use Rattle.ts_sparse.proofs.CutLaws.{leaf_is_hull}
 use Rattle.ts_model.specs.Pieces.{IsTight}
-use Rattle.ts_model.specs.Consolidated.{IsMergedVersion, IsConsolidated, IsStorable}
+use Rattle.ts_model.specs.Consolidated.{IsMergedVersion, IsConsolidated}
 use Rattle.ts_model.specs.Merging.{AreSources, merged_piece}
-use Rattle.ts_model.proofs.MergedFits.{sources_tight}
+use Rattle.ts_model.proofs.Counted.{counted_versions}
+use Rattle.ts_model.proofs.ListLemmas.{Contains-here}
+use Rattle.ts_model.proofs.MergedFits.{merged_first, sources_tight}
+use Rattle.ts_actor.specs.PlainSources.{storable_some}
 use Rattle.ts_actor.specs.PlainMerges.{consolidated_fits, merged_back}
 use Rattle.ts_sparse_read.specs.Codecs.{IsSparseStorable}
 use Rattle.ts_sparse_read.specs.SparseWrites.{LiesBetween, close_fits}
@@ -60,18 +65,23 @@ storable_tight frame attrs q some is sub inside =
     let corners = leaf_corners frame attrs q is in
     (subst (λ c. IsTrue (is_in_box sub c)) corners.0 within.0, subst (λ c. IsTrue (is_in_box sub c)) corners.1 within.1)
 
--- a piece that can be written has a version
-some_versions : (frame : Frame) (attrs : List Attr) (q : Piece) → IsStorable frame attrs q → 1 ≤ length q.versions
-some_versions frame attrs q (inl is) = is.some
-some_versions frame attrs q (inr is) = is.some
+-- ---- the piece of a consolidation
+
+-- a piece that can be written in tiles has a version
+some_versions : (frame : Frame) (attrs : List Attr) (q : Piece) → IsFrame frame → AreAttrs attrs → IsSparseStorable frame attrs q → 1 ≤ length q.versions
+some_versions frame attrs q is_frame are_attrs is = storable_some frame attrs q is_frame are_attrs (record { fits = (is.fits).plain; same = is.same })
 
 -- what pieces are merged into that are written in tiles can be written in tiles too
 pub sparse_merged : (frame : Frame) (attrs : List Attr) (id : ℕ) (p : Piece) (ps : List Piece) → AreSources frame attrs (p ∷ ps) → ((q : Piece) → Contains (p ∷ ps) q → IsSparseStorable frame attrs q)
-    → IsConsolidated frame attrs (merged_piece frame id p ps) → length (merged_piece frame id p ps).versions < 2 ^ 32 → IsSparseStorable frame attrs (merged_piece frame id p ps)
+    → IsConsolidated frame attrs (merged_piece frame id p ps) → (merged_piece frame id p ps).head.cells < 2 ^ 32 → IsSparseStorable frame attrs (merged_piece frame id p ps)
 sparse_merged frame attrs id p ps are each is few =
     let made = merged_piece frame id p ps in
-    let tight = sources_tight frame attrs id p ps are is.few is.few_origins (λ q at. storable_tight frame attrs q (some_versions frame attrs q (are.storable q at)) (each q at)) in
-    close_fits frame attrs made is.is_frame is.are_attrs (consolidated_fits frame attrs made is) (merged_back frame attrs made is) is.corners is.some few
+    let first = Contains-here p ps in
+    let some = merged_first frame id p ps (some_versions frame attrs p are.is_frame are.are_attrs (each p first)) in
+    let counted = counted_versions frame attrs made is in
+    let fewer : length made.versions < 2 ^ 32 = omega (arith, counted, few) in
+    let tight = sources_tight frame attrs id p ps are is.few is.few_origins (λ q at. storable_tight frame attrs q (some_versions frame attrs q are.is_frame are.are_attrs (each q at)) (each q at)) in
+    close_fits frame attrs made is.is_frame is.are_attrs (consolidated_fits frame attrs made is some) (merged_back frame attrs made is) is.corners some fewer
     (All-weaker (IsMergedVersion frame attrs made.head) (λ (v : Version). IsTrue (is_in_domain frame.domain v.coords)) (λ v of. of.inside) made.versions is.versions)
     (All-weaker (IsMergedVersion frame attrs made.head) (LiesBetween made.head.low made.head.high) (λ v of. of.hull) made.versions is.versions)
     tight

@@ -8,16 +8,16 @@ use ts_schema::Frame;
 
 /// Whether the bounds are those of a box in the array.
 #[tactic(auto, using(crate::proofs::BoundLaws::domain_readable, crate::proofs::BoundLaws::other_dims))]
-pub(crate) fn is_box_in(frame: &Frame, sub: &SubBox) -> bool
+pub fn is_box_in(frame: &Frame, sub: &SubBox) -> bool
     ensures { result ≡ is_box_in frame.now.domain sub.now }
 {
     let count = frame.domain.count();
     sub.low.len() == count && are_bounds(sub.low.as_slice(), sub.high.as_slice())
 }
 
-// Whether no low bound is above its high bound, and there are as many of both.
+/// Whether no low bound is above its high bound, and there are as many of both.
 #[tactic(auto, using(crate::proofs::BoundLaws::bounds_uneven, crate::proofs::BoundLaws::bounds_on, crate::proofs::BoundLaws::bounds_here, crate::proofs::BoundLaws::bounds_end))]
-fn are_bounds(low: &[i128], high: &[i128]) -> bool
+pub fn are_bounds(low: &[i128], high: &[i128]) -> bool
     ensures { result ≡ are_bounds low.now high.now }
 {
     if low.len() != high.len() {

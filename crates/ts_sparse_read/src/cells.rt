@@ -40,12 +40,7 @@ fn coords_at(coords: &NumberLists, place: u64) -> Coords
 }
 
 /// The values of the cell at a place, those of these attributes alone. One that has no column is null.
-pub(crate) fn row_at(
-    alloc: Global,
-    attrs: &[u32],
-    vals: &[Column],
-    place: u64,
-) -> Result<Row, OutOfMemory>
+pub fn row_at(alloc: Global, attrs: &[u32], vals: &[Column], place: u64) -> Result<Row, OutOfMemory>
     requires { All (λ (column : List AnyVal). place < length column) vals.now }
     ensures { IfOk result (λ row. row ≡ cut_row attrs.now (map (λ column. get_or column place val.Null) vals.now)) }
 {

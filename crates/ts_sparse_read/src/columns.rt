@@ -169,10 +169,10 @@ fn coord_at(coords: &Coords, dim: u8) -> i128
     }
 }
 
-// The values of so many cells of each attribute; those of attributes at other places than these are
-// null.
+/// The values of so many cells of each attribute; those of attributes at other places than these are
+/// null. What is broken first among them is told.
 #[tactic(auto, using(crate::proofs::ColumnSteps::vals_steps))]
-fn read_vals(
+pub fn read_vals(
     alloc: Global,
     places: &[u32],
     attrs: &[Attr],

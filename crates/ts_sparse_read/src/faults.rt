@@ -6,7 +6,7 @@ use ts_base::{OutOfMemory, Part};
 
 /// Why the cells of a tile were not read.
 #[derive(Clone, Copy, Debug, PartialEq, Eq)]
-pub(crate) enum CellFault {
+pub enum CellFault {
     /// This part breaks its layout first at this offset, in bytes from its start.
     Broken(Part, u64),
     /// There was no memory.

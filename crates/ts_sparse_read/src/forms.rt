@@ -11,7 +11,7 @@ use ts_schema::Attr;
 
 /// The forms of all objects of columns, in the order of the metadata.
 #[tactic(auto, unfolding(ts_footer::specs::Columns::column_forms))]
-pub(crate) fn column_forms(
+pub fn column_forms(
     alloc: Global,
     dims: &[Dim],
     attrs: &[Attr],

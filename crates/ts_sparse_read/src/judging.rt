@@ -29,8 +29,8 @@ impl Judge for Opened {
     }
 }
 
-// The verdict that tells what is broken.
-fn told(fault: CellFault) -> Result<Verdict, OutOfMemory>
+/// The verdict that tells what is broken.
+pub fn told(fault: CellFault) -> Result<Verdict, OutOfMemory>
     ensures { IfOk result (IsToldAs fault) }
 {
     match fault {

@@ -21,10 +21,22 @@ mod tiles;
 mod used;
 mod versions;
 
+pub use bounds::{are_bounds, is_box_in};
+pub use cells::row_at;
+pub use columns::read_vals;
+pub use faults::CellFault;
+pub use forms::column_forms;
+pub use judging::told;
 pub use laws::{
     fetches_get_the_tiles_that_meet_their_box, fetches_take_cells_in_order,
     fragments_in_tiles_are_read_again, what_is_refused_is_broken,
 };
-pub use opened::{Opened, Span, SpanList, UsedColumn, UsedList, WantedTile, WantedTiles};
+pub use opened::{
+    MOST_ATTRS, Opened, Span, SpanList, UsedColumn, UsedList, WantedTile, WantedTiles,
+};
 pub use opening::open;
 pub use pieces::SparsePieces;
+pub use planning::plan_of;
+pub use ranges::Ranges;
+pub use used::{NamedParts, column_parts, is_among, used_among};
+pub use versions::{is_wanted, origin_key};

@@ -6,7 +6,7 @@ use ts_plain::StoredHead;
 use ts_schema::{AttrList, Frame, Want};
 
 /// The most attributes of a schema.
-pub(crate) const MOST_ATTRS: usize = 64;
+pub const MOST_ATTRS: usize = 64;
 
 /// The object of a column, and what the metadata says of it.
 #[derive(Debug, Drop, PartialEq, Eq)]

@@ -10,7 +10,7 @@ use ts_base::OutOfMemory;
 use ts_fetch::Planned;
 
 /// First the size of each object is asked, and then tile by tile its spans are got.
-pub(crate) fn plan_of(
+pub fn plan_of(
     alloc: Global,
     used: &[UsedColumn],
     tiles: &[WantedTile],

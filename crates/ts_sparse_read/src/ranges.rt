@@ -14,7 +14,7 @@ use ts_base::{ByteList, Part};
 ///
 /// Contracts see for each span its part, its offset and its bytes.
 #[derive(Drop)]
-pub(crate) struct Ranges<'a> {
+pub struct Ranges<'a> {
     spans: &'a [Span],
     got: &'a [ByteList],
 }
@@ -31,7 +31,7 @@ impl<'a> Model for Ranges<'a> {
 
 impl<'a> Ranges<'a> {
     /// The bytes that were got of these spans.
-    pub(crate) fn new(spans: &'a [Span], got: &'a [ByteList]) -> Ranges<'a>
+    pub fn new(spans: &'a [Span], got: &'a [ByteList]) -> Ranges<'a>
         ensures { result ≡ ranged spans.now got.now }
     {
         Ranges { spans, got }
@@ -39,7 +39,7 @@ impl<'a> Ranges<'a> {
 
     /// The bytes of a part, none where there are none.
     #[tactic(auto, using(crate::proofs::RangeLaws::bytes_here, crate::proofs::RangeLaws::bytes_on, crate::proofs::RangeLaws::bytes_none))]
-    pub(crate) fn bytes_of(&self, part: Part) -> &'a [u8]
+    pub fn bytes_of(&self, part: Part) -> &'a [u8]
         ensures { result.now ≡ bytes_of self.now part }
     {
         let (spans, got) = (self.spans, self.got);
@@ -53,7 +53,7 @@ impl<'a> Ranges<'a> {
 
     /// The offset of the first byte of a part, or 0 where there are none.
     #[tactic(auto, using(crate::proofs::RangeLaws::from_any, crate::proofs::RangeLaws::from_here, crate::proofs::RangeLaws::from_on, crate::proofs::RangeLaws::from_none))]
-    pub(crate) fn from_of(&self, part: Part) -> u64
+    pub fn from_of(&self, part: Part) -> u64
         ensures { result ≡ from_of self.now part }
     {
         let spans = self.spans;
@@ -66,7 +66,7 @@ impl<'a> Ranges<'a> {
     }
 
     /// What is broken in the bytes of a part is broken so far behind their offset.
-    pub(crate) fn fault_in(&self, part: Part, at: u64) -> CellFault
+    pub fn fault_in(&self, part: Part, at: u64) -> CellFault
         ensures { IsCellFault (fault_in self.now part at) result }
     {
         match self.from_of(part).checked_add(at) {

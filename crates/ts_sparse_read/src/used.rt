@@ -14,7 +14,7 @@ use ts_footer::{ColumnForm, ColumnSize, Footer};
 use ts_schema::{Attr, Frame};
 
 /// A list of parts.
-type NamedParts = Sequence<Part>;
+pub type NamedParts = Sequence<Part>;
 
 /// The objects that a fetch reads of a fragment with this metadata, where it reads the attributes at
 /// these places.
@@ -43,9 +43,9 @@ pub(crate) fn used_in(
     )
 }
 
-// The parts of all columns, in the order of the metadata.
+/// The parts of all columns, in the order of the metadata.
 #[tactic(auto, unfolding(crate::specs::Used::column_parts))]
-fn column_parts(
+pub fn column_parts(
     alloc: Global,
     dims: &[Dim],
     attrs: &[Attr],
@@ -99,9 +99,9 @@ fn push_attr(parts: &mut NamedParts, place: u8, attr: &Attr) -> Result<(), OutOf
     Ok(())
 }
 
-// The objects that a fetch reads, of those of these parts.
+/// The objects that a fetch reads, of those of these parts, with their forms and sizes.
 #[tactic(auto, using(crate::proofs::UsedLaws::told_taken, crate::proofs::UsedLaws::told_left, crate::proofs::UsedLaws::told_all))]
-fn used_among(
+pub fn used_among(
     alloc: Global,
     places: &[u32],
     parts: &[Part],
@@ -152,7 +152,7 @@ fn is_used(places: &[u32], part: Part) -> bool
 }
 
 /// Whether the attribute at a place is one of these.
-pub(crate) fn is_among(places: &[u32], attr: u8) -> bool
+pub fn is_among(places: &[u32], attr: u8) -> bool
     ensures { result ≡ is_among places.now attr }
 {
     places.iter().any(|place| *place == u32::from(attr))

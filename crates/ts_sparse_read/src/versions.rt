@@ -44,14 +44,15 @@ pub(crate) fn take_cell(
     })
 }
 
-// Whether the write of this key is stamped in the interval that is wanted, and the cell lies in the box.
-fn is_wanted(want: &Want, key: Key, coords: &Coords) -> bool
+/// Whether the write of this key is stamped in the interval that is wanted, and the cell lies in the box.
+pub fn is_wanted(want: &Want, key: Key, coords: &Coords) -> bool
     ensures { result ≡ (is_within want.now.a want.now.b key && is_in_box want.now.sub coords.now) }
 {
     key.is_within(want.a, want.b) && want.sub.contains(coords)
 }
 
-fn origin_key(origins: &KeyList, place: u32) -> Key
+/// The key at a place among the origins, or that of no write where there is none.
+pub fn origin_key(origins: &KeyList, place: u32) -> Key
     ensures { result ≡ origin_key origins.now place }
 {
     match origins.as_slice().get(place as usize) {
