@@ -1,7 +1,6 @@
 -- What doing jobs keeps, and what the program does them by.
 use Rattle.std.specs.Prelude.{ℕ, ◌+◌, ◌≤◌, Bool, List, Option}
 use Rattle.ts_base.specs.Held.{Held}
-use Rattle.ts_base.specs.declared.heads.Version.{Version}
 use Rattle.ts_store.specs.declared.call.Call.{Call}
 use Rattle.ts_store.specs.declared.call.Reply.{Reply}
 use Rattle.ts_store.specs.declared.fate.Fate.{Fate}
@@ -17,14 +16,15 @@ use Rattle.ts_model.specs.Gets.{MostGets}
 use Rattle.ts_model.specs.Told.{Told}
 use Rattle.ts_law.specs.Doing.{AllRan, RanOver}
 use Rattle.ts_law.specs.Fresh.{AreJobsOf, IsStampOf, Numbered, id_of, job_from}
-use Rattle.ts_plain.specs.Pieces.{IsPlain}
+use Rattle.ts_dense.specs.Dense.{IsDense}
 use Rattle.ts_actor.specs.Drives.{Exchanged, MadeOf}
-use Rattle.ts_actor.specs.PlainCodec.{plain_codec, NeverWaits}
 use Rattle.ts_fetch.specs.Plans.{Going}
 use Rattle.ts_kinds.specs.declared.either_fetch.EitherFetch.{EitherFetch}
 use Rattle.ts_kinds.specs.Kinds.{either_codec, either_most, either_spelled, either_tracks}
-use Rattle.ts_sparse_read.specs.declared.opened.Opened.{Opened}
+use Rattle.ts_sparse_read.specs.declared.opened.Opened.{Opened as SparseOpened}
 use Rattle.ts_sparse_read.specs.Codecs.{sparse_codec, sparse_gets, SparseTracks, IsSparseIn}
+use Rattle.ts_dense_read.specs.declared.opened.Opened.{Opened as DenseOpened}
+use Rattle.ts_dense_read.specs.SpaceCodecs.{space_codec, space_gets, SpaceTracks}
 
 -- where a store's count of faults kept up with the failed calls of the journal before, it does so now
 abbrev pub KeepsCount : ℕ → ℕ → List Entry → List Entry → Type 0
@@ -34,25 +34,25 @@ KeepsCount before now journal longer = (base : ℕ) → capped (base + failures 
 abbrev pub JustMade : {S : Type 0} → (S → Option Held) → (S → Fate) → (S → ℕ) → (S → ℕ) → (S → Call → Reply → S → Type 0) → S → List Told → S → Type 0
 JustMade held last faults asked notes before told later = MadeOf last (Exchanged held last faults (WasMade asked notes)) before told later
 
--- how far a fetch of the program has come: in a dense array it found all versions at once, in a sparse one it goes through the tiles of its plan
+-- how far a fetch of the program has come: it goes through the tiles of its plan
 abbrev pub RunFetch : Type 0
-RunFetch = EitherFetch (List Version) (Going Opened)
+RunFetch = EitherFetch (Going DenseOpened) (Going SparseOpened)
 
--- the functions of the program's way to write fragments: those of dense arrays are one object, those of sparse arrays stand in tiles
+-- the functions of the program's way to write fragments: those of dense arrays stand in space tiles, those of sparse arrays in tiles of so many cells
 abbrev pub run_codec : Codec RunFetch
-run_codec = either_codec plain_codec sparse_codec
+run_codec = either_codec space_codec sparse_codec
 
 -- which pieces the parts of fragments spell that are written so
 abbrev pub run_spelled : Spelled
-run_spelled = either_spelled IsPlain IsSparseIn
+run_spelled = either_spelled IsDense IsSparseIn
 
 -- what a fetch of the program waits for
 abbrev pub run_tracks : Tracking RunFetch
-run_tracks = either_tracks NeverWaits SparseTracks
+run_tracks = either_tracks SpaceTracks SparseTracks
 
--- the most gets that a fetch of the program may make: in a dense array none, since all is in the object with the head; in a sparse one so many as `sparse_gets` says
+-- the most gets that a fetch of the program may make: in a dense array so many as `space_gets` says, in a sparse one as `sparse_gets`
 abbrev pub run_most : MostGets
-run_most = either_most (λ _ _ _ _. 0) sparse_gets
+run_most = either_most space_gets sparse_gets
 
 -- the command of a line was done, as a job of it in its lane, at a stamp of the line
 pub record RanLine {S : Type 0} (held : S → Option Held) (made : S → List Told → S → Type 0) (gives : ℕ → Bool) (seed : ℕ) (item : Numbered) (store later : S) (before after : List Entry) (result : Driven Outcome) : Type 0 where
