@@ -19,17 +19,18 @@ use std::thread::Threads;
 use ts_base::{
     ByteList, FragKey, Head, OutOfMemory, Part, PartList, Piece, VersionList, VersionLists,
 };
+use ts_batch::Batches;
 use ts_schema::{Frame, Schema, Spelling, Want};
 use ts_store::{Call, Reply};
 use ts_wire::ReadFault;
 
 /// What a fetch does with a reply.
-#[derive(Debug, Drop, PartialEq, Eq)]
+#[derive(Debug, Drop)]
 pub enum Fetched {
     /// It asks for this call on a part of its fragment, and waits for its reply.
     Ask(Call),
     /// These are all versions that are wanted.
-    Got(VersionList),
+    Got(Batches),
     /// This part breaks its layout first at the offset `at`, in bytes from its start.
     Damaged { part: Part, at: u64 },
     /// There was no memory to go on.

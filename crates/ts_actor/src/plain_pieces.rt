@@ -13,6 +13,7 @@ use ts_base::{
     ByteList, FragKey, Head, OutOfMemory, Part, PartBytes, PartList, Piece, VersionList,
     VersionLists,
 };
+use ts_batch::{Batch, Batches};
 use ts_plain::{merge_all, read_head, read_plain, write_plain};
 use ts_schema::{Frame, Schema, Spelling, Want, taken};
 use ts_store::Reply;
@@ -31,7 +32,7 @@ impl Spelling for PlainPieces {
 }
 
 impl Pieces for PlainPieces {
-    type Fetch = VersionList;
+    type Fetch = Batches;
 
     ghost codec = { plain_codec };
 
@@ -100,18 +101,19 @@ impl Pieces for PlainPieces {
         frag: FragKey,
         object: &ByteList,
         want: &Want,
-    ) -> Result<VersionList, ReadFault> {
+    ) -> Result<Batches, ReadFault> {
         let piece = read_plain(alloc, frame, schema, frag, object.as_slice())?;
-        Ok(taken(alloc, want, piece.versions)?)
+        let versions = taken(alloc, want, piece.versions)?;
+        Ok(Batches::of(alloc, Batch::of_rows(versions))?)
     }
 
     fn next<R: Threads + Sync>(
         _rt: &R,
         alloc: Global,
-        fetch: &mut VersionList,
+        fetch: &mut Batches,
         _reply: Reply,
     ) -> Fetched {
-        Fetched::Got(mem::replace(fetch, VersionList::new(alloc)))
+        Fetched::Got(mem::replace(fetch, Batches::new(alloc)))
     }
 
     fn merge(

@@ -171,7 +171,7 @@ fn go_on<P: Pieces, R: Threads + Sync>(
     let mut fetch = fetch;
     match P::next(rt, alloc, &mut fetch, reply) {
         Fetched::Ask(call) => Ok(SourceStep::Asks(fetch, call)),
-        Fetched::Got(versions) => Ok(SourceStep::Takes(versions)),
+        Fetched::Got(versions) => Ok(SourceStep::Takes(versions.into_rows(alloc)?)),
         Fetched::Damaged { part, at } => {
             let name = Name::Part(frag, part);
             Ok(SourceStep::Ends(Outcome::Refused(Refusal::Damaged { name, at })))

@@ -9,39 +9,53 @@ use crate::reading::take_tile;
 use std::alloc::Global;
 use std::thread::Threads;
 use ts_base::{ByteList, OutOfMemory, VersionList};
+use ts_batch::{Batch, Batches};
 use ts_fetch::{Judge, Verdict};
-use ts_sparse_read::{CellFault, MOST_ATTRS, told};
+use ts_sparse_read::{CellFault, MOST_ATTRS, decode_tiles, told};
 
 impl Judge for Opened {
     ghost judge = { space_judge };
 
     fn judge<R: Threads + Sync>(
         &self,
-        _rt: &R,
+        rt: &R,
         alloc: Global,
         got: &[ByteList],
     ) -> Result<Verdict, OutOfMemory> {
-        match take_tiles(alloc, self, got) {
-            Ok(found) => Ok(Verdict::Whole(found)),
+        match take_tiles(rt, alloc, self, got) {
+            Ok(found) => {
+                let versions = Batch::of_rows(found);
+                Ok(Verdict::Whole(Batches::of(alloc, versions)?))
+            }
             Err(fault) => told(fault),
         }
     }
 }
 
 // What is wanted of the slots of all tiles, from the bytes that were got of their spans, one list for
-// each span.
+// each span. Values of attributes are decoded before, those of all tiles at once.
 #[tactic(auto, using(crate::proofs::TileTakes::walk_ends))]
-fn take_tiles(alloc: Global, opened: &Opened, got: &[ByteList]) -> Result<VersionList, CellFault>
+fn take_tiles<R: Threads + Sync>(
+    rt: &R,
+    alloc: Global,
+    opened: &Opened,
+    got: &[ByteList],
+) -> Result<VersionList, CellFault>
     ensures { DecodesFault (λ found. found) (tiles_taken opened.now opened.now.tiles got.now) result }
 {
     // No schema has more.
-    if opened.attrs.as_slice().len() > MOST_ATTRS {
+    let attrs = opened.attrs.as_slice();
+    if attrs.len() > MOST_ATTRS {
         return Err(CellFault::OutOfMemory);
     }
+    let places = opened.want.attrs.as_slice();
+    let tiles = opened.tiles.as_slice();
+    let mut decoded = decode_tiles(rt, alloc, places, attrs, tiles, got)?;
     let mut found = VersionList::new(alloc);
     let mut next = 0;
-    for tile in opened.tiles.as_slice() {
-        if let Err(fault) = take_tile(alloc, opened, tile, &got[next..], &mut found) {
+    for tile in tiles {
+        let vals = decoded.pop_front();
+        if let Err(fault) = take_tile(alloc, opened, tile, &got[next..], vals, &mut found) {
             return Err(fault);
         }
         next += (got.len() - next).min(tile.spans.as_slice().len());

@@ -5,13 +5,14 @@ ghost use Rattle.ts_fetch.specs.declared.judging.Verdict.{Verdict as AnyVerdict}
 
 use std::alloc::Global;
 use std::thread::Threads;
-use ts_base::{ByteList, OutOfMemory, Part, VersionList};
+use ts_base::{ByteList, OutOfMemory, Part};
+use ts_batch::Batches;
 
 /// What the ranges of a fragment hold.
-#[derive(Debug, Drop, PartialEq, Eq)]
+#[derive(Debug, Drop)]
 pub enum Verdict {
     /// These are all versions that are wanted.
-    Whole(VersionList),
+    Whole(Batches),
     /// This part breaks its layout first at this offset, in bytes from the start of its object.
     Broken(Part, u64),
 }

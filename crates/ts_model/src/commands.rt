@@ -1,11 +1,13 @@
 //! What a lane is asked to do.
 
 use std::alloc::Global;
-use ts_base::{ByteList, Duplicate, Label, OutOfMemory, Row, Sequence, Stop};
+use ts_base::{ByteList, Duplicate, Label, OutOfMemory, Sequence, Stop};
 use ts_commit::Limits;
 use ts_cond::{NamedBoxList, Query};
 use ts_domain::{DimList, Order};
+use ts_piece::copied;
 use ts_schema::{AttrList, Evolution};
+use ts_table::Column;
 
 /// An array that is to be made: its frame, and the attributes of its first schema.
 #[derive(Clone, Debug, Drop, PartialEq, Eq)]
@@ -31,25 +33,28 @@ impl Duplicate for FrameIn {
 }
 
 /// A column of a write: a value for each of its cells.
-#[derive(Clone, Debug, Drop, PartialEq, Eq)]
+#[derive(Debug, Drop)]
 pub struct ColIn {
     /// The name of the dimension or of the attribute.
     pub name: Label,
     /// The values. Those of a blob are texts of hexadecimal digits.
-    pub values: Row,
+    pub values: Column,
 }
 
 /// The columns of a write.
 pub type ColInList = Sequence<ColIn>;
 
 impl Duplicate for ColIn {
-    fn copy(&self, _alloc: Global) -> Result<ColIn, OutOfMemory> {
-        Ok(self.clone()?)
+    fn copy(&self, alloc: Global) -> Result<ColIn, OutOfMemory> {
+        Ok(ColIn {
+            name: self.name,
+            values: copied(alloc, &self.values)?,
+        })
     }
 }
 
 /// What is to be written.
-#[derive(Clone, Debug, Drop, PartialEq, Eq)]
+#[derive(Clone, Debug, Drop)]
 pub struct WriteIn {
     /// A column for each attribute, and in a sparse array for each dimension too, in any order.
     pub cols: ColInList,
@@ -67,7 +72,7 @@ impl Duplicate for WriteIn {
 }
 
 /// A command on the array.
-#[derive(Clone, Debug, Drop, PartialEq, Eq)]
+#[derive(Clone, Debug, Drop)]
 pub enum Command {
     /// Makes the array.
     Create(FrameIn),
@@ -123,7 +128,7 @@ impl Duplicate for Command {
 
 /// A command with its stamp, the identifier that everything which it makes will carry, and where it
 /// is stopped.
-#[derive(Clone, Debug, Drop, PartialEq, Eq)]
+#[derive(Clone, Debug, Drop)]
 pub struct Job {
     /// The command.
     pub command: Command,
@@ -145,7 +150,7 @@ impl Duplicate for Job {
 }
 
 /// A line of a script: a command in its lane.
-#[derive(Debug, Drop, PartialEq, Eq)]
+#[derive(Debug, Drop)]
 pub struct Line {
     /// The lane, 0 to 7.
     pub lane: u32,

@@ -6,8 +6,9 @@ use crate::queries::Ready;
 use std::alloc::Global;
 use ts_base::{
     Boxed, ByteList, Duplicate, FragKey, FragList, Head, Key, KeyList, Name, NameList, OutOfMemory,
-    Sequence, VersionList, VersionLists,
+    Sequence, VersionLists,
 };
+use ts_batch::Batches;
 use ts_commit::{Limits, VacList};
 use ts_schema::{Frame, Schema, SchemaList};
 use ts_store::Call;
@@ -271,7 +272,7 @@ pub enum Collecting<F> {
         /// The fragment.
         frag: FragKey,
         /// The versions in the fragments before it, in order.
-        got: VersionList,
+        got: Batches,
         /// How far the fetch has come.
         fetch: F,
         /// The call that it asks for.

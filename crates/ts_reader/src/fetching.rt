@@ -15,7 +15,8 @@ use crate::known::{known_schema, want_of};
 use std::alloc::Global;
 use std::thread::Threads;
 use ts_actor::{Fetched, Pieces};
-use ts_base::{Boxed, FragKey, KeyList, Name, OutOfMemory, VersionList};
+use ts_base::{Boxed, FragKey, KeyList, Name, OutOfMemory};
+use ts_batch::Batches;
 use ts_model::{Collecting, Opened, OpenedList, Outcome, Reading, Refusal, State};
 use ts_schema::SchemaList;
 use ts_store::{Call, Reply};
@@ -112,7 +113,7 @@ pub(crate) struct OngoingFetch<F> {
     /// The fragment.
     pub frag: FragKey,
     /// The versions in the fragments before it, in order.
-    pub got: VersionList,
+    pub got: Batches,
     /// The fetch.
     pub fetch: F,
 }
@@ -123,7 +124,7 @@ pub(crate) enum FetchStep<F> {
     /// It asks for this call, and waits for its reply.
     Asks(F, Call),
     /// These are all versions that are wanted of the fragment.
-    Takes(VersionList),
+    Takes(Batches),
     /// The read ends.
     Ends(Outcome),
 }
@@ -135,7 +136,7 @@ pub(crate) fn fetch_from<P: Pieces, R: Threads + Sync>(
     alloc: Global,
     gathered: Gathered,
     next: u64,
-    got: VersionList,
+    got: Batches,
 ) -> Result<State<P::Fetch>, OutOfMemory>
     requires known { IsKnown gathered.reading gathered.opened gathered.schemas }
     requires within { next ≤ length gathered.opened }
@@ -165,7 +166,8 @@ pub(crate) fn fetch_from<P: Pieces, R: Threads + Sync>(
             FetchStep::Ends(end) => return Ok(State::Over(end)),
         }
     }
-    let answer = answer_of(alloc, &gathered.reading, &gathered.schemas, got)?;
+    let versions = got.into_rows(alloc)?;
+    let answer = answer_of(alloc, &gathered.reading, &gathered.schemas, versions)?;
     Ok(State::Over(Outcome::Read(answer)))
 }
 
@@ -233,15 +235,12 @@ fn go_on<P: Pieces, R: Threads + Sync>(
 }
 
 // The versions got so far, and after them some more.
-fn joined(got: VersionList, more: VersionList) -> Result<VersionList, OutOfMemory>
+fn joined(got: Batches, more: Batches) -> Result<Batches, OutOfMemory>
     ensures { IfOk result (λ all. all ≡ got ++ more) }
 {
-    if got.is_empty() {
-        return Ok(more);
-    }
-    let mut all = got.into_vec();
-    all.append(&mut more.into_vec())?;
-    Ok(VersionList::from_vec(all))
+    let mut all = got;
+    all.append(more)?;
+    Ok(all)
 }
 
 /// Where the reply to a fetch's call leads.

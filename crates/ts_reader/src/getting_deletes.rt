@@ -8,7 +8,8 @@ use crate::fetching::{Gathered, fetch_from};
 use std::alloc::Global;
 use std::thread::Threads;
 use ts_actor::{Pieces, get_all};
-use ts_base::{Boxed, ByteList, CommitKind, FragKey, Key, Name, OutOfMemory, VersionList};
+use ts_base::{Boxed, ByteList, CommitKind, FragKey, Key, Name, OutOfMemory};
+use ts_batch::Batches;
 use ts_cond::Cond;
 use ts_model::{Deletion, Outcome, State};
 use ts_store::Reply;
@@ -31,7 +32,7 @@ pub(crate) fn next_delete<P: Pieces, R: Threads + Sync>(
         let deletes = Boxed::new(alloc, gathered.gets_deletes())?;
         return Ok(State::Collects(deletes));
     }
-    fetch_from::<P, R>(rt, alloc, gathered, 0, VersionList::new(alloc))
+    fetch_from::<P, R>(rt, alloc, gathered, 0, Batches::new(alloc))
 }
 
 /// Where the reply to the get of a delete leads.

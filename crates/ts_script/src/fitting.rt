@@ -116,7 +116,7 @@ pub(crate) fn as_text(bytes: ByteList) -> ByteList
 }
 
 /// Bytes are a text: there are so few that their number has 64 bits, and each is below 256.
-fn are_text(bytes: &[u8])
+pub(crate) fn are_text(bytes: &[u8])
     ensures { IsTrue (is_text bytes.now) }
 {
     let _count = bytes.len();

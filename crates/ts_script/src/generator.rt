@@ -12,12 +12,13 @@ use crate::fitting::as_text;
 use crate::lines::{CAPACITY, MAX, MIN};
 use crate::words::line_alone;
 use std::alloc::Global;
-use ts_base::{ByteList, Label, LabelList, OutOfMemory, Row, Val, ValType};
+use ts_base::{ByteList, Label, LabelList, OutOfMemory, ValType};
 use ts_commit::Limits;
 use ts_cond::{NamedBoxList, Query};
 use ts_domain::{Dim, DimList, Layout, Order};
 use ts_model::{ColIn, ColInList, Command, FrameIn, Line, LineList, WriteIn};
 use ts_schema::{Attr, AttrList};
+use ts_table::Column;
 use ts_value::default_fill;
 
 /// How many cells a write brings, but for the last.
@@ -121,7 +122,7 @@ fn numbers_written(alloc: Global, first: u32, count: u32) -> Result<Command, Out
 }
 
 // The column of this name.
-fn column_of(name: &str, values: Row) -> ColIn
+fn column_of(name: &str, values: Column) -> ColIn
     requires { is_label name.now ≡ true }
     ensures { result ≡ record { name = name.now; values = values } }
 {
@@ -132,28 +133,28 @@ fn column_of(name: &str, values: Row) -> ColIn
 }
 
 // So many numbers, from one on.
-fn values_from(alloc: Global, first: u32, count: u32) -> Result<Row, OutOfMemory>
+fn values_from(alloc: Global, first: u32, count: u32) -> Result<Column, OutOfMemory>
     requires { first + count ≤ 100000 }
     ensures { IfOk result (λ values. values ≡ values_of (λ i. i) (range_with_len first count)) }
 {
-    let mut values = Vec::with_capacity(alloc, count as usize)?;
+    let mut values = Column::new(alloc);
     for i in 0..count {
-        values.push(Val::Int(i128::from(first + i)))?;
+        values.push_number(i128::from(first + i))?;
     }
-    Ok(Row::from_vec(values))
+    Ok(values)
 }
 
 // The places of so many cells, from a number on.
-fn places_from(alloc: Global, first: u32, count: u32) -> Result<Row, OutOfMemory>
+fn places_from(alloc: Global, first: u32, count: u32) -> Result<Column, OutOfMemory>
     requires { first + count ≤ 100000 }
     ensures { IfOk result (λ values. values ≡ values_of place_of (range_with_len first count)) }
 {
-    let mut values = Vec::with_capacity(alloc, count as usize)?;
+    let mut values = Column::new(alloc);
     for i in 0..count {
         let number = u64::from(first + i);
-        values.push(Val::Int(i128::from(number * 48_271 % 10_000)))?;
+        values.push_number(i128::from(number * 48_271 % 10_000))?;
     }
-    Ok(Row::from_vec(values))
+    Ok(values)
 }
 
 // Adds what comes behind the writes, at this stamp.

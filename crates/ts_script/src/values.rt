@@ -1,23 +1,26 @@
 //! Names, types, values, dimensions, attributes and stops as JSON values.
-ghost use Rattle.std.specs.Prelude.{◌≡◌, [], true, IfOk, IsTrue, option_map};
+ghost use Rattle.std.specs.Prelude.{◌≡◌, ◌^◌, ◌&&◌, [], true, length, nat_lt, IfOk, IfSome, IsTrue, option_map};
 ghost use Rattle.std.specs.List.{list_all};
 ghost use Rattle.std.specs.Option.{option_map_or};
+ghost use Rattle.ts_base.specs.declared.values.Val.TheVariants.{Bytes};
 ghost use Rattle.ts_base.specs.Labels.{is_label};
 ghost use Rattle.ts_model.specs.Commands.{is_spelled_attr, is_spelled_val, is_text};
-ghost use Rattle.serde_json.specs.View.{view, members_view};
-ghost use Rattle.ts_script.specs.Shapes.{Gives};
+ghost use Rattle.serde_json.specs.View.{view, items_view, members_view};
+ghost use Rattle.ts_table.specs.Columns.{val_seen};
+ghost use Rattle.ts_script.specs.Shapes.{items_onto, list_of, Gives};
 ghost use Rattle.ts_script.specs.Typed.{is_typed_col};
 ghost use Rattle.ts_script.specs.Values.{label, type_named, val_type, order, layout, layout_named, value, fill_said, fill, dim, attr, columns_onto, columns, bounds_onto, box, filter, point_named, stop};
 
-use crate::fitting::as_text;
+use crate::fitting::{are_text, as_text};
 use crate::json::{FormFault, FromJson, both_items, has_only, optional, required};
 use serde_json::{Map, Value};
 use std::alloc::Global;
-use ts_base::{ByteList, Label, OutOfMemory, Point, Row, Sequence, Stop, Val, ValType};
+use ts_base::{ByteList, Label, OutOfMemory, Point, Sequence, Stop, Val, ValType};
 use ts_cond::{NamedBox, NamedBoxList};
 use ts_domain::{Dim, Layout, Order};
 use ts_model::{ColIn, ColInList, blob_bytes};
 use ts_schema::Attr;
+use ts_table::{Column, Seen};
 use ts_value::default_fill;
 
 /// A label.
@@ -217,6 +220,63 @@ impl FromJson for Attr {
     }
 }
 
+/// A list of values.
+impl FromJson for Column {
+    ghost form = { list_of value };
+
+    ghost typed = { λ vals. nat_lt (length vals) (2 ^ 64) && list_all is_spelled_val vals };
+
+    fn from_json(alloc: Global, value: &Value) -> Result<Column, FormFault> {
+        match value.as_array() {
+            Some(items) => read_values(alloc, items.as_slice()),
+            None => Err(FormFault::Form),
+        }
+    }
+}
+
+/// Reads a value from each item of an array.
+#[tactic(auto, using(crate::proofs::Typed::one_more))]
+fn read_values(alloc: Global, items: &[Value]) -> Result<Column, FormFault>
+    ensures gives { Gives result (items_onto value [] (items_view items.now)) }
+    ensures few { IfOk result (λ vals. IsTrue (nat_lt (length vals) (2 ^ 64))) }
+    ensures typed { IfOk result (λ vals. IsTrue (list_all is_spelled_val vals)) }
+{
+    let mut done = Column::new(alloc);
+    for item in items {
+        let Some(seen) = value_in(item) else {
+            return Err(FormFault::Form);
+        };
+        done.push_seen(seen)?;
+    }
+    let _count = done.len();
+    Ok(done)
+}
+
+/// The value of a cell, seen in its place.
+fn value_in(item: &Value) -> Option<Seen<'_>>
+    ensures gives { option_map val_seen result ≡ value (view item.now) }
+    ensures typed { IfSome result (λ seen. IsTrue (is_spelled_val (val_seen seen))) }
+{
+    match item {
+        Value::Null => Some(Seen::Null),
+        Value::Number(number) => match number.as_i128() {
+            Some(integer) => Some(Seen::Int(integer)),
+            None => None,
+        },
+        Value::String(text) => Some(text_in(text.as_bytes())),
+        _ => None,
+    }
+}
+
+/// The bytes of a text as a value. There are so few that their number has 64 bits.
+fn text_in(bytes: &[u8]) -> Seen<'_>
+    ensures is { val_seen result ≡ Bytes bytes.entry.now }
+    ensures typed { IsTrue (is_spelled_val (val_seen result)) }
+{
+    are_text(bytes);
+    Seen::Bytes(bytes)
+}
+
 /// The columns of a write: an object from names to lists of values.
 pub(crate) fn read_columns(alloc: Global, value: &Value) -> Result<ColInList, FormFault>
     ensures gives { Gives result (columns (view value.now)) }
@@ -239,7 +299,7 @@ fn read_members(alloc: Global, members: &Map<String, Value>) -> Result<ColInList
         let Some(name) = Label::new(key.as_str()) else {
             return Err(FormFault::Form);
         };
-        let values = Row::from_json(alloc, value)?;
+        let values = Column::from_json(alloc, value)?;
         done.push(ColIn { name, values })?;
     }
     Ok(done)

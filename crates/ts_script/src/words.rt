@@ -27,7 +27,7 @@ use ts_domain::Layout;
 use ts_model::{Command, Line};
 
 /// What words can ask for.
-#[derive(Debug, Drop, PartialEq, Eq)]
+#[derive(Debug, Drop)]
 pub enum Asked {
     /// To do the commands of a script, which is the input.
     Play,

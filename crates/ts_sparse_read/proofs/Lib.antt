@@ -6,6 +6,8 @@ pub mod ColumnSteps
 pub mod TileSteps
 pub mod SiftLaws
 pub mod TileSifts
+pub mod TileCounts
+pub mod DecodeSteps
 pub mod BoundLaws
 pub mod TileLaws
 pub mod PieceParts

@@ -1,7 +1,6 @@
 -- Taking what is wanted, cell by cell and tile by tile.
-use Rattle.std.proofs.Common.{◌≡◌, ℕ, suc, ◌+◌, ◌<◌, ◌≤◌, Bool, true, false, ℤ, List, [], ◌∷◌, ◌++◌, length, map, get_or, drop, Option, Some, None, refl, sym, ap, subst, ◌∙◌, arith, add-one, append_assoc}
+use Rattle.std.proofs.Common.{◌≡◌, ℕ, suc, ◌+◌, ◌<◌, ◌≤◌, Bool, true, false, ℤ, List, [], ◌∷◌, ◌++◌, length, map, drop, Option, Some, None, refl, sym, ap, subst, ◌∙◌, arith, add-one, append_assoc}
 use Rattle.std.specs.Prelude.{if◌then◌else◌, Result, Ok, Err}
-use Rattle.std.specs.List.{All}
 use Rattle.std.proofs.lemmas.List.{drop_more, drop_all, append-nil, map-append}
 use Rattle.std.proofs.lemmas.List.Elements.{All-get_or, filter-append}
 use Rattle.ts_base.specs.declared.heads.Version.{Version}
@@ -17,15 +16,14 @@ use Rattle.ts_plain.specs.Rules.{coords_rise, origin_rises}
 use Rattle.ts_sparse.specs.Cuts.{last_or}
 use Rattle.ts_sparse_read.specs.declared.columns.Columns.{Columns}
 use Rattle.ts_sparse_read.specs.declared.opened.Opened.{Opened}
-use Rattle.ts_sparse_read.specs.declared.opened.WantedTile.{WantedTile}
 use Rattle.ts_sparse_read.specs.declared.sifted.Sifted.{Sifted}
 use Rattle.ts_sparse_read.specs.declared.sifted.Spot.{Spot}
 use Rattle.ts_sparse_read.specs.declared.faults.CellFault.{CellFault}
 use Rattle.ts_sparse_read.specs.declared.faults.CellFault.TheVariants as fault
 use Rattle.ts_sparse_read.specs.Faults.{Fault, and_then, Ranged}
-use Rattle.ts_sparse_read.specs.TileReads.{coords_of_tile, vals_of_tile, origins_if, coords_fault, origin_fault, place_fault, order_fault, unless, cells_of_tile}
-use Rattle.ts_sparse_read.specs.Reads.{DecodesFault, TellsFault}
-use Rattle.ts_sparse_read.specs.Sifts.{spot_of, bare, bare_if, last_spot, IsSpotInside, columns_of_tile, cells_in, cell_in, AreSound, wanted_of, sifted, sift_cell, sift_cells, sift_part}
+use Rattle.ts_sparse_read.specs.TileReads.{coords_of_tile, vals_of_tile, origins_if, coords_fault, origin_fault, order_fault, unless, cells_of_tile}
+use Rattle.ts_sparse_read.specs.Reads.{DecodesFault}
+use Rattle.ts_sparse_read.specs.Sifts.{spot_of, bare_if, last_spot, IsSpotInside, columns_of_tile, cells_in, cell_in, AreSound, wanted_of, sifted, sift_cell, sift_cells, sift_part}
 use Rattle.ts_sparse_read.proofs.CellSteps.{cells_long, cell_there}
 
 -- ---- faults

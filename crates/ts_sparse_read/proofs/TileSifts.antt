@@ -1,5 +1,5 @@
 -- Taking what is wanted, tile by tile.
-use Rattle.std.proofs.Common.{◌≡◌, ℕ, zero, suc, ◌+◌, ◌-◌, ◌<◌, ◌≤◌, min, List, [], ◌∷◌, ◌++◌, length, get_or, take, drop, Option, Some, None, refl, sym, ap, subst, ◌∙◌, arith, length-drop}
+use Rattle.std.proofs.Common.{◌≡◌, ℕ, zero, suc, ◌+◌, ◌-◌, ◌<◌, ◌≤◌, min, List, [], ◌∷◌, ◌++◌, length, get_or, take, drop, Option, refl, sym, ap, ◌∙◌, arith, length-drop}
 use Rattle.std.specs.Prelude.{Result, Ok, Err, IfOk}
 use Rattle.std.proofs.Math.Seq.{drop-nil}
 use Rattle.std.proofs.Math.ListN.{drop_of_length-le}
@@ -15,7 +15,6 @@ use Rattle.ts_sparse.specs.Cuts.{last_or}
 use Rattle.ts_sparse_read.specs.declared.opened.Opened.{Opened}
 use Rattle.ts_sparse_read.specs.declared.opened.WantedTile.{WantedTile}
 use Rattle.ts_sparse_read.specs.declared.sifted.Sifted.{Sifted}
-use Rattle.ts_sparse_read.specs.declared.sifted.Spot.{Spot}
 use Rattle.ts_sparse_read.specs.declared.faults.CellFault.{CellFault}
 use Rattle.ts_sparse_read.specs.declared.faults.CellFault.TheVariants as fault
 use Rattle.ts_sparse_read.specs.Faults.{Fault, and_then, Ranged}

@@ -3,6 +3,7 @@ pub mod TileReads
 pub mod Used
 pub mod Opens
 pub mod Judges
+pub mod Decoded
 pub mod Codecs
 pub mod HeardOnce
 pub mod UsedOnce

@@ -1,5 +1,5 @@
 //! Reading the columns of a tile.
-ghost use Rattle.std.specs.Prelude.{◌≡◌, ◌≤◌, List, pos, length, get_or, replicate, IfOk, IsTrue};
+ghost use Rattle.std.specs.Prelude.{◌≡◌, ◌≤◌, List, pos, length, get_or, replicate, IfOk, IfSome, IsTrue};
 ghost use Rattle.std.specs.List.{All};
 ghost use Rattle.ts_base.specs.declared.names.Part.TheVariants as part;
 ghost use Rattle.ts_base.specs.declared.values.Val.{Val as AnyVal};
@@ -43,7 +43,8 @@ pub(crate) struct Columns {
     pub(crate) vals: ColumnList,
 }
 
-/// The columns of a tile of so many cells, from the bytes that were got of each part.
+/// The columns of a tile of so many cells, from the bytes that were got of each part. Its values may be
+/// decoded already.
 ///
 /// What is broken first among its coordinates, its values and its origins is told.
 #[tactic(auto, using(crate::proofs::TileSteps::lies_long))]
@@ -54,17 +55,20 @@ pub(crate) fn read_columns(
     leaf: &SubBox,
     count: u64,
     ranges: &Ranges,
+    decoded: Option<ColumnList>,
 ) -> Result<Columns, CellFault>
     requires few { length opened.now.attrs ≤ 64 }
     requires entries { entries ≡ length opened.now.head.origins }
     requires leaf { LiesInDomain opened.now.frame.domain leaf.now }
+    requires decoded { IfSome decoded (λ vals. vals_of_tile opened.now.want.attrs count ranges.now 0 opened.now.attrs ≡ Ok vals) }
     ensures decodes { DecodesFault (λ columns. columns) (columns_of_tile opened.now leaf.now count ranges.now) result }
     ensures sound { IfOk result (AreSound opened.now.frame) }
 {
     let places = opened.want.attrs.as_slice();
     let consolidated = opened.head.consolidated;
     let coords = read_coords(alloc, &opened.frame.domain, leaf, count, ranges)?;
-    let vals = read_vals(alloc, places, opened.attrs.as_slice(), count, ranges)?;
+    let attrs = opened.attrs.as_slice();
+    let vals = vals_or_read(alloc, decoded, places, attrs, count, ranges)?;
     let origins = read_origins(alloc, consolidated, entries, count, ranges)?;
     Ok(Columns {
         count,
@@ -169,10 +173,31 @@ fn coord_at(coords: &Coords, dim: u8) -> i128
     }
 }
 
-/// The values of so many cells of each attribute; those of attributes at other places than these are
-/// null. What is broken first among them is told.
+/// The values of so many cells of each attribute, as they were decoded or else as they are read; those of
+/// attributes at other places than these are null. What is broken first among them is told.
+#[tactic(auto, using(crate::proofs::TileCounts::vals_many))]
+pub fn vals_or_read(
+    alloc: Global,
+    decoded: Option<ColumnList>,
+    places: &[u32],
+    attrs: &[Attr],
+    count: u64,
+    ranges: &Ranges,
+) -> Result<ColumnList, CellFault>
+    requires few { length attrs.now ≤ 64 }
+    requires decoded { IfSome decoded (λ vals. vals_of_tile places.now count ranges.now 0 attrs.now ≡ Ok vals) }
+    ensures decodes { DecodesFault (λ columns. columns) (vals_of_tile places.now count ranges.now 0 attrs.now) result }
+    ensures many { IfOk result (All (λ (column : List AnyVal). length column ≡ count)) }
+{
+    match decoded {
+        Some(vals) => Ok(vals),
+        None => read_vals(alloc, places, attrs, count, ranges),
+    }
+}
+
+// The values of so many cells of each attribute, read one after another.
 #[tactic(auto, using(crate::proofs::ColumnSteps::vals_steps))]
-pub fn read_vals(
+fn read_vals(
     alloc: Global,
     places: &[u32],
     attrs: &[Attr],
@@ -215,9 +240,9 @@ fn vals_of(
     }
 }
 
-// So many nulls.
+/// So many nulls.
 #[tactic(auto, using(crate::proofs::ColumnSteps::nulls_are))]
-fn nulls(alloc: Global, count: u64) -> Result<Column, OutOfMemory>
+pub(crate) fn nulls(alloc: Global, count: u64) -> Result<Column, OutOfMemory>
     ensures { IfOk result (λ column. column ≡ replicate count val.Null) }
 {
     let kinds = vec![in alloc; Kind::Null; count as usize]?;
@@ -225,8 +250,8 @@ fn nulls(alloc: Global, count: u64) -> Result<Column, OutOfMemory>
     Ok(Column::of(kinds, numbers, texts))
 }
 
-// The tile of the attribute at a place.
-fn tile_in(alloc: Global, ranges: &Ranges, place: u8) -> Result<Tile, OutOfMemory>
+/// The tile of the attribute at a place.
+pub(crate) fn tile_in(alloc: Global, ranges: &Ranges, place: u8) -> Result<Tile, OutOfMemory>
     ensures { IfOk result (λ tile. tile ≡ tile_in ranges.now place) }
 {
     Ok(Tile {

@@ -4,6 +4,7 @@ ghost use Rattle.ts_sparse_read.specs.Judges.{sparse_judge};
 ghost use Rattle.ts_sparse_read.specs.Reads.{DecodesFault, IsToldAs};
 ghost use Rattle.ts_sparse_read.specs.Sifts.{nothing_sifted, sift_tiles};
 
+use crate::decoding::decode_tiles;
 use crate::faults::CellFault;
 use crate::opened::{MOST_ATTRS, Opened};
 use crate::reading::sift_tile;
@@ -11,6 +12,7 @@ use crate::sifted::Sifted;
 use std::alloc::Global;
 use std::thread::Threads;
 use ts_base::{ByteList, OutOfMemory, VersionList};
+use ts_batch::{Batch, Batches};
 use ts_fetch::{Judge, Verdict};
 
 impl Judge for Opened {
@@ -18,12 +20,15 @@ impl Judge for Opened {
 
     fn judge<R: Threads + Sync>(
         &self,
-        _rt: &R,
+        rt: &R,
         alloc: Global,
         got: &[ByteList],
     ) -> Result<Verdict, OutOfMemory> {
-        match sift_tiles(alloc, self, got) {
-            Ok(sifted) => Ok(Verdict::Whole(sifted.found)),
+        match sift_tiles(rt, alloc, self, got) {
+            Ok(sifted) => {
+                let versions = Batch::of_rows(sifted.found);
+                Ok(Verdict::Whole(Batches::of(alloc, versions)?))
+            }
             Err(fault) => told(fault),
         }
     }
@@ -40,22 +45,32 @@ pub fn told(fault: CellFault) -> Result<Verdict, OutOfMemory>
 }
 
 // What is wanted of the cells of all tiles, from the bytes that were got of their spans, one list for
-// each span.
+// each span. Values of attributes are decoded before, those of all tiles at once.
 #[tactic(auto, using(crate::proofs::TileSifts::walk_ends))]
-fn sift_tiles(alloc: Global, opened: &Opened, got: &[ByteList]) -> Result<Sifted, CellFault>
+fn sift_tiles<R: Threads + Sync>(
+    rt: &R,
+    alloc: Global,
+    opened: &Opened,
+    got: &[ByteList],
+) -> Result<Sifted, CellFault>
     ensures { DecodesFault (λ sifted. sifted) (sift_tiles opened.now nothing_sifted opened.now.tiles got.now) result }
 {
     // No schema has more.
-    if opened.attrs.as_slice().len() > MOST_ATTRS {
+    let attrs = opened.attrs.as_slice();
+    if attrs.len() > MOST_ATTRS {
         return Err(CellFault::OutOfMemory);
     }
+    let places = opened.want.attrs.as_slice();
+    let tiles = opened.tiles.as_slice();
+    let mut decoded = decode_tiles(rt, alloc, places, attrs, tiles, got)?;
     let mut sifted = Sifted {
         found: VersionList::new(alloc),
         last: None,
     };
     let mut next = 0;
-    for tile in opened.tiles.as_slice() {
-        if let Err(fault) = sift_tile(alloc, opened, tile, &got[next..], &mut sifted) {
+    for tile in tiles {
+        let vals = decoded.pop_front();
+        if let Err(fault) = sift_tile(alloc, opened, tile, &got[next..], vals, &mut sifted) {
             return Err(fault);
         }
         next += (got.len() - next).min(tile.spans.as_slice().len());

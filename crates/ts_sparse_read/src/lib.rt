@@ -4,6 +4,7 @@
 mod bounds;
 mod cells;
 mod columns;
+mod decoding;
 mod faults;
 mod forms;
 mod judging;
@@ -23,7 +24,8 @@ mod versions;
 
 pub use bounds::{are_bounds, is_box_in};
 pub use cells::row_at;
-pub use columns::read_vals;
+pub use columns::vals_or_read;
+pub use decoding::{TileColumns, decode_tiles};
 pub use faults::CellFault;
 pub use forms::column_forms;
 pub use judging::told;

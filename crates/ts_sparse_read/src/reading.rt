@@ -1,8 +1,9 @@
 //! Reading a tile.
-ghost use Rattle.std.specs.Prelude.{◌≡◌, ◌≤◌, ◌<◌, length, IfSome, IsTrue, OnOk};
+ghost use Rattle.std.specs.Prelude.{◌≡◌, ◌≤◌, ◌<◌, Ok, length, IfSome, IsTrue, OnOk};
 ghost use Rattle.std.specs.Option.{option_copied};
 ghost use Rattle.ts_domain.specs.Domains.{LiesInDomain};
 ghost use Rattle.ts_sparse_read.specs.Judges.{ranged};
+ghost use Rattle.ts_sparse_read.specs.TileReads.{vals_of_tile};
 ghost use Rattle.ts_sparse_read.specs.Reads.{DecodesFault};
 ghost use Rattle.ts_sparse_read.specs.Sifts.{spot_of, IsSpotInside, cells_in, cell_in, AreSound, sift_cell, sift_cells, sift_tile, sift_part};
 
@@ -16,11 +17,12 @@ use crate::sifted::{Sifted, Spot};
 use crate::versions::take_cell;
 use std::alloc::Global;
 use ts_base::ByteList;
+use ts_column::ColumnList;
 use ts_domain::SubBox;
 use ts_schema::Frame;
 
 /// Takes what is wanted of the cells of a tile, behind those of the tiles before it, from the bytes that
-/// were got of its spans.
+/// were got of its spans. Its values may be decoded already.
 ///
 /// What is broken first among its coordinates, its values, its origins and then its order is told.
 pub(crate) fn sift_tile(
@@ -28,9 +30,11 @@ pub(crate) fn sift_tile(
     opened: &Opened,
     tile: &WantedTile,
     got: &[ByteList],
+    decoded: Option<ColumnList>,
     sifted: &mut Sifted,
 ) -> Result<(), CellFault>
     requires few { length opened.now.attrs ≤ 64 }
+    requires decoded { IfSome decoded (λ vals. vals_of_tile opened.now.want.attrs tile.now.cells (ranged tile.now.spans got.now) 0 opened.now.attrs ≡ Ok vals) }
     ensures { DecodesFault (λ _. sifted.new) (sift_tile opened.now sifted.old tile.now got.now) result }
 {
     // The boxes of a fragment's tiles lie in the domain, and so do its cells.
@@ -42,8 +46,9 @@ pub(crate) fn sift_tile(
     match u32::try_from(opened.head.origins.len()) {
         Ok(entries) => {
             let ranges = Ranges::new(tile.spans.as_slice(), got);
+            let (leaf, count) = (&tile.leaf, tile.cells);
             sift_part(
-                alloc, opened, entries, &tile.leaf, tile.cells, &ranges, sifted,
+                alloc, opened, entries, leaf, count, &ranges, decoded, sifted,
             )
         }
         Err(_many) => Err(CellFault::OutOfMemory),
@@ -58,15 +63,17 @@ fn sift_part(
     leaf: &SubBox,
     count: u64,
     ranges: &Ranges,
+    decoded: Option<ColumnList>,
     sifted: &mut Sifted,
 ) -> Result<(), CellFault>
     requires few { length opened.now.attrs ≤ 64 }
+    requires decoded { IfSome decoded (λ vals. vals_of_tile opened.now.want.attrs count ranges.now 0 opened.now.attrs ≡ Ok vals) }
     requires entries { entries ≡ length opened.now.head.origins }
     requires leaf { LiesInDomain opened.now.frame.domain leaf.now }
     requires last { IfSome sifted.old.last (IsSpotInside opened.now.frame) }
     ensures { DecodesFault (λ _. sifted.new) (sift_part opened.now sifted.old leaf.now count ranges.now) result }
 {
-    let columns = read_columns(alloc, opened, entries, leaf, count, ranges)?;
+    let columns = read_columns(alloc, opened, entries, leaf, count, ranges, decoded)?;
     sift_cells(alloc, opened, ranges, &columns, sifted)
 }
 

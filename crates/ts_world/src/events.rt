@@ -5,7 +5,7 @@ use ts_model::Command;
 use ts_store::Fate;
 
 /// What happens next in a world.
-#[derive(Debug, Drop, PartialEq, Eq)]
+#[derive(Debug, Drop)]
 pub enum Event {
     /// An actor comes, with the command, the stamp (in milliseconds since 1970-01-01) and the
     /// identifier of its job.

@@ -3,7 +3,8 @@ pub mod Endings
 pub mod Again
 pub mod Hulls
 pub mod Lengths
-pub mod Placed
-pub mod Steps
+pub mod LaidTables
+pub mod Globals
+pub mod Said
+pub mod Pieced
 pub mod Written
-pub mod Ranked

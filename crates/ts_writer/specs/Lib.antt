@@ -3,6 +3,6 @@ pub mod Creators
 pub mod Deleters
 pub mod Evolvers
 pub mod Laying
-pub mod Places
+pub mod Heads
+pub mod Tables
 pub mod Writers
-pub mod Ranks

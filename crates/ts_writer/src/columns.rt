@@ -9,15 +9,19 @@ ghost use Rattle.ts_writer.specs.declared.laying.LayFault.TheVariants as fault;
 ghost use Rattle.ts_writer.specs.Laying.{LaysOr};
 
 use crate::laying::LayFault;
-use crate::values::{NumberList, numbers_of, values_of};
+use crate::values::{numbers_of, values_of};
 use std::alloc::Global;
-use ts_base::{Label, Row, RowList, Sequence};
+use ts_base::{Label, Sequence};
 use ts_domain::Dim;
 use ts_model::{ColIn, Refusal};
 use ts_schema::Attr;
+use ts_table::{Column, Numbers};
 
 /// The numbers of each dimension's column.
-pub(crate) type NumberLists = Sequence<NumberList>;
+pub(crate) type NumberLists = Sequence<Numbers>;
+
+/// The values of each attribute's column.
+pub(crate) type ColumnList = Sequence<Column>;
 
 /// How many cells a write has.
 pub(crate) fn count_of(dims: &[Dim], cols: &[ColIn]) -> u64
@@ -54,10 +58,10 @@ pub(crate) fn attr_columns(
     attrs: &[Attr],
     cols: &[ColIn],
     count: u64,
-) -> Result<RowList, LayFault>
+) -> Result<ColumnList, LayFault>
     ensures { LaysOr (columns (attr_column cols.now count) attrs.now) result }
 {
-    let mut found = RowList::new(alloc);
+    let mut found = ColumnList::new(alloc);
     for attr in attrs {
         found.push(attr_column(alloc, cols, count, attr)?)?;
     }
@@ -94,25 +98,25 @@ fn has_attr(attrs: &[Attr], name: &Label) -> bool
     attrs.iter().any(|attr| attr.name == *name)
 }
 
-fn dim_column(alloc: Global, cols: &[ColIn], count: u64, dim: &Dim) -> Result<NumberList, LayFault>
+fn dim_column(alloc: Global, cols: &[ColIn], count: u64, dim: &Dim) -> Result<Numbers, LayFault>
     ensures { LaysOr (dim_column cols.now count dim.now) result }
 {
     let Some(values) = sized_column(cols, count, &dim.name) else {
         return Err(clash(dim.name));
     };
-    match numbers_of(alloc, values.as_slice())? {
+    match numbers_of(alloc, values)? {
         Some(numbers) => Ok(numbers),
         None => Err(clash(dim.name)),
     }
 }
 
-fn attr_column(alloc: Global, cols: &[ColIn], count: u64, attr: &Attr) -> Result<Row, LayFault>
+fn attr_column(alloc: Global, cols: &[ColIn], count: u64, attr: &Attr) -> Result<Column, LayFault>
     ensures { LaysOr (attr_column cols.now count attr.now) result }
 {
     let Some(values) = sized_column(cols, count, &attr.name) else {
         return Err(clash(attr.name));
     };
-    match values_of(alloc, attr, values.as_slice())? {
+    match values_of(alloc, attr, values)? {
         Some(values) => Ok(values),
         None => Err(clash(attr.name)),
     }
@@ -126,7 +130,7 @@ pub(crate) fn clash(label: Label) -> LayFault
 }
 
 // The values of the column of a name, where there are so many.
-fn sized_column<'a>(cols: &'a [ColIn], count: u64, name: &Label) -> Option<&'a Row>
+fn sized_column<'a>(cols: &'a [ColIn], count: u64, name: &Label) -> Option<&'a Column>
     ensures { option_copied result ≡ option_and_then (so_many count) (column cols.now name.now) }
 {
     match column(cols, name) {
@@ -136,7 +140,7 @@ fn sized_column<'a>(cols: &'a [ColIn], count: u64, name: &Label) -> Option<&'a R
 }
 
 // The values of the column of a name.
-fn column<'a>(cols: &'a [ColIn], name: &Label) -> Option<&'a Row>
+fn column<'a>(cols: &'a [ColIn], name: &Label) -> Option<&'a Column>
     ensures { option_copied result ≡ column cols.now name.now }
 {
     for col in cols {

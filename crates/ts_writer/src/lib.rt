@@ -1,7 +1,6 @@
 //! Writing: the machines of the jobs that make an array, declare a schema, write cells or delete.
 #![tactic(auto)]
 
-mod cells;
 mod columns;
 mod creating;
 mod creator;
@@ -13,8 +12,9 @@ mod evolving;
 mod laying;
 mod making;
 mod pieces;
+mod places;
 mod puts;
-mod ranks;
+mod tables;
 mod values;
 mod writer;
 mod writing;

@@ -8,21 +8,22 @@ ghost use Rattle.ts_model.specs.declared.commands.Command.TheVariants.{Write};
 ghost use Rattle.ts_model.specs.Commands.{is_spelled_write, laid};
 ghost use Rattle.ts_model.specs.Deeds.{IsKey};
 ghost use Rattle.ts_model.specs.States.{part_objects, puts_cells, works};
+ghost use Rattle.ts_model.specs.Jobs.{key_of};
+ghost use Rattle.ts_writer.specs.Laying.{pieced};
 ghost use Rattle.ts_writer.specs.Writing.{AreSpelled, IsWrite, IsWriteJob, IsLaterState, calls_left};
 
 use crate::ends::refuse;
 use crate::laying::{LayFault, lay};
 use crate::making::{Makes, list_schemas, nothing_listed};
-use crate::pieces::piece_of;
 use crate::puts::{frag_of, key_of, key_with, put};
 use std::alloc::Global;
 use std::marker::PhantomData;
 use ts_actor::Pieces;
-use ts_base::{
-    ByteList, CellList, CommitKind, FragKey, Key, Name, OutOfMemory, PartBytes, PartList,
-};
+use ts_base::{ByteList, CommitKind, FragKey, Key, Name, OutOfMemory, PartBytes, PartList};
 use ts_model::{Command, Job, Listed, NewObject, NewObjectList, Outcome, State, WriteIn};
+use ts_piece::TablePiece;
 use ts_schema::{Frame, Schema};
+use ts_table::Origin;
 
 /// What writes put: the parts of their fragments, written the way of `P`, and the `.wrt` objects.
 #[derive(Drop)]
@@ -88,31 +89,37 @@ fn write<P: Pieces>(
     ensures fewer { IfOk result (λ state. calls_left state < 2 ^ 195) }
 {
     let write = write_in(job);
-    match lay(alloc, frame, &current.attrs, write) {
-        Ok(cells) => put_cells::<P>(alloc, job, frame, current, write, cells),
+    let origin = Origin {
+        key: key_of(job),
+        schema: schema_key(current),
+    };
+    match lay(alloc, frame, origin, &current.attrs, write) {
+        Ok(piece) => put_piece::<P>(alloc, job, frame, current, write, piece),
         Err(LayFault::Refused(refusal)) => Ok(refuse(refusal)),
         Err(LayFault::OutOfMemory) => Err(OutOfMemory),
     }
 }
 
-// A write puts the cells that its columns lay.
-fn put_cells<P: Pieces>(
+// A write puts the piece that its columns lay.
+fn put_piece<P: Pieces>(
     alloc: Global,
     job: &Job,
     frame: &Frame,
     current: &Schema,
     write: &WriteIn,
-    cells: CellList,
+    piece: TablePiece,
 ) -> Result<State<P::Fetch>, OutOfMemory>
     requires frame { IsFrame frame.now }
     requires attrs { AreAttrs current.now.attrs }
     requires spelled { IsTrue (is_spelled_write write.now) }
-    requires laid { laid frame.now current.now.attrs write.now ≡ Ok cells }
-    ensures is { IfOk result (λ state. state ≡ puts_cells P.codec job.now frame.now current.now (Ok cells)) }
+    requires key { IsKey (key_of job.now) }
+    requires schema { IsKey current.now.key }
+    requires laid { pieced frame.now (record { key = key_of job.now; schema = current.now.key }) (laid frame.now current.now.attrs write.now) ≡ Ok piece }
+    ensures is { IfOk result (λ state. state ≡ puts_cells P.codec job.now frame.now current.now (laid frame.now current.now.attrs write.now)) }
     ensures may { IfOk result IsLaterState }
     ensures fewer { IfOk result (λ state. calls_left state < 2 ^ 64) }
 {
-    let piece = piece_of(alloc, frame, key_of(job), schema_key(current), cells)?;
+    let piece = piece.into_rows(alloc)?;
     let parts = P::parts(alloc, frame, current, &piece)?;
     let frag = frag_of(job);
     let objects = objects_of(alloc, frag, parts)?;

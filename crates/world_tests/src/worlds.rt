@@ -19,6 +19,7 @@ use ts_domain::{Dim, DimList, Layout, Order};
 use ts_model::{ColIn, ColInList, Command, FrameIn, History, Outcome, WriteIn};
 use ts_schema::{Attr, AttrList, Evolution};
 use ts_store::{Fate, FaultList, MemStore};
+use ts_table::Column;
 use ts_world::{Event, World, WorldFault};
 
 // A world without actors and without a past.
@@ -103,8 +104,8 @@ fn column(alloc: Global, name: Label, value: u8) -> Result<ColIn, OutOfMemory>
     ensures { IfOk result (λ column. is_spelled_col column ≡ true) }
 {
     let _text = name.as_bytes();
-    let mut values = Row::new(alloc);
-    values.push(Val::Int(i128::from(value)))?;
+    let mut values = Column::new(alloc);
+    values.push_number(i128::from(value))?;
     Ok(ColIn { name, values })
 }
 

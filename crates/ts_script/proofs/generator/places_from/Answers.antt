@@ -5,4 +5,4 @@ use Rattle.ts_script.proofs.generator.places_from.Goals as goal
 
 pub loop-i-preserved : goal.loop-i-preserved
 loop-i-preserved c =
-    rw c.in_ok-push.ensures.items (values_more place_of c.args.first c.loop-i.i c.args.count c.loop-i.values.items _ _ c.loop-i-test.true (search rules) c.loop-i.invariant)
+    rw c.in_ok-push_number.ensures.ok (values_more place_of c.args.first c.loop-i.i c.args.count c.loop-i.values _ _ c.loop-i-test.true (search rules) c.loop-i.invariant)

@@ -1,5 +1,4 @@
 -- What was taken so far, and behind it what is taken of the cells that are left, is what is taken of all.
-use Rattle.std.proofs.Common.{length}
 use Rattle.std.specs.Prelude.{IfSome}
 use Rattle.ts_sparse_read.specs.Sifts.{IsSpotInside, cells_in}
 use Rattle.ts_sparse_read.proofs.SiftLaws.{Sifting}

@@ -1,8 +1,13 @@
-use Rattle.std.proofs.Common.{◌∙◌}
-use Rattle.ts_writer.proofs.Placed.{piece_parts}
+use Rattle.std.proofs.Common.{length, ◌∙◌}
+use Rattle.ts_writer.proofs.Globals.{piece_parts, places_within, versions_global}
+use Rattle.ts_writer.specs.Tables.{cells_in}
 use Rattle.ts_writer.proofs.pieces.piece_of.Goals as goal
+
+pub of-requires : goal.of-requires
+of-requires c = places_within (length c.args.table) c.args.places c.requires.global.each
 
 pub returns : goal.returns
 returns c =
-    (λ i. record { head = c.in_ok-head.ensures i; versions = c.in_ok-versions.ensures i })
-    ∙ piece_parts c.args.frame.now (record { key = c.args.key; schema = c.args.schema; cells = c.args.cells })
+    let versions = versions_global c.args.frame.now c.args.table c.args.places c.requires.global c.args.origin.key c.args.origin.schema c.requires.own in
+    c.of.ensures ∙ (λ i. record { head = c.in_ok-head.ensures i; versions = versions i })
+    ∙ piece_parts c.args.frame.now (record { key = c.args.origin.key; schema = c.args.origin.schema; cells = cells_in c.args.table })

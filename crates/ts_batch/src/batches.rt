@@ -1,0 +1,119 @@
+//! Batches of versions, one behind another.
+ghost use Rattle.std.specs.Prelude.{◌≡◌, [], ◌++◌, IfOk, OnOk, OnErr};
+ghost use Rattle.ts_batch.specs.Batches.{versions_of};
+
+use crate::batch::Batch;
+use crate::cell::{BatchCell, BatchCellList};
+use std::alloc::Global;
+use std::marker::Model;
+use ts_base::{OutOfMemory, VersionList};
+
+/// The versions of some batches. Contracts see the list of all versions, those of one batch behind
+/// those of another.
+#[derive(Debug, Drop)]
+pub struct Batches {
+    batches: Vec<Batch>,
+}
+
+impl Model for Batches {
+    ghost use Rattle.std.specs.Prelude.{List};
+    ghost use Rattle.ts_base.specs.declared.heads.Version.{Version};
+
+    ghost Value = { List Version };
+
+    ghost use Rattle.ts_batch.specs.Batches.{versions_of};
+
+    ghost view = { λ batches. versions_of batches.batches.items };
+}
+
+impl Batches {
+    /// No versions. It takes no memory.
+    pub fn new(alloc: Global) -> Batches
+        ensures { result ≡ [] }
+    {
+        Batches {
+            batches: Vec::new(alloc),
+        }
+    }
+
+    /// The versions of one batch.
+    pub fn of(alloc: Global, batch: Batch) -> Result<Batches, OutOfMemory>
+        ensures { IfOk result (λ batches. batches ≡ batch) }
+    {
+        let mut batches = Batches::new(alloc);
+        batches.push(batch)?;
+        Ok(batches)
+    }
+
+    /// The batches.
+    pub fn as_slice(&self) -> &[Batch]
+        ensures { versions_of result.now ≡ self.now }
+    {
+        self.batches.as_slice()
+    }
+
+    /// Puts the versions of a batch behind the others. Want of memory leaves these as they were.
+    pub fn push(&mut self, batch: Batch) -> Result<(), OutOfMemory>
+        ensures ok { OnOk result (self.new ≡ self.old ++ batch) }
+        ensures err { OnErr result (self.new ≡ self.old) }
+    {
+        self.batches.push(batch)?;
+        Ok(())
+    }
+
+    /// Puts the versions of other batches behind these. Want of memory leaves these as they were.
+    pub fn append(&mut self, more: Batches) -> Result<(), OutOfMemory>
+        ensures ok { OnOk result (self.new ≡ self.old ++ more) }
+        ensures err { OnErr result (self.new ≡ self.old) }
+    {
+        let Batches { mut batches } = more;
+        self.batches.append(&mut batches)?;
+        Ok(())
+    }
+
+    /// All versions, each with a row of its own. Those that are rows are moved.
+    pub fn into_rows(self, alloc: Global) -> Result<VersionList, OutOfMemory>
+        ensures { IfOk result (λ list. list ≡ self) }
+    {
+        let Batches { batches } = self;
+        let mut all = Vec::new(alloc);
+        for batch in batches {
+            let mut versions = batch.into_rows(alloc)?.into_vec();
+            if all.is_empty() {
+                all = versions;
+            } else {
+                all.append(&mut versions)?;
+            }
+        }
+        Ok(VersionList::from_vec(all))
+    }
+
+    /// The versions in their places. None is copied.
+    pub fn cells(&self, alloc: Global) -> Result<BatchCellList<'_>, OutOfMemory>
+        ensures { IfOk result (λ list. list ≡ self.now) }
+    {
+        cells_of(alloc, self.batches.as_slice())
+    }
+}
+
+// The versions of batches, in their places.
+fn cells_of(alloc: Global, batches: &[Batch]) -> Result<BatchCellList<'_>, OutOfMemory>
+    ensures { IfOk result (λ list. list ≡ versions_of batches.now) }
+{
+    let mut list = BatchCellList::new(alloc);
+    for batch in batches {
+        add_cells(&mut list, batch)?;
+    }
+    Ok(list)
+}
+
+// The versions of one batch more.
+#[tactic(auto, using(ts_table::proofs::Tables::steps))]
+fn add_cells<'a>(list: &mut BatchCellList<'a>, batch: &'a Batch) -> Result<(), OutOfMemory>
+    ensures { OnOk result (list.new ≡ list.old ++ batch.now) }
+{
+    for place in 0..batch.len() {
+        list.push(BatchCell::of(batch, place))?;
+    }
+    Ok(())
+}

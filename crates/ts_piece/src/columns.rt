@@ -1,0 +1,18 @@
+//! Copies of columns.
+ghost use Rattle.std.specs.Prelude.{◌≡◌, IfOk};
+
+use std::alloc::Global;
+use ts_base::OutOfMemory;
+use ts_table::Column;
+
+/// The values of a column once more.
+#[tactic(auto, using(crate::proofs::Values::nexts))]
+pub fn copied(alloc: Global, column: &Column) -> Result<Column, OutOfMemory>
+    ensures { IfOk result (λ twin. twin ≡ column.now) }
+{
+    let mut twin = Column::new(alloc);
+    for place in 0..column.len() {
+        twin.push_from(column, place)?;
+    }
+    Ok(twin)
+}

@@ -1,0 +1,119 @@
+//! The versions that a write makes, field by field, and what can be wrong with their cells.
+ghost use Rattle.std.specs.Prelude.{◌≡◌, ◌≤◌, ◌<◌, ◌-◌, ◌^◌, ℤ, List, [], pos, slice_index_or, length, map, option_map, IfOk, All};
+ghost use Rattle.ts_base.specs.declared.values.Val.{Val as AnyVal};
+ghost use Rattle.ts_base.specs.declared.heads.Version.{Version as AnyVersion};
+ghost use Rattle.ts_domain.specs.Boxes.{IsBox, cells_of};
+ghost use Rattle.ts_domain.specs.Domains.{first_outside};
+ghost use Rattle.ts_order.specs.Orders.{coords_in_order};
+ghost use Rattle.ts_model.specs.declared.answers.Refusal.TheVariants as refusal;
+ghost use Rattle.ts_model.specs.Commands.{cells_from, outside_in, version_in};
+ghost use Rattle.ts_writer.specs.Tables.{box_column, box_columns, cells_in};
+
+use crate::columns::{ColumnList, NumberLists};
+use std::alloc::Global;
+use ts_base::{Coords, OutOfMemory};
+use ts_domain::{Domain, Order, SubBox};
+use ts_model::Refusal;
+use ts_order::coords_at;
+use ts_table::{Numbers, Origin, Table};
+
+/// The versions of the cells of columns, which are all of one origin.
+#[tactic(auto, using(crate::proofs::LaidTables::laid))]
+pub(crate) fn table_of(
+    alloc: Global,
+    origin: Origin,
+    coords: NumberLists,
+    rows: ColumnList,
+    count: u64,
+) -> Result<Table, OutOfMemory>
+    requires some { 1 ≤ length coords }
+    requires room { length coords ≤ 8 }
+    requires coords_long { All (λ (numbers : List ℤ). length numbers ≡ count) coords }
+    requires rows_long { All (λ (vals : List AnyVal). length vals ≡ count) rows }
+    ensures { IfOk result (λ table. table ≡ map (version_in origin.key origin.schema) (cells_from coords rows 0 count)) }
+{
+    let cells = vec![in alloc; 0u32; count as usize]?;
+    let origins = vec![in alloc; origin]?;
+    Ok(Table::of(origins, coords.into_vec(), rows.into_vec(), cells))
+}
+
+/// The coordinates of all cells of a box along each dimension, in the order of a layout.
+#[tactic(auto, using(crate::proofs::LaidTables::boxes))]
+pub(crate) fn box_columns(
+    alloc: Global,
+    sub: &SubBox,
+    layout: Order,
+) -> Result<NumberLists, OutOfMemory>
+    requires valid { IsBox sub.now }
+    requires few_cells { cells_of sub.now < 2 ^ 64 - 1 }
+    ensures { IfOk result (λ columns. columns ≡ box_columns (length sub.now.low) (coords_in_order layout sub.now)) }
+{
+    let mut columns = NumberLists::new(alloc);
+    for dim in 0..sub.low.len() {
+        columns.push(box_column(alloc, sub, layout, dim)?)?;
+    }
+    Ok(columns)
+}
+
+// The coordinates of all cells of a box along a dimension.
+#[tactic(auto, using(crate::proofs::LaidTables::boxes))]
+fn box_column(alloc: Global, sub: &SubBox, layout: Order, dim: u8) -> Result<Numbers, OutOfMemory>
+    requires valid { IsBox sub.now }
+    requires few_cells { cells_of sub.now < 2 ^ 64 - 1 }
+    ensures { IfOk result (λ column. column ≡ box_column dim (coords_in_order layout sub.now)) }
+{
+    let mut column = Numbers::new(alloc);
+    for place in 0..sub.cells() {
+        column.push(coord_at(sub, layout, place, dim))?;
+    }
+    Ok(column)
+}
+
+// The coordinate along a dimension of the cell at a place of a box, or 0 where there is none.
+#[tactic(auto, using(crate::proofs::LaidTables::founds))]
+fn coord_at(sub: &SubBox, layout: Order, place: u64, dim: u8) -> i128
+    requires valid { IsBox sub.now }
+    requires few_cells { cells_of sub.now < 2 ^ 64 - 1 }
+    requires below { place < cells_of sub.now }
+    ensures { result ≡ slice_index_or (slice_index_or (coords_in_order layout sub.now) place []) dim (pos 0) }
+{
+    coord_of(&coords_at(sub, layout, place), dim)
+}
+
+// The coordinate along a dimension, or 0 where there is none.
+fn coord_of(at: &Coords, dim: u8) -> i128
+    ensures { result ≡ slice_index_or at.now dim (pos 0) }
+{
+    match at.as_slice().get(dim as usize) {
+        Some(number) => *number,
+        None => 0,
+    }
+}
+
+/// The first coordinate outside the domain, cell by cell.
+#[tactic(auto, using(crate::proofs::LaidTables::outsides))]
+pub(crate) fn outside_in(domain: &Domain, table: &Table) -> Option<Refusal>
+    requires { All (λ (v : AnyVersion). length v.coords ≡ length domain.now) table.now }
+    ensures { result ≡ outside_in domain.now (cells_in table.now) }
+{
+    for place in 0..table.len() {
+        if let Some(refusal) = outside_at(domain, &table.coords(place)) {
+            return Some(refusal);
+        }
+    }
+    None
+}
+
+// The first coordinate of a cell outside the domain.
+fn outside_at(domain: &Domain, at: &Coords) -> Option<Refusal>
+    requires { length at.now ≡ length domain.now }
+    ensures { result ≡ option_map (λ o. refusal.Domain o.dim o.value) (first_outside domain.now at.now) }
+{
+    match domain.check(at) {
+        Ok(()) => None,
+        Err(outside) => Some(Refusal::Domain {
+            dim: outside.dim,
+            value: outside.value,
+        }),
+    }
+}
