@@ -1,0 +1,4 @@
+pub mod SideLaws
+pub mod RowLaws
+pub mod RunLaws
+pub mod TableRows
