@@ -3,7 +3,7 @@ use Rattle.std.proofs.Common.{◌≡◌, ℕ, zero, suc, List, [], ◌∷◌, So
 use Rattle.std.specs.Prelude.{All, slice_get}
 use Rattle.std.proofs.lemmas.List.{append-nil}
 use Rattle.std.proofs.lemmas.List.Elements.{All-weaker}
-use Rattle.std.proofs.lemmas.Option.{none-some, same_Some}
+use Rattle.std.proofs.lemmas.Option.{none-some, same_Some, slice_get_within}
 use Rattle.ts_base.specs.Held.{Held}
 use Rattle.ts_model.specs.declared.commands.Job.{Job}
 use Rattle.ts_model.specs.declared.answers.Driven.{Driven}
@@ -17,15 +17,16 @@ use Rattle.ts_model.specs.Told.{Told, Suits, Replied, trace_of, held_told, histo
 use Rattle.ts_law.specs.Ends.{IsTrueOver}
 use Rattle.ts_law.specs.Fresh.{IsNewId}
 use Rattle.ts_law.specs.Kept.{Kept}
-use Rattle.ts_law.specs.Lanes.{lane_by, one_lane, own_lane, IsOwned, IsWithin}
+use Rattle.ts_law.specs.Lanes.{lane_by, own_lane, IsOwned, IsWithin}
 use Rattle.ts_law.specs.Refusals.{IsRefusedFor}
 use Rattle.ts_model.specs.declared.answers.Outcome.TheVariants as outcome
 use Rattle.ts_model.specs.declared.answers.Refusal.{Refusal}
 use Rattle.ts_law.specs.Runs.{AreDriven, IsTrueRun}
 use Rattle.ts_law.specs.Stands.{Stands}
 use Rattle.ts_law.proofs.Journals.{journal_held}
-use Rattle.ts_law.proofs.Lanes.{AreBy, own_in_turn}
+use Rattle.ts_law.proofs.Lanes.{AreBy, apart_in_turn}
 use Rattle.ts_law.proofs.Spawns.{starts_kept, spawn_kept}
+use Rattle.ts_law.proofs.Turns.{TakeTheirLane}
 use Rattle.ts_law.proofs.TrueRuns.{jobs_true_run}
 
 -- what the calls of one job leave, and what its end tells
@@ -46,16 +47,23 @@ module _ {F : Type 0} (codec : Codec F) (spelled : Spelled) (tracks : Tracking F
       by_place zero j r at r_at = subst (λ i. IsDriven codec i (trace_of 0 told) r) (same_Some job j at) (subst (λ o. IsDriven codec job (trace_of 0 told) o) (same_Some result r r_at) is)
       by_place (suc number) j r at r_at = absurd (none-some j at)
 
+  -- there is no other job whose lease an unlock could take
+  only : TakeTheirLane own_lane (job ∷ [])
+  only i k unlock holder seed lane mode apart at holder_at unlocks dead =
+      let first = slice_get_within (job ∷ []) i unlock at in
+      let second = slice_get_within (job ∷ []) k holder holder_at in
+      absurd (apart (let same : i ≡ k = omega (arith, first, second) in same))
+
   run : IsTrueRun spelled own_lane (job ∷ []) h m told (result ∷ [])
   run =
-      jobs_true_run codec spelled tracks laws own_lane (job ∷ []) h m told (result ∷ []) begins replied suit
+      jobs_true_run codec spelled tracks laws own_lane (job ∷ []) h m told (result ∷ []) only begins replied suit
       (All-weaker (λ e. e.job ≡ Some 0) IsOwned (λ e mine. (0, mine)) told own)
-      (All-weaker (λ e. e.job ≡ Some 0) (IsWithin (job ∷ [])) (λ e mine number by_it. let same = same_Some 0 number (sym mine ∙ by_it) in omega (arith, same)) told own) (own_in_turn one_lane 0 told own) driven
+      (All-weaker (λ e. e.job ≡ Some 0) (IsWithin (job ∷ [])) (λ e mine number by_it. let same = same_Some 0 number (sym mine ∙ by_it) in omega (arith, same)) told own) (apart_in_turn told) driven
 
   -- a job of any new identifier and any stop, of which nothing else is asked than that there can be such a one
   pub true_alone : IsTrueAlone spelled job h m told result
   true_alone = record {
     stands = subst (λ n. Stands spelled n (history_told (job ∷ []) h told)) (sym (journal_held (lane_by own_lane) m told)) (run.stands told [] (sym (append-nil told)));
-    is_true = λ end ended. run.answers 0 job end refl (ap Some ended);
+    is_true = λ end ended. run.answers told [] (sym (append-nil told)) 0 job end refl (ap Some ended) refl;
     causes = λ r ended. run.causes 0 job r refl (ap Some ended);
   }

@@ -15,6 +15,7 @@ use Rattle.ts_base.specs.declared.names.Prefix.TheVariants.{Commits}
 use Rattle.ts_base.specs.Exact.{name_decides}
 use Rattle.ts_base.specs.Names.{name_eq, wrt_of}
 use Rattle.ts_base.specs.Held.{Held}
+use Rattle.ts_store.specs.Calls.{is_no_memory}
 use Rattle.ts_store.specs.declared.call.Call.TheVariants as call
 use Rattle.ts_store.specs.declared.call.Reply.{Reply}
 use Rattle.ts_store.specs.declared.call.Reply.TheVariants as reply
@@ -191,7 +192,7 @@ module _ {F : Type 0} (codec : Codec F) (spelled : Spelled) (tracks : Tracking F
 
       gone_now : IsGone opening (seen ++ e ∷ []) number n
       gone_now = record {
-        removed = record { before = seen; made = e; later = []; place = refl; own = comes.own; makes = called };
+        removed = record { before = seen; made = e; later = []; place = refl; own = comes.own; makes = called; memory = ap is_no_memory said };
         gone = ap (λ x. map.get x n) (held_told-append opening seen (e ∷ []) ∙ ap (λ x. after_told x e) (sym comes.is_held)) ∙ gone;
       }
 

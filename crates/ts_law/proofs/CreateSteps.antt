@@ -10,7 +10,7 @@ use Rattle.ts_base.specs.Keys.{key_eq}
 use Rattle.ts_schema.specs.FrameTexts.{IsFrame, frame_object}
 use Rattle.ts_schema.specs.Parts.{IsShort}
 use Rattle.ts_schema.specs.declared.frames.Frame.{Frame}
-use Rattle.ts_store.specs.Calls.{part_of}
+use Rattle.ts_store.specs.Calls.{is_no_memory, part_of}
 use Rattle.ts_store.specs.declared.call.Reply.{Reply}
 use Rattle.ts_model.specs.Commands.{create_refusal, fits, frame_made}
 use Rattle.ts_model.specs.Deeds.{History, frame_in, keys, schemas}
@@ -147,7 +147,7 @@ module _ {F : Type 0} (codec : Codec F) (spelled : Spelled) (tracks : Tracking F
               (keeps_put m h name.Domain (frame_object (frame_made f)) job.id (Framed (frame_made f) ∷ []) free (marks_domain m) (inr refl) (λ k none. absurd (Contains-nil k none)));
           own = frame_leads f creates e.reply
               (λ is_made. puts_first_claims f creates sound clean_later (ap frame_in (same_history ∙ ap (λ g. g ++ Framed (frame_made f) ∷ []) (first_deed spelled m h free c.stands)))
-              (inl (made_now seen e number (frame_put f) c.own is, is_made, first_deed spelled m h free c.stands)))
+              (inl (made_now seen e number (frame_put f) c.own is (ap is_no_memory is_made), is_made, first_deed spelled m h free c.stands)))
               (λ taken. absurd (elim said [ inl made ↦ cc | inr failed ↦ cc ]))
               clean_later.undone;
         }
@@ -252,7 +252,7 @@ module _ {F : Type 0} (codec : Codec F) (spelled : Spelled) (tracks : Tracking F
   declared_step : (f : FrameIn) → job.command ≡ Create f → create_refusal f ≡ None → frame_in h ≡ Some (frame_made f) → Clean opening past jobs seen m job → ComesHere (Creates ListsDeclared) → AdvancesHere (Creates ListsDeclared)
   declared_step f creates sound framed clean c = record {
     leads = still_leads spelled past jobs seen e m job.id c.stands looked.0 same_history;
-    own = declared_leads f creates e.reply (λ none. puts_first_claims f creates sound clean_later (ap frame_in same_history ∙ framed) (inr (listed_now seen e number Schemas c.own is, no_schema none))) clean_later.undone;
+    own = declared_leads f creates e.reply (λ none. puts_first_claims f creates sound clean_later (ap frame_in same_history ∙ framed) (inr (listed_now seen e number Schemas c.own is (ap is_no_memory none), no_schema none))) clean_later.undone;
   }
     where
       is : e.call ≡ list_schemas

@@ -15,8 +15,8 @@ use Rattle.ts_model.specs.declared.answers.Driven.{Driven}
 use Rattle.ts_model.specs.declared.answers.Outcome.{Outcome}
 use Rattle.ts_model.specs.Codecs.{Codec, Spelled, Tracking, CodecLaws}
 use Rattle.ts_law.specs.Stands.{Stands}
-use Rattle.ts_law.specs.Fresh.{IsFreshSeed, Numbered, AreJobsOf}
-use Rattle.ts_law.specs.Lanes.{one_lane, IsOwned, IsWithin, InTurn}
+use Rattle.ts_law.specs.Fresh.{IsFreshSeed, Numbered, AreJobsOf, lanes_of}
+use Rattle.ts_law.specs.Lanes.{IsOwned, IsWithin, InTurn}
 use Rattle.ts_model.specs.Told.{Told, Suits, Replied}
 use Rattle.ts_law.specs.Runs.{AreDriven, IsTrueRun}
 use Rattle.ts_model.proofs.ListLemmas.{Contains-nil}
@@ -66,8 +66,8 @@ fresh_over_nothing seed id upper (inr (inr (f, (g, committed, names), is))) = no
 
 -- a run over nothing is true of the empty history
 pub true_from_nothing : {F : Type 0} (codec : Codec F) (spelled : Spelled) (tracks : Tracking F) → CodecLaws codec spelled tracks
-    → (gives : ℕ → Bool) (seed : ℕ) (items : List Numbered) (lanes : ℕ → ℕ) (jobs : List Job) (told : List Told) (results : List (Driven Outcome))
+    → (gives : ℕ → Bool) (seed : ℕ) (items : List Numbered) (jobs : List Job) (told : List Told) (results : List (Driven Outcome))
     → AreJobsOf gives seed items jobs → AreInOrder items → seed < 2 ^ 64
-    → Replied nothing told → All Suits told → All IsOwned told → All (IsWithin jobs) told → InTurn one_lane told → AreDriven codec jobs results told → IsTrueRun spelled lanes jobs [] nothing told results
-true_from_nothing codec spelled tracks laws gives seed items lanes jobs told results are order seed_fits replied suit owned within in_turn driven =
-    true_run codec spelled tracks laws gives seed items lanes jobs [] nothing told results are order (nothing_stands spelled) (fresh_over_nothing seed) seed_fits replied suit owned within in_turn driven
+    → Replied nothing told → All Suits told → All IsOwned told → All (IsWithin jobs) told → InTurn (lanes_of items) told → AreDriven codec jobs results told → IsTrueRun spelled (lanes_of items) jobs [] nothing told results
+true_from_nothing codec spelled tracks laws gives seed items jobs told results are order seed_fits replied suit owned within in_turn driven =
+    true_run codec spelled tracks laws gives seed items jobs [] nothing told results are order (nothing_stands spelled) (fresh_over_nothing seed) seed_fits replied suit owned within in_turn driven

@@ -88,7 +88,8 @@ pub mod TrueOver
 pub mod Refused
 pub mod Openings
 pub mod LineJobs
-pub mod OneLane
+pub mod LineLanes
+pub mod Turns
 pub mod TrueRuns
 pub mod NoSweeps
 pub mod RunLaw

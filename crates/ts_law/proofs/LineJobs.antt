@@ -214,17 +214,17 @@ command_fits true at (Unlock seed lane) small fit = fit
 command_fits true at Fragments small fit = fit
 command_fits false at c small fit = fit
 
--- it is one in a run of a seed of 64 bits
-seeded_fits : (seed : ℕ) (c : Command) → seed < 2 ^ 64 → IsTrue (fits c) → IsTrue (fits (seeded seed c))
-seeded_fits seed (Unlock own lane) small fit = and_from (nat_lt seed (2 ^ 64)) (nat_lt lane (2 ^ 32)) (lt-ltb seed (2 ^ 64) small) (and_parts (nat_lt own (2 ^ 64)) (nat_lt lane (2 ^ 32)) fit).1
-seeded_fits seed (Create f) small fit = fit
-seeded_fits seed (Evolve change) small fit = fit
-seeded_fits seed (Write w) small fit = fit
-seeded_fits seed (Read from to query) small fit = fit
-seeded_fits seed (Delete text) small fit = fit
-seeded_fits seed (Consolidate from to limits) small fit = fit
-seeded_fits seed Vacuum small fit = fit
-seeded_fits seed Fragments small fit = fit
+-- it is one in a run of a seed of 64 bits, in a lane of 32
+seeded_fits : (seed lane : ℕ) (c : Command) → seed < 2 ^ 64 → lane < 2 ^ 32 → IsTrue (fits c) → IsTrue (fits (seeded seed lane c))
+seeded_fits seed lane (Unlock own other) small few fit = and_from (nat_lt seed (2 ^ 64)) (nat_lt lane (2 ^ 32)) (lt-ltb seed (2 ^ 64) small) (lt-ltb lane (2 ^ 32) few)
+seeded_fits seed lane (Create f) small few fit = fit
+seeded_fits seed lane (Evolve change) small few fit = fit
+seeded_fits seed lane (Write w) small few fit = fit
+seeded_fits seed lane (Read from to query) small few fit = fit
+seeded_fits seed lane (Delete text) small few fit = fit
+seeded_fits seed lane (Consolidate from to limits) small few fit = fit
+seeded_fits seed lane Vacuum small few fit = fit
+seeded_fits seed lane Fragments small few fit = fit
 
 -- the seed of the identifier of a command is that of its run
 pub seed_of_id : (seed lane number : ℕ) → lane < 2 ^ 32 → number < 2 ^ 32 → seed_in (id_of seed lane number) ≡ seed
@@ -232,12 +232,12 @@ seed_of_id seed lane number lane_fits few = omega arith
 
 module _ (gives : ℕ → Bool) (seed : ℕ) (items : List Numbered) (jobs : List Job) (are : AreJobsOf gives seed items jobs) (order : AreInOrder items) where
   -- a job is that of the line at its place
-  line_of : (i : ℕ) (job : Job) → slice_get jobs i ≡ Some job → (item : Numbered) × (slice_get items i ≡ Some item) × IsJobOf gives (id_of seed (item.line).lane item.number) item.line job
+  pub line_of : (i : ℕ) (job : Job) → slice_get jobs i ≡ Some job → (item : Numbered) × (slice_get items i ≡ Some item) × IsJobOf gives (id_of seed (item.line).lane item.number) item.line job
   line_of i job at =
       let there = item_at jobs items i are.one_each (slice_get_within jobs i job at) in
       (there.0, there.1, are.each i there.0 job there.1 at)
 
-  fit_at : (i : ℕ) (item : Numbered) → slice_get items i ≡ Some item → IsFitItem item
+  pub fit_at : (i : ℕ) (item : Numbered) → slice_get items i ≡ Some item → IsFitItem item
   fit_at i item at = All-contains IsFitItem items item order.fit (Contains-slice_get items i item at)
 
   -- the identifiers of the jobs are apart
@@ -271,5 +271,5 @@ module _ (gives : ℕ → Bool) (seed : ℕ) (items : List Numbered) (jobs : Lis
             stamp = (is.stamp).width;
             id = subst (λ n. n < 2 ^ 128) (sym is.id_is) (width seed (x.line).lane x.number seed_fits (omega (arith, (small.fit).lane)) small.few);
             command = subst (λ c. IsTrue (fits c)) (sym (is.command ∙ ap (λ s. command_at s x.line job.at) (seed_of_id seed (x.line).lane x.number (omega (arith, (small.fit).lane)) small.few)))
-                (seeded_fits seed (ends_at (x.line).to_stamp job.at (x.line).command) seed_fits (command_fits (x.line).to_stamp job.at (x.line).command (is.stamp).width (small.fit).command));
+                (seeded_fits seed (x.line).lane (ends_at (x.line).to_stamp job.at (x.line).command) seed_fits (omega (arith, (small.fit).lane)) (command_fits (x.line).to_stamp job.at (x.line).command (is.stamp).width (small.fit).command));
           }

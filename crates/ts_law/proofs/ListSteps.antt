@@ -1,5 +1,5 @@
 -- What the listings of a job find, and where they lead.
-use Rattle.std.proofs.Common.{◌≡◌, ℕ, ◌&&◌, true, List, [], ◌∷◌, ◌++◌, Option, Some, None, refl, sym, ◌∙◌, ap, subst, arith}
+use Rattle.std.proofs.Common.{◌≡◌, ℕ, false, ◌&&◌, true, List, [], ◌∷◌, ◌++◌, Option, Some, None, refl, sym, ◌∙◌, ap, subst, arith}
 use Rattle.std.specs.Prelude.{Contains, filter, filter_map, nat_le, option_map}
 use Rattle.std.proofs.lemmas.Bool.{and_from, and_parts, le-leb, leb-true}
 use Rattle.std.specs.FinMap as map
@@ -18,7 +18,7 @@ use Rattle.ts_store.specs.declared.call.Call.{Call}
 use Rattle.ts_store.specs.declared.call.Call.TheVariants as call
 use Rattle.ts_store.specs.declared.call.Reply.{Reply}
 use Rattle.ts_store.specs.declared.call.Reply.TheVariants as reply
-use Rattle.ts_store.specs.Calls.{names_under}
+use Rattle.ts_store.specs.Calls.{is_no_memory, names_under}
 use Rattle.ts_cond.specs.CondTexts.{cond_object}
 use Rattle.ts_cond.specs.declared.query.Query.{Query}
 use Rattle.ts_schema.specs.declared.schemas.Schema.{Schema}
@@ -281,11 +281,11 @@ module _ {F : Type 0} (codec : Codec F) (spelled : Spelled) (tracks : Tracking F
   -- ---- the listing of the commits
 
   -- a read knows the fragments and the deletes that it listed
-  near_listed : Stands spelled m h → m ≡ held_told opening seen → e.job ≡ Some number → e.call ≡ list_commits → m' ≡ m → (from to : ℕ) (query : Query)
+  near_listed : Stands spelled m h → m ≡ held_told opening seen → e.job ≡ Some number → e.call ≡ list_commits → is_no_memory e.reply ≡ false → m' ≡ m → (from to : ℕ) (query : Query)
       → HasLooked spelled opening past jobs (seen ++ e ∷ []) m' number (Read from to query) (looked_into (Read from to query) (names_under Commits m))
-  near_listed stands now own is same_held from to query = record {
+  near_listed stands now own is memory same_held from to query = record {
     since = record {
-      commits = listed_now seen e number Commits own is;
+      commits = listed_now seen e number Commits own is memory;
       stands = subst (λ n. Stands spelled n h) now stands;
       held = λ n bytes no_lease was. ap (λ x. map.get x n) (same_held ∙ now) ∙ was;
     };
@@ -295,12 +295,12 @@ module _ {F : Type 0} (codec : Codec F) (spelled : Spelled) (tracks : Tracking F
   }
 
   -- they are those of the command
-  near_in_command : Stands spelled m h → m ≡ held_told opening seen → e.job ≡ Some number → e.call ≡ list_commits → m' ≡ m → (from to : ℕ) (query : Query) → job.command ≡ Read from to query
+  near_in_command : Stands spelled m h → m ≡ held_told opening seen → e.job ≡ Some number → e.call ≡ list_commits → is_no_memory e.reply ≡ false → m' ≡ m → (from to : ℕ) (query : Query) → job.command ≡ Read from to query
       → (names : List Name) → names ≡ names_under Commits m → HasLooked spelled opening past jobs (seen ++ e ∷ []) m' number job.command (looked_into job.command names)
-  near_in_command stands now own is same_held from to query reads names all =
+  near_in_command stands now own is memory same_held from to query reads names all =
       subst (λ c. HasLooked spelled opening past jobs (seen ++ e ∷ []) m' number c (looked_into c names)) (sym reads)
       (subst (λ ns. HasLooked spelled opening past jobs (seen ++ e ∷ []) m' number (Read from to query) (looked_into (Read from to query) ns)) (sym all)
-      (near_listed stands now own is same_held from to query))
+      (near_listed stands now own is memory same_held from to query))
 
   -- the listing of the commits leads a read to the listing of the schemas
   pub commits_steps : CodecLaws codec spelled tracks → ComesHere (Seeks ListsCommits) → AdvancesHere (Seeks ListsCommits)
@@ -311,7 +311,7 @@ module _ {F : Type 0} (codec : Codec F) (spelled : Spelled) (tracks : Tracking F
       record {
         leads = look.leads;
         own = names_lead Commits (λ names. Seeks (ListsSchemas (looked_into job.command names))) e.reply
-            (λ names said. (look.clean, near_in_command comes.stands comes.is_held comes.own is look.same_held reads.0 reads.1 reads.2 reads.3 names (listed m e Commits names is comes.replied said)))
+            (λ names said. (look.clean, near_in_command comes.stands comes.is_held comes.own is (ap is_no_memory said) look.same_held reads.0 reads.1 reads.2 reads.3 names (listed m e Commits names is comes.replied said)))
             look.clean.undone;
       }
 
@@ -325,7 +325,7 @@ module _ {F : Type 0} (codec : Codec F) (spelled : Spelled) (tracks : Tracking F
   abbrev works_listed : Stands spelled m h → IsUndone h job → e.job ≡ Some number → e.call ≡ list_schemas → h' ≡ h → (names : List Name) → e.reply ≡ reply.Names names → names ≡ names_under Schemas m
       → (s : Schema) → current_schema h (looked_at job) ≡ Some s → Works past jobs (seen ++ e ∷ []) number job s
   works_listed stands undone own is same_history names said all s there = record {
-    schemas = listed_now seen e number Schemas own is;
+    schemas = listed_now seen e number Schemas own is (ap is_no_memory said);
     undone = undone;
     holds = there;
     found = schemas_in names;

@@ -1,5 +1,5 @@
 -- The puts of a consolidation: the parts of its piece, the `.vac`, and the `.wrt`, by which its fragment joins the committed ones.
-use Rattle.std.proofs.Common.{◌≡◌, ℕ, ◌<◌, ◌≤◌, ◌⊎◌, true, false, cond, inl, inr, List, [], ◌∷◌, ◌++◌, length, Option, Some, None, zero, suc, refl, sym, ◌∙◌, ap, subst, arith}
+use Rattle.std.proofs.Common.{◌≡◌, ℕ, Bool, ◌<◌, ◌≤◌, ◌⊎◌, true, false, cond, inl, inr, List, [], ◌∷◌, ◌++◌, length, Option, Some, None, zero, suc, refl, sym, ◌∙◌, ap, subst, arith}
 use Rattle.std.specs.Prelude.{Contains, nat_lt, slice_get, slice_index_or, option_map}
 use Rattle.std.specs.List.{list_any}
 use Rattle.std.specs.FinMap as map
@@ -18,6 +18,7 @@ use Rattle.ts_base.specs.Held.{Held}
 use Rattle.ts_base.specs.Names.{wrt_of}
 use Rattle.ts_schema.specs.declared.schemas.Schema.{Schema}
 use Rattle.ts_schema.specs.Parts.{IsShort, look_in}
+use Rattle.ts_store.specs.Calls.{after, is_no_memory}
 use Rattle.ts_store.specs.declared.call.Call.TheVariants as call
 use Rattle.ts_commit.specs.Selections.{has_origin, names_merged}
 use Rattle.ts_commit.specs.Vacs.{vac_object}
@@ -340,6 +341,16 @@ module _ {F : Type 0} (codec : Codec F) (spelled : Spelled) (tracks : Tracking F
       so_now : (P : History → Held → Type 0) → P h (map.insert m (wrt_of own) []) → P h' (held_told opening (seen ++ e ∷ []))
       so_now P p = subst (λ n. P h' n) (sym now) (subst (λ g. P g (map.insert m (wrt_of own) [])) (sym unchanged) p)
 
+      -- the put found memory, since it added the `.wrt`
+      memory : is_no_memory e.reply ≡ false
+      memory = by_test (is_no_memory e.reply) refl
+        where
+          by_test : (b : Bool) → is_no_memory e.reply ≡ b → is_no_memory e.reply ≡ false
+          by_test false is_it = is_it
+          by_test true short =
+              let still : m ≡ map.insert m (wrt_of own) [] = sym (ap (λ b. cond b m (after m e.call e.fate)) short) ∙ same_held in
+              absurd (free (Holds-from_get m (wrt_of own) [] (ap (λ x. map.get x (wrt_of own)) still ∙ get_put m (wrt_of own) [])))
+
       -- so many fragments were merged
       merged : IsMerged spelled opening jobs past (seen ++ e ∷ []) number job own (length (o ∷ others))
       merged = record {
@@ -353,7 +364,7 @@ module _ {F : Type 0} (codec : Codec F) (spelled : Spelled) (tracks : Tracking F
         found = finds_schema_stays past jobs seen e number job ((merges.has).surveys).found;
         own = refl;
         counted = ap suc (sym (length-map others (λ (x : Opened). x.frag)));
-        put = record { before = seen; made = e; later = []; place = refl; own = c.own; makes = is };
+        put = record { before = seen; made = e; later = []; place = refl; own = c.own; makes = is; memory = memory };
         later = (((((merges.has).surveys).chooses).since).commits).later;
         order = (((((merges.has).surveys).chooses).since).commits).place;
         committed = so_now (λ g n. IsCommitted n own) (Holds-from_get (map.insert m (wrt_of own) []) (wrt_of own) [] (get_put m (wrt_of own) []));

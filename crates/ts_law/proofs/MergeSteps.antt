@@ -1,5 +1,5 @@
 -- The listings and the gets of a consolidation: each leads to the next one, to its first fetch, or to its end.
-use Rattle.std.proofs.Common.{◌≡◌, ℕ, inl, inr, List, [], ◌∷◌, ◌++◌, Some, None, Ok, refl, sym, ◌∙◌, ap, subst, length}
+use Rattle.std.proofs.Common.{◌≡◌, ℕ, false, inl, inr, List, [], ◌∷◌, ◌++◌, Some, None, Ok, refl, sym, ◌∙◌, ap, subst, length}
 use Rattle.std.specs.Prelude.{Contains, filter, option_map, slice_get}
 use Rattle.std.specs.FinMap as map
 use Rattle.std.proofs.lemmas.Option.{same_Some}
@@ -11,7 +11,7 @@ use Rattle.ts_base.specs.declared.heads.Piece.{Piece}
 use Rattle.ts_base.specs.declared.names.Name.TheVariants as name
 use Rattle.ts_base.specs.declared.names.Prefix.TheVariants.{Commits, Schemas}
 use Rattle.ts_base.specs.Held.{Held}
-use Rattle.ts_store.specs.Calls.{names_under}
+use Rattle.ts_store.specs.Calls.{is_no_memory, names_under}
 use Rattle.ts_schema.specs.declared.frames.Frame.{Frame}
 use Rattle.ts_schema.specs.declared.schemas.Schema.{Schema}
 use Rattle.ts_schema.specs.Evolutions.{schema_at}
@@ -76,16 +76,16 @@ module _ {F : Type 0} (codec : Codec F) (spelled : Spelled) (tracks : Tracking F
   -- ---- the listings
 
   -- a consolidation knows the fragments that it listed
-  chooses_listed : Stands spelled m h → m ≡ held_told opening seen → e.job ≡ Some number → e.call ≡ list_commits → m' ≡ m → (from to : ℕ) (limits : Limits) → job.command ≡ Consolidate from to limits
+  chooses_listed : Stands spelled m h → m ≡ held_told opening seen → e.job ≡ Some number → e.call ≡ list_commits → is_no_memory e.reply ≡ false → m' ≡ m → (from to : ℕ) (limits : Limits) → job.command ≡ Consolidate from to limits
       → Chooses spelled opening past jobs (seen ++ e ∷ []) m' number job (candidates_of (Consolidate from to limits) (names_under Commits m))
-  chooses_listed stands now own is same_held from to limits merges = record {
+  chooses_listed stands now own is memory same_held from to limits merges = record {
     from = from;
     to = to;
     limits = limits;
     merges = merges;
     chooses = record {
       since = record {
-        commits = listed_now seen e number Commits own is;
+        commits = listed_now seen e number Commits own is memory;
         stands = subst (λ n. Stands spelled n h) now stands;
         held = λ n bytes no_lease was. ap (λ x. map.get x n) (same_held ∙ now) ∙ was;
       };
@@ -107,7 +107,7 @@ module _ {F : Type 0} (codec : Codec F) (spelled : Spelled) (tracks : Tracking F
               look.clean,
               subst (λ c. Chooses spelled opening past jobs (seen ++ e ∷ []) m' number job (candidates_of c names)) (sym merges.3)
                   (subst (λ ns. Chooses spelled opening past jobs (seen ++ e ∷ []) m' number job (candidates_of (Consolidate merges.0 merges.1 merges.2) ns)) (sym (listed m e Commits names is comes.replied said))
-                  (chooses_listed comes.stands comes.is_held comes.own is look.same_held merges.0 merges.1 merges.2 merges.3)),
+                  (chooses_listed comes.stands comes.is_held comes.own is (ap is_no_memory said) look.same_held merges.0 merges.1 merges.2 merges.3)),
             ))
             look.clean.undone;
       }
@@ -128,7 +128,7 @@ module _ {F : Type 0} (codec : Codec F) (spelled : Spelled) (tracks : Tracking F
               | None ↦ λ _. look.clean.undone
               | Some s ↦ λ there.
                   let framed = framed_by_schema h s.key s comes.stands.history (current_is_with h (looked_at job) s comes.stands.history there) in
-                  (look.clean, chooses, (framed.0, ap frame_in look.same_history ∙ framed.1), record { schemas = listed_now seen e number Schemas comes.own is; current = s; holds = there })
+                  (look.clean, chooses, (framed.0, ap frame_in look.same_history ∙ framed.1), record { schemas = listed_now seen e number Schemas comes.own is (ap is_no_memory said); current = s; holds = there })
             ] refl))
             look.clean.undone;
       }

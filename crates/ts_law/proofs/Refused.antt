@@ -176,12 +176,12 @@ module _ (spelled : Spelled) (opening : Held) (jobs : List Job) (past : History)
       }
 
   -- a call at its place
-  abbrev made_at : (x : Exchange) (c : Call) → x.call ≡ c → (at : Placed x) → MadeAt told number c
-  made_at x c is at = record { before = at.before; made = at.e; later = at.later; place = at.place; own = at.own; makes = at.calls ∙ is }
+  abbrev made_at : (x : Exchange) (c : Call) → x.call ≡ c → is_no_memory x.reply ≡ false → (at : Placed x) → MadeAt told number c
+  made_at x c is memory at = record { before = at.before; made = at.e; later = at.later; place = at.place; own = at.own; makes = at.calls ∙ is; memory = ap is_no_memory at.replies ∙ memory }
 
   -- a listing at its place
-  abbrev listed_at : (p : Prefix) (r : Reply) (at : Placed (record { call = call.List p; reply = r })) → ListedAt told number p
-  listed_at p r at = record { before = at.before; listing = at.e; later = at.later; place = at.place; own = at.own; lists = at.calls }
+  abbrev listed_at : (p : Prefix) (names : List Name) (at : Placed (record { call = call.List p; reply = reply.Names names })) → ListedAt told number p
+  listed_at p names at = record { before = at.before; listing = at.e; later = at.later; place = at.place; own = at.own; lists = at.calls; memory = ap is_no_memory at.replies }
 
   -- the names that a listing told were those that were held
   names_are : (p : Prefix) (names : List Name) (at : Placed (record { call = call.List p; reply = reply.Names names })) → names ≡ names_under p (held_told opening at.before)
@@ -282,7 +282,7 @@ module _ (spelled : Spelled) (opening : Held) (jobs : List Job) (past : History)
     array_found trace among last at_last f (inl (bytes, is, other)) =
         let at = placed _ (among _ (subst (Contains trace) is at_last)) in
         let (frame, framed, object, reads) = frame_got bytes at in
-        inl (made_at _ get_frame refl at, frame, framed, λ same. true≢false (sym ((bytes_eq-Decides (frame_object (frame_made f)) bytes).1 (ap frame_object (sym same) ∙ sym object)) ∙ other))
+        inl (made_at _ get_frame refl refl at, frame, framed, λ same. true≢false (sym ((bytes_eq-Decides (frame_object (frame_made f)) bytes).1 (ap frame_object (sym same) ∙ sym object)) ∙ other))
     array_found trace among last at_last f (inr (names, is, some)) = by_names names (placed _ (among _ (subst (Contains trace) is at_last))) some
       where
         under_schemas : (n : Name) → is_under Schemas n ≡ true → (k : Key) × (schema_key_in n ≡ Some k)
@@ -315,7 +315,7 @@ module _ (spelled : Spelled) (opening : Held) (jobs : List Job) (past : History)
         record { own = own; has = has; leases = listed_at Leases _ at; first = ap (λ ns. verdict_in ns own) (sym (names_are Leases names at)) ∙ first }
     cause_found trace among last at_last (refusal.StoreFault p) is_true (speaks, failed) =
         let at = placed last (among last at_last) in
-        record { call = last.call; speaks = speaks; at = made_at last last.call refl at; failed = at.replies ∙ failed; undone = failed_undone (held_told opening at.before) at.e at.said (at.replies ∙ failed) }
+        record { call = last.call; speaks = speaks; at = made_at last last.call refl (ap is_no_memory failed) at; failed = at.replies ∙ failed; undone = failed_undone (held_told opening at.before) at.e at.said (at.replies ∙ failed) }
     cause_found trace among last at_last (refusal.NothingToDo count) is_true is = is_true.1
     cause_found trace among last at_last (refusal.Taken n) is_true is = is_true
     cause_found trace among last at_last (refusal.Missing n) is_true is = is_true
@@ -376,7 +376,7 @@ module _ (spelled : Spelled) (opening : Held) (jobs : List Job) (past : History)
             let fault : HasFailed told number (place_of (call.Remove lease)) = record {
               call = call.Remove lease;
               speaks = refl;
-              at = made_at (removal lease said) (call.Remove lease) refl at;
+              at = made_at (removal lease said) (call.Remove lease) refl (ap is_no_memory failed) at;
               failed = at.replies ∙ failed;
               undone = failed_undone (held_told opening at.before) at.e at.said (at.replies ∙ failed);
             } in

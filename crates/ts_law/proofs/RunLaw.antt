@@ -14,7 +14,7 @@ use Rattle.ts_model.specs.Told.{Told, trace_of}
 use Rattle.ts_model.specs.Driven.{AskedFrom}
 use Rattle.ts_model.specs.Driving.{Leaves}
 use Rattle.ts_law.specs.Doing.{AllRan}
-use Rattle.ts_law.specs.Fresh.{Numbered, AreJobsOf}
+use Rattle.ts_law.specs.Fresh.{Numbered, AreJobsOf, lanes_of}
 use Rattle.ts_law.specs.Lanes.{lane_by}
 use Rattle.ts_law.specs.Runs.{AreDriven, IsRunOver, IsRun}
 use Rattle.ts_law.proofs.Journals.{journal_held}
@@ -33,15 +33,19 @@ asked_by codec jobs results told all number job at =
 
 -- ---- a run
 
-module _ {F S : Type 0} (codec : Codec F) (held : S → Option Held) (made : S → List Told → S → Type 0) (gives : ℕ → Bool) (seed : ℕ) (items : List Numbered) (lanes : ℕ → ℕ) (jobs : List Job) (store later : S) (journal : List Entry) (results : List (Driven Outcome))
-    (are : AreJobsOf gives seed items jobs) (order : AreInOrder items) (ran : AllRan codec held made lanes jobs store later [] journal results) where
+module _ {F S : Type 0} (codec : Codec F) (held : S → Option Held) (made : S → List Told → S → Type 0) (gives : ℕ → Bool) (seed : ℕ) (items : List Numbered) (jobs : List Job) (store later : S) (journal : List Entry) (results : List (Driven Outcome))
+    (are : AreJobsOf gives seed items jobs) (order : AreInOrder items) (ran : AllRan codec held made (lanes_of items) jobs store later [] journal results) where
+  -- the lanes of the lines
+  abbrev lanes : ℕ → ℕ
+  lanes = lanes_of items
+
   module _ (spelled : Spelled) (tracks : Tracking F) (laws : CodecLaws codec spelled tracks) where
     -- over a store that told what it held, the jobs are a run of it
     run_over : (m : Held) → Leaves m (held later) ran.told → seed < 2 ^ 64 → IsRunOver spelled seed lanes jobs m (held later) journal ran.told results
     run_over m leaves seed_fits = record {
       replied = leaves.replied;
       held = leaves.held ∙ ap Some (journal_held (lane_by lanes) m ran.told ∙ ap (held_after m) (sym ran.entries));
-      true_run = λ h stands fresh. true_run codec spelled tracks laws gives seed items lanes jobs h m ran.told results are order stands fresh seed_fits leaves.replied ran.suit ran.owned ran.within ran.in_turn ran.driven;
+      true_run = λ h stands fresh. true_run codec spelled tracks laws gives seed items jobs h m ran.told results are order stands fresh seed_fits leaves.replied ran.suit ran.owned ran.within (in_turn_lanes lanes ran.told ran.in_turn) ran.driven;
     }
 
     -- they are a run, over whatever store

@@ -123,7 +123,7 @@ module _ (jobs : List Job) (past : History) (number : ℕ) (job : Job) (is_job :
       ])
 
   -- and so after calls of others
-  undone_on : (seen told : List Told) → ((e : Told) → Contains told e → e.job ≡ Some number → ⊥) → IsUndone (history_told jobs past seen) job → IsUndone (history_told jobs past (seen ++ told)) job
+  pub undone_on : (seen told : List Told) → ((e : Told) → Contains told e → e.job ≡ Some number → ⊥) → IsUndone (history_told jobs past seen) job → IsUndone (history_told jobs past (seen ++ told)) job
   undone_on seen [] others undone = subst (λ t. IsUndone (history_told jobs past t) job) (sym (append-nil seen)) undone
   undone_on seen (e ∷ told) others undone =
       subst (λ t. IsUndone (history_told jobs past t) job) (append_assoc seen (e ∷ []) told)

@@ -39,6 +39,7 @@ use Rattle.ts_schema.specs.Evolutions.{evolved_attrs}
 use Rattle.ts_schema.specs.declared.attrs.Attr.{Attr}
 use Rattle.ts_schema.specs.declared.frames.Frame.{Frame}
 use Rattle.ts_schema.specs.declared.schemas.Schema.{Schema}
+use Rattle.ts_store.specs.Calls.{is_no_memory}
 use Rattle.ts_store.specs.declared.call.Call.{Call}
 use Rattle.ts_store.specs.declared.call.Call.TheVariants as call
 use Rattle.std.specs.FinMap as map
@@ -114,11 +115,12 @@ listed_stays seen e number prefix at = record {
   place = ap (λ t. t ++ e ∷ []) at.place ∙ append_assoc at.before (at.listing ∷ at.later) (e ∷ []);
   own = at.own;
   lists = at.lists;
+  memory = at.memory;
 }
 
 -- a listing that comes now is listed
-abbrev pub listed_now : (seen : List Told) (e : Told) (number : ℕ) (prefix : Prefix) → e.job ≡ Some number → e.call ≡ call.List prefix → ListedAt (seen ++ e ∷ []) number prefix
-listed_now seen e number prefix own lists = record { before = seen; listing = e; later = []; place = refl; own = own; lists = lists }
+abbrev pub listed_now : (seen : List Told) (e : Told) (number : ℕ) (prefix : Prefix) → e.job ≡ Some number → e.call ≡ call.List prefix → is_no_memory e.reply ≡ false → ListedAt (seen ++ e ∷ []) number prefix
+listed_now seen e number prefix own lists memory = record { before = seen; listing = e; later = []; place = refl; own = own; lists = lists; memory = memory }
 
 -- a call that was made was made still
 abbrev pub made_stays : (seen : List Told) (e : Told) (number : ℕ) (c : Call) → MadeAt seen number c → MadeAt (seen ++ e ∷ []) number c
@@ -129,11 +131,12 @@ made_stays seen e number c at = record {
   place = ap (λ t. t ++ e ∷ []) at.place ∙ append_assoc at.before (at.made ∷ at.later) (e ∷ []);
   own = at.own;
   makes = at.makes;
+  memory = at.memory;
 }
 
 -- a call that comes now is made
-abbrev pub made_now : (seen : List Told) (e : Told) (number : ℕ) (c : Call) → e.job ≡ Some number → e.call ≡ c → MadeAt (seen ++ e ∷ []) number c
-made_now seen e number c own makes = record { before = seen; made = e; later = []; place = refl; own = own; makes = makes }
+abbrev pub made_now : (seen : List Told) (e : Told) (number : ℕ) (c : Call) → e.job ≡ Some number → e.call ≡ c → is_no_memory e.reply ≡ false → MadeAt (seen ++ e ∷ []) number c
+made_now seen e number c own makes memory = record { before = seen; made = e; later = []; place = refl; own = own; makes = makes; memory = memory }
 
 -- ---- what a job found so far
 

@@ -1,5 +1,5 @@
 -- The listings and the gets of a vacuum: each leads to the next one, to its removals, or to its end.
-use Rattle.std.proofs.Common.{◌≡◌, ℕ, inl, inr, List, [], ◌∷◌, ◌++◌, Some, None, length, refl, sym, ◌∙◌, ap, subst, arith}
+use Rattle.std.proofs.Common.{◌≡◌, ℕ, false, inl, inr, List, [], ◌∷◌, ◌++◌, Some, None, length, refl, sym, ◌∙◌, ap, subst, arith}
 use Rattle.std.specs.Prelude.{Contains, option_map, slice_get}
 use Rattle.std.specs.FinMap as map
 use Rattle.std.proofs.lemmas.List.{length_push}
@@ -9,7 +9,7 @@ use Rattle.ts_base.specs.declared.keys.FragKey.{FragKey}
 use Rattle.ts_base.specs.declared.names.Name.{Name}
 use Rattle.ts_base.specs.declared.names.Prefix.TheVariants.{Commits, Fragment, Schemas}
 use Rattle.ts_base.specs.Held.{Held}
-use Rattle.ts_store.specs.Calls.{names_under}
+use Rattle.ts_store.specs.Calls.{is_no_memory, names_under}
 use Rattle.ts_schema.specs.Evolutions.{schema_at}
 use Rattle.ts_commit.specs.declared.vacs.VacOf.{VacOf}
 use Rattle.ts_commit.specs.Vacs.{names_of}
@@ -68,12 +68,12 @@ module _ {F : Type 0} (codec : Codec F) (spelled : Spelled) (tracks : Tracking F
   -- ---- the listings
 
   -- a vacuum knows what it listed
-  sweeps_listed : Stands spelled m h → m ≡ held_told opening seen → AreSpent opening past seen m → e.job ≡ Some number → e.call ≡ list_commits → m' ≡ m → job.command ≡ Vacuum
+  sweeps_listed : Stands spelled m h → m ≡ held_told opening seen → AreSpent opening past seen m → e.job ≡ Some number → e.call ≡ list_commits → is_no_memory e.reply ≡ false → m' ≡ m → job.command ≡ Vacuum
       → SweepsFrom spelled opening past jobs (seen ++ e ∷ []) m' number job (sweep_of (names_under Commits m))
-  sweeps_listed stands now spent own is same_held vacuums = record {
+  sweeps_listed stands now spent own is memory same_held vacuums = record {
     vacuums = vacuums;
     since = record {
-      commits = listed_now seen e number Commits own is;
+      commits = listed_now seen e number Commits own is memory;
       stands = subst (λ n. Stands spelled n h) now stands;
       held = λ n bytes no_lease was. ap (λ x. map.get x n) (same_held ∙ now) ∙ was;
     };
@@ -98,7 +98,7 @@ module _ {F : Type 0} (codec : Codec F) (spelled : Spelled) (tracks : Tracking F
             (λ names said. (
               look.clean,
               subst (λ ns. SweepsFrom spelled opening past jobs (seen ++ e ∷ []) m' number job (sweep_of ns)) (sym (listed m e Commits names is comes.replied said))
-                  (sweeps_listed comes.stands comes.is_held comes.spent comes.own is look.same_held comes.claims.1),
+                  (sweeps_listed comes.stands comes.is_held comes.spent comes.own is (ap is_no_memory said) look.same_held comes.claims.1),
             ))
             look.clean.undone;
       }
@@ -123,7 +123,7 @@ module _ {F : Type 0} (codec : Codec F) (spelled : Spelled) (tracks : Tracking F
               | None ↦ λ _. look.clean.undone
               | Some x ↦ λ there.
                   sweeping_claims codec spelled tracks laws opening past jobs (seen ++ e ∷ []) m' number job look.clean look.leads.stands s
-                  (record { from = from; found = record { schemas = listed_now seen e number Schemas comes.own is; current = x; holds = there } })
+                  (record { from = from; found = record { schemas = listed_now seen e number Schemas comes.own is (ap is_no_memory said); current = x; holds = there } })
             ] refl))
             look.clean.undone;
       }
@@ -226,7 +226,7 @@ module _ {F : Type 0} (codec : Codec F) (spelled : Spelled) (tracks : Tracking F
             (λ names said.
             listing_claims codec spelled tracks laws opening past jobs (seen ++ e ∷ []) m' number job look.clean look.leads.stands s set (listing ++ names ∷ [])
             (lists_more s set listing f next.1 names knows (record {
-              lists = record { parts = listed_now seen e number (Fragment f) comes.own next.2; between = commits.later; order = commits.place };
+              lists = record { parts = listed_now seen e number (Fragment f) comes.own next.2 (ap is_no_memory said); between = commits.later; order = commits.place };
               names_are = listed m e (Fragment f) names next.2 comes.replied said ∙ ap (names_under (Fragment f)) comes.is_held;
             })))
             look.clean.undone);

@@ -16,10 +16,10 @@ use Rattle.ts_model.specs.Codecs.{Codec, Spelled, Tracking, CodecLaws}
 use Rattle.ts_model.specs.Jobs.{IsFit, AreFit, AreApart, looked_at}
 use Rattle.ts_law.specs.Stands.{IsNoLease, Stands}
 use Rattle.ts_model.specs.Stages.{stage_of}
-use Rattle.ts_law.specs.Fresh.{IsCarried, IsNewId, IsFreshSeed, Numbered, AreJobsOf}
-use Rattle.ts_law.specs.Lanes.{lane_by, one_lane, IsOwned, IsWithin, InTurn}
+use Rattle.ts_law.specs.Fresh.{IsCarried, IsNewId, IsFreshSeed, Numbered, AreJobsOf, lanes_of}
+use Rattle.ts_law.specs.Lanes.{lane_by, IsOwned, IsWithin, InTurn}
 use Rattle.ts_model.specs.Told.{Told, Suits, trace_of, held_told, history_told, Replied, entries_of, schema_used, schemas_found}
-use Rattle.ts_law.specs.Ends.{FindsNoArray, IsTrueEnd}
+use Rattle.ts_law.specs.Ends.{FindsNoArray, IsTrueEnd, IsTrueOver}
 use Rattle.ts_law.specs.Refusals.{WorksInSchema}
 use Rattle.ts_model.specs.Commands.{create_refusal}
 use Rattle.ts_base.specs.declared.names.Name.TheVariants as name
@@ -36,15 +36,16 @@ use Rattle.ts_law.specs.Runs.{AreDriven, IsTrueRun}
 use Rattle.ts_law.specs.Histories.{history_of}
 use Rattle.ts_law.specs.Kept.{Kept, AreAllowed, Works}
 use Rattle.ts_model.proofs.ListLemmas.{Contains-here, Contains-there, slice_get-Contains, slice_get_left}
+use Rattle.ts_model.proofs.Traces.{trace_of-append}
 use Rattle.ts_law.proofs.TrueOver.{true_over}
-use Rattle.ts_law.proofs.KeptLaws.{end_is_true, all_kept, calling, coming, every_prefix, held_from}
-use Rattle.ts_law.proofs.Lanes.{in_turn_lanes}
+use Rattle.ts_law.proofs.KeptLaws.{AreAllowed-parts, Replied-front, all_kept, calling, coming, dropped_stay, end_is_true, every_prefix, held_from}
 use Rattle.ts_law.proofs.LineJobs.{AreInOrder, ids_apart, id_has_seed, jobs_fit}
+use Rattle.ts_law.proofs.LineLanes.{lines_take}
 use Rattle.ts_law.proofs.Idle.{refused_idle}
 use Rattle.ts_law.proofs.SweepsAlone.{sweeps_alone}
 use Rattle.ts_law.proofs.LeftAlone.{looks_alone, puts_alone, unlocks_alone}
 use Rattle.ts_law.proofs.OwnFragments.{stays_own}
-use Rattle.ts_law.proofs.OneLane.{done_apart, one_lane_allowed, stopped_before}
+use Rattle.ts_law.proofs.Turns.{TakeTheirLane, done_apart, stopped_before, turns_allowed}
 use Rattle.ts_law.proofs.Segments.{segment_of}
 use Rattle.ts_law.proofs.Short.{short_undone}
 use Rattle.ts_law.proofs.Refused.{refused_for}
@@ -61,14 +62,15 @@ not_leased n none (inr lease) = absurd (subst IsNoLease lease.2 none)
 -- ---- the run
 
 module _ {F : Type 0} (codec : Codec F) (spelled : Spelled) (tracks : Tracking F) (laws : CodecLaws codec spelled tracks) (lanes : ℕ → ℕ) (jobs : List Job) (h : History) (m : Held) (told : List Told) (results : List (Driven Outcome))
-    (begins : Kept codec spelled tracks m h jobs [] [] m) (replied : Replied m told) (suit : All Suits told) (owned : All IsOwned told) (within : All (IsWithin jobs) told) (in_turn : InTurn one_lane told) (driven : AreDriven codec jobs results told) where
+    (takes : TakeTheirLane lanes jobs)
+    (begins : Kept codec spelled tracks m h jobs [] [] m) (replied : Replied m told) (suit : All Suits told) (owned : All IsOwned told) (within : All (IsWithin jobs) told) (in_turn : InTurn lanes told) (driven : AreDriven codec jobs results told) where
   -- the jobs that are dropped in the end: those that were stopped
   abbrev last : List ℕ
   last = stopped_before results (length jobs)
 
   -- each of the calls may come
   may : AreAllowed codec jobs [] last [] told
-  may = one_lane_allowed codec jobs results told owned within suit in_turn driven
+  may = turns_allowed codec spelled tracks laws m h lanes jobs takes results told begins replied owned within suit in_turn driven
 
   -- each first part of the calls leaves objects that stand for its history
   prefix_stands : (front back : List Told) → told ≡ front ++ back → Stands spelled (held_after m (entries_of (lane_by lanes) front)) (history_told jobs h front)
@@ -82,16 +84,43 @@ module _ {F : Type 0} (codec : Codec F) (spelled : Spelled) (tracks : Tracking F
       let (a, b, whole, same) = front_told (lane_by lanes) told front back parts in
       subst (λ es. Stands spelled (held_after m es) (history_of h m jobs es)) same
       (subst (Stands spelled (held_after m (entries_of (lane_by lanes) a)))
-      (front_history codec spelled tracks laws jobs h m told (lane_by lanes) last begins may replied (lanes_turn lanes told owned (in_turn_lanes lanes told in_turn)) a b whole) (prefix_stands a b whole))
+      (front_history codec spelled tracks laws jobs h m told (lane_by lanes) last begins may replied (lanes_turn lanes told owned in_turn) a b whole) (prefix_stands a b whole))
 
-  -- what each end tells of the history is true
-  true_end : (number : ℕ) (job : Job) (end : Outcome) → slice_get jobs number ≡ Some job → slice_get results number ≡ Some (Done end) → IsTrueEnd spelled m jobs h told number job end
-  true_end number job end at end_at =
-      let kept = all_kept codec spelled tracks laws m h jobs [] last [] m told begins may replied in
-      elim (driven.driven number job (Done end) at end_at).ends [
-        | inl over ↦ end_is_true codec spelled tracks m h jobs last told (held_told m told) kept number job end at (done_apart results (length jobs) number end end_at) over
-        | inr none ↦ subst (IsTrueEnd spelled m jobs h told number job) (sym none.0) tt
-      ]
+  -- a first part of the calls
+  module _ (front back : List Told) (parts : told ≡ front ++ back) where
+    -- of the calls that may come these may come first
+    abbrev first : (now : List ℕ) × AreAllowed codec jobs [] now [] front × AreAllowed codec jobs now last front back
+    first = AreAllowed-parts codec jobs [] last [] front back (subst (AreAllowed codec jobs [] last []) parts may)
+
+    replied_first : Replied m front
+    replied_first = Replied-front m front back (subst (Replied m) parts replied)
+
+    module _ (number : ℕ) (job : Job) (end : Outcome) (at : slice_get jobs number ≡ Some job) (end_at : slice_get results number ≡ Some (Done end)) (none : trace_of number back ≡ []) where
+      -- a job that has made its calls ended by them
+      ends_first : EndsBy codec job (trace_of number front) end
+      ends_first =
+          let traced : trace_of number told ≡ trace_of number front = ap (trace_of number) parts ∙ trace_of-append number front back ∙ ap (λ t. trace_of number front ++ t) none ∙ append-nil (trace_of number front) in
+          subst (λ t. EndsBy codec job t end) traced (driven.driven number job (Done end) at end_at).ends
+
+      -- and was not dropped
+      stays_up : Contains first.0 number → ⊥
+      stays_up there = done_apart results (length jobs) number end end_at (dropped_stay codec jobs first.0 last front back first.2 number there)
+
+      -- what its end tells of the history is true
+      true_end : IsTrueEnd spelled m jobs h front number job end
+      true_end =
+          let kept = all_kept codec spelled tracks laws m h jobs [] first.0 [] m front begins first.1 replied_first in
+          elim ends_first [
+            | inl over ↦ end_is_true codec spelled tracks m h jobs first.0 front (held_told m front) kept number job end at stays_up over
+            | inr none ↦ subst (IsTrueEnd spelled m jobs h front number job) (sym none.0) tt
+          ]
+
+      -- so it is of a job that ran short of memory
+      true_over_first : IsTrueOver spelled m jobs h front number job end
+      true_over_first =
+          true_over spelled m jobs h front number job end
+          (λ short. short_undone codec spelled tracks laws h jobs m front first.0 begins first.1 replied_first number job at stays_up (subst (EndsBy codec job (trace_of number front)) short ends_first))
+          true_end
 
   -- a put of no lease is one of a frame or of an own object
   put_behind : (seen back : List Told) (e : Told) → told ≡ seen ++ e ∷ back → (number : ℕ) (job : Job) → e.job ≡ Some number → slice_get jobs number ≡ Some job
@@ -143,20 +172,17 @@ module _ {F : Type 0} (codec : Codec F) (spelled : Spelled) (tracks : Tracking F
         ]
       ]
 
-  -- jobs that are driven one after the other, from where what is kept holds, make a true run
+  -- jobs that are driven in lanes, from where what is kept holds, make a true run
   pub jobs_true_run : IsTrueRun spelled lanes jobs h m told results
   jobs_true_run = record {
     stands = prefix_stands;
     journal = journal_stands;
     own = stays_own codec spelled tracks laws m h jobs last told begins may replied;
     stays = λ front mid back parts others. held_from codec spelled tracks laws m h jobs [] last [] m told front mid back begins may replied parts others;
-    answers = λ number job end at end_at.
-        true_over spelled m jobs h told number job end
-        (λ short. short_undone codec spelled tracks laws h jobs m told last begins may replied number job at (done_apart results (length jobs) number end end_at) (subst (EndsBy codec job (trace_of number told)) short (driven.driven number job (Done end) at end_at).ends))
-        (true_end number job end at end_at);
+    answers = true_over_first;
     causes = λ number job r at end_at.
         refused_for spelled m jobs h told replied (λ front back parts. ((every_prefix codec spelled tracks laws m h jobs [] last [] m told front back begins may replied parts).kept).stands) number codec job r
-        (true_end number job (outcome.Refused r) at end_at)
+        (true_end told [] (sym (append-nil told)) number job (outcome.Refused r) at end_at refl)
         (segment_of codec laws.looks job (trace_of number told) (Done (outcome.Refused r)) (driven.driven number job (Done (outcome.Refused r)) at end_at));
     sweeps = λ number job at vacuums. sweeps_alone codec spelled tracks laws m h jobs last told begins may replied number job at vacuums;
     unlocks = λ number job seed lane at unlocks. unlocks_alone codec spelled tracks laws m h jobs last told begins may replied number job at seed lane unlocks;
@@ -203,10 +229,10 @@ kept_first codec spelled tracks gives seed items jobs h m are order stands fresh
         let (number, is) = slice_get-Contains jobs job at in
         fresh job.id (id_has_seed gives seed items jobs are order number job is) carried
 
--- the jobs of lines in order that are driven one after the other, over objects that stand for a history which the seed is fresh over, make a true run
+-- the jobs of lines in order that are driven in the lanes of the lines, over objects that stand for a history which the seed is fresh over, make a true run
 pub true_run : {F : Type 0} (codec : Codec F) (spelled : Spelled) (tracks : Tracking F) → CodecLaws codec spelled tracks
-    → (gives : ℕ → Bool) (seed : ℕ) (items : List Numbered) (lanes : ℕ → ℕ) (jobs : List Job) (h : History) (m : Held) (told : List Told) (results : List (Driven Outcome))
+    → (gives : ℕ → Bool) (seed : ℕ) (items : List Numbered) (jobs : List Job) (h : History) (m : Held) (told : List Told) (results : List (Driven Outcome))
     → AreJobsOf gives seed items jobs → AreInOrder items → Stands spelled m h → IsFreshSeed m h seed → seed < 2 ^ 64
-    → Replied m told → All Suits told → All IsOwned told → All (IsWithin jobs) told → InTurn one_lane told → AreDriven codec jobs results told → IsTrueRun spelled lanes jobs h m told results
-true_run codec spelled tracks laws gives seed items lanes jobs h m told results are order stands fresh seed_fits replied suit owned within in_turn driven =
-    jobs_true_run codec spelled tracks laws lanes jobs h m told results (kept_first codec spelled tracks gives seed items jobs h m are order stands fresh seed_fits) replied suit owned within in_turn driven
+    → Replied m told → All Suits told → All IsOwned told → All (IsWithin jobs) told → InTurn (lanes_of items) told → AreDriven codec jobs results told → IsTrueRun spelled (lanes_of items) jobs h m told results
+true_run codec spelled tracks laws gives seed items jobs h m told results are order stands fresh seed_fits replied suit owned within in_turn driven =
+    jobs_true_run codec spelled tracks laws (lanes_of items) jobs h m told results (lines_take gives seed items jobs are order) (kept_first codec spelled tracks gives seed items jobs h m are order stands fresh seed_fits) replied suit owned within in_turn driven

@@ -182,7 +182,7 @@ module _ {F : Type 0} (codec : Codec F) (spelled : Spelled) (tracks : Tracking F
                   seed = seed;
                   lane = lane;
                   unlocks = unlocks;
-                  leases = listed_now seen e number Leases c.own is;
+                  leases = listed_now seen e number Leases c.own is (ap is_no_memory said);
                   names_are = ap (leases_unlocked seed lane) (all ∙ ap (names_under Leases) c.is_held);
                   ends = refl;
                   gone = λ i n before at. absurd (omega (arith, before));
@@ -195,7 +195,7 @@ module _ {F : Type 0} (codec : Codec F) (spelled : Spelled) (tracks : Tracking F
           record {
             leads = look.leads;
             own = subst Goes (sym fragments) (names_lead Commits (lists Fragments) e.reply
-                (λ names said. (look.clean.undone, record { lists = fragments; commits = listed_now seen e number Commits c.own is; names_are = listed m e Commits names is c.replied said ∙ ap (names_under Commits) c.is_held }))
+                (λ names said. (look.clean.undone, record { lists = fragments; commits = listed_now seen e number Commits c.own is (ap is_no_memory said); names_are = listed m e Commits names is c.replied said ∙ ap (names_under Commits) c.is_held }))
                 look.clean.undone);
           }
 
@@ -240,7 +240,7 @@ module _ {F : Type 0} (codec : Codec F) (spelled : Spelled) (tracks : Tracking F
         where
           gone_now : (q : Name) → e.call ≡ call.Remove q → e.reply ≡ reply.Removed → IsGone opening (seen ++ e ∷ []) number q
           gone_now q is said = record {
-            removed = record { before = seen; made = e; later = []; place = refl; own = c.own; makes = is };
+            removed = record { before = seen; made = e; later = []; place = refl; own = c.own; makes = is; memory = ap is_no_memory said };
             gone = ap (λ x. map.get x q) (held_told-append opening seen (e ∷ []) ∙ ap (λ x. after_told x e) (sym c.is_held)) ∙ removed_gone m e q is c.replied said;
           }
 

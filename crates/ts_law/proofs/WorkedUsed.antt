@@ -1,7 +1,6 @@
 -- The values that a read uses, on worked rows: each computes, so that a reader can see what the definitions say.
-use Rattle.std.proofs.Common.{◌≡◌, ℕ, Bool, true, false, List, [], ◌∷◌, Option, Some, None, refl}
+use Rattle.std.proofs.Common.{◌≡◌, ℕ, false, List, [], ◌∷◌, Option, Some, None, refl}
 use Rattle.std.specs.Prelude.{pos}
-use Rattle.ts_base.specs.declared.values.Val.{Val}
 use Rattle.ts_base.specs.declared.values.Val.TheVariants.{Int}
 use Rattle.ts_base.specs.declared.values.ValType.TheVariants.{I64}
 use Rattle.ts_domain.specs.declared.dims.Dim.{Dim}

@@ -35,7 +35,7 @@ use Rattle.ts_model.specs.declared.commands.Command.TheVariants.{Create, Evolve,
 use Rattle.ts_base.specs.declared.names.CommitKind.{CommitKind}
 use Rattle.ts_base.specs.declared.names.CommitKind.TheVariants.{Wrt, Del}
 use Rattle.ts_base.specs.declared.names.Prefix.TheVariants.{Commits, Fragment, Leases, Schemas}
-use Rattle.ts_store.specs.Calls.{names_under}
+use Rattle.ts_store.specs.Calls.{is_no_memory, names_under}
 use Rattle.ts_commit.specs.Selections.{clipped_names, has_origin, is_among, is_clipped, names_merged, removal_set}
 use Rattle.ts_model.specs.Told.{Told, held_told, history_told}
 use Rattle.ts_model.specs.States.{committed_in, counting_in, frame_put, leases_unlocked, meets, vac_of}
@@ -56,7 +56,7 @@ use Rattle.ts_model.specs.declared.answers.Outcome.TheVariants as outcome
 use Rattle.ts_model.specs.declared.answers.Refusal.TheVariants as refusal
 use Rattle.std.specs.FinMap as map
 
--- a job listed what is below a prefix at a place of what was told
+-- a job listed what is below a prefix at a place of what was told, and there was memory for it
 pub record ListedAt (told : List Told) (number : ℕ) (prefix : Prefix) : Type 0 where
   pub before : List Told
   pub listing : Told
@@ -64,8 +64,9 @@ pub record ListedAt (told : List Told) (number : ℕ) (prefix : Prefix) : Type 0
   pub place : told ≡ before ++ listing ∷ later
   pub own : listing.job ≡ Some number
   pub lists : listing.call ≡ call.List prefix
+  pub memory : is_no_memory listing.reply ≡ false
 
--- a job made a call at a place of what was told
+-- a job made a call at a place of what was told, and there was memory for it
 pub record MadeAt (told : List Told) (number : ℕ) (c : Call) : Type 0 where
   pub before : List Told
   pub made : Told
@@ -73,6 +74,7 @@ pub record MadeAt (told : List Told) (number : ℕ) (c : Call) : Type 0 where
   pub place : told ≡ before ++ made ∷ later
   pub own : made.job ≡ Some number
   pub makes : made.call ≡ c
+  pub memory : is_no_memory made.reply ≡ false
 
 -- ---- reads
 

@@ -107,14 +107,14 @@ ends_at true at (Read from to query) = Read from at query
 ends_at true at (Consolidate from to limits) = Consolidate from at limits
 ends_at _ at command = command
 
--- a command in a run of a seed: an unlock has that seed from its start on
-abbrev pub seeded : ℕ → Command → Command
-seeded seed (Unlock own lane) = Unlock seed lane
-seeded _ command = command
+-- a command in a run of a seed, done in a lane: an unlock has that seed and that lane from its start on
+abbrev pub seeded : ℕ → ℕ → Command → Command
+seeded seed lane (Unlock own other) = Unlock seed lane
+seeded _ _ command = command
 
--- the command of a line in a run of a seed, at its stamp
+-- the command of a line in a run of a seed, at its stamp, in the lane of the line
 abbrev pub command_at : ℕ → Line → ℕ → Command
-command_at seed line at = seeded seed (ends_at line.to_stamp at line.command)
+command_at seed line at = seeded seed line.lane (ends_at line.to_stamp at line.command)
 
 -- a stamp that the command of a line may have: the line's own, or where it has none a number that the clock may give
 pub record IsStampOf (gives : ℕ → Bool) (line : Line) (at : ℕ) : Type 0 where

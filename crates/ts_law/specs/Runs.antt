@@ -1,5 +1,5 @@
 -- Runs: what the jobs of some lanes did, those of a lane one after the other.
-use Rattle.std.specs.Prelude.{◌≡◌, ℕ, List, ◌++◌, Option, Some, length, slice_get, IfSome, All}
+use Rattle.std.specs.Prelude.{◌≡◌, ℕ, List, [], ◌++◌, Option, Some, length, slice_get, IfSome, All}
 use Rattle.ts_store.specs.declared.journal.Entry.{Entry}
 use Rattle.ts_model.specs.declared.commands.Job.{Job}
 use Rattle.ts_model.specs.declared.answers.Outcome.{Outcome}
@@ -35,13 +35,14 @@ abbrev pub AreSegments : {F : Type 0} → Codec F → List Job → List (Driven 
 AreSegments codec jobs results told =
     (number : ℕ) (job : Job) (result : Driven Outcome) → slice_get jobs number ≡ Some job → slice_get results number ≡ Some result → IsSegment codec job (trace_of number told) result
 
--- each first part of what was told leaves objects that stand for its history, and so does each first part of the journal. By calls of which none is of a vacuum, what is held stays held, but for leases, and each write stays in its own fragment. What each end tells of the history is true, and each job that ended refused is so for its cause, and but for a fault changed nothing. A vacuum and an unlock, however they came out, changed no other objects than they are to remove, and a read and a list of the commits none but a lease. Any other command changed its own objects alone, and a create the frame; a job that was stopped has no end
+-- each first part of what was told leaves objects that stand for its history, and so does each first part of the journal. By calls of which none is of a vacuum, what is held stays held, but for leases, and each write stays in its own fragment. What each end tells of the history is true as soon as its job has made its calls, and each job that ended refused is so for its cause, and but for a fault changed nothing. A vacuum and an unlock, however they came out, changed no other objects than they are to remove, and a read and a list of the commits none but a lease. Any other command changed its own objects alone, and a create the frame; a job that was stopped has no end
 pub record IsTrueRun (spelled : Spelled) (lanes : ℕ → ℕ) (jobs : List Job) (h : History) (m : Held) (told : List Told) (results : List (Driven Outcome)) : Type 0 where
   pub stands : (front back : List Told) → told ≡ front ++ back → Stands spelled (held_after m (entries_of (lane_by lanes) front)) (history_told jobs h front)
   pub journal : (front back : List Entry) → entries_of (lane_by lanes) told ≡ front ++ back → Stands spelled (held_after m front) (history_of h m jobs front)
   pub own : StayInTheirOwn spelled jobs h m told
   pub stays : (front mid back : List Told) → told ≡ front ++ (mid ++ back) → All (IsNoSweep jobs) mid → HeldSince (held_told m front) (held_told m (front ++ mid))
-  pub answers : (number : ℕ) (job : Job) (end : Outcome) → slice_get jobs number ≡ Some job → slice_get results number ≡ Some (Done end) → IsTrueOver spelled m jobs h told number job end
+  pub answers : (front back : List Told) → told ≡ front ++ back → (number : ℕ) (job : Job) (end : Outcome) → slice_get jobs number ≡ Some job → slice_get results number ≡ Some (Done end) → trace_of number back ≡ []
+      → IsTrueOver spelled m jobs h front number job end
   pub causes : (number : ℕ) (job : Job) (r : Refusal) → slice_get jobs number ≡ Some job → slice_get results number ≡ Some (Done (outcome.Refused r)) → IsRefusedFor spelled m jobs h told number job r
   pub idle : (number : ℕ) (job : Job) (r : Refusal) → slice_get jobs number ≡ Some job → slice_get results number ≡ Some (Done (outcome.Refused r)) → IsNoFault r → ChangedNothing m told number job
   pub sweeps : (number : ℕ) (job : Job) → slice_get jobs number ≡ Some job → job.command ≡ Vacuum → SweepsAlone m told number job

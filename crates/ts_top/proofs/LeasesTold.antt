@@ -48,12 +48,12 @@ told_removed lease was end reply.Removed well is = refl
 told_removed lease was end _ well is = absurd (subst EndsWell is well)
 
 -- a command that has a lease is not refused before its first call
-unrefused : (c : Command) (mode : LeaseMode) → mode_of c ≡ Some mode → refused_before c ≡ None
+pub unrefused : (c : Command) (mode : LeaseMode) → mode_of c ≡ Some mode → refused_before c ≡ None
 unrefused (Create made) mode has = absurd (none-some mode has)
 unrefused _ mode has = refl
 
 -- a job that has a lease and ends well removes it by its last call
-last_removes : (job : Job) (trace : List Exchange) (end : Outcome) (lease : Name) → lease_of job ≡ Some lease → refused_before job.command ≡ None → EndsWell end → IsSegment run_codec job trace (Done end)
+pub last_removes : (job : Job) (trace : List Exchange) (end : Outcome) (lease : Name) → lease_of job ≡ Some lease → refused_before job.command ≡ None → EndsWell end → IsSegment run_codec job trace (Done end)
     → (front : List Exchange) × (trace ≡ front ++ removal lease reply.Removed ∷ [])
 last_removes job trace end lease has begins well is = by_ends (subst (λ o. EndsUnder run_codec job is.found o trace end) has (subst (MayEndAs run_codec job is.found trace end) begins is.ends))
   where

@@ -13,6 +13,15 @@ pub mod SweepsTold
 pub mod StaysTold
 pub mod StopsTold
 pub mod RefusalsTold
+pub mod DeedsTold
 pub mod Promises
+pub mod TimesTold
+pub mod OwnCalls
+pub mod RunTimes
+pub mod LanesTold
+pub mod LanesRefused
+pub mod LanesEnds
+pub mod LinesDone
+pub mod Promised
 pub mod FewReads
 mod Refusing

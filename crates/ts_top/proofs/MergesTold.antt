@@ -43,7 +43,7 @@ pub held_entered : (m : Held) (lane : Option ℕ → ℕ) (a x : List Told) → 
 held_entered m lane a x = held_told-append m a x ∙ journal_held lane (held_told m a) x ∙ ap (λ h. held_after h (entries_of lane x)) (journal_held lane m a)
 
 -- a plan over a history and objects is that over others, where they are the same
-abbrev same_plan : (h g : History) (m n : Held) (from to : ℕ) (limits : Limits) (plan : Planned) → h ≡ g → m ≡ n → IsPlanned run_spelled h m from to limits plan → IsPlanned run_spelled g n from to limits plan
+abbrev pub same_plan : (h g : History) (m n : Held) (from to : ℕ) (limits : Limits) (plan : Planned) → h ≡ g → m ≡ n → IsPlanned run_spelled h m from to limits plan → IsPlanned run_spelled g n from to limits plan
 same_plan h g m n from to limits plan same_h same_m is = record {
   heads = is.heads;
   are_heads = subst (λ x. AreInside run_spelled g x from to is.heads) same_m (subst (λ x. AreInside run_spelled x m from to is.heads) same_h is.are_heads);

@@ -1,6 +1,6 @@
--- A run keeps its promise.
-use Rattle.std.proofs.Common.{◌≡◌, ◌⊎◌, inl, inr, ℕ, zero, suc, ◌+◌, ◌<◌, ◌≤◌, ◌^◌, List, [], ◌∷◌, ◌++◌, Option, Some, None, Result, Ok, Err, Bool, true, false, cond, length, drop, nat_lt, append_assoc, refl, sym, ◌∙◌, ap, subst, arith}
-use Rattle.std.specs.Prelude.{slice_get, get_or, All, IfSome, option_map, option_and_then, option_to_list, Contains, ⊤, map as list_map}
+-- A run whose commands are done one after the other keeps its promise: what each of them tells.
+use Rattle.std.proofs.Common.{◌≡◌, ◌⊎◌, inl, inr, ℕ, zero, suc, ◌+◌, ◌<◌, ◌≤◌, ◌^◌, List, [], ◌∷◌, ◌++◌, Option, Some, None, Bool, true, false, cond, length, drop, nat_lt, append_assoc, refl, sym, ◌∙◌, ap, subst, arith}
+use Rattle.std.specs.Prelude.{slice_get, get_or, All, option_and_then, Contains, map as list_map}
 use Rattle.std.proofs.lemmas.Bool.{true≢false, ltb-true, ltb-false}
 use Rattle.std.proofs.lemmas.List.{append-nil}
 use Rattle.std.proofs.lemmas.Option.{none-some, same_Some, slice_get_within}
@@ -8,25 +8,11 @@ use Rattle.std.proofs.lemmas.List.Elements.{All-nil, All-cons, All-head, All-tai
 use Rattle.std.specs.List.{cons_option}
 use Rattle.ts_base.specs.Held.{Held}
 use Rattle.ts_base.specs.declared.keys.Key.{Key}
-use Rattle.ts_base.specs.declared.heads.Cell.{Cell}
 use Rattle.ts_base.specs.declared.heads.Stop.TheVariants as stop
-use Rattle.ts_base.specs.declared.names.CommitKind.TheVariants.{Wrt, Del}
-use Rattle.ts_base.specs.declared.names.Name.{Name}
-use Rattle.ts_base.specs.declared.names.Name.TheVariants as name
-use Rattle.std.specs.Io.KnownBytes.{Appends}
-use Rattle.ts_commit.specs.declared.vacs.Limits.{Limits}
-use Rattle.ts_schema.specs.declared.frames.Frame.{Frame}
-use Rattle.ts_schema.specs.declared.schemas.Schema.{Schema}
-use Rattle.ts_schema.specs.Evolutions.{evolved_attrs, evolution_fault}
-use Rattle.ts_schema.specs.declared.faults.SchemaFault.{SchemaFault}
-use Rattle.ts_cond.specs.Tests.{Condition}
 use Rattle.ts_cond.specs.declared.query.Query.{Query}
-use Rattle.ts_store.specs.declared.call.Call.{Call}
-use Rattle.ts_store.specs.declared.call.Call.TheVariants as call
 use Rattle.ts_store.specs.Journals.{held_after}
 use Rattle.ts_store.specs.declared.journal.Entry.{Entry}
 use Rattle.ts_store.specs.Calls.{is_no_memory}
-use Rattle.ts_store.specs.Streams.{AppendsFront}
 use Rattle.ts_model.specs.declared.commands.Job.{Job}
 use Rattle.ts_model.specs.declared.commands.Line.{Line}
 use Rattle.ts_model.specs.declared.commands.Command.{Command}
@@ -36,58 +22,41 @@ use Rattle.ts_model.specs.declared.answers.Driven.TheVariants.{Done, Stopped}
 use Rattle.ts_model.specs.declared.answers.Outcome.{Outcome}
 use Rattle.ts_model.specs.declared.answers.Outcome.TheVariants as outcome
 use Rattle.ts_model.specs.declared.answers.Refusal.{Refusal}
-use Rattle.ts_model.specs.declared.answers.Refusal.TheVariants as refusal
-use Rattle.ts_model.specs.declared.commands.FrameIn.{FrameIn}
-use Rattle.ts_model.specs.declared.commands.WriteIn.{WriteIn}
 use Rattle.ts_model.specs.declared.deeds.Deed.{Deed}
-use Rattle.ts_model.specs.declared.deeds.Deed.TheVariants.{Framed, Declared, Wrote, Erased}
-use Rattle.ts_model.specs.declared.deeds.Written.{Written}
-use Rattle.ts_model.specs.declared.deeds.Deletion.{Deletion}
-use Rattle.ts_model.specs.Commands.{create_refusal, frame_made, laid}
-use Rattle.ts_model.specs.Queries.{delete_condition}
-use Rattle.ts_model.specs.Deeds.{History, IsHistory, IsNewKey, frame_in, schemas, current_schema}
+use Rattle.ts_model.specs.Deeds.{History, IsHistory, IsNewKey}
 use Rattle.ts_model.specs.Driven.{AskedFrom, IsDriven}
-use Rattle.ts_base.specs.declared.names.Prefix.TheVariants.{Schemas}
-use Rattle.ts_model.specs.Jobs.{key_of, looked_at, looks_at, schema_of_job, written_as, deletion_as}
+use Rattle.ts_model.specs.Jobs.{key_of, looks_at}
 use Rattle.ts_model.specs.Stages.{first_stage}
 use Rattle.ts_model.specs.Stops.{Uncut, cuts}
-use Rattle.ts_model.specs.States.{Exchange, frame_put, made_by}
-use Rattle.ts_model.specs.Told.{Told, entries_of, entry_of, exchange_of, held_told, trace_of, grown, deed_told, deed_in, deed_of, declared_by, written_by, written_in, deleted_by, deleted_in, schema_used, schemas_found, cells_of, condition_of, history_from, history_told, Replied, Suits}
-use Rattle.ts_model.proofs.HistoryLaws.{schemas-append}
+use Rattle.ts_model.specs.States.{Exchange}
+use Rattle.ts_model.specs.Told.{Told, entries_of, entry_of, exchange_of, held_told, trace_of, grown, deed_told, deed_in, schemas_found, history_from, history_told, Replied, Suits}
 use Rattle.ts_model.proofs.ListLemmas.{Contains-cons, Contains-slice_get, Contains-filter_map, Contains-here, Contains-nil, Contains-there, filter_map-Contains}
 use Rattle.ts_model.proofs.Traces.{exchange_of_other, exchange_of_own, history_told-append, trace_of-append}
-use Rattle.ts_law.specs.Ends.{FindsNoArray, IsTrueEnd, IsTrueOver, IsUndone, ListedAt}
+use Rattle.ts_law.specs.Ends.{IsTrueEnd, IsTrueOver, IsUndone}
 use Rattle.ts_law.specs.Bounds.{FewGets, gets_among}
 use Rattle.ts_law.specs.Changes.{IsOwn, OnlyLooks, RemovesNone}
 use Rattle.ts_law.specs.Refusals.{IsNoFault, IsRefusedFor}
-use Rattle.ts_law.specs.Fresh.{IsFreshSeed, IsJobOf, AreJobsOf, Numbered, command_at, id_of, in_lane_order, job_from, lanes_of, seed_in, lane_of as line_lane}
+use Rattle.ts_law.specs.Fresh.{IsFreshSeed, IsJobOf, AreJobsOf, Numbered, command_at, id_of, job_from, lanes_of, seed_in, lane_of as line_lane}
 use Rattle.ts_law.specs.Lanes.{lane_by, one_lane, IsOwned, IsWithin, IsBefore, InTurn}
 use Rattle.ts_law.specs.Courses.{IsSegment}
 use Rattle.ts_law.specs.Sweeps.{IsNoSweep}
 use Rattle.ts_law.specs.Kept.{HeldSince}
-use Rattle.ts_law.specs.Runs.{AreDriven, AreSegments, IsRunOver, IsTrueRun}
+use Rattle.ts_law.specs.Runs.{AreDriven, AreSegments, IsTrueRun}
 use Rattle.ts_law.proofs.TrueOver.{true_end_of}
-use Rattle.ts_law.specs.Stands.{IsNoLease, Stands}
-use Rattle.ts_law.proofs.FirstStands.{nothing_stands, fresh_over_nothing}
+use Rattle.ts_law.specs.Stands.{Stands}
 use Rattle.ts_law.proofs.Doing.{ran-no_call}
 use Rattle.ts_law.proofs.Journals.{journal_held}
 use Rattle.ts_law.proofs.KeptLaws.{Replied-front}
 use Rattle.ts_law.proofs.Lists.{item_at}
-use Rattle.ts_law.proofs.NoSweeps.{no_sweeps, unclipped_run}
-use Rattle.ts_law.proofs.JournalHistories.{FitsIn}
-use Rattle.ts_law.proofs.LineJobs.{AreInOrder, IsFitItem, each_line, in_order, seed_of_id}
-use Rattle.ts_law.proofs.TrueRuns.{kept_first, right_where_put, true_run, works_where_used}
-use Rattle.ts_top.specs.Promise.{CameOut, HasNoLease, HeldOnce, IsDone, IsDeedOf, IsLineDone, LeavesAll, LeavesOthers, Tells, IsStored, Promise, Began, Promised}
+use Rattle.ts_law.proofs.LineJobs.{AreInOrder, IsFitItem, seed_of_id}
+use Rattle.ts_law.proofs.Lanes.{in_turn_lanes}
+use Rattle.ts_law.proofs.TrueRuns.{true_run}
+use Rattle.ts_top.proofs.DeedsTold.{and_then_some, created_tells, deed_own, deleted_tells, evolved_tells, none_split, one_grown, written_tells}
+use Rattle.ts_top.specs.Promise.{CameOut, Extends, HasNoLease, IsDone, IsDeedOf, IsLineDone, LeavesAll, LeavesOthers, Tells, IsStored}
 use Rattle.ts_top.specs.Runners.{run_codec, run_most, run_spelled, run_tracks}
 use Rattle.ts_top.specs.Sweeps.{MaySweep, dead_leases}
-use Rattle.ts_script.specs.Script.{AreLimited}
-use Rattle.ts_script.specs.declared.words.Asked.{Asked}
-use Rattle.ts_script.specs.Words.{asked}
-use Rattle.ts_script.specs.Meanings.{report_of}
-use Rattle.ts_top.specs.Reports.{report_text, status_printed}
-use Rattle.ts_top.specs.Seen.{Seen, Means, Stopped as HasStopped, Performed, PrintsEnds, whole, sink_failed, no_text, Plays, ended, ran_short}
 use Rattle.ts_top.proofs.RunCodec.{run_laws}
-use Rattle.ts_top.proofs.Places.{Early, Late, cancelled, fronts, goes_on, listed_after, made_after}
+use Rattle.ts_top.proofs.Places.{Early, Late, cancelled, fronts, goes_on, stands_after}
 use Rattle.ts_top.proofs.GetsTold.{gets_told}
 use Rattle.ts_top.proofs.LeasesTold.{EndsWell, no_lease}
 use Rattle.ts_top.proofs.MergesTold.{calls_in, merged_tells, schema_found}
@@ -98,19 +67,12 @@ use Rattle.ts_top.proofs.SweepsTold.{vacuumed_tells}
 use Rattle.ts_top.proofs.UnlocksTold.{listed_tells, unlocked_tells}
 use Rattle.ts_top.proofs.ReadsTold.{answers_told}
 use Rattle.ts_top.proofs.RefusalsTold.{DoesNone, IsQuiet, none_first, nothing_done, refusal_tells}
-use Rattle.ts_top.specs.declared.top.Stop.{Stop}
-use Rattle.ts_top.specs.declared.top.Stop.TheVariants.{Usage, BadScript, ReadFault, OutOfMemory}
 
 -- ---- what an end tells
 
 none_in : {X : Type 0} (xs : List X) → ((x : X) → Contains xs x → ⊥) → xs ≡ []
 none_in [] none = refl
 none_in (x ∷ xs) none = absurd (none x (Contains-here x xs))
-
--- of a list without items the first part has none
-no_front : {X : Type 0} (front back : List X) → front ++ back ≡ [] → front ≡ []
-no_front [] back is = refl
-no_front (x ∷ front) back is = cc
 
 -- an item behind a list, and then more
 one_more : {A : Type 0} (h : List A) (x : A) (front : List A) → (h ++ x ∷ []) ++ front ≡ h ++ x ∷ front
@@ -127,24 +89,10 @@ place_of [] [] e late b = refl
 place_of [] (x ∷ early) e late b = ap (λ l. x ∷ l) (place_of [] early e late b)
 place_of (x ∷ a) early e late b = ap (λ l. x ∷ l) (place_of a early e late b)
 
--- an object whose put is a deed is no lease
-deed_no_lease : (h : History) (job : Job) (found : Option (List Key)) (n : Name) (d : Deed) → deed_of h job found n ≡ Some d → IsNoLease n
-deed_no_lease h job found (name.Lease k mode) d is = absurd (none-some d is)
-deed_no_lease h job found _ d is = tt
-
 module _ (jobs : List Job) (past : History) (a c told : List Told) (parts : told ≡ a ++ c) (number : ℕ) (early : Early number a) where
-  held_once : (at : ListedAt told number Schemas) (k : Key) (there : Schema) → IsNewKey (history_told jobs past at.before) k → current_schema (history_told jobs past at.before) k.t ≡ Some there
-      → HeldOnce (history_told jobs past a) (history_told jobs past told) k there
-  held_once at k there new holds = (history_told jobs past at.before, listed_after jobs past a c told parts number early Schemas at, goes_on jobs past at.before (at.listing ∷ at.later) told at.place, new, holds)
-
-  -- where a create found no array there was no schema before it
-  none_before : (made : FrameIn) → FindsNoArray jobs past told number made → schemas (history_told jobs past a) ≡ []
-  none_before made (inl (at, is_made, nothing)) =
-      let (deeds, on) = made_after jobs past a c told parts number early (frame_put made) at in
-      ap schemas (no_front (history_told jobs past a) deeds (sym on ∙ nothing))
-  none_before made (inr (at, none)) =
-      let (deeds, on) = listed_after jobs past a c told parts number early Schemas at in
-      no_front (schemas (history_told jobs past a)) (schemas deeds) (sym (schemas-append (history_told jobs past a) deeds) ∙ sym (ap schemas on) ∙ none)
+  -- the calls of the job come after those of the jobs before it
+  since : (before : List Told) (x : Told) (later : List Told) → told ≡ before ++ x ∷ later → x.job ≡ Some number → is_no_memory x.reply ≡ false → Extends (history_told jobs past a) (history_told jobs past before)
+  since before x later place own memory = let (d, behind) = stands_after jobs past a c told parts number early before x later place own in goes_on jobs past a d before behind
 
   module _ (m : Held) (lane : Option ℕ → ℕ) (job : Job) (is_job : slice_get jobs number ≡ Some job) (mine : (e : Told) → Contains c e → e.job ≡ Some number) (suits : All Suits c) (replied : Replied (held_told m a) c)
       (stood : (front back : List Told) → told ≡ front ++ back → Stands run_spelled (held_told m front) (history_told jobs past front)) where
@@ -158,15 +106,10 @@ module _ (jobs : List Job) (past : History) (a c told : List Told) (parts : told
         → (end ≡ outcome.OutOfMemory → IsUndone (history_told jobs past told) job)
         → ((r : Refusal) → end ≡ outcome.Refused r → IsRefusedFor run_spelled m jobs past told number job r × (IsQuiet r → history_told jobs past told ≡ history_told jobs past a))
         → IsSegment run_codec job (trace_of number c) (Done end) → IsTrueEnd run_spelled m jobs past told number job end → TellsOf end job.command
-    end_tells outcome.Created still stays left short cause segment is = subst (TellsOf outcome.Created) (sym is.creates) (none_before is.made is.found_none, is.sound, is.framed, is.declared)
-    end_tells (outcome.Evolved k) still stays left short cause segment (same, is) =
-        subst (TellsOf (outcome.Evolved k)) (sym is.evolves) (same, is.current, held_once is.schemas (key_of job) is.current is.undone is.holds, is.frame, is.framed, is.sound, is.declared)
-    end_tells (outcome.Written f) still stays left short cause segment (same, is) =
-        subst (TellsOf (outcome.Written f)) (sym is.writes_them)
-        (same, is.current, held_once is.schemas (key_of job) is.current is.undone is.holds, is.frame, is.framed, is.cells, is.lays, is.written)
-    end_tells (outcome.Deleted f) still stays left short cause segment (same, is) =
-        subst (TellsOf (outcome.Deleted f)) (sym is.deletes)
-        (same, is.current, held_once is.schemas (key_of job) is.current is.undone is.holds, is.frame, is.framed, is.condition, is.says, is.erased)
+    end_tells outcome.Created still stays left short cause segment is = created_tells jobs past told number (history_told jobs past a) since job is
+    end_tells (outcome.Evolved k) still stays left short cause segment (same, is) = evolved_tells jobs past told number (history_told jobs past a) since job k same is
+    end_tells (outcome.Written f) still stays left short cause segment (same, is) = written_tells jobs past told number (history_told jobs past a) since job f same is
+    end_tells (outcome.Deleted f) still stays left short cause segment (same, is) = deleted_tells jobs past told number (history_told jobs past a) since job f same is
     end_tells (outcome.Read answer) still stays left short cause segment (from, to, query, reads, is) =
         let same = (still (subst DoesNone (sym reads) tt)).0 in
         subst (TellsOf (outcome.Read answer)) (sym reads) (
@@ -198,7 +141,7 @@ module _ (jobs : List Job) (past : History) (a c told : List Told) (parts : told
     end_tells outcome.OutOfMemory still stays left short cause segment is = short refl
 
 -- such a command does no deed
-no_deed : (before h : History) (k : Key) (c : Command) (d : Deed) → DoesNone c → IsDeedOf before h k c d → ⊥
+pub no_deed : (before h : History) (k : Key) (c : Command) (d : Deed) → DoesNone c → IsDeedOf before h k c d → ⊥
 no_deed before h k (Create made) d none is = none
 no_deed before h k (Evolve change) d none is = none
 no_deed before h k (Write columns) d none is = none
@@ -210,138 +153,10 @@ no_deed before h k (Unlock seed lane) d none is = is
 no_deed before h k Fragments d none is = is
 
 -- a job of a line is the one that is made of it at its stamp
-same_job : (gives : ℕ → Bool) (id : ℕ) (line : Line) (job : Job) → IsJobOf gives id line job → job ≡ job_from id line job.at
+pub same_job : (gives : ℕ → Bool) (id : ℕ) (line : Line) (job : Job) → IsJobOf gives id line job → job ≡ job_from id line job.at
 same_job gives id line job is =
     let step : (j : Job) (c : Command) → j.command ≡ c → j.id ≡ id → j.stop ≡ (job_from id line job.at).stop → j ≡ record { command = c; at = j.at; id = id; stop = (job_from id line job.at).stop } = λ j c a b d. rw (← a, ← b, ← d) refl in
     step job (command_at (seed_in id) line job.at) is.command is.id_is is.stop
-
--- ---- whose deeds came
-
--- what an answer was made of
-and_then_some : {A B : Type 0} (f : A → Option B) (o : Option A) (b : B) → option_and_then f o ≡ Some b → (a : A) × (o ≡ Some a) × (f a ≡ Some b)
-and_then_some f None b is = absurd (none-some b is)
-and_then_some f (Some a) b is = (a, refl, is)
-
-map_some : {A B : Type 0} (f : A → B) (o : Option A) (b : B) → option_map f o ≡ Some b → (a : A) × (o ≡ Some a) × (f a ≡ b)
-map_some f None b is = absurd (none-some b is)
-map_some f (Some a) b is = (a, refl, same_Some (f a) b is)
-
-cells_ok : (r : Result (List Cell) Refusal) (cells : List Cell) → cells_of r ≡ Some cells → r ≡ Ok cells
-cells_ok (Ok x) cells is = ap Ok (same_Some x cells is)
-cells_ok (Err r) cells is = absurd (none-some cells is)
-
-condition_ok : (r : Result Condition Refusal) (condition : Condition) → condition_of r ≡ Some condition → r ≡ Ok condition
-condition_ok (Ok x) condition is = ap Ok (same_Some x condition is)
-condition_ok (Err r) condition is = absurd (none-some condition is)
-
--- a change that is not refused has no fault
-no_fault : (o : Option SchemaFault) → option_map refusal.SchemaBad o ≡ None → o ≡ None
-no_fault None is = refl
-no_fault (Some fault) is = absurd (none-some (refusal.SchemaBad fault) (sym is))
-
--- the commands that work in a schema there, which they look for at their stamp
-abbrev WorksIn : Command → Type 0
-WorksIn (Evolve change) = ⊤
-WorksIn (Write columns) = ⊤
-WorksIn (Delete text) = ⊤
-WorksIn _ = ⊥
-
-no_create : (c : Command) → WorksIn c → (f : FrameIn) → c ≡ Create f → ⊥
-no_create (Evolve change) works f is = cc
-no_create (Write columns) works f is = cc
-no_create (Delete text) works f is = cc
-no_create _ works f is = works
-
-no_merge : (c : Command) → WorksIn c → (from to : ℕ) (limits : Limits) → c ≡ Consolidate from to limits → ⊥
-no_merge (Evolve change) works from to limits is = cc
-no_merge (Write columns) works from to limits is = cc
-no_merge (Delete text) works from to limits is = cc
-no_merge _ works from to limits is = works
-
-looks_here : (job : Job) (c : Command) → WorksIn c → looks_at job c ≡ job.at
-looks_here job (Evolve change) works = refl
-looks_here job (Write columns) works = refl
-looks_here job (Delete text) works = refl
-looks_here job _ works = absurd works
-
-module _ (before h : History) (job : Job) (found : Option (List Key)) where
-  -- the schema that the job uses held at its stamp, and the job is not refused there
-  abbrev Held_current : Command → Type 0
-  Held_current c = WorksIn c → (there : Schema) → schema_used h job found ≡ Some there → HeldOnce before h (key_of job) there × FitsIn h c there
-
-  -- a create that puts an object is a right one, and but for the frame there was no schema before it
-  abbrev Right_where : Name → Command → Type 0
-  Right_where n c = (made : FrameIn) → c ≡ Create made → (create_refusal made ≡ None) × ((n ≡ name.Domain → ⊥) → schemas before ≡ [])
-
-  framed_own : (c : Command) (d : Deed) → Right_where name.Domain c → option_map (λ f. Framed (frame_made f)) (made_by c) ≡ Some d → IsDeedOf before h (key_of job) c d
-  framed_own (Create made) d right is = subst (IsDeedOf before h (key_of job) (Create made)) (same_Some (Framed (frame_made made)) d is) ((right made refl).0, refl)
-  framed_own _ d right is = absurd (none-some d is)
-
-  no_domain : (k : Key) → name.Schema k ≡ name.Domain → ⊥
-  no_domain k is = cc
-
-  declared_own : (k : Key) (c : Command) (d : Deed) → Right_where (name.Schema k) c → Held_current c → option_map Declared (declared_by h job found c) ≡ Some d → IsDeedOf before h (key_of job) c d
-  declared_own k (Create made) d right held is =
-      let (sound, none) = right made refl in
-      subst (IsDeedOf before h (key_of job) (Create made)) (same_Some (Declared (schema_of_job job made.attrs)) d is) (none (no_domain k), sound, refl)
-  declared_own k (Evolve change) d right held is =
-      let (s, at, same) = map_some Declared (declared_by h job found (Evolve change)) d is in
-      let (there, used, made) = map_some (λ (t : Schema). schema_of_job job (evolved_attrs t.attrs change)) (schema_used h job found) s at in
-      let (once, (works, frame, framed, unrefused)) = held tt there used in
-      subst (IsDeedOf before h (key_of job) (Evolve change)) same (there, once, frame, framed, no_fault (evolution_fault frame.domain there.attrs change) unrefused, sym made)
-  declared_own k _ d right held is = absurd (none-some d is)
-
-  written_from : (columns : WriteIn) (s : Option Schema) (frame : Option Frame) (w : Written) → written_in job columns s frame ≡ Some w
-      → (f : Frame) × (frame ≡ Some f) × (there : Schema) × (s ≡ Some there) × (cells : List Cell) × (laid f there.attrs columns ≡ Ok cells) × (w ≡ written_as job there.key cells)
-  written_from columns (Some there) (Some f) w is =
-      let (cells, lays, same) = map_some (written_as job there.key) (cells_of (laid f there.attrs columns)) w is in
-      (f, refl, there, refl, cells, cells_ok (laid f there.attrs columns) cells lays, sym same)
-  written_from columns (Some there) None w is = absurd (none-some w is)
-  written_from columns None frame w is = absurd (none-some w is)
-
-  written_own : (c : Command) (d : Deed) → Held_current c → option_map Wrote (written_by h job found c) ≡ Some d → IsDeedOf before h (key_of job) c d
-  written_own (Write columns) d held is =
-      let (w, at, same) = map_some Wrote (written_by h job found (Write columns)) d is in
-      let (f, framed, there, used, cells, lays, made) = written_from columns (schema_used h job found) (frame_in h) w at in
-      subst (IsDeedOf before h (key_of job) (Write columns)) same (there, (held tt there used).0, f, framed, cells, lays, made)
-  written_own _ d held is = absurd (none-some d is)
-
-  erased_from : (text : List ℕ) (s : Option Schema) (frame : Option Frame) (e : Deletion) → deleted_in job text s frame ≡ Some e
-      → (f : Frame) × (frame ≡ Some f) × (there : Schema) × (s ≡ Some there) × (condition : Condition) × (delete_condition f there.attrs text ≡ Ok condition) × (e ≡ deletion_as job condition)
-  erased_from text (Some there) (Some f) e is =
-      let (condition, says, same) = map_some (deletion_as job) (condition_of (delete_condition f there.attrs text)) e is in
-      (f, refl, there, refl, condition, condition_ok (delete_condition f there.attrs text) condition says, sym same)
-  erased_from text (Some there) None e is = absurd (none-some e is)
-  erased_from text None frame e is = absurd (none-some e is)
-
-  erased_own : (c : Command) (d : Deed) → Held_current c → option_map Erased (deleted_by h job found c) ≡ Some d → IsDeedOf before h (key_of job) c d
-  erased_own (Delete text) d held is =
-      let (e, at, same) = map_some Erased (deleted_by h job found (Delete text)) d is in
-      let (f, framed, there, used, condition, says, made) = erased_from text (schema_used h job found) (frame_in h) e at in
-      subst (IsDeedOf before h (key_of job) (Delete text)) same (there, (held tt there used).0, f, framed, condition, says, made)
-  erased_own _ d held is = absurd (none-some d is)
-
-  -- the deed of an object that a job puts is one of its command
-  put_own : (n : Name) (d : Deed) → Right_where n job.command → Held_current job.command → deed_of h job found n ≡ Some d → IsDeedOf before h (key_of job) job.command d
-  put_own name.Domain d right held is = framed_own job.command d right is
-  put_own (name.Schema k) d right held is = declared_own k job.command d right held is
-  put_own (name.Commit f Wrt) d right held is = written_own job.command d held is
-  put_own (name.Commit f Del) d right held is = erased_own job.command d held is
-  put_own _ d right held is = absurd (none-some d is)
-
-  call_own : (c : Call) (d : Deed) → ((n : Name) (bytes : List ℕ) → c ≡ call.Put n bytes → Right_where n job.command × Held_current job.command) → deed_in h job found c ≡ Some d → IsDeedOf before h (key_of job) job.command d
-  call_own (call.Put n bytes) d held is = let (right, there) = held n bytes refl in put_own n d right there is
-  call_own _ d held is = absurd (none-some d is)
-
--- a call appends no deed, or the one that is told of it
-one_grown : (changed : Bool) (o : Option Deed) → (cond changed (option_to_list o) [] ≡ []) ⊎ ((d : Deed) × (o ≡ Some d) × (cond changed (option_to_list o) [] ≡ d ∷ []))
-one_grown true (Some d) = inr (d, refl, refl)
-one_grown true None = inl refl
-one_grown false o = inl refl
-
-none_split : (front back : List Deed) (d : Deed) → [] ≡ front ++ d ∷ back → ⊥
-none_split [] back d is = cc
-none_split (x ∷ front) back d is = cc
 
 -- a deed came by a call of a job, after these deeds
 record Comes (jobs : List Job) (h : History) (seen told : List Told) (front : List Deed) (d : Deed) : Type 0 where
@@ -443,11 +258,11 @@ silent_deeds jobs i a c told h parts below above own none = none_first own.deeds
 
 -- ---- the first commands of a run are a run
 
-all_front : {X : Type 0} (P : X → Type 0) (a b : List X) → All P (a ++ b) → All P a
+pub all_front : {X : Type 0} (P : X → Type 0) (a b : List X) → All P (a ++ b) → All P a
 all_front P [] b all = All-nil P
 all_front P (x ∷ a) b all = All-cons P x a (All-head P x (a ++ b) all) (all_front P a b (All-tail P x (a ++ b) all))
 
-all_back : {X : Type 0} (P : X → Type 0) (a b : List X) → All P (a ++ b) → All P b
+pub all_back : {X : Type 0} (P : X → Type 0) (a b : List X) → All P (a ++ b) → All P b
 all_back P [] b all = all
 all_back P (x ∷ a) b all = all_back P a b (All-tail P x (a ++ b) all)
 
@@ -541,7 +356,7 @@ module _ (gives : ℕ → Bool) (seed : ℕ) (items : List Numbered) (jobs : Lis
   calls_before n = (cut n told owned in_turn).0
 
   -- the history after so many commands
-  abbrev after : ℕ → History
+  abbrev pub after : ℕ → History
   after n = history_told jobs past (calls_before n)
 
   -- by these calls the first commands came out as they did
@@ -562,29 +377,27 @@ module _ (gives : ℕ → Bool) (seed : ℕ) (items : List Numbered) (jobs : Lis
         ];
       }
 
-  front_run : (n : ℕ) → IsTrueRun run_spelled one_lane jobs past m (calls_before n) (short_after results n)
+  front_run : (n : ℕ) → IsTrueRun run_spelled (lanes_of items) jobs past m (calls_before n) (short_after results n)
   front_run n =
       let (a, b, parts, early, late) = cut n told owned in_turn in
-      true_run run_codec run_spelled run_tracks run_laws gives seed items one_lane jobs past m a (short_after results n) are order stands fresh seed_fits
+      true_run run_codec run_spelled run_tracks run_laws gives seed items jobs past m a (short_after results n) are order stands fresh seed_fits
       (Replied-front m a b (subst (Replied m) parts replied)) (all_front Suits a b (subst (All Suits) parts suit)) (all_front IsOwned a b (subst (All IsOwned) parts owned))
-      (all_front (IsWithin jobs) a b (subst (All (IsWithin jobs)) parts within)) (turn_front one_lane a b (subst (InTurn one_lane) parts in_turn)) (front_driven n)
+      (all_front (IsWithin jobs) a b (subst (All (IsWithin jobs)) parts within)) (in_turn_lanes (lanes_of items) a (turn_front one_lane a b (subst (InTurn one_lane) parts in_turn))) (front_driven n)
 
   -- the lane of each call is that of its command
   abbrev lane : Option ℕ → ℕ
   lane = lane_by (lanes_of items)
 
   -- the journal after so many commands
-  abbrev entered_by : ℕ → List Entry
+  abbrev pub entered_by : ℕ → List Entry
   entered_by n = entries_of lane (calls_before n)
 
   -- the objects stand for the history after so many commands
-  stood_by : (n : ℕ) → IsStored (held_after m (entered_by n)) (after n)
-  stood_by n =
-      subst (λ h. IsStored h (after n)) (sym (journal_held (lane_by one_lane) m (calls_before n)) ∙ journal_held lane m (calls_before n))
-      ((front_run n).stands (calls_before n) [] (sym (append-nil (calls_before n))))
+  pub stood_by : (n : ℕ) → IsStored (held_after m (entered_by n)) (after n)
+  stood_by n = (front_run n).stands (calls_before n) [] (sym (append-nil (calls_before n)))
 
   -- the first calls are none, and the last are all
-  no_calls : calls_before 0 ≡ []
+  pub no_calls : calls_before 0 ≡ []
   no_calls =
       let (a, b, parts, early, late) = cut 0 told owned in_turn in
       none_in a (λ e at. let less = early e at (own_of e at).0 (own_of e at).1 in omega (arith, less))
@@ -592,7 +405,7 @@ module _ (gives : ℕ → Bool) (seed : ℕ) (items : List Numbered) (jobs : Lis
       own_of : (e : Told) → Contains (calls_before 0) e → IsOwned e
       own_of e at = All-contains IsOwned (calls_before 0) e (all_front IsOwned (calls_before 0) (cut 0 told owned in_turn).1 (subst (All IsOwned) (cut 0 told owned in_turn).2 owned)) at
 
-  all_calls : calls_before (length items) ≡ told
+  pub all_calls : calls_before (length items) ≡ told
   all_calls =
       let (a, b, parts, early, late) = cut (length items) told owned in_turn in
       let none : b ≡ [] = none_in b (λ e at.
@@ -635,27 +448,12 @@ module _ (gives : ℕ → Bool) (seed : ℕ) (items : List Numbered) (jobs : Lis
       let deed : deed_in (history_told jobs past a ++ front) job (schemas_found (trace_of i seen)) e.call ≡ Some d =
       subst (λ k. deed_in (history_told jobs past a ++ front) job (schemas_found (trace_of k seen)) e.call ≡ Some d) at_i
       (subst (λ j. deed_in (history_told jobs past a ++ front) j (schemas_found (trace_of is.number seen)) e.call ≡ Some d) it is.deed) in
-      let begins = kept_first run_codec run_spelled run_tracks gives seed items jobs past m are order stands fresh seed_fits in
-      let no_lease : (n : Name) (bytes : List ℕ) → e.call ≡ call.Put n bytes → IsNoLease n = λ n bytes puts.
-      deed_no_lease (history_told jobs past a ++ front) job (schemas_found (trace_of i seen)) n d (subst (λ x. deed_in (history_told jobs past a ++ front) job (schemas_found (trace_of i seen)) x ≡ Some d) puts deed) in
-      let right : (n : Name) (bytes : List ℕ) → e.call ≡ call.Put n bytes → (made : FrameIn) → job.command ≡ Create made → (create_refusal made ≡ None) × ((n ≡ name.Domain → ⊥) → schemas (history_told jobs past a) ≡ []) = λ n bytes puts made creates.
-      let (sound, found) = right_where_put run_codec run_spelled run_tracks run_laws one_lane jobs past m told results begins replied suit owned within in_turn driven
-      seen (is.late ++ b) e place i job mine is_job made creates n bytes puts (no_lease n bytes puts) in
-      (sound, λ other. none_before jobs past a is.early seen refl i early made (found other)) in
-      let held : (n : Name) (bytes : List ℕ) → e.call ≡ call.Put n bytes → WorksIn job.command → (there : Schema) → schema_used (history_told jobs past a ++ front) job (schemas_found (trace_of i seen)) ≡ Some there
-      → HeldOnce (history_told jobs past a) (history_told jobs past a ++ front) (key_of job) there × FitsIn (history_told jobs past a ++ front) job.command there = λ n bytes puts works there used.
-      let looks : looked_at job ≡ job.at = looks_here job job.command works in
-      let uses : schema_used (history_told jobs past seen) job (schemas_found (trace_of i seen)) ≡ Some there = ap (λ h. schema_used h job (schemas_found (trace_of i seen))) now ∙ used in
-      let (found, fits) = works_where_used run_codec run_spelled run_tracks run_laws one_lane jobs past m told results begins replied suit owned within in_turn driven
-      seen (is.late ++ b) e place i job mine is_job (no_create job.command works) (no_merge job.command works) looks n bytes puts (no_lease n bytes puts) there uses in
-      subst (λ h. HeldOnce (history_told jobs past a) h (key_of job) there × FitsIn h job.command there) now (
-        held_once jobs past a is.early seen refl i early found.schemas (key_of job) there found.undone (ap (current_schema (history_told jobs past (found.schemas).before)) (sym looks) ∙ found.holds),
-        fits,
-      ) in
-      call_own (history_told jobs past a) (history_told jobs past a ++ front) job (schemas_found (trace_of i seen)) e.call d (λ n bytes puts. (right n bytes puts, held n bytes puts)) deed
+      let own = deed_own gives seed items jobs past m told results are order stands fresh seed_fits replied suit owned within (in_turn_lanes (lanes_of items) told in_turn) driven
+      (history_told jobs past a) seen (is.late ++ b) e place i job is_job mine (since jobs past a is.early seen refl i early) d (subst (λ h. deed_in h job (schemas_found (trace_of i seen)) e.call ≡ Some d) (sym now) deed) in
+      subst (λ h. IsDeedOf (history_told jobs past a) h (key_of job) job.command d) now own
 
   -- a command was done between the commands before it and those after it
-  is_done : AreSegments run_codec jobs results told → (i : ℕ) (item : Numbered) (result : Driven Outcome) → slice_get items i ≡ Some item → slice_get results i ≡ Some result
+  pub is_done : AreSegments run_codec jobs results told → (i : ℕ) (item : Numbered) (result : Driven Outcome) → slice_get items i ≡ Some item → slice_get results i ≡ Some result
       → (calls : List Entry) × (entered_by (i + 1) ≡ entered_by i ++ calls) × IsLineDone gives seed (record { opening = held_after m (entered_by i); entries = calls }) (after i) (after (i + 1)) item result
   is_done segments i item result is_item result_at =
       let (a, b, parts, early, late) = cut i told owned in_turn in
@@ -679,7 +477,7 @@ module _ (gives : ℕ → Bool) (seed : ℕ) (items : List Numbered) (jobs : Lis
       let above : Late i c = λ e among. late e (subst (λ l. Contains l e) (sym behind) (Contains-append_left c b' e among)) in
       let of_job : (front back : List Deed) (d : Deed) → deeds ≡ front ++ d ∷ back → IsDeedOf (history_told jobs past a) (history_told jobs past a ++ front) (key_of job) job.command d = λ front back d split.
       deed_is i job is_job a c b' place early below above front d (own.came front back d split) in
-      let undone : IsUndone (history_told jobs past a) job = (front_run i).answers i job outcome.OutOfMemory is_job (short_there results i result result_at) in
+      let undone : IsUndone (history_told jobs past a) job = (front_run i).answers a [] (sym (append-nil a)) i job outcome.OutOfMemory is_job (short_there results i result result_at) refl in
       let still : DoesNone job.command → (history_told jobs past a' ≡ history_told jobs past a) × IsNewKey (history_told jobs past a') (key_of job) = λ quiet.
       let none : deeds ≡ [] = none_first deeds (λ back d split. no_deed (history_told jobs past a) (history_told jobs past a ++ []) (key_of job) job.command d quiet (of_job [] back d split)) in
       let same : history_told jobs past a' ≡ history_told jobs past a = whole ∙ own.goes_on_so ∙ ap (λ l. history_told jobs past a ++ l) none ∙ append-nil (history_told jobs past a) in
@@ -687,7 +485,7 @@ module _ (gives : ℕ → Bool) (seed : ℕ) (items : List Numbered) (jobs : Lis
       let grows_by : history_told jobs past a' ≡ history_told jobs past a ++ deeds = whole ∙ own.goes_on_so in
       let silent : trace_of i a' ≡ [] → deeds ≡ [] = silent_deeds jobs i a c a' (history_told jobs past a) grows below above own in
       let stood : (front back : List Told) → a' ≡ front ++ back → IsStored (held_told m front) (history_told jobs past front) = λ front back split.
-      subst (λ h. IsStored h (history_told jobs past front)) (sym (journal_held (lane_by one_lane) m front)) ((front_run (i + 1)).stands front back split) in
+      subst (λ h. IsStored h (history_told jobs past front)) (sym (journal_held lane m front)) ((front_run (i + 1)).stands front back split) in
       let history : IsHistory (history_told jobs past a') = (stood a' [] (sym (append-nil a'))).history in
       let owns : All IsOwned c = all_back IsOwned a c (all_front IsOwned (a ++ c) b' (subst (All IsOwned) place owned)) in
       let mine : (e : Told) → Contains c e → e.job ≡ Some i = λ e among.
@@ -703,7 +501,7 @@ module _ (gives : ℕ → Bool) (seed : ℕ) (items : List Numbered) (jobs : Lis
       let stays : (front mid : List Told) → a' ≡ front ++ mid → All (IsNoSweep jobs) mid → HeldSince (held_told m front) (held_told m a') = λ front mid split quiet.
       subst (λ t. HeldSince (held_told m front) (held_told m t)) (sym split) ((front_run (i + 1)).stays front mid [] (split ∙ ap (λ l. front ++ l) (sym (append-nil mid))) quiet) in
       let ended : (end : Outcome) → slice_get results i ≡ Some (Done end) → IsSegment run_codec job (trace_of i c) (Done end) → Tells (calls_in m lane a c) (history_told jobs past a) (history_told jobs past a') (key_of job) end job.command = λ end end_at ends.
-      let is_over : IsTrueOver run_spelled m jobs past a' i job end = (front_run (i + 1)).answers i job end is_job (short_at results (i + 1) i (Done end) (omega arith) end_at) in
+      let is_over : IsTrueOver run_spelled m jobs past a' i job end = (front_run (i + 1)).answers a' [] (sym (append-nil a')) i job end is_job (short_at results (i + 1) i (Done end) (omega arith) end_at) refl in
       let is_true = true_end_of run_spelled m jobs past a' i job end is_over in
       let short : end ≡ outcome.OutOfMemory → IsUndone (history_told jobs past a') job = λ is. subst (IsTrueOver run_spelled m jobs past a' i job) is is_over in
       let causes : (r : Refusal) → end ≡ outcome.Refused r → IsRefusedFor run_spelled m jobs past a' i job r × (IsQuiet r → history_told jobs past a' ≡ history_told jobs past a) = λ r is.
@@ -751,108 +549,3 @@ module _ (gives : ℕ → Bool) (seed : ℕ) (items : List Numbered) (jobs : Lis
           (job.at, of_line.stamp, subst (λ s. IsDone (calls_in m lane a c) (history_told jobs past a) (history_told jobs past a') (record { t = job.at; id = id }) (item.line).stop result (command_at s item.line job.at)) seed_is as_line),
         ),
       )
-
--- ---- the promise
-
--- a text that was appended has a front that was, and nothing is a front of each
-whole_front : (old later : Option (List ℕ)) (text : List ℕ) → Appends old later text → AppendsFront old later text
-whole_front old later text all = (text, [], sym (append-nil text), all)
-
-none_front : (old later : Option (List ℕ)) (text : List ℕ) → Appends old later [] → AppendsFront old later text
-none_front old later text nothing = ([], text, refl, nothing)
-
-module _ {S : Type 0} (held : S → Option Held) (made : S → List Told → S → Type 0) (seen : Seen S) (lines : List Line) (results : List (Driven Outcome)) (performed : Performed held made seen lines results) where
-  -- the lines in lane order
-  abbrev items : List Numbered
-  items = in_lane_order lines
-
-  -- a text that was printed has a front that was
-  front_of : (text : List ℕ) (printed : ℕ) → PrintsEnds seen.out text printed seen.status → AppendsFront seen.out.old seen.out.new text
-  front_of text printed (whole is unhurt all) = whole_front seen.out.old seen.out.new text all
-  front_of text printed (sink_failed is rose front) = front
-  front_of text printed (no_text is nothing) = none_front seen.out.old seen.out.new text nothing
-
-  -- and with status 0 or 6 it was printed whole
-  whole_of : (text : List ℕ) (printed : ℕ) → PrintsEnds seen.out text printed seen.status → (seen.status ≡ 0) ⊎ (seen.status ≡ 6) → Appends seen.out.old seen.out.new text
-  whole_of text printed (whole is unhurt all) e = all
-  whole_of text printed (sink_failed is rose front) (inl e) = absurd (let none : ⊥ = omega (arith, is, e) in none)
-  whole_of text printed (sink_failed is rose front) (inr e) = absurd (let none : ⊥ = omega (arith, is, e) in none)
-  whole_of text printed (no_text is nothing) (inl e) = absurd (let none : ⊥ = omega (arith, is, e) in none)
-  whole_of text printed (no_text is nothing) (inr e) = absurd (let none : ⊥ = omega (arith, is, e) in none)
-
-  kept_promise : (job : Asked) → seen.seed < 2 ^ 64 → AreLimited lines → asked seen.words ≡ Some job → Means job seen.input.old (Ok lines) → PrintsEnds seen.out (report_text (report_of job) items results) (status_printed (report_of job) results) seen.status
-      → (m : Held) → held seen.store ≡ Some m → (past : History) → IsStored m past → IsFreshSeed m past seen.seed → Promise held seen m past
-  kept_promise job seed_fits limited asks means prints m holds past stands fresh =
-      let run = performed.run in
-      let jobs = performed.jobs in
-      let over = subst (λ o. IfSome o (λ n. IsRunOver run_spelled seen.seed (lanes_of items) jobs n (held seen.later) seen.journal run.told results)) holds run.over in
-      let now = history_told jobs past run.told in
-      let stored : IsStored (held_after m seen.journal) now = subst (λ es. IsStored (held_after m es) now) run.entries ((over.true_run past stands fresh).stands run.told [] (sym (append-nil run.told))) in
-      let order : AreInOrder items = in_order lines (omega (arith, limited.few)) limited.fit in
-      let count : length results ≡ length items = run.driven.one_each ∙ performed.of_lines.one_each in
-      let so_far : ℕ → History = after seen.gives seen.seed items jobs past m run.told results performed.of_lines order stands fresh seed_fits over.replied run.suit run.owned run.in_lanes.within performed.in_turn run.driven in
-      let journal : ℕ → List Entry = entered_by seen.gives seen.seed items jobs past m run.told results performed.of_lines order stands fresh seed_fits over.replied run.suit run.owned run.in_lanes.within performed.in_turn run.driven in
-      let all = all_calls seen.gives seen.seed items jobs past m run.told results performed.of_lines order stands fresh seed_fits over.replied run.suit run.owned run.in_lanes.within performed.in_turn run.driven in
-      let none = no_calls seen.gives seen.seed items jobs past m run.told results performed.of_lines order stands fresh seed_fits over.replied run.suit run.owned run.in_lanes.within performed.in_turn run.driven in
-      record {
-        job = job;
-        asks = asks;
-        lines = lines;
-        means = means;
-        ends = results;
-        one_each = count ∙ each_line lines limited.fit;
-        after = so_far;
-        made = journal;
-        first = (ap (history_told jobs past) none, ap (entries_of (lane_by (lanes_of items))) none);
-        last = ap journal count ∙ ap (entries_of (lane_by (lanes_of items))) all ∙ run.entries;
-        done = is_done seen.gives seen.seed items jobs past m run.told results performed.of_lines order stands fresh seed_fits over.replied run.suit run.owned run.in_lanes.within performed.in_turn run.driven run.segments;
-        unclipped = λ own none i answer end_at.
-            let (job, at) = item_at results jobs i run.driven.one_each (slice_get_within results i (Done (outcome.Read answer)) end_at) in
-            unclipped_run run_spelled (lanes_of items) jobs past m run.told results (over.true_run past stands fresh) own (no_sweeps seen.gives seen.seed lines jobs performed.of_lines none) i job answer at end_at;
-        stood = λ i few. stood_by seen.gives seen.seed items jobs past m run.told results performed.of_lines order stands fresh seed_fits over.replied run.suit run.owned run.in_lanes.within performed.in_turn run.driven i;
-        stored = (over.held, subst (IsStored (held_after m seen.journal)) (sym (ap so_far count ∙ ap (history_told jobs past) all)) stored);
-        front = front_of (report_text (report_of job) items results) (status_printed (report_of job) results) prints;
-        whole = whole_of (report_text (report_of job) items results) (status_printed (report_of job) results) prints;
-      }
-
--- ---- every run
-
-module _ {S : Type 0} (held : S → Option Held) (made : S → List Told → S → Type 0) (seen : Seen S) where
-  -- a run that stopped before its first command had another status, and made no call
-  not_begun : (stop : Stop) → HasStopped seen stop → Began seen → ⊥
-  not_begun stop h (inr (inr (inr called))) = called h.journal
-  not_begun Usage h (inl e) = let none : ⊥ = omega (arith, h.status, e) in none
-  not_begun Usage h (inr (inl e)) = let none : ⊥ = omega (arith, h.status, e) in none
-  not_begun Usage h (inr (inr (inl e))) = let none : ⊥ = omega (arith, h.status, e) in none
-  not_begun (BadScript n) h (inl e) = let none : ⊥ = omega (arith, h.status, e) in none
-  not_begun (BadScript n) h (inr (inl e)) = let none : ⊥ = omega (arith, h.status, e) in none
-  not_begun (BadScript n) h (inr (inr (inl e))) = let none : ⊥ = omega (arith, h.status, e) in none
-  not_begun ReadFault h (inl e) = let none : ⊥ = omega (arith, h.status, e) in none
-  not_begun ReadFault h (inr (inl e)) = let none : ⊥ = omega (arith, h.status, e) in none
-  not_begun ReadFault h (inr (inr (inl e))) = let none : ⊥ = omega (arith, h.status, e) in none
-  not_begun OutOfMemory h (inl e) = let none : ⊥ = omega (arith, h.status, e) in none
-  not_begun OutOfMemory h (inr (inl e)) = let none : ⊥ = omega (arith, h.status, e) in none
-  not_begun OutOfMemory h (inr (inr (inl e))) = let none : ⊥ = omega (arith, h.status, e) in none
-
-  -- nor did one begin that had no memory to begin with
-  not_begun_short : seen.status ≡ 7 → seen.journal ≡ [] → Began seen → ⊥
-  not_begun_short seven silent (inl e) = let none : ⊥ = omega (arith, seven, e) in none
-  not_begun_short seven silent (inr (inl e)) = let none : ⊥ = omega (arith, seven, e) in none
-  not_begun_short seven silent (inr (inr (inl e))) = let none : ⊥ = omega (arith, seven, e) in none
-  not_begun_short seven silent (inr (inr (inr called))) = called silent
-
-  -- a run that stopped promises nothing
-  pub promise_stopped : (stop : Stop) → HasStopped seen stop → Promised held seen
-  promise_stopped stop h = record { over = λ begun m holds past stands fresh. absurd (not_begun stop h begun); from_nothing = λ begun holds. absurd (not_begun stop h begun) }
-
-  module _ (job : Asked) (lines : List Line) (seed_fits : seen.seed < 2 ^ 64) (limited : AreLimited lines) (asks : asked seen.words ≡ Some job) (means : Means job seen.input.old (Ok lines)) where
-    over_any : Plays held made seen (report_of job) lines → Began seen → (m : Held) → held seen.store ≡ Some m → (past : History) → IsStored m past → IsFreshSeed m past seen.seed → Promise held seen m past
-    over_any (ended results performed prints) begun m holds past stands fresh = kept_promise held made seen lines results performed job seed_fits limited asks means prints m holds past stands fresh
-    over_any (ran_short seven silent same nothing) begun m holds past stands fresh = absurd (not_begun_short seven silent begun)
-
-    -- a run that did its commands keeps its promise
-    pub promise_played : Plays held made seen (report_of job) lines → Promised held seen
-    promise_played plays = record {
-      over = over_any plays;
-      from_nothing = λ begun holds. over_any plays begun _ holds [] (nothing_stands run_spelled) (fresh_over_nothing seen.seed);
-    }

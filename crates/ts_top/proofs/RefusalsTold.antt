@@ -175,7 +175,7 @@ own_schema k c =
 
 -- a failed call that is true of a job tells whose deed may have come
 module _ (opening : Held) (jobs : List Job) (past : History) (told : List Told) (number : ℕ) where
-  fault_tells : (job : Job) (p : Place) → (DoesNone job.command → IsNewKey (history_told jobs past told) (key_of job)) → IsTrueRefusal run_spelled opening jobs past told number job (refusal.StoreFault p)
+  pub fault_tells : (job : Job) (p : Place) → (DoesNone job.command → IsNewKey (history_told jobs past told) (key_of job)) → IsTrueRefusal run_spelled opening jobs past told number job (refusal.StoreFault p)
       → IsNewKey (history_told jobs past told) (key_of job) ⊎ Contains (own_faults (key_of job) job.command) (refusal.StoreFault p)
   fault_tells job (place.Name (name.Commit f kind)) none (inl own) = elim (own_commit (key_of job) job.command) [ inl quiet ↦ inl (none quiet) | inr among ↦ inr (rw (own.0, own.1) among) ]
   fault_tells job (place.Name (name.Commit f kind)) none (inr undone) = inl undone
@@ -183,8 +183,13 @@ module _ (opening : Held) (jobs : List Job) (past : History) (told : List Told) 
   fault_tells job (place.Name (name.Schema k)) none (inr undone) = inl undone
   fault_tells job _ none is = inl is
 
+-- the lease of a job is that of its command
+pub own_lease : (job : Job) (mode : Option LeaseMode) (own : Name) → option_map (name.Lease (key_of job)) mode ≡ Some own → (x : LeaseMode) × (mode ≡ Some x) × (name.Lease (key_of job) x ≡ own)
+own_lease job None own is = absurd (none-some own is)
+own_lease job (Some x) own is = (x, refl, same_Some (name.Lease (key_of job) x) own is)
+
 -- where a command looks for its schema
-looks_same : (job : Job) (c : Command) → looks_at job c ≡ looks_for (key_of job) c
+pub looks_same : (job : Job) (c : Command) → looks_at job c ≡ looks_for (key_of job) c
 looks_same job (Create made) = refl
 looks_same job (Evolve change) = refl
 looks_same job (Write columns) = refl
@@ -221,18 +226,13 @@ module _ (m : Held) (jobs : List Job) (past : History) (lane : Option ℕ → �
       let entered : entry_of lane e ≡ Some entry = ap (λ r. cond (is_no_memory r) None (Some entry)) is.failed in
       (entry, Contains-filter_map (entry_of lane) c e entry here entered, is.speaks ∙ ap place_of (sym at.makes), is.undone)
 
-  -- the lease of a job is that of its command
-  own_lease : (mode : Option LeaseMode) (own : Name) → option_map (name.Lease (key_of job)) mode ≡ Some own → (x : LeaseMode) × (mode ≡ Some x) × (name.Lease (key_of job) x ≡ own)
-  own_lease None own is = absurd (none-some own is)
-  own_lease (Some x) own is = (x, refl, same_Some (name.Lease (key_of job) x) own is)
-
   -- a lease that was in the way of the job was so of the command
   opposed : (other : Name) → FindsLease m told number job other → IsOpposed calls_of (key_of job) job.command other
   opposed other is =
       let at = is.leases in
       let rest : List Told = at.listing ∷ at.later in
       let (d, behind, split) = divided m jobs past lane a c told parts number early at.before at.listing at.later at.place at.own in
-      let (mode, has, named) = own_lease (mode_of job.command) is.own is.has in
+      let (mode, has, named) = own_lease job (mode_of job.command) is.own is.has in
       let held : held_told m at.before ≡ held_after (held_after m (entries_of lane a)) (entries_of lane d) = ap (held_told m) behind ∙ held_entered m lane a d in
       let first : verdict_in (names_under Leases (held_after (held_after m (entries_of lane a)) (entries_of lane d))) (name.Lease (key_of job) mode) ≡ Opposed other =
       subst (λ n. verdict_in (names_under Leases (held_after (held_after m (entries_of lane a)) (entries_of lane d))) n ≡ Opposed other) (sym named)

@@ -15,7 +15,6 @@ use Rattle.ts_model.specs.States.{Exchange}
 use Rattle.ts_model.specs.Stops.{Uncut, is_point}
 use Rattle.ts_model.specs.Told.{Told, entries_of, entry_of, trace_of}
 use Rattle.ts_model.proofs.ListLemmas.{Contains-cons, Contains-here, Contains-nil, Contains-there, filter_map-Contains}
-use Rattle.ts_top.specs.Merges.{Calls}
 use Rattle.ts_top.specs.Promise.{KeepsStop}
 use Rattle.ts_top.proofs.MergesTold.{calls_in}
 use Rattle.ts_top.proofs.Removed.{exchange_among, trace_first}

@@ -42,7 +42,7 @@ use Rattle.ts_model.proofs.ListLemmas.{Contains-cons, Contains-here, Contains-ni
 use Rattle.ts_model.proofs.Traces.{held_told-append, trace_of-own}
 use Rattle.ts_law.specs.Courses.{Along, ChoosesBy, EachListed, EndsAlong, EndsUnder, Found, IsLookBy, IsLookOf, IsSegment, LeaseEnds, Looks, MayEndAs, NotBegun, NotOwn, Removed, RemovesBy, course_by, course_of, lets_on, removal, sweep_calls, under_lease}
 use Rattle.ts_law.specs.Ends.{AreAllVacs, IsGone, IsVacuumed, up_to}
-use Rattle.ts_law.specs.Stands.{Names, Stands}
+use Rattle.ts_law.specs.Stands.{Stands}
 use Rattle.ts_law.specs.Swept.{sweep_over}
 use Rattle.ts_law.proofs.Effects.{Added, PutWent, Still, got, listed, put_went}
 use Rattle.ts_law.proofs.Fetches.{map-Contains}

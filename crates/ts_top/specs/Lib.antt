@@ -9,3 +9,7 @@ pub mod Merges
 pub mod Sweeps
 pub mod Causes
 pub mod Promise
+pub mod Times
+pub mod Together
+pub mod Lanes
+pub mod Promised

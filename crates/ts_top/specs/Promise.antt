@@ -84,6 +84,21 @@ pub record Answers (calls : Calls) (h : History) (from to : ℕ) (query : Query)
   pub parts : calls.entries ≡ front ++ back
   pub over : IsAnswerOver run_spelled h (held_by calls front) h from to query answer
 
+-- the end of a command with the key tells of its deed, which is done between two histories: a create and an evolve of a schema, a write and a delete of their own
+abbrev pub HasDone : History → History → Key → Outcome → Command → Type 0
+HasDone before now k outcome.Created (Create made) =
+    (schemas before ≡ []) × (create_refusal made ≡ None) × (frame_in now ≡ Some (frame_made made)) × (schema_with now k ≡ Some (record { key = k; attrs = made.attrs }))
+HasDone before now k (outcome.Evolved n) (Evolve change) =
+    (n ≡ k) × (current : Schema) × HeldOnce before now k current × (frame : Frame) × (frame_in now ≡ Some frame)
+    × (evolution_fault frame.domain current.attrs change ≡ None) × (schema_with now k ≡ Some (record { key = k; attrs = evolved_attrs current.attrs change }))
+HasDone before now k (outcome.Written f) (Write columns) =
+    (f ≡ frag_of k) × (current : Schema) × HeldOnce before now k current × (frame : Frame) × (frame_in now ≡ Some frame)
+    × (cells : List Cell) × (laid frame current.attrs columns ≡ Ok cells) × Contains (writes now) (record { key = k; schema = current.key; cells = cells })
+HasDone before now k (outcome.Deleted f) (Delete text) =
+    (f ≡ frag_of k) × (current : Schema) × HeldOnce before now k current × (frame : Frame) × (frame_in now ≡ Some frame)
+    × (condition : Condition) × (delete_condition frame current.attrs text ≡ Ok condition) × Contains (deletions now) (record { key = k; cond = condition })
+HasDone before now k _ _ = ⊥
+
 -- what the end of a command with the key tells of the histories before and after it.
 -- A read, a consolidation, a vacuum, an unlock and a list of the commits do no deed.
 -- A read answers by the one history.
@@ -92,17 +107,10 @@ pub record Answers (calls : Calls) (h : History) (from to : ℕ) (query : Query)
 -- A command that ran short of memory has no deed of its key.
 abbrev pub Tells : Calls → History → History → Key → Outcome → Command → Type 0
 Tells calls before now k (outcome.Read answer) (Read from to query) = Answers calls now from to query answer × HasNoLease calls k (Read from to query)
-Tells calls before now k outcome.Created (Create made) =
-    (schemas before ≡ []) × (create_refusal made ≡ None) × (frame_in now ≡ Some (frame_made made)) × (schema_with now k ≡ Some (record { key = k; attrs = made.attrs }))
-Tells calls before now k (outcome.Evolved n) (Evolve change) =
-    (n ≡ k) × (current : Schema) × HeldOnce before now k current × (frame : Frame) × (frame_in now ≡ Some frame)
-    × (evolution_fault frame.domain current.attrs change ≡ None) × (schema_with now k ≡ Some (record { key = k; attrs = evolved_attrs current.attrs change }))
-Tells calls before now k (outcome.Written f) (Write columns) =
-    (f ≡ frag_of k) × (current : Schema) × HeldOnce before now k current × (frame : Frame) × (frame_in now ≡ Some frame)
-    × (cells : List Cell) × (laid frame current.attrs columns ≡ Ok cells) × Contains (writes now) (record { key = k; schema = current.key; cells = cells })
-Tells calls before now k (outcome.Deleted f) (Delete text) =
-    (f ≡ frag_of k) × (current : Schema) × HeldOnce before now k current × (frame : Frame) × (frame_in now ≡ Some frame)
-    × (condition : Condition) × (delete_condition frame current.attrs text ≡ Ok condition) × Contains (deletions now) (record { key = k; cond = condition })
+Tells calls before now k outcome.Created command = HasDone before now k outcome.Created command
+Tells calls before now k (outcome.Evolved n) command = HasDone before now k (outcome.Evolved n) command
+Tells calls before now k (outcome.Written f) command = HasDone before now k (outcome.Written f) command
+Tells calls before now k (outcome.Deleted f) command = HasDone before now k (outcome.Deleted f) command
 Tells calls before now k (outcome.Consolidated f count) (Consolidate from to limits) =
     (now ≡ before) × IsNewKey now k × (current : Schema) × (current_schema now k.t ≡ Some current) × Merged calls now k from to limits f count × HasNoLease calls k (Consolidate from to limits)
 Tells calls before now k (outcome.Vacuumed count) Vacuum = (now ≡ before) × IsNewKey now k × (current : Schema) × (current_schema now k.t ≡ Some current) × Vacuumed calls count × HasNoLease calls k Vacuum
@@ -195,13 +203,3 @@ pub record Promise {S : Type 0} (held : S → Option Held) (seen : Seen S) (m : 
   pub stored : (held seen.later ≡ Some (held_after m seen.journal)) × IsStored (held_after m seen.journal) (after (length ends))
   pub front : AppendsFront seen.out.old seen.out.new (report_text (report_of job) (in_lane_order lines) ends)
   pub whole : (seen.status ≡ 0) ⊎ (seen.status ≡ 6) → Appends seen.out.old seen.out.new (report_text (report_of job) (in_lane_order lines) ends)
-
--- the run began with its commands, by its status or by a call that it made of the store
-abbrev pub Began : {S : Type 0} → Seen S → Type 0
-Began seen = (seen.status ≡ 0) ⊎ (seen.status ≡ 5) ⊎ (seen.status ≡ 6) ⊎ (seen.journal ≡ [] → ⊥)
-
--- a run that began keeps the promise.
--- Over a store that held what stands for a history the seed is to be fresh; over one that held nothing any seed will do.
-pub record Promised {S : Type 0} (held : S → Option Held) (seen : Seen S) : Type 0 where
-  pub over : Began seen → (m : Held) → held seen.store ≡ Some m → (past : History) → IsStored m past → IsFreshSeed m past seen.seed → Promise held seen m past
-  pub from_nothing : Began seen → held seen.store ≡ Some map.empty → Promise held seen map.empty []

@@ -103,7 +103,7 @@ fn job_of(alloc: Global, seed: u64, number: u32, line: &Line, at: u64) -> Result
 {
     let command = ending_at(line.command.copy(alloc)?, line.to_stamp, at);
     Ok(Job {
-        command: with_seed(command, seed),
+        command: in_run(command, seed, line.lane),
         at,
         id: (u128::from(seed) << 64) + (u128::from(line.lane) << 32) + u128::from(number),
         stop: line.stop,
@@ -136,14 +136,14 @@ fn ending_at(command: Command, to_stamp: bool, at: u64) -> Command
     }
 }
 
-// The command in a run of a seed, which an unlock has from its start on.
-fn with_seed(command: Command, seed: u64) -> Command
+// The command in a run of a seed and in a lane, both of which an unlock has from its start on.
+fn in_run(command: Command, seed: u64, lane: u32) -> Command
     requires fit { IsTrue (fits command) }
-    ensures is { result ≡ seeded seed command }
+    ensures is { result ≡ seeded seed lane command }
     ensures fit { IsTrue (fits result) }
 {
     match command {
-        Command::Unlock { seed: _, lane } => Command::Unlock { seed, lane },
+        Command::Unlock { .. } => Command::Unlock { seed, lane },
         command => command,
     }
 }

@@ -11,7 +11,7 @@ ghost use Rattle.ts_law.specs.Fresh.{in_lane_order};
 ghost use Rattle.ts_script.specs.declared.words.Report.TheVariants.{Single};
 ghost use Rattle.ts_top.specs.Reports.{report_text, status_alone, status_printed};
 ghost use Rattle.ts_top.specs.Items.{numbered};
-ghost use Rattle.ts_top.specs.Promise.{Promised};
+ghost use Rattle.ts_top.specs.Promised.{Promised};
 ghost use Rattle.ts_top.specs.Seen.{Stream, stream, AskFor, HasReason, IsPrepared, IsTaken, Plays, Prints, PrintsEnds, IsRunOf, WasRefused, status_of, stop_text};
 
 use crate::ends::print_ends;

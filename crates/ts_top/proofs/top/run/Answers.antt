@@ -8,7 +8,7 @@ use Rattle.ts_model.specs.declared.commands.Line.{Line}
 use Rattle.ts_top.specs.Runners.{JustMade}
 use Rattle.ts_top.specs.Seen.{Seen, Stream, stream, Plays, Stopped, IsRunOf, stopped, played}
 use Rattle.ts_script.specs.Words.{word_texts}
-use Rattle.ts_top.proofs.Promises.{promise_stopped, promise_played}
+use Rattle.ts_top.proofs.Promised.{promise_stopped, promise_played}
 use Rattle.ts_top.proofs.Exact.{usage, usage_there, refused, bad_script, bad_script_there, read_fault, write_fault, untouched}
 use Rattle.ts_top.proofs.top.run.Goals as goal
 

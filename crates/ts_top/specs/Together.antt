@@ -1,0 +1,233 @@
+-- What the end of a command tells where commands of other lanes make calls between its own: of what was held, and of the history, at times of its own.
+use Rattle.std.specs.Prelude.{◌≡◌, ◌≢◌, ℕ, ◌+◌, ◌<◌, ◌≤◌, List, [], ◌∷◌, ◌++◌, Some, None, option_map, filter, length, slice_get, Contains, IfSome, ◌⊎◌}
+use Rattle.std.specs.List.{list_any}
+use Rattle.std.specs.FinMap as map
+use Rattle.ts_base.specs.Names.{wrt_of}
+use Rattle.ts_base.specs.declared.heads.Piece.{Piece}
+use Rattle.ts_base.specs.declared.heads.Stop.{Stop}
+use Rattle.ts_base.specs.declared.heads.Stop.TheVariants as stop
+use Rattle.ts_base.specs.declared.keys.FragKey.{FragKey}
+use Rattle.ts_base.specs.declared.keys.Key.{Key}
+use Rattle.ts_base.specs.declared.names.LeaseMode.{LeaseMode}
+use Rattle.ts_base.specs.declared.names.Name.{Name}
+use Rattle.ts_base.specs.declared.names.Name.TheVariants as name
+use Rattle.ts_base.specs.declared.names.Place.{Place}
+use Rattle.ts_base.specs.declared.names.Prefix.TheVariants.{Commits, Leases, Schemas}
+use Rattle.ts_commit.specs.Selections.{has_origin, is_among, names_merged, removal_set}
+use Rattle.ts_commit.specs.declared.vacs.Limits.{Limits}
+use Rattle.ts_commit.specs.declared.vacs.Planned.{Planned}
+use Rattle.ts_commit.specs.declared.vacs.Planned.TheVariants.{Nothing, Take}
+use Rattle.ts_commit.specs.declared.vacs.VacOf.{VacOf}
+use Rattle.ts_cond.specs.declared.query.Query.{Query}
+use Rattle.ts_lease.specs.declared.verdicts.Verdict.TheVariants.{Held as Opposed}
+use Rattle.ts_lease.specs.Leases.{verdict_in}
+use Rattle.ts_schema.specs.declared.frames.Frame.{Frame}
+use Rattle.ts_schema.specs.declared.schemas.Schema.{Schema}
+use Rattle.ts_store.specs.declared.call.Call.TheVariants as call
+use Rattle.ts_store.specs.declared.fate.Fate.TheVariants as fate
+use Rattle.ts_store.specs.Calls.{names_under}
+use Rattle.ts_model.specs.declared.answers.Answer.{Answer}
+use Rattle.ts_model.specs.declared.answers.Driven.{Driven}
+use Rattle.ts_model.specs.declared.answers.Driven.TheVariants.{Done, Stopped}
+use Rattle.ts_model.specs.declared.answers.Outcome.{Outcome}
+use Rattle.ts_model.specs.declared.answers.Outcome.TheVariants as outcome
+use Rattle.ts_model.specs.declared.answers.Refusal.{Refusal}
+use Rattle.ts_model.specs.declared.answers.Refusal.TheVariants as refusal
+use Rattle.ts_model.specs.declared.commands.Command.{Command}
+use Rattle.ts_model.specs.declared.commands.Command.TheVariants.{Create, Read, Consolidate, Vacuum, Unlock, Fragments}
+use Rattle.ts_model.specs.declared.deeds.Deed.{Deed}
+use Rattle.ts_model.specs.Commands.{create_refusal, frame_made}
+use Rattle.ts_model.specs.Deeds.{IsNewKey, current_schema, frame_in, schemas}
+use Rattle.ts_model.specs.Stages.{mode_of}
+use Rattle.ts_model.specs.States.{get_frame, leases_unlocked, place_of}
+use Rattle.ts_law.specs.Changes.{IsOwn, OnlyLooks, RemovesNone}
+use Rattle.ts_law.specs.Ends.{AreAllVacs, IsAnswerOver, IsPlanned}
+use Rattle.ts_law.specs.Refusals.{IsNoFault, refusal_in}
+use Rattle.ts_law.specs.Since.{HeldSince}
+use Rattle.ts_law.specs.Stands.{HoldsIn, IsCommitted, Names}
+use Rattle.ts_top.specs.Causes.{looks_for, own_faults}
+use Rattle.ts_top.specs.Promise.{HasDone, IsDeedOf}
+use Rattle.ts_top.specs.Runners.{run_spelled}
+use Rattle.ts_top.specs.Sweeps.{IsSwept}
+use Rattle.ts_top.specs.Times.{Made, Span, IsCall, IsSpan, Lists, Makes, before, held_at, now}
+
+-- ---- what the calls of a command did
+
+-- none of the command's calls appended a deed
+abbrev pub DidNone : Span → Type 0
+DidNone s = (n : ℕ) → IsCall s n → s.run.history (n + 1) ≡ s.run.history n
+
+-- each of the command's calls left each object as it was, but the lease of the command with the key, and objects of a kind, which may depend on the time
+abbrev pub LeftOthers : Span → Key → Command → (ℕ → Name → Type 0) → Type 0
+LeftOthers s k command kind =
+    (n : ℕ) → IsCall s n → (x : Name) → (option_map (name.Lease k) (mode_of command) ≡ Some x → ⊥) → (map.get (held_at s.run (n + 1)) x ≡ map.get (held_at s.run n) x) ⊎ kind n x
+
+-- each of them left all but the lease
+abbrev pub LeftAll : Span → Key → Command → Type 0
+LeftAll s k command = LeftOthers s k command (λ n x. ⊥)
+
+-- at the end of the command its lease was not held
+abbrev pub LeftNoLease : Span → Key → Command → Type 0
+LeftNoLease s k command = IfSome (mode_of command) (λ mode. map.get (held_at s.run s.to) (name.Lease k mode) ≡ None)
+
+-- at a time of the command the object was not held
+abbrev pub WasGone : Span → Name → Type 0
+WasGone s x = (n : ℕ) × (s.from ≤ n) × (n ≤ s.to) × (map.get (held_at s.run n) x ≡ None)
+
+-- ---- what it found
+
+-- as the command listed the schemas, one held at a stamp
+abbrev pub FoundSchema : Span → ℕ → Type 0
+FoundSchema s at = (n : ℕ) × Lists s n Schemas × (current : Schema) × (current_schema (s.run.history n) at ≡ Some current)
+
+-- the answer to a read of [from, to]: over the fragments that were committed as it listed the commits, shown through the schema that held as it then listed the schemas.
+-- It names those that are clipped, and is that of the history at the first listing without its clipped writes.
+-- Where it names none, it is that of the whole history.
+pub record Answered (s : Span) (from to : ℕ) (query : Query) (answer : Answer) : Type 0 where
+  pub listed : ℕ
+  pub lists : Lists s listed Commits
+  pub shown : ℕ
+  pub shows : Lists s shown Schemas
+  pub order : listed < shown
+  pub over : IsAnswerOver run_spelled (s.run.history listed) (held_at s.run listed) (s.run.history shown) from to query answer
+
+-- a consolidation came to this plan: it is that of the fragments in its interval that were committed as it listed the commits
+pub record PlannedSo (s : Span) (from to : ℕ) (limits : Limits) (plan : Planned) : Type 0 where
+  pub listed : ℕ
+  pub lists : Lists s listed Commits
+  pub by_plan : IsPlanned run_spelled (s.run.history listed) (held_at s.run listed) from to limits plan
+
+-- a consolidation with the key merged so many fragments into one of its own: those that its plan takes.
+-- Once it put the `.wrt` of that one, it was committed.
+-- All that went into a source went into it, and nothing else.
+-- Its `.vac` named the sources, and what the `.vac` objects of these named.
+pub record MergedSo (s : Span) (k : Key) (from to : ℕ) (limits : Limits) (f : FragKey) (count : ℕ) : Type 0 where
+  pub sources : List FragKey
+  pub plans : PlannedSo s from to limits (Take sources)
+  pub counted : count ≡ length sources
+  pub own : f.id ≡ k.id
+  pub put : ℕ
+  pub puts : Makes s put (call.Put (wrt_of f) [])
+  pub committed : IsCommitted (held_at s.run (put + 1)) f
+  pub piece : Piece
+  pub holds : HoldsIn run_spelled (s.run.history (put + 1)) (held_at s.run (put + 1)) f piece
+  pub origins : (w : Key) → has_origin w piece.head ≡ list_any (has_origin w) (filter (λ head. is_among head.frag sources) plans.by_plan.heads)
+  pub vac : Names (held_at s.run (put + 1)) f (names_merged plans.by_plan.vacs sources)
+
+-- a vacuum found these `.vac` objects: those of the fragments that were committed as it listed the commits
+abbrev pub FoundVacs : Span → ℕ → List VacOf → Type 0
+FoundVacs s n vacs = Lists s n Commits × AreAllVacs (held_at s.run n) vacs
+
+-- the removal set of a vacuum has so many fragments: all that the `.vac` objects name which it found, also those that were gone already.
+-- Each of their objects, and each of these `.vac` objects, was gone at a time of the vacuum.
+pub record VacuumedSo (s : Span) (count : ℕ) : Type 0 where
+  pub listed : ℕ
+  pub vacs : List VacOf
+  pub found : FoundVacs s listed vacs
+  pub counted : count ≡ length (removal_set vacs)
+  pub gone : (x : Name) → IsSwept vacs x → WasGone s x
+
+-- the leases that an unlock of a seed and a lane takes for dead, of those that were held at a time
+abbrev pub dead_at : Span → ℕ → ℕ → ℕ → List Name
+dead_at s seed lane n = leases_unlocked seed lane (names_under Leases (held_at s.run n))
+
+-- an unlock of a seed and a lane removed so many leases: those that it takes for dead, of those that were held as it listed them
+pub record UnlockedSo (s : Span) (seed lane count : ℕ) : Type 0 where
+  pub listed : ℕ
+  pub lists : Lists s listed Leases
+  pub counted : count ≡ length (dead_at s seed lane listed)
+  pub gone : (x : Name) → Contains (dead_at s seed lane listed) x → WasGone s x
+
+-- ---- refusals
+
+-- one of the command's calls failed, which speaks of this object or prefix
+abbrev pub OwnFailed : Span → Place → Type 0
+OwnFailed s p = (n : ℕ) × (c : Made) × (slice_get s.run.calls n ≡ Some c) × (c.number ≡ s.number) × (p ≡ place_of c.entry.call) × (c.entry.fate ≢ fate.Done)
+
+-- a lease was in the way: of those that were held as the command listed them this one was the first that opposes the command's own
+abbrev pub WasOpposed : Span → Key → Command → Name → Type 0
+WasOpposed s k command other =
+    (n : ℕ) × Lists s n Leases × (mode : LeaseMode) × (mode_of command ≡ Some mode) × (verdict_in (names_under Leases (held_at s.run n)) (name.Lease k mode) ≡ Opposed other)
+
+-- the cause of a refusal, at times of the command.
+-- A create finds another frame than its own as it gets the frame, or a schema as it lists them, or is refused for itself.
+-- An unlock and a list of the commits are refused for failed calls alone.
+-- Another command finds no schema as it lists them, or a lease in its way, or is refused in the frame and the schema there.
+-- A consolidation that has nothing to do found a schema at its stamp, and its plan takes nothing, where so many fragments may be merged.
+abbrev pub HadCause : Span → Key → Refusal → Command → Type 0
+HadCause s k refusal.ArrayExists (Create made) =
+    ((n : ℕ) × Makes s n get_frame × (frame : Frame) × (frame_in (s.run.history n) ≡ Some frame) × (frame ≢ frame_made made))
+    ⊎ ((n : ℕ) × Lists s n Schemas × (declared : Schema) × Contains (schemas (s.run.history n)) declared)
+HadCause s k r (Create made) = create_refusal made ≡ Some r
+HadCause s k r (Unlock seed lane) = ⊥
+HadCause s k r Fragments = ⊥
+HadCause s k (refusal.NoSchema at) command = (at ≡ looks_for k command) × ((n : ℕ) × Lists s n Schemas × (current_schema (s.run.history n) at ≡ None))
+HadCause s k (refusal.Leased other) command = WasOpposed s k command other
+HadCause s k (refusal.NothingToDo eligible) (Consolidate from to limits) = FoundSchema s k.t × PlannedSo s from to limits (Nothing eligible)
+HadCause s k r command =
+    (n : ℕ) × Lists s n Schemas × (current : Schema) × (current_schema (s.run.history n) (looks_for k command) ≡ Some current)
+    × (frame : Frame) × (frame_in (s.run.history n) ≡ Some frame) × (refusal_in frame current.attrs command ≡ Some r)
+
+-- what a refusal tells.
+-- No object is missing, damaged or taken.
+-- Where a call failed, the history has no deed of the command, but perhaps that of the put that failed.
+-- A command that is refused else did no deed, for a cause.
+abbrev pub ToldRefusal : Span → Key → Command → Refusal → Type 0
+ToldRefusal s k command (refusal.Missing n) = ⊥
+ToldRefusal s k command (refusal.Damaged n at) = ⊥
+ToldRefusal s k command (refusal.Taken n) = ⊥
+ToldRefusal s k command (refusal.StoreFault p) = OwnFailed s p × (IsNewKey (now s) k ⊎ Contains (own_faults k command) (refusal.StoreFault p))
+ToldRefusal s k command r = DidNone s × IsNewKey (now s) k × HadCause s k r command
+
+-- ---- ends
+
+-- what the end of a command with the key tells of the times of the command.
+-- A read, a consolidation, a vacuum, an unlock and a list of the commits do no deed.
+-- A read answers by its listings.
+-- A consolidation tells what it merged, a vacuum and an unlock what they removed, and a list of the commits those that were held as it listed them.
+-- A read, a consolidation and a vacuum that ended well leave no lease.
+-- A command that ran short of memory has no deed of its key.
+abbrev pub ToldSo : Span → Key → Outcome → Command → Type 0
+ToldSo s k (outcome.Read answer) (Read from to query) = DidNone s × Answered s from to query answer × LeftNoLease s k (Read from to query)
+ToldSo s k outcome.Created command = HasDone (before s) (now s) k outcome.Created command
+ToldSo s k (outcome.Evolved n) command = HasDone (before s) (now s) k (outcome.Evolved n) command
+ToldSo s k (outcome.Written f) command = HasDone (before s) (now s) k (outcome.Written f) command
+ToldSo s k (outcome.Deleted f) command = HasDone (before s) (now s) k (outcome.Deleted f) command
+ToldSo s k (outcome.Consolidated f count) (Consolidate from to limits) = DidNone s × IsNewKey (now s) k × FoundSchema s k.t × MergedSo s k from to limits f count × LeftNoLease s k (Consolidate from to limits)
+ToldSo s k (outcome.Vacuumed count) Vacuum = DidNone s × IsNewKey (now s) k × FoundSchema s k.t × VacuumedSo s count × LeftNoLease s k Vacuum
+ToldSo s k (outcome.Unlocked count) (Unlock seed lane) = DidNone s × IsNewKey (now s) k × UnlockedSo s seed lane count
+ToldSo s k (outcome.Listed names) Fragments = DidNone s × IsNewKey (now s) k × ((n : ℕ) × Lists s n Commits × (names ≡ names_under Commits (held_at s.run n)))
+ToldSo s k (outcome.Refused r) command = ToldRefusal s k command r
+ToldSo s k outcome.OutOfMemory command = IsNewKey (now s) k
+ToldSo s k _ _ = ⊥
+
+-- how a command came out tells the truth: its end does, and one that was stopped was to be stopped
+abbrev pub CameOutSo : Span → Key → Stop → Driven Outcome → Command → Type 0
+CameOutSo s k stops (Done end) command = ToldSo s k end command
+CameOutSo s k stops Stopped command = stops ≢ stop.Never
+
+-- a vacuum may remove the object at a time: it is one that it sweeps where it finds the `.vac` objects that it found before
+abbrev pub IsToSweepAt : Span → ℕ → Name → Type 0
+IsToSweepAt s n x = (listed : ℕ) × (listed < n) × (vacs : List VacOf) × FoundVacs s listed vacs × IsSwept vacs x
+
+-- an unlock may remove the lease at a time: it takes it for dead, of those that it listed before
+abbrev pub IsToUnlockAt : Span → ℕ → ℕ → ℕ → Name → Type 0
+IsToUnlockAt s seed lane n x = (listed : ℕ) × (listed < n) × Lists s listed Leases × Contains (dead_at s seed lane listed) x
+
+-- a command with the key was done, to its end or to where it was stopped: each of its calls appended no deed, or one of it over the history before the call
+pub record WasDone (s : Span) (k : Key) (stops : Stop) (result : Driven Outcome) (command : Command) : Type 0 where
+  pub span : IsSpan s
+  pub deeds : (n : ℕ) → IsCall s n → (s.run.history (n + 1) ≡ s.run.history n) ⊎ ((d : Deed) × (s.run.history (n + 1) ≡ s.run.history n ++ d ∷ []) × IsDeedOf (before s) (s.run.history n) k command d)
+  pub tells : CameOutSo s k stops result command
+  -- no call of another command than a vacuum takes away an object that is no lease
+  pub stays : (command ≡ Vacuum → ⊥) → (n : ℕ) → IsCall s n → HeldSince (held_at s.run n) (held_at s.run (n + 1))
+  -- each call of a vacuum leaves each object as it was, but its lease and those that it may remove
+  pub sweeps : command ≡ Vacuum → LeftOthers s k command (IsToSweepAt s)
+  -- each call of an unlock leaves each object as it was, but the leases that it takes for dead
+  pub unlocks : (seed lane : ℕ) → command ≡ Unlock seed lane → LeftOthers s k command (IsToUnlockAt s seed lane)
+  -- each call of any other command leaves each object as it was, but those that carry its identifier, and the frame that a create puts
+  pub puts : RemovesNone command → LeftOthers s k command (λ n. IsOwn k command)
+  -- each call of a read and of a list of the commits leaves each object as it was, but a lease of their own
+  pub looks : OnlyLooks command → LeftAll s k command
+  -- each call of one that is refused for no fault leaves each object as it was, but its lease
+  pub idle : (r : Refusal) → result ≡ Done (outcome.Refused r) → IsNoFault r → LeftAll s k command
