@@ -11,6 +11,8 @@ mod drives;
 #[cfg(test)]
 mod folder;
 #[cfg(test)]
+mod lanes;
+#[cfg(test)]
 mod turnstile;
 #[cfg(test)]
 mod vacuum;

@@ -1,35 +1,79 @@
--- Journals that begin one another, and the calls of a lane in them.
-use Rattle.std.proofs.Common.{◌≡◌, ℕ, ◌<◌, ◌≤◌, ◌==◌, Bool, true, false, List, [], ◌∷◌, ◌++◌, length, nat_lt, refl, sym, ap, ◌∙◌, arith, append_assoc, append-nil, length-append, add-one, if◌then◌else◌, Some, None, cond}
+-- Lists of turns that begin one another, and the turns of a lane in them.
+use Rattle.std.proofs.Common.{◌≡◌, ℕ, ◌<◌, ◌≤◌, ◌==◌, Bool, true, false, List, [], ◌∷◌, ◌++◌, length, nat_lt, refl, sym, ap, ◌∙◌, arith, append_assoc, append-nil, length-append, add-one, if◌then◌else◌, Some, None, cond, eq-eqb}
+use Rattle.std.specs.List.{cons_option}
+use Rattle.std.proofs.lemmas.List.Elements.{filter_map-append}
+use Rattle.ts_turnstile.specs.declared.turn.Turn.{Turn}
 use Rattle.ts_store.specs.declared.journal.Entry.{Entry}
-use Rattle.ts_store.specs.Journals.{calls_by, GrowsInto}
+use Rattle.ts_store.specs.Calls.{is_no_memory}
+use Rattle.ts_store.specs.Journals.{calls_by, entry, GrowsInto}
 use Rattle.ts_store.proofs.JournalLemmas.{calls_by-append}
+use Rattle.ts_turnstile.specs.Turns.{entry_in, entries_in, turns_by, GoesInto}
 use Rattle.std.proofs.lemmas.Bool.Decides.{nat_tests}
 use Rattle.ts_turnstile.specs.Views.{longer}
 use Rattle.ts_turnstile.specs.Places.{place_in, place_or}
 
-pub no_rest : (xs rest : List Entry) → xs ++ rest ≡ xs → rest ≡ []
+-- turns one after the other
+turns_if : (b : Bool) (t : Turn) (xs ys : List Turn) → cond b (t ∷ (xs ++ ys)) (xs ++ ys) ≡ cond b (t ∷ xs) xs ++ ys
+turns_if true t xs ys = refl
+turns_if false t xs ys = refl
+
+pub turns_by-append : (lane : ℕ) (turns more : List Turn) → turns_by lane (turns ++ more) ≡ turns_by lane turns ++ turns_by lane more
+turns_by-append lane [] more = refl
+turns_by-append lane (t ∷ turns) more = ap (λ xs. cond (t.lane == lane) (t ∷ xs) xs) (turns_by-append lane turns more) ∙ turns_if (t.lane == lane) t (turns_by lane turns) (turns_by lane more)
+
+-- one more turn of the lane
+pub turns_by-same : (lane : ℕ) (turns : List Turn) (t : Turn) → t.lane ≡ lane → turns_by lane (turns ++ t ∷ []) ≡ turns_by lane turns ++ t ∷ []
+turns_by-same lane turns t is = turns_by-append lane turns (t ∷ []) ∙ ap (λ b. turns_by lane turns ++ cond b (t ∷ []) []) (eq-eqb t.lane lane is)
+
+-- one more turn of another lane
+pub turns_by-other : (lane : ℕ) (turns : List Turn) (t : Turn) → (t.lane == lane) ≡ false → turns_by lane (turns ++ t ∷ []) ≡ turns_by lane turns
+turns_by-other lane turns t apart = turns_by-append lane turns (t ∷ []) ∙ ap (λ b. turns_by lane turns ++ cond b (t ∷ []) []) apart ∙ append-nil (turns_by lane turns)
+
+-- the entries of turns one after the other
+pub entries_in-append : (turns more : List Turn) → entries_in (turns ++ more) ≡ entries_in turns ++ entries_in more
+entries_in-append turns more = filter_map-append entry_in turns more
+
+-- the entries of a lane are those of its turns
+pub calls_by-entries : (lane : ℕ) (turns : List Turn) → calls_by lane (entries_in turns) ≡ entries_in (turns_by lane turns)
+calls_by-entries lane [] = refl
+calls_by-entries lane (t ∷ turns) = of_first (is_no_memory t.reply) (calls_by-entries lane turns) ∙ sym (first_of (t.lane == lane))
+  where
+    same_two : (own : Bool) (xs : List Entry) → xs ≡ cond own xs xs
+    same_two true xs = refl
+    same_two false xs = refl
+
+    first_of : (own : Bool) → entries_in (cond own (t ∷ turns_by lane turns) (turns_by lane turns)) ≡ cond own (cons_option (entry_in t) (entries_in (turns_by lane turns))) (entries_in (turns_by lane turns))
+    first_of true = refl
+    first_of false = refl
+
+    of_first : (missed : Bool) → calls_by lane (entries_in turns) ≡ entries_in (turns_by lane turns)
+        → calls_by lane (cons_option (cond missed None (Some (entry t.lane t.call t.fate))) (entries_in turns)) ≡ cond (t.lane == lane) (cons_option (cond missed None (Some (entry t.lane t.call t.fate))) (entries_in (turns_by lane turns))) (entries_in (turns_by lane turns))
+    of_first true same = same ∙ same_two (t.lane == lane) (entries_in (turns_by lane turns))
+    of_first false same = ap (λ l. cond (t.lane == lane) (entry t.lane t.call t.fate ∷ l) l) same
+
+pub no_rest : {A : Type 0} (xs rest : List A) → xs ++ rest ≡ xs → rest ≡ []
 no_rest xs [] e = refl
 no_rest xs (y ∷ ys) e = absurd (omega (arith, ap length e, length-append xs (y ∷ ys)))
 
-pub begins_self : (xs : List Entry) → GrowsInto xs xs
+pub begins_self : (xs : List Turn) → GoesInto xs xs
 begins_self xs = ([], sym (append-nil xs))
 
-pub begins_nil : (xs : List Entry) → GrowsInto [] xs
+pub begins_nil : (xs : List Turn) → GoesInto [] xs
 begins_nil xs = (xs, refl)
 
 -- where each begins the other they are the same
-pub begins_both : (xs ys : List Entry) → GrowsInto xs ys → GrowsInto ys xs → xs ≡ ys
+pub begins_both : (xs ys : List Turn) → GoesInto xs ys → GoesInto ys xs → xs ≡ ys
 begins_both xs ys a b =
     let round : xs ++ (a.0 ++ b.0) ≡ xs = sym (append_assoc xs a.0 b.0) ∙ sym (ap (λ l. l ++ b.0) a.1) ∙ sym b.1 in
     let none : a.0 ++ b.0 ≡ [] = no_rest xs (a.0 ++ b.0) round in
     let first : a.0 ≡ [] = left_nil a.0 b.0 none in
     sym (append-nil xs) ∙ ap (λ l. xs ++ l) (sym first) ∙ sym a.1
   where
-    left_nil : (p q : List Entry) → p ++ q ≡ [] → p ≡ []
+    left_nil : (p q : List Turn) → p ++ q ≡ [] → p ≡ []
     left_nil [] q e = refl
     left_nil (x ∷ p) q e = absurd (omega (arith, ap length e))
 
-prefix_of : (a b r q : List Entry) → a ++ r ≡ b ++ q → length a ≤ length b → GrowsInto a b
+prefix_of : (a b r q : List Turn) → a ++ r ≡ b ++ q → length a ≤ length b → GoesInto a b
 prefix_of [] b r q e le = (b, refl)
 prefix_of (x ∷ a) [] r q e le = absurd (omega arith)
 prefix_of (x ∷ a) (y ∷ b) r q e le =
@@ -38,44 +82,44 @@ prefix_of (x ∷ a) (y ∷ b) r q e le =
     let on = prefix_of a b r q tails (omega arith) in
     (on.0, λ k. sym heads k ∷ on.1 k)
 
-pub shorter_begins : (a b journal : List Entry) → GrowsInto a journal → GrowsInto b journal → length a ≤ length b → GrowsInto a b
-shorter_begins a b journal p q le = prefix_of a b p.0 q.0 (sym p.1 ∙ q.1) le
+pub shorter_begins : (a b turns : List Turn) → GoesInto a turns → GoesInto b turns → length a ≤ length b → GoesInto a b
+shorter_begins a b turns p q le = prefix_of a b p.0 q.0 (sym p.1 ∙ q.1) le
 
-longer_if : (t : Bool) (a b : List Entry) → (t ≡ true → GrowsInto a b) → (t ≡ false → GrowsInto b a) → GrowsInto a (if t then b else a) × GrowsInto b (if t then b else a)
+longer_if : (t : Bool) (a b : List Turn) → (t ≡ true → GoesInto a b) → (t ≡ false → GoesInto b a) → GoesInto a (if t then b else a) × GoesInto b (if t then b else a)
 longer_if true a b shorter other = (shorter refl, begins_self b)
 longer_if false a b shorter other = (begins_self a, other refl)
 
--- the longer of two beginnings of a journal
-pub longer_goes_on : (a b journal : List Entry) → GrowsInto a journal → GrowsInto b journal → GrowsInto a (longer a b) × GrowsInto b (longer a b)
-longer_goes_on a b journal p q =
+-- the longer of two beginnings of a turns
+pub longer_goes_on : (a b turns : List Turn) → GoesInto a turns → GoesInto b turns → GoesInto a (longer a b) × GoesInto b (longer a b)
+longer_goes_on a b turns p q =
     longer_if (nat_lt (length a) (length b)) a b
-    (λ is. let lt : length a < length b = grind (arith, nat_tests) in shorter_begins a b journal p q (omega arith))
-    (λ is. let ge : length b ≤ length a = grind (arith, nat_tests) in shorter_begins b a journal q p ge)
+    (λ is. let lt : length a < length b = grind (arith, nat_tests) in shorter_begins a b turns p q (omega arith))
+    (λ is. let ge : length b ≤ length a = grind (arith, nat_tests) in shorter_begins b a turns q p ge)
 
-pub longer_begins : (a b journal : List Entry) → GrowsInto a journal → GrowsInto b journal → GrowsInto (longer a b) journal
-longer_begins a b journal p q = either_one (nat_lt (length a) (length b))
+pub longer_begins : (a b turns : List Turn) → GoesInto a turns → GoesInto b turns → GoesInto (longer a b) turns
+longer_begins a b turns p q = either_one (nat_lt (length a) (length b))
   where
-    either_one : (t : Bool) → GrowsInto (if t then b else a) journal
+    either_one : (t : Bool) → GoesInto (if t then b else a) turns
     either_one true = q
     either_one false = p
 
--- between two journals with the same calls of a lane there are no others
-pub between_same : (lane : ℕ) (a b c : List Entry) → GrowsInto a b → GrowsInto b c → calls_by lane c ≡ calls_by lane a → calls_by lane b ≡ calls_by lane a
+-- between two turnss with the same calls of a lane there are no others
+pub between_same : (lane : ℕ) (a b c : List Turn) → GoesInto a b → GoesInto b c → turns_by lane c ≡ turns_by lane a → turns_by lane b ≡ turns_by lane a
 between_same lane a b c p q same =
-    let all : calls_by lane c ≡ calls_by lane a ++ (calls_by lane p.0 ++ calls_by lane q.0) = ap (calls_by lane) (q.1 ∙ ap (λ l. l ++ q.0) p.1) ∙ calls_by-append lane (a ++ p.0) q.0 ∙ ap (λ l. l ++ calls_by lane q.0) (calls_by-append lane a p.0) ∙ append_assoc (calls_by lane a) (calls_by lane p.0) (calls_by lane q.0) in
-    let none : calls_by lane p.0 ++ calls_by lane q.0 ≡ [] = no_rest (calls_by lane a) (calls_by lane p.0 ++ calls_by lane q.0) (sym all ∙ same) in
-    let first : calls_by lane p.0 ≡ [] = left_nil (calls_by lane p.0) (calls_by lane q.0) none in
-    ap (calls_by lane) p.1 ∙ calls_by-append lane a p.0 ∙ ap (λ l. calls_by lane a ++ l) first ∙ append-nil (calls_by lane a)
+    let all : turns_by lane c ≡ turns_by lane a ++ (turns_by lane p.0 ++ turns_by lane q.0) = ap (turns_by lane) (q.1 ∙ ap (λ l. l ++ q.0) p.1) ∙ turns_by-append lane (a ++ p.0) q.0 ∙ ap (λ l. l ++ turns_by lane q.0) (turns_by-append lane a p.0) ∙ append_assoc (turns_by lane a) (turns_by lane p.0) (turns_by lane q.0) in
+    let none : turns_by lane p.0 ++ turns_by lane q.0 ≡ [] = no_rest (turns_by lane a) (turns_by lane p.0 ++ turns_by lane q.0) (sym all ∙ same) in
+    let first : turns_by lane p.0 ≡ [] = left_nil (turns_by lane p.0) (turns_by lane q.0) none in
+    ap (turns_by lane) p.1 ∙ turns_by-append lane a p.0 ∙ ap (λ l. turns_by lane a ++ l) first ∙ append-nil (turns_by lane a)
   where
-    left_nil : (x y : List Entry) → x ++ y ≡ [] → x ≡ []
+    left_nil : (x y : List Turn) → x ++ y ≡ [] → x ≡ []
     left_nil [] y e = refl
     left_nil (h ∷ x) y e = absurd (omega (arith, ap length e))
 
--- no calls of a lane in a journal, none in its beginning
-pub none_before : (lane : ℕ) (a b : List Entry) → GrowsInto a b → calls_by lane b ≡ [] → calls_by lane a ≡ []
-none_before lane a b p none = left_nil (calls_by lane a) (calls_by lane p.0) (sym (calls_by-append lane a p.0) ∙ sym (ap (calls_by lane) p.1) ∙ none)
+-- no calls of a lane in a turns, none in its beginning
+pub none_before : (lane : ℕ) (a b : List Turn) → GoesInto a b → turns_by lane b ≡ [] → turns_by lane a ≡ []
+none_before lane a b p none = left_nil (turns_by lane a) (turns_by lane p.0) (sym (turns_by-append lane a p.0) ∙ sym (ap (turns_by lane) p.1) ∙ none)
   where
-    left_nil : (x y : List Entry) → x ++ y ≡ [] → x ≡ []
+    left_nil : (x y : List Turn) → x ++ y ≡ [] → x ≡ []
     left_nil [] y e = refl
     left_nil (h ∷ x) y e = absurd (omega (arith, ap length e))
 

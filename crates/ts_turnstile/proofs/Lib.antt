@@ -7,4 +7,4 @@ pub mod Owning
 pub mod Claiming
 pub mod Steps
 pub mod Seats
-pub mod Told
+pub mod Replayed

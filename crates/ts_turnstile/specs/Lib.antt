@@ -1,7 +1,9 @@
 pub mod Belonging
+pub mod Chains
 pub mod Lanes
 pub mod Passes
 pub mod Places
 pub mod Plays
 pub mod Rule
+pub mod Turns
 pub mod Views

@@ -1,7 +1,7 @@
 -- What passes know, and how steps change it.
 use Rattle.std.specs.Prelude.{ℕ, Bool, true, false, Option, None, List, [], ◌∷◌, ◌++◌, length, if◌then◌else◌, nat_lt}
 use Rattle.ts_base.specs.Held.{Held}
-use Rattle.ts_store.specs.declared.journal.Entry.{Entry}
+use Rattle.ts_turnstile.specs.declared.turn.Turn.{Turn}
 use Rattle.ts_turnstile.specs.declared.view.Opening.{Opening}
 use Rattle.ts_turnstile.specs.declared.view.View.{View}
 
@@ -10,7 +10,7 @@ abbrev pub opening_of : {S : Type 0} → (S → Option Held) → (S → ℕ) →
 opening_of held faults store = record { held = held store; faults = faults store }
 
 -- what a pass knows that has seen nothing and made no call
-abbrev pub new_view : Opening → ℕ → Bool → List Entry → View
+abbrev pub new_view : Opening → ℕ → Bool → List Turn → View
 new_view opening lane first seen = record { opening = opening; lane = lane; ticket = None; turn = false; seen = seen; first = first; split_off = []; joined = []; spent = false; next = 0; left = []; left_lanes = []; right = []; right_lanes = [] }
 
 -- the first pass, which makes the calls of lane 0
@@ -39,12 +39,12 @@ lanes_of v = lanes_if v.spent v.lane v.joined
 abbrev pub with_ticket : View → Option ℕ → View
 with_ticket v ticket = record v { ticket = ticket; turn = false }
 
--- the pass has seen this journal, and what was joined before is of no concern any more
-abbrev pub saw : View → List Entry → View
+-- the pass has seen these turns, and what was joined before is of no concern any more
+abbrev pub saw : View → List Turn → View
 saw v seen = record v { seen = seen; left = []; left_lanes = []; right = []; right_lanes = [] }
 
--- its turn has come, and it has seen the whole journal
-abbrev pub in_turn : View → List Entry → View
+-- its turn has come, and it has seen all turns
+abbrev pub in_turn : View → List Turn → View
 in_turn v seen = record (saw v seen) { turn = true }
 
 -- it is to split off this lane
@@ -59,8 +59,8 @@ left_of v = record v { split_off = v.next ∷ v.split_off }
 abbrev pub right_of : View → View
 right_of v = new_view v.opening v.next false v.seen
 
--- the longer of two journals
-abbrev pub longer : List Entry → List Entry → List Entry
+-- the longer of two lists of turns
+abbrev pub longer : List Turn → List Turn → List Turn
 longer one other = if nat_lt (length one) (length other) then other else one
 
 -- a pass that has taken in another

@@ -1,6 +1,8 @@
 //! Passes for more lanes: splitting one off, joining it again, and closing the turnstile.
 ghost use Rattle.std.specs.Prelude.{◌≡◌, true, false, [], ◌∷◌, IfOk, IsOk};
 ghost use Rattle.ts_store.specs.Journals.{calls_by};
+ghost use Rattle.ts_turnstile.specs.Turns.{entries_in, turns_by};
+ghost use Rattle.ts_turnstile.specs.Chains.{TurnDid, LeadTo};
 ghost use Rattle.ts_turnstile.specs.Lanes.{has, Hears};
 ghost use Rattle.ts_turnstile.specs.Views.{lanes_of, naming, left_of, right_of, joined_view};
 ghost use Rattle.ts_turnstile.specs.Rule.{Replays};
@@ -11,6 +13,7 @@ use crate::closed::Closed;
 use crate::pass::Pass;
 use crate::plays::{Fork, Hear, Merge, Naming};
 use crate::rule::{ENTRIES, Seat};
+use crate::slot::Slot;
 use crate::turnstile::Turnstile;
 use atomic_table::Badge;
 use std::alloc::Global;
@@ -30,7 +33,7 @@ impl<S: Store> Turnstile<S> {
         ensures own { Belongs self.now pass.new × IfOk result (Belongs self.now) }
         ensures kept { pass_view pass.new ≡ left_of (naming (pass_view pass.old) lane) }
         ensures given { IfOk result (λ other. pass_view other ≡ right_of (naming (pass_view pass.old) lane)) }
-        ensures none { calls_by lane (pass_view pass.old).seen ≡ [] }
+        ensures none { turns_by lane (pass_view pass.old).seen ≡ [] }
     {
         let badge = mem::replace(&mut pass.badge, Badge::blank());
         let mut seat = badge.into_seat();
@@ -38,6 +41,7 @@ impl<S: Store> Turnstile<S> {
         pass.badge = seat.into_badge();
         Ok(Pass {
             lane,
+            number: 0,
             place: None,
             badge: other.into_badge(),
         })
@@ -56,6 +60,7 @@ impl<S: Store> Turnstile<S> {
         let mut seat = badge.into_seat();
         let Pass {
             lane: _,
+            number: _,
             place: _,
             badge: theirs,
         } = other;
@@ -69,19 +74,22 @@ impl<S: Store> Turnstile<S> {
         requires own { Belongs self pass }
         requires first { (pass_view pass).first ≡ true }
         requires joined { (lane : _) → has lane (0 ∷ (pass_view pass).split_off) ≡ true → has lane (lanes_of (pass_view pass)) ≡ true }
-        ensures replays { Replays S.held S.faults (pass_view pass).opening (pass_view pass).seen result }
+        ensures replays { Replays S.held S.faults (pass_view pass).opening (entries_in (pass_view pass).seen) result }
+        ensures leads { LeadTo (TurnDid S.held S.last S.faults S.asked S.notes) self.opened.value (pass_view pass).seen result.store }
+        ensures others { (lane : _) → has lane (lanes_of (pass_view pass)) ≡ false → turns_by lane (pass_view pass).seen ≡ [] }
         ensures strangers { (lane : _) → has lane (lanes_of (pass_view pass)) ≡ false → calls_by lane result.journal ≡ [] }
     {
         let Pass {
             lane: _,
+            number: _,
             place: _,
             badge,
         } = pass;
-        let Turnstile { table } = self;
+        let Turnstile { table, opened: _ } = self;
         let mut closed = table.close_with(badge.into_seat());
         let slot = closed.take(0);
         closed.free();
-        let Some(home) = slot else {
+        let Slot::Home(home) = slot else {
             unreachable!();
         };
         home
@@ -96,7 +104,7 @@ impl<S: Store> Turnstile<S> {
         ensures own { (seat.new.table_id ≡ seat.old.table_id) × (seat.new.id ≡ seat.old.id) × (result.table_id ≡ seat.old.table_id) }
         ensures kept { seat.new.me ≡ (left_of (naming seat.old.me.0 lane), []) }
         ensures given { result.me ≡ (right_of (naming seat.old.me.0 lane), []) }
-        ensures none { calls_by lane seat.old.me.0.seen ≡ [] }
+        ensures none { turns_by lane seat.old.me.0.seen ≡ [] }
     {
         let shared = &self.table.shared;
         let lane = u64::from(lane);

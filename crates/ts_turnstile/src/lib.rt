@@ -7,13 +7,18 @@
 mod calls;
 mod closed;
 mod lanes;
+mod making;
 mod pass;
 mod plays;
 mod rule;
+mod slot;
+mod told;
+mod turn;
 mod turnstile;
 mod view;
 
 pub use closed::Closed;
 pub use pass::Pass;
+pub use turn::Turn;
 pub use turnstile::Turnstile;
 pub use view::{Opening, View};

@@ -1,8 +1,9 @@
 //! What each step on the table tells.
+ghost use Rattle.ts_turnstile.specs.Chains.{TurnDid};
 ghost use Rattle.ts_turnstile.specs.Views.{left_of, right_of, joined_view, spent_view};
 ghost use Rattle.ts_turnstile.specs.Plays.{drew, looked, posted, served, named, heard};
 
-use crate::closed::Closed;
+use crate::slot::Slot;
 use crate::view::View;
 use atomic_table::{Join, Play, Split};
 use std::marker::PhantomData;
@@ -11,7 +12,7 @@ use ts_store::Store;
 // A ticket is drawn.
 pub(crate) struct Draw;
 
-impl<S> Play<Option<Closed<S>>, View> for Draw {
+impl<S> Play<Slot<S>, View> for Draw {
     ghost then = { drew };
 }
 
@@ -20,35 +21,35 @@ pub(crate) struct Look<S: Store> {
     store: PhantomData<S>,
 }
 
-impl<S: Store> Play<Option<Closed<S>>, View> for Look<S> {
-    ghost then = { looked S.held S.faults };
+impl<S: Store> Play<Slot<S>, View> for Look<S> {
+    ghost then = { looked S.held S.faults (TurnDid S.held S.last S.faults S.asked S.notes) };
 }
 
-// An entry is posted.
+// What was done in the turn is posted.
 pub(crate) struct Post;
 
-impl<S> Play<Option<Closed<S>>, View> for Post {
+impl<S> Play<Slot<S>, View> for Post {
     ghost then = { posted };
 }
 
 // The store is given back, and the next ticket served.
 pub(crate) struct Serve;
 
-impl<S> Play<Option<Closed<S>>, View> for Serve {
+impl<S> Play<Slot<S>, View> for Serve {
     ghost then = { served };
 }
 
 // A lane is named that is to be split off.
 pub(crate) struct Naming;
 
-impl<S> Play<Option<Closed<S>>, View> for Naming {
+impl<S> Play<Slot<S>, View> for Naming {
     ghost then = { named };
 }
 
 // After a join: what was seen goes on from what each of the two had seen.
 pub(crate) struct Hear;
 
-impl<S> Play<Option<Closed<S>>, View> for Hear {
+impl<S> Play<Slot<S>, View> for Hear {
     ghost then = { heard };
 }
 

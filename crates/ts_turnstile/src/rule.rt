@@ -1,12 +1,13 @@
 //! The rule of the table that passes share.
+ghost use Rattle.ts_turnstile.specs.Chains.{TurnDid};
 ghost use Rattle.ts_turnstile.specs.Rule.{Orderly};
 ghost use Rattle.ts_turnstile.specs.Views.{opening_of, first_view};
 
-use crate::closed::Closed;
+use crate::slot::Slot;
+use crate::told::Told;
 use crate::view::View;
 use atomic_table::TableRule;
 use std::marker::PhantomData;
-use std::snapshot::Snapshot;
 use ts_store::Store;
 
 // The words of the table: how many entries the journal has, how many tickets were drawn, and which
@@ -21,10 +22,10 @@ pub struct Turns<S: Store> {
     store: PhantomData<S>,
 }
 
-impl<S: Store> TableRule<Option<Closed<S>>, View, Snapshot<S>> for Turns<S> {
-    ghost holds = { λ start. Orderly S.held S.faults (opening_of S.held S.faults start.value) };
+impl<S: Store> TableRule<Slot<S>, View, Told<S>> for Turns<S> {
+    ghost holds = { λ start. Orderly S.held S.faults (TurnDid S.held S.last S.faults S.asked S.notes) start.value };
 
     ghost first = { λ start. first_view (opening_of S.held S.faults start.value) };
 }
 
-pub(crate) type Seat<S> = atomic_table::Seat<Option<Closed<S>>, View>;
+pub(crate) type Seat<S> = atomic_table::Seat<Slot<S>, View>;

@@ -3,7 +3,7 @@ ghost use Rattle.std.specs.Prelude.{ℕ, Bool, List, Option};
 ghost use Rattle.std.specs.Coded.{coded_option};
 ghost use Rattle.std.specs.Borrow.{ftrue};
 ghost use Rattle.ts_base.specs.Held.{Held, held_code};
-ghost use Rattle.ts_store.specs.declared.journal.Entry.{Entry};
+ghost use Rattle.ts_turnstile.specs.declared.turn.Turn.{Turn};
 
 use std::marker::Model;
 
@@ -28,8 +28,8 @@ pub struct View {
     pub ghost ticket: { Option ℕ },
     /// Its turn has come: the store is with it.
     pub ghost turn: { Bool },
-    /// The journal that it has seen, a beginning of the whole one.
-    pub ghost seen: { List Entry },
+    /// The turns that it has seen, of all lanes: those from the first on.
+    pub ghost seen: { List Turn },
     /// It is the first pass, which splits the others off.
     pub ghost first: { Bool },
     /// The lanes that were split off it, the last one first.
@@ -41,9 +41,9 @@ pub struct View {
     /// The lane that is to be split off next.
     pub ghost next: { ℕ },
     /// What the two passes that were joined last had seen, and whose calls were their own.
-    pub ghost left: { List Entry },
+    pub ghost left: { List Turn },
     pub ghost left_lanes: { List ℕ },
-    pub ghost right: { List Entry },
+    pub ghost right: { List Turn },
     pub ghost right_lanes: { List ℕ },
 }
 

@@ -1,8 +1,9 @@
-use Rattle.std.proofs.Common.{◌≡◌, false, Option, ◌∙◌, sym, ap}
+use Rattle.std.proofs.Common.{◌≡◌, false, ◌∙◌, sym, ap}
 use Rattle.atomic_table.specs.declared.badge.Badge.{Badge}
 use Rattle.atomic_table.specs.Table.{Me}
-use Rattle.ts_turnstile.specs.declared.closed.Closed.{Closed}
+use Rattle.ts_turnstile.specs.declared.slot.Slot.{Slot}
 use Rattle.ts_turnstile.specs.declared.view.View.{View}
+use Rattle.ts_turnstile.specs.Turns.{entries_in}
 use Rattle.ts_turnstile.specs.Places.{place_in}
 use Rattle.ts_turnstile.specs.Views.{view_in}
 use Rattle.ts_turnstile.proofs.Seats.{pass_kept, same_view, place_heard}
@@ -16,12 +17,12 @@ invariant_of-pass g c =
     let was : old ≡ view_in c.args.pass.now.badge.views = sym (same_view c.replace-badge.result.views old c.into_seat-seat.ensures.2) ∙ ap (λ (b : Badge View). view_in b.views) c.replace-badge.ensures.value in
     let alive : old.spent ≡ false = ap (λ (u : View). u.spent) was ∙ c.args.pass.now.idle.2 in
     let own : old.lane ≡ c.args.pass.now.lane = ap (λ (u : View). u.lane) was ∙ c.args.pass.now.idle.3 in
-    let place : c.args.pass.now.place ≡ place_in c.args.pass.now.lane new.seen =
-    c.args.pass.now.at ∙ sym (ap (λ (u : View). place_in c.args.pass.now.lane u.seen) was) ∙ sym (place_heard c.args.pass.now.lane old new.seen alive own c.join_at.ensures.seen) in
+    let place : c.args.pass.now.place ≡ place_in c.args.pass.now.lane (entries_in new.seen) =
+    c.args.pass.now.at ∙ sym (ap (λ (u : View). place_in c.args.pass.now.lane (entries_in u.seen)) was) ∙ sym (place_heard c.args.pass.now.lane old new.seen alive own c.join_at.ensures.seen) in
     let p = pass_kept c.into_badge.result.views new c.args.pass.now.lane c.args.pass.now.place c.into_badge.ensures.2
-    (ap (λ (m : Me (Option (Closed g.row.S.Denot)) View). m.0.ticket) joined ∙ ap (λ (u : View). u.ticket) was ∙ c.args.pass.now.idle.0)
-    (ap (λ (m : Me (Option (Closed g.row.S.Denot)) View). m.0.turn) joined ∙ ap (λ (u : View). u.turn) was ∙ c.args.pass.now.idle.1)
-    (ap (λ (m : Me (Option (Closed g.row.S.Denot)) View). m.0.spent) joined ∙ alive)
-    (ap (λ (m : Me (Option (Closed g.row.S.Denot)) View). m.0.lane) joined ∙ own)
+    (ap (λ (m : Me (Slot g.row.S.Denot) View). m.0.ticket) joined ∙ ap (λ (u : View). u.ticket) was ∙ c.args.pass.now.idle.0)
+    (ap (λ (m : Me (Slot g.row.S.Denot) View). m.0.turn) joined ∙ ap (λ (u : View). u.turn) was ∙ c.args.pass.now.idle.1)
+    (ap (λ (m : Me (Slot g.row.S.Denot) View). m.0.spent) joined ∙ alive)
+    (ap (λ (m : Me (Slot g.row.S.Denot) View). m.0.lane) joined ∙ own)
     place in
     record { one = p.0; idle = p.1; at = p.2 }

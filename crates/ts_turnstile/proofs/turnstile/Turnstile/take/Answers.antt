@@ -1,20 +1,13 @@
-use Rattle.std.proofs.Common.{◌∙◌, lit<}
-use mathlib.Core.Option as raw
-use Rattle.atomic_table.specs.Table.{step}
-use Rattle.ts_turnstile.specs.Views.{opening_of}
-use Rattle.ts_turnstile.proofs.Seats.{in_three, looks_from, taken}
+-- The store is with the seat whose ticket is served.
+use Rattle.std.proofs.Common.{◌≡◌, [], ◌∷◌, ◌∙◌, ap}
+use Rattle.atomic_table.specs.Table.{Me}
+use Rattle.ts_turnstile.specs.declared.slot.Slot.{Slot}
+use Rattle.ts_turnstile.specs.declared.slot.Slot.TheVariants as slot
+use Rattle.ts_turnstile.specs.declared.view.View.{View}
 use Rattle.ts_turnstile.proofs.turnstile.Turnstile.take.Goals as goal
 
-pub load-served-requires : goal.load-served-requires
-load-served-requires g c =
-    let i = c.loop.invariant in (
-      i.2 ∙ c.requires.own,
-      in_three c.args.self.now.table.shared.table_id.words 2 c.args.self.now.sized.0 (lit< tt),
-      looks_from g.S.Store.held g.S.Store.faults (opening_of g.S.Store.held g.S.Store.faults c.args.self.now.table.shared.key.value) c.args.self.now.table.shared.table_id.slots c.loop.seat.id c.args.ticket c.loop.seat.me c.args.seat.now.me i.4 c.requires.waits.0 c.requires.waits.1 c.requires.waits.2,
-    )
-
--- the store is with the seat whose ticket is served
 pub lift-requires-clause-out : goal.lift-requires-clause-out
 lift-requires-clause-out g c κs within =
-    let all = taken g.S.Store.held g.S.Store.faults (step c.args.self.now.table.shared.table_id.slots 2 0 0 raw.none) c.loop.seat.me c.args.seat.now.me c.load-served.new.seat.me c.args.ticket c.load-served.result c.load-served.ensures.2 c.loop.invariant.4 c.requires.waits.0 c.requires.waits.3 c.if-served-ticket.true in
-    (all.0, all.1)
+    let took = c.look-served.ensures.took c.if-served-ticket.true in
+    let empty : c.loop.seat.me.1 ≡ [] = ap (λ (m : Me (Slot g.row.S.Denot) View). m.1) c.loop.invariant.4 ∙ c.requires.waits.3 in
+    (took.home, ap (λ (m : Me (Slot g.row.S.Denot) View). m.1) took.seat ∙ ap (λ l. (0, slot.Home took.home) ∷ l) empty)

@@ -1,0 +1,5 @@
+pub mod OwnTurns
+pub mod Passing
+pub mod Merging
+pub mod Telling
+pub mod AllLanes
