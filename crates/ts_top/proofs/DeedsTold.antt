@@ -41,7 +41,7 @@ use Rattle.ts_model.specs.Told.{Told, trace_of, deed_in, deed_of, declared_by, w
 use Rattle.ts_model.proofs.HistoryLaws.{schemas-append}
 use Rattle.ts_base.specs.declared.keys.FragKey.{FragKey}
 use Rattle.ts_base.specs.declared.names.Prefix.{Prefix}
-use Rattle.ts_law.specs.Ends.{FindsNoArray, IsCreated, IsDeleted, IsEvolved, IsWritten, ListedAt}
+use Rattle.ts_law.specs.Ends.{FindsNoArray, IsCreated, IsDeleted, IsEvolved, IsUndone, IsWritten, ListedAt}
 use Rattle.ts_law.specs.Fresh.{IsFreshSeed, AreJobsOf, Numbered, lanes_of}
 use Rattle.ts_law.specs.Lanes.{IsOwned, IsWithin, InTurn}
 use Rattle.ts_law.specs.Runs.{AreDriven}
@@ -161,31 +161,60 @@ looks_here job (Write columns) works = refl
 looks_here job (Delete text) works = refl
 looks_here job _ works = absurd works
 
-module _ (before h : History) (job : Job) (found : Option (List Key)) where
-  -- the schema that the job uses held at its stamp, and the job is not refused there
+-- a deed that a command may do over a history, by what it found.
+-- That is no array for a create, and for another command the schema that it works in.
+abbrev pub IsDeedBy : (FrameIn → Type 0) → (Schema → Type 0) → History → Key → Command → Deed → Type 0
+IsDeedBy NoArray Finds h k (Create made) (Framed frame) = (create_refusal made ≡ None) × (frame ≡ frame_made made)
+IsDeedBy NoArray Finds h k (Create made) (Declared s) = NoArray made × (create_refusal made ≡ None) × (s ≡ record { key = k; attrs = made.attrs })
+IsDeedBy NoArray Finds h k (Evolve change) (Declared s) =
+    (current : Schema) × Finds current × (frame : Frame) × (frame_in h ≡ Some frame)
+    × (evolution_fault frame.domain current.attrs change ≡ None) × (s ≡ record { key = k; attrs = evolved_attrs current.attrs change })
+IsDeedBy NoArray Finds h k (Write columns) (Wrote w) =
+    (current : Schema) × Finds current × (frame : Frame) × (frame_in h ≡ Some frame)
+    × (cells : List Cell) × (laid frame current.attrs columns ≡ Ok cells) × (w ≡ record { key = k; schema = current.key; cells = cells })
+IsDeedBy NoArray Finds h k (Delete text) (Erased e) =
+    (current : Schema) × Finds current × (frame : Frame) × (frame_in h ≡ Some frame)
+    × (condition : Condition) × (delete_condition frame current.attrs text ≡ Ok condition) × (e ≡ record { key = k; cond = condition })
+IsDeedBy NoArray Finds h k _ _ = ⊥
+
+-- where no schema was there before a create, and one held for another command, that is a deed of the command
+deed_since : (before h : History) (k : Key) (c : Command) (d : Deed) → IsDeedBy (λ made. schemas before ≡ []) (HeldOnce before h k) h k c d → IsDeedOf before h k c d
+deed_since before h k (Create made) (Framed frame) is = is
+deed_since before h k (Create made) (Declared s) is = is
+deed_since before h k (Evolve change) (Declared s) is = is
+deed_since before h k (Write columns) (Wrote w) is = is
+deed_since before h k (Delete text) (Erased e) is = is
+deed_since before h k _ _ is = absurd is
+
+module _ (NoArray : FrameIn → Type 0) (Finds : Schema → Type 0) (h : History) (job : Job) (found : Option (List Key)) where
+  -- the schema that the job uses is the one that it found, and the job is not refused there
   abbrev Held_current : Command → Type 0
-  Held_current c = WorksIn c → (there : Schema) → schema_used h job found ≡ Some there → HeldOnce before h (key_of job) there × FitsIn h c there
+  Held_current c = WorksIn c → (there : Schema) → schema_used h job found ≡ Some there → Finds there × FitsIn h c there
 
-  -- a create that puts an object is a right one, and but for the frame there was no schema before it
+  -- a create that puts an object is a right one, and but for the frame it found no array
   abbrev Right_where : Name → Command → Type 0
-  Right_where n c = (made : FrameIn) → c ≡ Create made → (create_refusal made ≡ None) × ((n ≡ name.Domain → ⊥) → schemas before ≡ [])
+  Right_where n c = (made : FrameIn) → c ≡ Create made → (create_refusal made ≡ None) × ((n ≡ name.Domain → ⊥) → NoArray made)
 
-  framed_own : (c : Command) (d : Deed) → Right_where name.Domain c → option_map (λ f. Framed (frame_made f)) (made_by c) ≡ Some d → IsDeedOf before h (key_of job) c d
-  framed_own (Create made) d right is = subst (IsDeedOf before h (key_of job) (Create made)) (same_Some (Framed (frame_made made)) d is) ((right made refl).0, refl)
+  -- a deed of the command, by these
+  abbrev Own : Command → Deed → Type 0
+  Own c d = IsDeedBy NoArray Finds h (key_of job) c d
+
+  framed_own : (c : Command) (d : Deed) → Right_where name.Domain c → option_map (λ f. Framed (frame_made f)) (made_by c) ≡ Some d → Own c d
+  framed_own (Create made) d right is = subst (Own (Create made)) (same_Some (Framed (frame_made made)) d is) ((right made refl).0, refl)
   framed_own _ d right is = absurd (none-some d is)
 
   no_domain : (k : Key) → name.Schema k ≡ name.Domain → ⊥
   no_domain k is = cc
 
-  declared_own : (k : Key) (c : Command) (d : Deed) → Right_where (name.Schema k) c → Held_current c → option_map Declared (declared_by h job found c) ≡ Some d → IsDeedOf before h (key_of job) c d
+  declared_own : (k : Key) (c : Command) (d : Deed) → Right_where (name.Schema k) c → Held_current c → option_map Declared (declared_by h job found c) ≡ Some d → Own c d
   declared_own k (Create made) d right held is =
       let (sound, none) = right made refl in
-      subst (IsDeedOf before h (key_of job) (Create made)) (same_Some (Declared (schema_of_job job made.attrs)) d is) (none (no_domain k), sound, refl)
+      subst (Own (Create made)) (same_Some (Declared (schema_of_job job made.attrs)) d is) (none (no_domain k), sound, refl)
   declared_own k (Evolve change) d right held is =
       let (s, at, same) = map_some Declared (declared_by h job found (Evolve change)) d is in
       let (there, used, made) = map_some (λ (t : Schema). schema_of_job job (evolved_attrs t.attrs change)) (schema_used h job found) s at in
       let (once, (works, frame, framed, unrefused)) = held tt there used in
-      subst (IsDeedOf before h (key_of job) (Evolve change)) same (there, once, frame, framed, no_fault (evolution_fault frame.domain there.attrs change) unrefused, sym made)
+      subst (Own (Evolve change)) same (there, once, frame, framed, no_fault (evolution_fault frame.domain there.attrs change) unrefused, sym made)
   declared_own k _ d right held is = absurd (none-some d is)
 
   written_from : (columns : WriteIn) (s : Option Schema) (frame : Option Frame) (w : Written) → written_in job columns s frame ≡ Some w
@@ -196,11 +225,11 @@ module _ (before h : History) (job : Job) (found : Option (List Key)) where
   written_from columns (Some there) None w is = absurd (none-some w is)
   written_from columns None frame w is = absurd (none-some w is)
 
-  written_own : (c : Command) (d : Deed) → Held_current c → option_map Wrote (written_by h job found c) ≡ Some d → IsDeedOf before h (key_of job) c d
+  written_own : (c : Command) (d : Deed) → Held_current c → option_map Wrote (written_by h job found c) ≡ Some d → Own c d
   written_own (Write columns) d held is =
       let (w, at, same) = map_some Wrote (written_by h job found (Write columns)) d is in
       let (f, framed, there, used, cells, lays, made) = written_from columns (schema_used h job found) (frame_in h) w at in
-      subst (IsDeedOf before h (key_of job) (Write columns)) same (there, (held tt there used).0, f, framed, cells, lays, made)
+      subst (Own (Write columns)) same (there, (held tt there used).0, f, framed, cells, lays, made)
   written_own _ d held is = absurd (none-some d is)
 
   erased_from : (text : List ℕ) (s : Option Schema) (frame : Option Frame) (e : Deletion) → deleted_in job text s frame ≡ Some e
@@ -211,22 +240,22 @@ module _ (before h : History) (job : Job) (found : Option (List Key)) where
   erased_from text (Some there) None e is = absurd (none-some e is)
   erased_from text None frame e is = absurd (none-some e is)
 
-  erased_own : (c : Command) (d : Deed) → Held_current c → option_map Erased (deleted_by h job found c) ≡ Some d → IsDeedOf before h (key_of job) c d
+  erased_own : (c : Command) (d : Deed) → Held_current c → option_map Erased (deleted_by h job found c) ≡ Some d → Own c d
   erased_own (Delete text) d held is =
       let (e, at, same) = map_some Erased (deleted_by h job found (Delete text)) d is in
       let (f, framed, there, used, condition, says, made) = erased_from text (schema_used h job found) (frame_in h) e at in
-      subst (IsDeedOf before h (key_of job) (Delete text)) same (there, (held tt there used).0, f, framed, condition, says, made)
+      subst (Own (Delete text)) same (there, (held tt there used).0, f, framed, condition, says, made)
   erased_own _ d held is = absurd (none-some d is)
 
   -- the deed of an object that a job puts is one of its command
-  put_own : (n : Name) (d : Deed) → Right_where n job.command → Held_current job.command → deed_of h job found n ≡ Some d → IsDeedOf before h (key_of job) job.command d
+  put_own : (n : Name) (d : Deed) → Right_where n job.command → Held_current job.command → deed_of h job found n ≡ Some d → Own job.command d
   put_own name.Domain d right held is = framed_own job.command d right is
   put_own (name.Schema k) d right held is = declared_own k job.command d right held is
   put_own (name.Commit f Wrt) d right held is = written_own job.command d held is
   put_own (name.Commit f Del) d right held is = erased_own job.command d held is
   put_own _ d right held is = absurd (none-some d is)
 
-  call_own : (c : Call) (d : Deed) → ((n : Name) (bytes : List ℕ) → c ≡ call.Put n bytes → Right_where n job.command × Held_current job.command) → deed_in h job found c ≡ Some d → IsDeedOf before h (key_of job) job.command d
+  call_own : (c : Call) (d : Deed) → ((n : Name) (bytes : List ℕ) → c ≡ call.Put n bytes → Right_where n job.command × Held_current job.command) → deed_in h job found c ≡ Some d → Own job.command d
   call_own (call.Put n bytes) d held is = let (right, there) = held n bytes refl in put_own n d right there is
   call_own _ d held is = absurd (none-some d is)
 
@@ -242,27 +271,34 @@ none_split (x ∷ front) back d is = cc
 
 -- ---- the deed of a call
 
--- the deed of a call of a job, whose calls were all made since a history, is one of its command
-pub deed_own : (gives : ℕ → Bool) (seed : ℕ) (items : List Numbered) (jobs : List Job) (past : History) (m : Held) (told : List Told) (results : List (Driven Outcome))
-    → AreJobsOf gives seed items jobs → AreInOrder items → IsStored m past → IsFreshSeed m past seed → seed < 2 ^ 64
-    → Replied m told → All Suits told → All IsOwned told → All (IsWithin jobs) told → InTurn (lanes_of items) told → AreDriven run_codec jobs results told
-    → (h0 : History) (seen rest : List Told) (e : Told) → told ≡ seen ++ e ∷ rest → (i : ℕ) (job : Job) → slice_get jobs i ≡ Some job → e.job ≡ Some i
-    → ((before : List Told) (x : Told) (later : List Told) → seen ≡ before ++ x ∷ later → x.job ≡ Some i → is_no_memory x.reply ≡ false → Extends h0 (history_told jobs past before))
-    → (d : Deed) → deed_in (history_told jobs past seen) job (schemas_found (trace_of i seen)) e.call ≡ Some d → IsDeedOf h0 (history_told jobs past seen) (key_of job) job.command d
-deed_own gives seed items jobs past m told results are order stands fresh seed_fits replied suit owned within in_turn driven h0 seen rest e place i job is_job mine since d deed =
-    let h : History = history_told jobs past seen in
-    let found : Option (List Key) = schemas_found (trace_of i seen) in
-    let takes : TakeTheirLane (lanes_of items) jobs = lines_take gives seed items jobs are order in
-    let begins = kept_first run_codec run_spelled run_tracks gives seed items jobs past m are order stands fresh seed_fits in
-    let no_lease : (n : Name) (bytes : List ℕ) → e.call ≡ call.Put n bytes → IsNoLease n = λ n bytes puts.
-    deed_no_lease h job found n d (subst (λ x. deed_in h job found x ≡ Some d) puts deed) in
-    let right : (n : Name) (bytes : List ℕ) → e.call ≡ call.Put n bytes → (made : FrameIn) → job.command ≡ Create made → (create_refusal made ≡ None) × ((n ≡ name.Domain → ⊥) → schemas h0 ≡ []) = λ n bytes puts made creates.
-    let (sound, found_none) = right_where_put run_codec run_spelled run_tracks run_laws (lanes_of items) jobs past m told results takes begins replied suit owned within in_turn driven
-    seen rest e place i job mine is_job made creates n bytes puts (no_lease n bytes puts) in
-    (sound, λ other. none_before jobs past seen i h0 since made (found_none other)) in
-    let held : (n : Name) (bytes : List ℕ) → e.call ≡ call.Put n bytes → WorksIn job.command → (there : Schema) → schema_used h job found ≡ Some there → HeldOnce h0 h (key_of job) there × FitsIn h job.command there = λ n bytes puts works there used.
-    let looks : looked_at job ≡ job.at = looks_here job job.command works in
-    let (finds, fits) = works_where_used run_codec run_spelled run_tracks run_laws (lanes_of items) jobs past m told results takes begins replied suit owned within in_turn driven
-    seen rest e place i job mine is_job (no_create job.command works) (no_merge job.command works) looks n bytes puts (no_lease n bytes puts) there used in
-    (held_once jobs past seen i h0 since finds.schemas (key_of job) there finds.undone (ap (current_schema (history_told jobs past (finds.schemas).before)) (sym looks) ∙ finds.holds), fits) in
-    call_own h0 h job found e.call d (λ n bytes puts. (right n bytes puts, held n bytes puts)) deed
+module _ (gives : ℕ → Bool) (seed : ℕ) (items : List Numbered) (jobs : List Job) (past : History) (m : Held) (told : List Told) (results : List (Driven Outcome)) (are : AreJobsOf gives seed items jobs) (order : AreInOrder items) (stands : IsStored m past)
+    (fresh : IsFreshSeed m past seed) (seed_fits : seed < 2 ^ 64) (replied : Replied m told) (suit : All Suits told) (owned : All IsOwned told) (within : All (IsWithin jobs) told) (in_turn : InTurn (lanes_of items) told)
+    (driven : AreDriven run_codec jobs results told) (seen rest : List Told) (e : Told) (place : told ≡ seen ++ e ∷ rest) (i : ℕ) (job : Job) (is_job : slice_get jobs i ≡ Some job) (mine : e.job ≡ Some i) where
+  -- the deed of a call of a job is one of its command, by what the job found before the call
+  pub deed_by : (NoArray : FrameIn → Type 0) (Finds : Schema → Type 0) → ((made : FrameIn) → FindsNoArray jobs past seen i made → NoArray made)
+      → ((at : ListedAt seen i Schemas) (there : Schema) → IsUndone (history_told jobs past at.before) job → current_schema (history_told jobs past at.before) job.at ≡ Some there → Finds there)
+      → (d : Deed) → deed_in (history_told jobs past seen) job (schemas_found (trace_of i seen)) e.call ≡ Some d → IsDeedBy NoArray Finds (history_told jobs past seen) (key_of job) job.command d
+  deed_by NoArray Finds no_array finds_it d deed =
+      let h : History = history_told jobs past seen in
+      let found : Option (List Key) = schemas_found (trace_of i seen) in
+      let takes : TakeTheirLane (lanes_of items) jobs = lines_take gives seed items jobs are order in
+      let begins = kept_first run_codec run_spelled run_tracks gives seed items jobs past m are order stands fresh seed_fits in
+      let no_lease : (n : Name) (bytes : List ℕ) → e.call ≡ call.Put n bytes → IsNoLease n = λ n bytes puts.
+      deed_no_lease h job found n d (subst (λ x. deed_in h job found x ≡ Some d) puts deed) in
+      let right : (n : Name) (bytes : List ℕ) → e.call ≡ call.Put n bytes → (made : FrameIn) → job.command ≡ Create made → (create_refusal made ≡ None) × ((n ≡ name.Domain → ⊥) → NoArray made) = λ n bytes puts made creates.
+      let (sound, found_none) = right_where_put run_codec run_spelled run_tracks run_laws (lanes_of items) jobs past m told results takes begins replied suit owned within in_turn driven
+      seen rest e place i job mine is_job made creates n bytes puts (no_lease n bytes puts) in
+      (sound, λ other. no_array made (found_none other)) in
+      let held : (n : Name) (bytes : List ℕ) → e.call ≡ call.Put n bytes → WorksIn job.command → (there : Schema) → schema_used h job found ≡ Some there → Finds there × FitsIn h job.command there = λ n bytes puts works there used.
+      let looks : looked_at job ≡ job.at = looks_here job job.command works in
+      let (finds, fits) = works_where_used run_codec run_spelled run_tracks run_laws (lanes_of items) jobs past m told results takes begins replied suit owned within in_turn driven
+      seen rest e place i job mine is_job (no_create job.command works) (no_merge job.command works) looks n bytes puts (no_lease n bytes puts) there used in
+      (finds_it finds.schemas there finds.undone (ap (current_schema (history_told jobs past (finds.schemas).before)) (sym looks) ∙ finds.holds), fits) in
+      call_own NoArray Finds h job found e.call d (λ n bytes puts. (right n bytes puts, held n bytes puts)) deed
+
+  -- where its calls were all made since a history, it is one by what there was since then
+  pub deed_own : (h0 : History) → ((before : List Told) (x : Told) (later : List Told) → seen ≡ before ++ x ∷ later → x.job ≡ Some i → is_no_memory x.reply ≡ false → Extends h0 (history_told jobs past before))
+      → (d : Deed) → deed_in (history_told jobs past seen) job (schemas_found (trace_of i seen)) e.call ≡ Some d → IsDeedOf h0 (history_told jobs past seen) (key_of job) job.command d
+  deed_own h0 since d deed =
+      deed_since h0 (history_told jobs past seen) (key_of job) job.command d
+      (deed_by (λ made. schemas h0 ≡ []) (HeldOnce h0 (history_told jobs past seen) (key_of job)) (none_before jobs past seen i h0 since) (λ at there. held_once jobs past seen i h0 since at (key_of job) there) d deed)

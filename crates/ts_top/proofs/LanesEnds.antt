@@ -1,5 +1,5 @@
 -- A command among those of other lanes was done: what its end tells, at times of its own.
-use Rattle.std.proofs.Common.{◌≡◌, ◌⊎◌, inl, inr, ℕ, ◌+◌, Bool, true, false, List, [], ◌∷◌, ◌++◌, Option, Some, None, length, refl, sym, ◌∙◌, ap, subst, append_assoc, append-nil, arith}
+use Rattle.std.proofs.Common.{◌≡◌, ◌⊎◌, inl, inr, ℕ, ◌+◌, ◌<◌, ◌≤◌, Bool, true, List, [], ◌∷◌, ◌++◌, Option, Some, None, length, refl, sym, ◌∙◌, ap, subst, append_assoc, append-nil, arith}
 use Rattle.std.specs.Prelude.{Contains, slice_get}
 use Rattle.std.specs.FinMap as map
 use Rattle.std.proofs.lemmas.Bool.{true≢false}
@@ -9,6 +9,7 @@ use Rattle.ts_base.specs.Held.{Held}
 use Rattle.ts_base.specs.Exact.{frag_decides}
 use Rattle.ts_base.specs.Names.{is_under, wrt_of}
 use Rattle.ts_base.specs.declared.keys.FragKey.{FragKey}
+use Rattle.ts_base.specs.declared.keys.Key.{Key}
 use Rattle.ts_base.specs.declared.names.Name.{Name}
 use Rattle.ts_base.specs.declared.names.Name.TheVariants as name
 use Rattle.ts_base.specs.declared.names.Part.{Part}
@@ -17,8 +18,12 @@ use Rattle.ts_base.specs.declared.names.Prefix.TheVariants.{Commits, Fragment, L
 use Rattle.ts_commit.specs.Selections.{names_merged, removal_set}
 use Rattle.ts_commit.specs.declared.vacs.Planned.TheVariants.{Take}
 use Rattle.ts_cond.specs.declared.query.Query.{Query}
+use Rattle.ts_schema.specs.declared.attrs.Attr.{Attr}
+use Rattle.ts_schema.specs.declared.frames.Frame.{Frame}
+use Rattle.ts_schema.specs.declared.schemas.Schema.{Schema}
+use Rattle.ts_schema.specs.Evolutions.{evolved_attrs}
 use Rattle.ts_store.specs.declared.call.Call.TheVariants as call
-use Rattle.ts_store.specs.Calls.{is_no_memory, names_under}
+use Rattle.ts_store.specs.Calls.{names_under}
 use Rattle.ts_model.specs.declared.answers.Answer.{Answer}
 use Rattle.ts_model.specs.declared.answers.Driven.{Driven}
 use Rattle.ts_model.specs.declared.answers.Driven.TheVariants.{Done, Stopped}
@@ -26,29 +31,29 @@ use Rattle.ts_model.specs.declared.answers.Outcome.{Outcome}
 use Rattle.ts_model.specs.declared.answers.Outcome.TheVariants as outcome
 use Rattle.ts_model.specs.declared.commands.Command.{Command}
 use Rattle.ts_model.specs.declared.commands.Command.TheVariants.{Read, Consolidate, Vacuum, Unlock, Fragments}
+use Rattle.ts_model.specs.declared.commands.FrameIn.{FrameIn}
 use Rattle.ts_model.specs.declared.commands.Job.{Job}
-use Rattle.ts_model.specs.Deeds.{History, IsNewKey}
-use Rattle.ts_model.specs.Jobs.{key_of, looks_at}
+use Rattle.ts_model.specs.Commands.{frame_made}
+use Rattle.ts_model.specs.Deeds.{History, IsNewKey, current_schema, deletions, frame_in, writes}
+use Rattle.ts_model.specs.Jobs.{deletion_as, frag_of_job, key_of, looks_at, written_as}
 use Rattle.ts_model.specs.States.{leases_unlocked, vac_of}
 use Rattle.ts_model.specs.Stops.{cuts}
 use Rattle.ts_model.specs.Told.{Told, held_told, history_told, trace_of}
 use Rattle.ts_law.specs.Changes.{IsOwn, IsToSweep, IsToUnlock}
 use Rattle.ts_law.specs.Courses.{IsSegment}
-use Rattle.ts_law.specs.Ends.{AnswersAt, AreAllVacs, IsAnswerOver, IsGone, IsMerged, IsSweptAway, IsTrueOver, IsUndone, IsUnlocked, IsVacuumed, ListedAt}
+use Rattle.ts_law.specs.Ends.{AnswersAt, AreAllVacs, FindsNoArray, HasDeclared, IsAnswerOver, IsCreated, IsDeleted, IsEvolved, IsGone, IsMerged, IsSweptAway, IsTrueOver, IsUndone, IsUnlocked, IsVacuumed, IsWritten, ListedAt}
 use Rattle.ts_law.specs.Fresh.{Numbered, lanes_of}
 use Rattle.ts_law.specs.Runs.{AreSegments, IsTrueRun}
 use Rattle.ts_law.specs.Stands.{HoldsIn, IsCommitted, Names}
 use Rattle.ts_law.specs.Sweeps.{IsNoSweep, OfCommit, OfOther, OfPart, OfVac}
 use Rattle.ts_law.specs.Sweeps.{IsSwept as IsToRemove}
 use Rattle.ts_law.proofs.HeldLemmas.{Holds-from_get, listed_from_Holds}
-use Rattle.ts_top.specs.Promise.{Extends, HasDone}
 use Rattle.ts_top.specs.Runners.{run_codec, run_spelled}
 use Rattle.ts_top.specs.Sweeps.{IsObjectOf, IsSwept}
-use Rattle.ts_top.specs.Times.{Span, before, held_at, now}
-use Rattle.ts_top.specs.Together.{Answered, CameOutSo, DidNone, IsToSweepAt, IsToUnlockAt, LeftNoLease, MergedSo, ToldSo, UnlockedSo, VacuumedSo, WasDone, WasGone}
-use Rattle.ts_top.proofs.DeedsTold.{created_tells, deleted_tells, evolved_tells, written_tells}
+use Rattle.ts_top.specs.Times.{Span, held_at, now}
+use Rattle.ts_top.specs.Together.{Answered, CameOutSo, DidNone, FoundNoArray, HasDoneSo, HeldAsListed, IsToSweepAt, IsToUnlockAt, LeftNoLease, MergedSo, ToldSo, UnlockedSo, VacuumedSo, WasDone, WasGone}
 use Rattle.ts_top.proofs.LanesRefused.{plan_so, refusal_so, schema_so}
-use Rattle.ts_top.proofs.LanesTold.{after_held, after_history, deeds_so, gone_so, held_so, is_span, later_time, left_all, left_so, listed_held, listed_history, listed_so, listed_time, made_so, new_now, no_lease_so, none_so, now_is, quiet_undone, since, span, time_of, until}
+use Rattle.ts_top.proofs.LanesTold.{after_held, after_history, deeds_so, gone_so, held_as_listed, held_so, is_span, later_time, left_all, left_so, listed_held, listed_history, listed_so, listed_time, made_so, new_now, no_lease_so, none_found, none_so, now_is, quiet_undone, span, time_of, until}
 use Rattle.ts_top.proofs.LeasesTold.{EndsWell}
 use Rattle.ts_top.proofs.RefusalsTold.{DoesNone}
 use Rattle.ts_top.proofs.RunTimes.{InLanes, is_true}
@@ -68,6 +73,10 @@ module _ (gives : ℕ → Bool) (seed : ℕ) (items : List Numbered) (jobs : Lis
   abbrev true_run : IsTrueRun run_spelled (lanes_of items) jobs past m told results
   true_run = is_true gives seed items jobs past m told results w
 
+  -- a place after a listing has a later time
+  after_listing : (prefix : Prefix) (at : ListedAt told i prefix) (before later between : List Told) → before ≡ at.before ++ at.listing ∷ between → told ≡ before ++ later → at_time at.before < at_time before
+  after_listing prefix at before later between order place = later_time gives seed items jobs past m told results w i job is_job at.before at.later at.listing at.place at.own at.memory before between later order place
+
   -- ---- reads
 
   answered : (from to : ℕ) (query : Query) (answer : Answer) → AnswersAt run_spelled m jobs past told i from to query answer → Answered s from to query answer
@@ -79,7 +88,7 @@ module _ (gives : ℕ → Bool) (seed : ℕ) (items : List Numbered) (jobs : Lis
         lists = listed_so gives seed items jobs past m told results w i job is_job told [] all Commits commits;
         shown = at_time schemas.before;
         shows = listed_so gives seed items jobs past m told results w i job is_job told [] all Schemas schemas;
-        order = later_time gives seed items jobs past m told results w i job is_job commits.before commits.later commits.listing commits.place commits.own commits.memory schemas.before is.between (schemas.listing ∷ schemas.later) is.order schemas.place;
+        order = after_listing Commits commits schemas.before (schemas.listing ∷ schemas.later) is.between is.order schemas.place;
         over =
             subst (λ h. IsAnswerOver run_spelled h (held_at s.run (at_time commits.before)) (s.run.history (at_time schemas.before)) from to query answer) (listed_history gives seed items jobs past m told results w i job is_job told [] all Commits commits)
             (subst (λ n. IsAnswerOver run_spelled (history_told jobs past commits.before) n (s.run.history (at_time schemas.before)) from to query answer) (listed_held gives seed items jobs past m told results w i job is_job told [] all Commits commits)
@@ -99,6 +108,7 @@ module _ (gives : ℕ → Bool) (seed : ℕ) (items : List Numbered) (jobs : Lis
         own = is.own;
         put = put;
         puts = made_so gives seed items jobs past m told results w i job is_job (call.Put (wrt_of f) []) is.put;
+        order = after_listing Commits is.commits (is.put).before ((is.put).made ∷ (is.put).later) is.later is.order (is.put).place;
         committed = subst (λ h. IsCommitted h f) then is.committed;
         piece = is.piece;
         holds =
@@ -119,12 +129,12 @@ module _ (gives : ℕ → Bool) (seed : ℕ) (items : List Numbered) (jobs : Lis
       by (Some bytes) is = inr (bytes, is)
 
   -- an object that was held at a listing was removed, or it was gone then
-  gone_from : (prefix : Prefix) (at : ListedAt told i prefix) (n : Name) → ((bytes : List ℕ) → map.get (held_told m at.before) n ≡ Some bytes → IsGone m told i n) → WasGone s n
-  gone_from prefix at n removed = elim (held_or_not (held_told m at.before) n) [
+  gone_from : (first : ℕ) (prefix : Prefix) (at : ListedAt told i prefix) → first ≤ at_time at.before → (n : Name) → ((bytes : List ℕ) → map.get (held_told m at.before) n ≡ Some bytes → IsGone m told i n) → WasGone s first n
+  gone_from first prefix at from_first n removed = elim (held_or_not (held_told m at.before) n) [
     | inl none ↦
         let within = listed_time gives seed items jobs past m told results w i job is_job told [] all prefix at in
-        (at_time at.before, within.0, omega (arith, within.1), ap (λ h. map.get h n) (sym (listed_held gives seed items jobs past m told results w i job is_job told [] all prefix at)) ∙ none)
-    | inr (bytes, held) ↦ gone_so gives seed items jobs past m told results w i job is_job n (removed bytes held)
+        inr (at_time at.before, from_first, omega (arith, within.1), ap (λ h. map.get h n) (sym (listed_held gives seed items jobs past m told results w i job is_job told [] all prefix at)) ∙ none)
+    | inr (bytes, held) ↦ inl (gone_so gives seed items jobs past m told results w i job is_job n (removed bytes held))
   ]
 
   vacuumed : (count : ℕ) → IsVacuumed m jobs past told i job count → VacuumedSo s count
@@ -139,23 +149,29 @@ module _ (gives : ℕ → Bool) (seed : ℕ) (items : List Numbered) (jobs : Lis
     gone = gone_one;
   }
     where
-      gone_object : (f : FragKey) → IsSweptAway m told i (is.commits).before (is.commits).listing f → (x : Name) → IsObjectOf f x → WasGone s x
+      first : ℕ
+      first = at_time (is.commits).before
+
+      gone_object : (f : FragKey) → IsSweptAway m told i (is.commits).before (is.commits).listing f → (x : Name) → IsObjectOf f x → WasGone s first x
       gone_object f swept x (inl commit) =
-          subst (WasGone s) (sym commit) (gone_from Commits is.commits (wrt_of f) (λ bytes held. swept.commit (Holds-from_get (held_told m (is.commits).before) (wrt_of f) bytes held)))
+          subst (WasGone s first) (sym commit)
+          (gone_from first Commits is.commits (omega arith) (wrt_of f) (λ bytes held. swept.commit (Holds-from_get (held_told m (is.commits).before) (wrt_of f) bytes held)))
       gone_object f swept x (inr (inl vac)) =
-          subst (WasGone s) (sym vac) (gone_from Commits is.commits (vac_of f) (λ bytes held. swept.own_vac (Holds-from_get (held_told m (is.commits).before) (vac_of f) bytes held)))
+          subst (WasGone s first) (sym vac)
+          (gone_from first Commits is.commits (omega arith) (vac_of f) (λ bytes held. swept.own_vac (Holds-from_get (held_told m (is.commits).before) (vac_of f) bytes held)))
       gone_object f swept x (inr (inr (part, of_part))) =
           let parts = (swept.lists).parts in
-          subst (WasGone s) (sym of_part)
-          (gone_from (Fragment f) parts (name.Part f part)
+          let later = after_listing Commits is.commits parts.before (parts.listing ∷ parts.later) (swept.lists).between (swept.lists).order parts.place in
+          subst (WasGone s first) (sym of_part)
+          (gone_from first (Fragment f) parts (omega (arith, later)) (name.Part f part)
           (λ bytes held. swept.each_part (name.Part f part) (listed_from_Holds (Fragment f) (held_told m parts.before) (name.Part f part) (Holds-from_get (held_told m parts.before) (name.Part f part) bytes held) (part_under f part))))
         where
           part_under : (f : FragKey) (part : Part) → is_under (Fragment f) (name.Part f part) ≡ true
           part_under f part = (frag_decides f f).1 refl
 
-      gone_one : (x : Name) → IsSwept is.vacs x → WasGone s x
+      gone_one : (x : Name) → IsSwept is.vacs x → WasGone s first x
       gone_one x (inl (f, among, object)) = gone_object f (is.swept f among) x object
-      gone_one x (inr (v, among, vac)) = subst (WasGone s) (sym vac) (gone_so gives seed items jobs past m told results w i job is_job (vac_of v.frag) (is.vacs_gone v among))
+      gone_one x (inr (v, among, vac)) = subst (WasGone s first) (sym vac) (inl (gone_so gives seed items jobs past m told results w i job is_job (vac_of v.frag) (is.vacs_gone v among)))
 
   -- ---- unlocks
 
@@ -166,7 +182,7 @@ module _ (gives : ℕ → Bool) (seed : ℕ) (items : List Numbered) (jobs : Lis
         listed = at_time (is.leases).before;
         lists = listed_so gives seed items jobs past m told results w i job is_job told [] all Leases is.leases;
         counted = is.counted ∙ ap (λ h. length (leases_unlocked is.seed is.lane (names_under Leases h))) then;
-        gone = λ x among. gone_so gives seed items jobs past m told results w i job is_job x (is.gone x (subst (λ h. Contains (leases_unlocked is.seed is.lane (names_under Leases h)) x) (sym then) among));
+        removed = λ x among. gone_so gives seed items jobs past m told results w i job is_job x (is.gone x (subst (λ h. Contains (leases_unlocked is.seed is.lane (names_under Leases h)) x) (sym then) among));
       }
 
   -- ---- all ends
@@ -191,11 +207,48 @@ module _ (gives : ℕ → Bool) (seed : ℕ) (items : List Numbered) (jobs : Lis
         over_here : IsTrueOver run_spelled m jobs past here i job end
         over_here = let u = until gives seed items jobs past m told results w i job is_job end well segment in true_run.answers u.till u.rest u.whole i job end is_job end_at u.silent
 
-        since_here : (d : List Told) (x : Told) (r : List Told) → here ≡ d ++ x ∷ r → x.job ≡ Some i → is_no_memory x.reply ≡ false → Extends (before s) (history_told jobs past d)
-        since_here d x r parts mine memory = let u = until gives seed items jobs past m told results w i job is_job end well segment in since gives seed items jobs past m told results w i job is_job u.till u.rest u.whole d x r parts mine memory
-
         at_end : history_told jobs past here ≡ now s
         at_end = now_is gives seed items jobs past m told results w i job is_job end well segment
+
+        -- the frame there then
+        frame_then : (frame : Frame) → frame_in (history_told jobs past here) ≡ Some frame → frame_in (now s) ≡ Some frame
+        frame_then frame framed = ap frame_in (sym at_end) ∙ framed
+
+        -- the attributes that it declared then
+        declared_then : (attrs : List Attr) → HasDeclared (history_told jobs past here) job attrs → HasDeclared (now s) job attrs
+        declared_then attrs declared = subst (λ h. HasDeclared h job attrs) at_end declared
+
+        listed_here : (at : ListedAt here i Schemas) (there : Schema) → IsUndone (history_told jobs past at.before) job → current_schema (history_told jobs past at.before) job.at ≡ Some there → HeldAsListed s s.to (key_of job) there
+        listed_here at there undone holds =
+            let u = until gives seed items jobs past m told results w i job is_job end well segment in
+            subst (λ n. HeldAsListed s n (key_of job) there) u.time_is (held_as_listed gives seed items jobs past m told results w i job is_job u.till u.rest u.whole at there undone holds)
+
+        none_here : (made : FrameIn) → FindsNoArray jobs past here i made → FoundNoArray s s.to made
+        none_here made finds =
+            let u = until gives seed items jobs past m told results w i job is_job end well segment in
+            subst (λ n. FoundNoArray s n made) u.time_is (none_found gives seed items jobs past m told results w i job is_job u.till u.rest u.whole made finds)
+
+        -- what an end tells of the deed of the command
+        abbrev DoneSo : Outcome → Command → Type 0
+        DoneSo told_end command = HasDoneSo s (key_of job) told_end command
+
+        created : IsCreated jobs past here i job → DoneSo outcome.Created job.command
+        created is = subst (DoneSo outcome.Created) (sym is.creates) (none_here is.made is.found_none, is.sound, frame_then (frame_made is.made) is.framed, declared_then (is.made).attrs is.declared)
+
+        evolved : (k : Key) → k ≡ key_of job → IsEvolved jobs past here i job → DoneSo (outcome.Evolved k) job.command
+        evolved k same is =
+            subst (DoneSo (outcome.Evolved k)) (sym is.evolves)
+            (same, is.current, listed_here is.schemas is.current is.undone is.holds, is.frame, frame_then is.frame is.framed, is.sound, declared_then (evolved_attrs (is.current).attrs is.change) is.declared)
+
+        written : (f : FragKey) → f ≡ frag_of_job job → IsWritten jobs past here i job → DoneSo (outcome.Written f) job.command
+        written f same is =
+            subst (DoneSo (outcome.Written f)) (sym is.writes_them)
+            (same, is.current, listed_here is.schemas is.current is.undone is.holds, is.frame, frame_then is.frame is.framed, is.cells, is.lays, subst (λ h. Contains (writes h) (written_as job (is.current).key is.cells)) at_end is.written)
+
+        deleted : (f : FragKey) → f ≡ frag_of_job job → IsDeleted jobs past here i job → DoneSo (outcome.Deleted f) job.command
+        deleted f same is =
+            subst (DoneSo (outcome.Deleted f)) (sym is.deletes)
+            (same, is.current, listed_here is.schemas is.current is.undone is.holds, is.frame, frame_then is.frame is.framed, is.condition, is.says, subst (λ h. Contains (deletions h) (deletion_as job is.condition)) at_end is.erased)
 
         no_lease : LeftNoLease s (key_of job) job.command
         no_lease = no_lease_so gives seed items jobs past m told results w i job is_job end well segment
@@ -208,21 +261,10 @@ module _ (gives : ℕ → Bool) (seed : ℕ) (items : List Numbered) (jobs : Lis
 
     -- what an end tells of the command
     ends_so : (end : Outcome) → slice_get results i ≡ Some (Done end) → ToldOf end job.command
-    ends_so outcome.Created end_at =
-        subst (λ h. HasDone (before s) h (key_of job) outcome.Created job.command) (at_end outcome.Created end_at tt)
-        (created_tells jobs past (here outcome.Created end_at tt) i (before s) (since_here outcome.Created end_at tt) job (over_here outcome.Created end_at tt))
-    ends_so (outcome.Evolved k) end_at =
-        let (same, is) = over_here (outcome.Evolved k) end_at tt in
-        subst (λ h. HasDone (before s) h (key_of job) (outcome.Evolved k) job.command) (at_end (outcome.Evolved k) end_at tt)
-        (evolved_tells jobs past (here (outcome.Evolved k) end_at tt) i (before s) (since_here (outcome.Evolved k) end_at tt) job k same is)
-    ends_so (outcome.Written f) end_at =
-        let (same, is) = over_here (outcome.Written f) end_at tt in
-        subst (λ h. HasDone (before s) h (key_of job) (outcome.Written f) job.command) (at_end (outcome.Written f) end_at tt)
-        (written_tells jobs past (here (outcome.Written f) end_at tt) i (before s) (since_here (outcome.Written f) end_at tt) job f same is)
-    ends_so (outcome.Deleted f) end_at =
-        let (same, is) = over_here (outcome.Deleted f) end_at tt in
-        subst (λ h. HasDone (before s) h (key_of job) (outcome.Deleted f) job.command) (at_end (outcome.Deleted f) end_at tt)
-        (deleted_tells jobs past (here (outcome.Deleted f) end_at tt) i (before s) (since_here (outcome.Deleted f) end_at tt) job f same is)
+    ends_so outcome.Created end_at = created outcome.Created end_at tt (over_here outcome.Created end_at tt)
+    ends_so (outcome.Evolved k) end_at = let (same, is) = over_here (outcome.Evolved k) end_at tt in evolved (outcome.Evolved k) end_at tt k same is
+    ends_so (outcome.Written f) end_at = let (same, is) = over_here (outcome.Written f) end_at tt in written (outcome.Written f) end_at tt f same is
+    ends_so (outcome.Deleted f) end_at = let (same, is) = over_here (outcome.Deleted f) end_at tt in deleted (outcome.Deleted f) end_at tt f same is
     ends_so (outcome.Read answer) end_at =
         let (from, to, query, reads, is) = over (outcome.Read answer) end_at in
         subst (ToldOf (outcome.Read answer)) (sym reads)

@@ -12,6 +12,8 @@ use Rattle.ts_base.specs.declared.names.LeaseMode.{LeaseMode}
 use Rattle.ts_base.specs.declared.names.Name.{Name}
 use Rattle.ts_base.specs.declared.names.Name.TheVariants as name
 use Rattle.ts_base.specs.declared.names.Prefix.{Prefix}
+use Rattle.ts_base.specs.declared.names.Prefix.TheVariants.{Schemas}
+use Rattle.ts_schema.specs.declared.schemas.Schema.{Schema}
 use Rattle.ts_store.specs.declared.call.Call.{Call}
 use Rattle.ts_store.specs.declared.call.Call.TheVariants as call
 use Rattle.ts_store.specs.declared.call.Reply.TheVariants as reply
@@ -21,8 +23,12 @@ use Rattle.ts_model.specs.declared.answers.Driven.{Driven}
 use Rattle.ts_model.specs.declared.answers.Driven.TheVariants.{Done}
 use Rattle.ts_model.specs.declared.answers.Outcome.{Outcome}
 use Rattle.ts_model.specs.declared.commands.Job.{Job}
+use Rattle.ts_model.specs.declared.commands.Command.{Command}
+use Rattle.ts_model.specs.declared.commands.Command.TheVariants.{Create, Evolve, Write, Read, Delete, Consolidate, Vacuum, Unlock, Fragments}
+use Rattle.ts_model.specs.declared.commands.FrameIn.{FrameIn}
 use Rattle.ts_model.specs.declared.deeds.Deed.{Deed}
-use Rattle.ts_model.specs.Deeds.{History, IsNewKey, keys}
+use Rattle.ts_model.specs.declared.deeds.Deed.TheVariants.{Framed, Declared, Wrote, Erased}
+use Rattle.ts_model.specs.Deeds.{History, IsNewKey, current_schema, keys, schemas}
 use Rattle.ts_model.specs.Jobs.{key_of}
 use Rattle.ts_model.specs.Stages.{lease_of, mode_of}
 use Rattle.ts_model.specs.States.{Exchange}
@@ -32,7 +38,7 @@ use Rattle.ts_model.proofs.ListLemmas.{Contains-cons, Contains-filter_map, Conta
 use Rattle.ts_model.proofs.Traces.{exchange_of_own, held_told-append, history_told-push, trace_of-append, trace_of-own}
 use Rattle.ts_law.specs.Changes.{ChangedNothing}
 use Rattle.ts_law.specs.Courses.{IsSegment, removal}
-use Rattle.ts_law.specs.Ends.{IsGone, IsUndone, ListedAt, MadeAt}
+use Rattle.ts_law.specs.Ends.{FindsNoArray, IsGone, IsUndone, ListedAt, MadeAt}
 use Rattle.ts_law.specs.Fresh.{Numbered}
 use Rattle.ts_law.specs.Kept.{HeldSince}
 use Rattle.ts_law.specs.Stands.{IsNoLease}
@@ -41,17 +47,17 @@ use Rattle.ts_law.proofs.HeldLemmas.{Holds-from_get, get_put}
 use Rattle.ts_law.proofs.Leasing.{by_job}
 use Rattle.ts_law.proofs.LineJobs.{id_has_seed, ids_apart}
 use Rattle.ts_law.proofs.Short.{replied_at, undone_on}
-use Rattle.ts_top.specs.Promise.{Extends, IsDeedOf}
+use Rattle.ts_top.specs.Promise.{Extends}
 use Rattle.ts_top.specs.Runners.{run_codec}
-use Rattle.ts_top.specs.Times.{IsCall, IsSpan, Lists, Makes, Span, before, held_at, now}
-use Rattle.ts_top.specs.Together.{DidNone, LeftAll, LeftNoLease, LeftOthers, WasGone}
-use Rattle.ts_top.proofs.DeedsTold.{and_then_some, deed_no_lease, deed_own, one_grown}
+use Rattle.ts_top.specs.Times.{IsCall, IsSpan, Lists, Makes, Span, held_at, now}
+use Rattle.ts_top.specs.Together.{DidNone, DidRemove, FoundNoArray, HeldAsListed, IsDeedAt, LeftAll, LeftNoLease, LeftOthers}
+use Rattle.ts_top.proofs.DeedsTold.{IsDeedBy, and_then_some, deed_by, deed_no_lease, one_grown}
 use Rattle.ts_top.proofs.LeasesTold.{EndsWell, gone, last_removes, no_last, unrefused}
 use Rattle.ts_top.proofs.OwnCalls.{heeds_memory}
-use Rattle.ts_top.proofs.Promises.{no_deed, no_trace}
+use Rattle.ts_top.proofs.Promises.{no_trace}
 use Rattle.ts_top.proofs.RefusalsTold.{DoesNone}
 use Rattle.ts_top.proofs.RunTimes.{InLanes, goes_on_to, held_next, held_there, history_last, history_next, history_there, is_call, lane, makes_it, run}
-use Rattle.ts_top.proofs.TimesTold.{IsTold, Spanned, find_call, span_of, time, time_next, time_within}
+use Rattle.ts_top.proofs.TimesTold.{IsTold, Spanned, call_at, call_made, find_call, span_of, time, time_next, time_within}
 
 -- a list falls apart at an item that it has
 split_at : {X : Type 0} (xs : List X) (x : X) → Contains xs x → (front : List X) × (back : List X) × (xs ≡ front ++ x ∷ back)
@@ -76,6 +82,27 @@ lease_apart : (k : Key) (o : Option LeaseMode) (n : Name) → IsNoLease n → op
 lease_apart k None n none is = none-some n is
 lease_apart k (Some mode) n none is = subst IsNoLease (sym (same_Some (name.Lease k mode) n is)) none
 
+-- a deed by what a command found at times of its own is one that it may do
+deed_at : (s : Span) (n : ℕ) (k : Key) (c : Command) (d : Deed) → IsDeedBy (FoundNoArray s n) (HeldAsListed s n k) (s.run.history n) k c d → IsDeedAt s n k c d
+deed_at s n k (Create made) (Framed frame) is = is
+deed_at s n k (Create made) (Declared new) is = is
+deed_at s n k (Evolve change) (Declared new) is = is
+deed_at s n k (Write columns) (Wrote w) is = is
+deed_at s n k (Delete text) (Erased e) is = is
+deed_at s n k _ _ is = absurd is
+
+-- a command that does no deed may do none
+no_deed_at : (s : Span) (n : ℕ) (k : Key) (c : Command) (d : Deed) → DoesNone c → IsDeedAt s n k c d → ⊥
+no_deed_at s n k (Create made) d none is = none
+no_deed_at s n k (Evolve change) d none is = none
+no_deed_at s n k (Write columns) d none is = none
+no_deed_at s n k (Delete text) d none is = none
+no_deed_at s n k (Read from to query) d none is = is
+no_deed_at s n k (Consolidate from to limits) d none is = is
+no_deed_at s n k Vacuum d none is = is
+no_deed_at s n k (Unlock seed lane) d none is = is
+no_deed_at s n k Fragments d none is = is
+
 module _ (gives : ℕ → Bool) (seed : ℕ) (items : List Numbered) (jobs : List Job) (past : History) (m : Held) (told : List Told) (results : List (Driven Outcome)) (w : InLanes gives seed items jobs past m told results)
     (i : ℕ) (job : Job) (is_job : slice_get jobs i ≡ Some job) where
   -- the times of the command
@@ -99,15 +126,6 @@ module _ (gives : ℕ → Bool) (seed : ℕ) (items : List Numbered) (jobs : Lis
   -- a call of the command stands at a time of it
   pub own_time : (d r : List Told) (e : Told) → told ≡ d ++ e ∷ r → e.job ≡ Some i → is_no_memory e.reply ≡ false → (there.from ≤ time_of d) × (time_of d < there.to)
   own_time d r e parts mine memory = is_span.all (time_of d) (is_call gives seed items jobs past m told results w d r e parts i mine memory there.from there.to)
-
-  -- the history goes on to it from the one at the command's first call
-  pub since : (seen rest : List Told) → told ≡ seen ++ rest → (d : List Told) (x : Told) (r : List Told) → seen ≡ d ++ x ∷ r → x.job ≡ Some i → is_no_memory x.reply ≡ false → Extends (before span) (history_told jobs past d)
-  since seen rest whole d x r parts mine memory =
-      let place : told ≡ d ++ x ∷ (r ++ rest) = whole ∙ ap (λ l. l ++ rest) parts ∙ append_assoc d (x ∷ r) rest in
-      let within = own_time d (r ++ rest) x place mine memory in
-      let few = time_within lane_here told d (x ∷ (r ++ rest)) place in
-      subst (Extends (before span)) (history_there gives seed items jobs past m told results w d (x ∷ (r ++ rest)) place)
-      (goes_on_to gives seed items jobs past m told results w there.from (time_of d) within.0 few)
 
   -- a listing of the job is one of the command
   module _ (seen rest : List Told) (whole : told ≡ seen ++ rest) (prefix : Prefix) (at : ListedAt seen i prefix) where
@@ -140,15 +158,9 @@ module _ (gives : ℕ → Bool) (seed : ℕ) (items : List Numbered) (jobs : Lis
     pub after_history : history_told jobs past (at.before ++ at.made ∷ []) ≡ span.run.history (time_of at.before + 1)
     after_history = sym (history_next gives seed items jobs past m told results w at.before at.later at.made at.place i at.own at.memory)
 
-    pub made_time : (there.from ≤ time_of at.before) × (time_of at.before < there.to)
-    made_time = own_time at.before at.later at.made at.place at.own at.memory
-
-  -- an object that the job removed was gone at a time of the command
-  pub gone_so : (n : Name) → IsGone m told i n → WasGone span n
-  gone_so n is =
-      let at = is.removed in
-      let within = made_time (call.Remove n) at in
-      (time_of at.before + 1, omega (arith, within.0), omega (arith, within.1), ap (λ h. map.get h n) (sym (after_held (call.Remove n) at)) ∙ is.gone)
+  -- an object that the job removed was removed by a call of the command
+  pub gone_so : (n : Name) → IsGone m told i n → DidRemove span n
+  gone_so n is = let at = is.removed in (time_of at.before, made_so (call.Remove n) at, ap (λ h. map.get h n) (sym (after_held (call.Remove n) at)) ∙ is.gone)
 
   -- a later place has a later time
   pub later_time : (d r : List Told) (e : Told) → told ≡ d ++ e ∷ r → e.job ≡ Some i → is_no_memory e.reply ≡ false → (b : List Told) → (x y : List Told) → b ≡ d ++ e ∷ x → told ≡ b ++ y → time_of d < time_of b
@@ -157,6 +169,41 @@ module _ (gives : ℕ → Bool) (seed : ℕ) (items : List Numbered) (jobs : Lis
       let next : time_of (d ++ e ∷ []) ≡ time_of d + 1 = time_next lane_here d e i mine memory in
       let least = time_within lane_here b (d ++ e ∷ []) x front in
       omega (arith, next, least)
+
+  -- ---- what it found
+
+  -- a schema that the job found as it listed them held as the command listed them
+  pub held_as_listed : (seen rest : List Told) → told ≡ seen ++ rest → (at : ListedAt seen i Schemas) (there : Schema) → IsUndone (history_told jobs past at.before) job → current_schema (history_told jobs past at.before) job.at ≡ Some there
+      → HeldAsListed span (time_of seen) (key_of job) there
+  held_as_listed seen rest whole at there new holds =
+      let then = listed_history seen rest whole Schemas at in (
+        time_of at.before,
+        later_time at.before (at.later ++ rest) at.listing (listing_place seen rest whole Schemas at) at.own at.memory seen at.later rest at.place whole,
+        listed_so seen rest whole Schemas at,
+        subst (λ h. IsNewKey h (key_of job)) then new,
+        subst (λ h. current_schema h job.at ≡ Some there) then holds,
+      )
+
+  -- where the job found no array, the command did
+  pub none_found : (seen rest : List Told) → told ≡ seen ++ rest → (made : FrameIn) → FindsNoArray jobs past seen i made → FoundNoArray span (time_of seen) made
+  none_found seen rest whole made (inl (at, is_made, nothing)) =
+      let e = at.made in
+      let place : told ≡ at.before ++ e ∷ (at.later ++ rest) = whole ∙ ap (λ l. l ++ rest) at.place ∙ append_assoc at.before (e ∷ at.later) rest in
+      let among : Contains told e = subst (λ l. Contains l e) (sym place) (Contains-append_right at.before (e ∷ (at.later ++ rest)) e (Contains-here e (at.later ++ rest))) in
+      let did : e.fate ≡ fate.Done = (All-contains Suits told e w.suit among).served (λ failed. let clash : reply.Made ≡ reply.Failed = sym is_made ∙ failed in cc) in
+      inl (
+        time_of at.before,
+        later_time at.before (at.later ++ rest) e place at.own at.memory seen at.later rest at.place whole,
+        (call_made lane_here e i, call_at lane_here told at.before (at.later ++ rest) e i place at.own at.memory, refl, at.makes, did),
+        history_there gives seed items jobs past m told results w at.before (e ∷ (at.later ++ rest)) place ∙ nothing,
+      )
+  none_found seen rest whole made (inr (at, none)) =
+      inr (
+        time_of at.before,
+        later_time at.before (at.later ++ rest) at.listing (listing_place seen rest whole Schemas at) at.own at.memory seen at.later rest at.place whole,
+        listed_so seen rest whole Schemas at,
+        ap schemas (sym (listed_history seen rest whole Schemas at)) ∙ none,
+      )
 
   -- ---- what its calls did
 
@@ -168,6 +215,7 @@ module _ (gives : ℕ → Bool) (seed : ℕ) (items : List Numbered) (jobs : Lis
     parts : told ≡ d ++ e ∷ r
     mine : e.job ≡ Some i
     memory : is_no_memory e.reply ≡ false
+    time_is : time_of d ≡ n
     at : held_at span.run n ≡ held_told m d
     next : held_at span.run (n + 1) ≡ held_told m (d ++ e ∷ [])
     history : span.run.history n ≡ history_told jobs past d
@@ -184,6 +232,7 @@ module _ (gives : ℕ → Bool) (seed : ℕ) (items : List Numbered) (jobs : Lis
         parts = is.parts;
         mine = mine;
         memory = is.memory;
+        time_is = is.time_is;
         at = ap (held_at span.run) (sym is.time_is) ∙ held_there gives seed items jobs past m told results w is.earlier (is.e ∷ is.later) is.parts;
         next = ap (λ k. held_at span.run (k + 1)) (sym is.time_is) ∙ held_next gives seed items jobs past m told results w is.earlier is.later is.e is.parts i mine is.memory;
         history = ap (λ k. span.run.history k) (sym is.time_is) ∙ history_there gives seed items jobs past m told results w is.earlier (is.e ∷ is.later) is.parts;
@@ -222,25 +271,29 @@ module _ (gives : ℕ → Bool) (seed : ℕ) (items : List Numbered) (jobs : Lis
 
   -- that is one of the command
   told_own : (d r : List Told) (e : Told) → told ≡ d ++ e ∷ r → e.job ≡ Some i → (x : Deed) → deed_in (history_told jobs past d) job (schemas_found (trace_of i d)) e.call ≡ Some x
-      → IsDeedOf (before span) (history_told jobs past d) (key_of job) job.command x
+      → IsDeedAt span (time_of d) (key_of job) job.command x
   told_own d r e parts mine x deed =
-      deed_own gives seed items jobs past m told results w.are w.order w.stands w.fresh w.seed_fits w.replied w.suit w.owned w.within w.in_turn w.driven (before span) d r e parts i job is_job mine (since d (e ∷ r) parts) x deed
+      let n = time_of d in
+      deed_at span n (key_of job) job.command x
+      (subst (λ h. IsDeedBy (FoundNoArray span n) (HeldAsListed span n (key_of job)) h (key_of job) job.command x) (sym (history_there gives seed items jobs past m told results w d (e ∷ r) parts))
+      (deed_by gives seed items jobs past m told results w.are w.order w.stands w.fresh w.seed_fits w.replied w.suit w.owned w.within w.in_turn w.driven d r e parts i job is_job mine
+      (FoundNoArray span n) (HeldAsListed span n (key_of job)) (none_found d (e ∷ r) parts) (held_as_listed d (e ∷ r) parts) x deed))
 
   -- a call of the command appends no deed, or one of the command
-  pub deeds_so : (n : ℕ) → IsCall span n → (span.run.history (n + 1) ≡ span.run.history n) ⊎ ((d : Deed) × (span.run.history (n + 1) ≡ span.run.history n ++ d ∷ []) × IsDeedOf (before span) (span.run.history n) (key_of job) job.command d)
+  pub deeds_so : (n : ℕ) → IsCall span n → (span.run.history (n + 1) ≡ span.run.history n) ⊎ ((d : Deed) × (span.run.history (n + 1) ≡ span.run.history n ++ d ∷ []) × IsDeedAt span n (key_of job) job.command d)
   deeds_so n is =
       let own = own_of n is in
       elim (told_grew own.d own.r own.e own.parts own.mine) [
         | inl still ↦ inl (own.history_after ∙ still ∙ sym own.history)
         | inr (x, appends, changed, deed) ↦
-            inr (x, own.history_after ∙ appends ∙ ap (λ h. h ++ x ∷ []) (sym own.history), subst (λ h. IsDeedOf (before span) h (key_of job) job.command x) (sym own.history) (told_own own.d own.r own.e own.parts own.mine x deed))
+            inr (x, own.history_after ∙ appends ∙ ap (λ h. h ++ x ∷ []) (sym own.history), subst (λ k. IsDeedAt span k (key_of job) job.command x) own.time_is (told_own own.d own.r own.e own.parts own.mine x deed))
       ]
 
   -- the calls of a command that does none appended none
   pub none_so : DoesNone job.command → DidNone span
   none_so quiet n is = elim (deeds_so n is) [
     | inl still ↦ still
-    | inr (d, appends, of_it) ↦ absurd (no_deed (before span) (span.run.history n) (key_of job) job.command d quiet of_it)
+    | inr (d, appends, of_it) ↦ absurd (no_deed_at span n (key_of job) job.command d quiet of_it)
   ]
 
   -- nor did those of a job that changed nothing
@@ -266,7 +319,7 @@ module _ (gives : ℕ → Bool) (seed : ℕ) (items : List Numbered) (jobs : Lis
       subst (λ t. IsUndone (history_told jobs past t) job) (append_assoc seen (e ∷ []) rest) (undone_on_by quiet (seen ++ e ∷ []) rest (parts ∙ sym (append_assoc seen (e ∷ []) rest)) (elim (by_job i e.job) [
         | inl mine ↦ elim (told_grew seen rest e parts mine) [
           | inl still ↦ subst (λ h. IsUndone h job) (sym still) undone
-          | inr (x, appends, changed, deed) ↦ absurd (no_deed (before span) (history_told jobs past seen) (key_of job) job.command x quiet (told_own seen rest e parts mine x deed))
+          | inr (x, appends, changed, deed) ↦ absurd (no_deed_at span (time_of seen) (key_of job) job.command x quiet (told_own seen rest e parts mine x deed))
         ]
         | inr other ↦ undone_on jobs past i job is_job (ids_apart gives seed items jobs w.are w.order) seen (e ∷ [])
             (λ x at. elim (Contains-cons e [] x at) [ inl same ↦ subst (λ (d : Told). d.job ≡ Some i → ⊥) same other | inr none ↦ absurd (Contains-nil x none) ]) undone

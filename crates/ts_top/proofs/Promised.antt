@@ -1,82 +1,29 @@
 -- A run keeps its promise.
-use Rattle.std.proofs.Common.{◌≡◌, ◌⊎◌, inl, inr, ℕ, zero, suc, ◌+◌, ◌<◌, ◌≤◌, ◌^◌, List, [], ◌∷◌, ◌++◌, Option, Some, None, Result, Ok, Err, Bool, true, false, cond, length, drop, nat_lt, append_assoc, refl, sym, ◌∙◌, ap, subst, arith}
-use Rattle.std.specs.Prelude.{slice_get, get_or, All, IfSome, option_map, option_and_then, option_to_list, Contains, ⊤, map as list_map}
-use Rattle.std.proofs.lemmas.Bool.{true≢false, ltb-true, ltb-false}
+use Rattle.std.proofs.Common.{◌≡◌, ◌⊎◌, inl, inr, ℕ, ◌<◌, ◌^◌, List, [], Option, Some, Ok, length, refl, sym, ◌∙◌, ap, subst, arith}
+use Rattle.std.specs.Prelude.{IfSome}
 use Rattle.std.proofs.lemmas.List.{append-nil}
-use Rattle.std.proofs.lemmas.Option.{none-some, same_Some, slice_get_within}
-use Rattle.std.proofs.lemmas.List.Elements.{All-nil, All-cons, All-head, All-tail, All-contains, All-contains_itself, All-weaker, Contains-append_left, Contains-append_right, filter_map-append}
-use Rattle.std.specs.List.{cons_option}
+use Rattle.std.proofs.lemmas.Option.{slice_get_within}
+use Rattle.std.proofs.lemmas.List.Elements.{All-contains}
 use Rattle.ts_base.specs.Held.{Held}
-use Rattle.ts_base.specs.declared.keys.Key.{Key}
-use Rattle.ts_base.specs.declared.heads.Cell.{Cell}
-use Rattle.ts_base.specs.declared.heads.Stop.TheVariants as stop
-use Rattle.ts_base.specs.declared.names.CommitKind.TheVariants.{Wrt, Del}
-use Rattle.ts_base.specs.declared.names.Name.{Name}
-use Rattle.ts_base.specs.declared.names.Name.TheVariants as name
 use Rattle.std.specs.Io.KnownBytes.{Appends}
-use Rattle.ts_commit.specs.declared.vacs.Limits.{Limits}
-use Rattle.ts_schema.specs.declared.frames.Frame.{Frame}
-use Rattle.ts_schema.specs.declared.schemas.Schema.{Schema}
-use Rattle.ts_schema.specs.Evolutions.{evolved_attrs, evolution_fault}
-use Rattle.ts_schema.specs.declared.faults.SchemaFault.{SchemaFault}
-use Rattle.ts_cond.specs.Tests.{Condition}
-use Rattle.ts_cond.specs.declared.query.Query.{Query}
-use Rattle.ts_store.specs.declared.call.Call.{Call}
-use Rattle.ts_store.specs.declared.call.Call.TheVariants as call
 use Rattle.ts_store.specs.Journals.{held_after}
 use Rattle.ts_store.specs.declared.journal.Entry.{Entry}
-use Rattle.ts_store.specs.Calls.{is_no_memory}
 use Rattle.ts_store.specs.Streams.{AppendsFront}
-use Rattle.ts_model.specs.declared.commands.Job.{Job}
 use Rattle.ts_model.specs.declared.commands.Line.{Line}
-use Rattle.ts_model.specs.declared.commands.Command.{Command}
-use Rattle.ts_model.specs.declared.commands.Command.TheVariants.{Create, Evolve, Write, Read, Delete, Consolidate, Vacuum, Unlock, Fragments}
 use Rattle.ts_model.specs.declared.answers.Driven.{Driven}
-use Rattle.ts_model.specs.declared.answers.Driven.TheVariants.{Done, Stopped}
+use Rattle.ts_model.specs.declared.answers.Driven.TheVariants.{Done}
 use Rattle.ts_model.specs.declared.answers.Outcome.{Outcome}
 use Rattle.ts_model.specs.declared.answers.Outcome.TheVariants as outcome
-use Rattle.ts_model.specs.declared.answers.Refusal.{Refusal}
-use Rattle.ts_model.specs.declared.answers.Refusal.TheVariants as refusal
-use Rattle.ts_model.specs.declared.commands.FrameIn.{FrameIn}
-use Rattle.ts_model.specs.declared.commands.WriteIn.{WriteIn}
-use Rattle.ts_model.specs.declared.deeds.Deed.{Deed}
-use Rattle.ts_model.specs.declared.deeds.Deed.TheVariants.{Framed, Declared, Wrote, Erased}
-use Rattle.ts_model.specs.declared.deeds.Written.{Written}
-use Rattle.ts_model.specs.declared.deeds.Deletion.{Deletion}
-use Rattle.ts_model.specs.Commands.{create_refusal, frame_made, laid}
-use Rattle.ts_model.specs.Queries.{delete_condition}
-use Rattle.ts_model.specs.Deeds.{History, IsHistory, IsNewKey, frame_in, schemas, current_schema}
-use Rattle.ts_model.specs.Driven.{AskedFrom, IsDriven}
-use Rattle.ts_base.specs.declared.names.Prefix.TheVariants.{Schemas}
-use Rattle.ts_model.specs.Jobs.{key_of, looked_at, looks_at, schema_of_job, written_as, deletion_as}
-use Rattle.ts_model.specs.Stages.{first_stage}
-use Rattle.ts_model.specs.Stops.{Uncut, cuts}
-use Rattle.ts_model.specs.States.{Exchange, frame_put, made_by}
-use Rattle.ts_model.specs.Told.{Told, entries_of, entry_of, exchange_of, held_told, trace_of, grown, deed_told, deed_in, deed_of, declared_by, written_by, written_in, deleted_by, deleted_in, schema_used, schemas_found, cells_of, condition_of, history_from, history_told, Replied, Suits}
-use Rattle.ts_model.proofs.HistoryLaws.{schemas-append}
-use Rattle.ts_model.proofs.ListLemmas.{Contains-cons, Contains-slice_get, Contains-filter_map, Contains-here, Contains-nil, Contains-there, filter_map-Contains}
-use Rattle.ts_model.proofs.Traces.{exchange_of_other, exchange_of_own, history_told-append, trace_of-append}
-use Rattle.ts_law.specs.Ends.{FindsNoArray, IsTrueEnd, IsTrueOver, IsUndone, ListedAt}
-use Rattle.ts_law.specs.Bounds.{FewGets, gets_among}
-use Rattle.ts_law.specs.Changes.{IsOwn, OnlyLooks, RemovesNone}
-use Rattle.ts_law.specs.Refusals.{IsNoFault, IsRefusedFor}
-use Rattle.ts_law.specs.Fresh.{IsFreshSeed, IsJobOf, AreJobsOf, Numbered, command_at, id_of, in_lane_order, job_from, lanes_of, seed_in, lane_of as line_lane}
-use Rattle.ts_law.specs.Lanes.{lane_by, one_lane, IsOwned, IsWithin, IsBefore, InTurn}
-use Rattle.ts_law.specs.Courses.{IsSegment}
-use Rattle.ts_law.specs.Sweeps.{IsNoSweep}
-use Rattle.ts_law.specs.Kept.{HeldSince}
-use Rattle.ts_law.specs.Runs.{AreDriven, AreSegments, IsRunOver, IsTrueRun}
-use Rattle.ts_law.proofs.TrueOver.{true_end_of}
-use Rattle.ts_law.specs.Stands.{IsNoLease, Stands}
+use Rattle.ts_model.specs.Deeds.{History}
+use Rattle.ts_model.specs.Told.{Told, entries_of, history_told}
+use Rattle.ts_model.proofs.ListLemmas.{Contains-slice_get}
+use Rattle.ts_law.specs.Fresh.{IsFreshSeed, Numbered, in_lane_order, lanes_of, lane_of as line_lane}
+use Rattle.ts_law.specs.Lanes.{lane_by, one_lane, InTurn}
+use Rattle.ts_law.specs.Runs.{IsRunOver}
 use Rattle.ts_law.proofs.FirstStands.{nothing_stands, fresh_over_nothing}
-use Rattle.ts_law.proofs.Doing.{ran-no_call}
-use Rattle.ts_law.proofs.Journals.{journal_held}
-use Rattle.ts_law.proofs.KeptLaws.{Replied-front}
 use Rattle.ts_law.proofs.Lists.{item_at}
 use Rattle.ts_law.proofs.NoSweeps.{no_sweeps, unclipped_run}
-use Rattle.ts_law.proofs.JournalHistories.{FitsIn}
-use Rattle.ts_law.proofs.LineJobs.{AreInOrder, IsFitItem, each_line, in_order, seed_of_id}
-use Rattle.ts_law.proofs.TrueRuns.{kept_first, right_where_put, true_run, works_where_used}
+use Rattle.ts_law.proofs.LineJobs.{AreInOrder, each_line, in_order}
 use Rattle.ts_top.specs.Promise.{IsStored, Promise}
 use Rattle.ts_top.specs.Promised.{Began, Promised}
 use Rattle.ts_law.proofs.LineJobs.{among_lines}
@@ -85,26 +32,13 @@ use Rattle.ts_top.proofs.LinesDone.{come_in_turn, line_done, of_lanes, turns_one
 use Rattle.ts_top.proofs.RunTimes.{InLanes, history_first, run, stood}
 use Rattle.ts_top.proofs.TimesTold.{journal_is}
 use Rattle.ts_top.proofs.Promises.{after, all_calls, entered_by, is_done, no_calls, stood_by}
-use Rattle.ts_top.specs.Runners.{run_codec, run_most, run_spelled, run_tracks}
-use Rattle.ts_top.specs.Sweeps.{MaySweep, dead_leases}
+use Rattle.ts_top.specs.Runners.{run_spelled}
 use Rattle.ts_script.specs.Script.{AreLimited}
 use Rattle.ts_script.specs.declared.words.Asked.{Asked}
 use Rattle.ts_script.specs.Words.{asked}
 use Rattle.ts_script.specs.Meanings.{report_of}
 use Rattle.ts_top.specs.Reports.{report_text, status_printed}
 use Rattle.ts_top.specs.Seen.{Seen, Means, Stopped as HasStopped, Performed, PrintsEnds, whole, sink_failed, no_text, Plays, ended, ran_short}
-use Rattle.ts_top.proofs.RunCodec.{run_laws}
-use Rattle.ts_top.proofs.Places.{Early, Late, cancelled, fronts, goes_on, listed_after, made_after}
-use Rattle.ts_top.proofs.GetsTold.{gets_told}
-use Rattle.ts_top.proofs.LeasesTold.{EndsWell, no_lease}
-use Rattle.ts_top.proofs.MergesTold.{calls_in, merged_tells, schema_found}
-use Rattle.ts_top.proofs.Removed.{Replied-back}
-use Rattle.ts_top.proofs.StaysTold.{keeps_held, leaves_all, leaves_but_own, leaves_living, leaves_others}
-use Rattle.ts_top.proofs.StopsTold.{keeps_stop}
-use Rattle.ts_top.proofs.SweepsTold.{vacuumed_tells}
-use Rattle.ts_top.proofs.UnlocksTold.{listed_tells, unlocked_tells}
-use Rattle.ts_top.proofs.ReadsTold.{answers_told}
-use Rattle.ts_top.proofs.RefusalsTold.{DoesNone, IsQuiet, none_first, nothing_done, refusal_tells}
 use Rattle.ts_top.specs.declared.top.Stop.{Stop}
 use Rattle.ts_top.specs.declared.top.Stop.TheVariants.{Usage, BadScript, ReadFault, OutOfMemory}
 

@@ -449,7 +449,7 @@ module _ (gives : ℕ → Bool) (seed : ℕ) (items : List Numbered) (jobs : Lis
       subst (λ k. deed_in (history_told jobs past a ++ front) job (schemas_found (trace_of k seen)) e.call ≡ Some d) at_i
       (subst (λ j. deed_in (history_told jobs past a ++ front) j (schemas_found (trace_of is.number seen)) e.call ≡ Some d) it is.deed) in
       let own = deed_own gives seed items jobs past m told results are order stands fresh seed_fits replied suit owned within (in_turn_lanes (lanes_of items) told in_turn) driven
-      (history_told jobs past a) seen (is.late ++ b) e place i job is_job mine (since jobs past a is.early seen refl i early) d (subst (λ h. deed_in h job (schemas_found (trace_of i seen)) e.call ≡ Some d) (sym now) deed) in
+      seen (is.late ++ b) e place i job is_job mine (history_told jobs past a) (since jobs past a is.early seen refl i early) d (subst (λ h. deed_in h job (schemas_found (trace_of i seen)) e.call ≡ Some d) (sym now) deed) in
       subst (λ h. IsDeedOf (history_told jobs past a) h (key_of job) job.command d) now own
 
   -- a command was done between the commands before it and those after it

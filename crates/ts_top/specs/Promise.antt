@@ -40,7 +40,7 @@ use Rattle.ts_model.specs.Stops.{is_point}
 use Rattle.ts_law.specs.Bounds.{FewGets, gets_among}
 use Rattle.ts_law.specs.Changes.{IsOwn, OnlyLooks, RemovesNone}
 use Rattle.ts_law.specs.Ends.{IsAnswerOver}
-use Rattle.ts_law.specs.Fresh.{IsFreshSeed, IsStampOf, Numbered, command_at, id_of, in_lane_order}
+use Rattle.ts_law.specs.Fresh.{IsStampOf, Numbered, command_at, id_of, in_lane_order}
 use Rattle.ts_law.specs.Refusals.{IsNoFault}
 use Rattle.ts_law.specs.Since.{HeldSince}
 use Rattle.ts_law.specs.Stands.{EachInItsOwn, Stands}

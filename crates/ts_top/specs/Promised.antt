@@ -1,5 +1,5 @@
 -- What a run promises, by what is seen of it.
-use Rattle.std.specs.Prelude.{◌≡◌, List, [], Option, Some, ◌⊎◌}
+use Rattle.std.specs.Prelude.{◌≡◌, [], Option, Some, ◌⊎◌}
 use Rattle.std.specs.FinMap as map
 use Rattle.ts_base.specs.Held.{Held}
 use Rattle.ts_model.specs.Deeds.{History}
@@ -17,6 +17,8 @@ Began seen = (seen.status ≡ 0) ⊎ (seen.status ≡ 5) ⊎ (seen.status ≡ 6)
 pub record Promised {S : Type 0} (held : S → Option Held) (seen : Seen S) : Type 0 where
   pub over : Began seen → (m : Held) → held seen.store ≡ Some m → (past : History) → IsStored m past → IsFreshSeed m past seen.seed → Promise held seen m past
   pub from_nothing : Began seen → held seen.store ≡ Some map.empty → Promise held seen map.empty []
-  -- the same in words of the times of the run, as it holds too where lanes are at work beside one another
+  -- it keeps a promise in words of the times of the run too, in a form that also fits lanes at work beside one another.
+  -- That one names lines and ends by itself, and it does not say that they are those of the first.
+  -- Where all lines are of one lane, its `alone` is a promise of the first form with the same lines and ends.
   pub lanes_over : Began seen → (m : Held) → held seen.store ≡ Some m → (past : History) → IsStored m past → IsFreshSeed m past seen.seed → PromiseOfLanes held seen m past
   pub lanes_from_nothing : Began seen → held seen.store ≡ Some map.empty → PromiseOfLanes held seen map.empty []

@@ -4,6 +4,7 @@ use Rattle.ts_base.specs.Held.{Held}
 use Rattle.ts_base.specs.declared.names.Prefix.{Prefix}
 use Rattle.ts_store.specs.declared.call.Call.{Call}
 use Rattle.ts_store.specs.declared.call.Call.TheVariants as call
+use Rattle.ts_store.specs.declared.fate.Fate.TheVariants as fate
 use Rattle.ts_store.specs.declared.journal.Entry.{Entry}
 use Rattle.ts_store.specs.Journals.{held_after}
 use Rattle.ts_model.specs.Deeds.{History}
@@ -48,20 +49,22 @@ IsCall s n = (c : Made) × (slice_get s.run.calls n ≡ Some c) × (c.number ≡
 abbrev pub Makes : Span → ℕ → Call → Type 0
 Makes s n asked = (c : Made) × (slice_get s.run.calls n ≡ Some c) × (c.number ≡ s.number) × (c.entry.call ≡ asked)
 
+-- it is this one, and it is done
+abbrev pub HasMade : Span → ℕ → Call → Type 0
+HasMade s n asked = (c : Made) × (slice_get s.run.calls n ≡ Some c) × (c.number ≡ s.number) × (c.entry.call ≡ asked) × (c.entry.fate ≡ fate.Done)
+
 -- it lists what is below a prefix
 abbrev pub Lists : Span → ℕ → Prefix → Type 0
 Lists s n prefix = Makes s n (call.List prefix)
 
--- a command's calls are made between its times, the first and the last of them at these; one that made no call has only one time
+-- a command's calls are made between its times, the first and the last of them at these.
+-- One that made no call has only one time, which may be any time of the run.
 pub record IsSpan (s : Span) : Type 0 where
   pub ordered : s.from ≤ s.to
   pub whole : s.to ≤ length s.run.calls
   pub all : (n : ℕ) → IsCall s n → (s.from ≤ n) × (n < s.to)
   pub tight : (s.from ≡ s.to) ⊎ (IsCall s s.from × ((last : ℕ) × (s.to ≡ last + 1) × IsCall s last))
 
--- the history as a command began, and as it ended
-abbrev pub before : Span → History
-before s = s.run.history s.from
-
+-- the history as a command ended
 abbrev pub now : Span → History
 now s = s.run.history s.to

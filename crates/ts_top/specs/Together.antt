@@ -1,8 +1,10 @@
 -- What the end of a command tells where commands of other lanes make calls between its own: of what was held, and of the history, at times of its own.
-use Rattle.std.specs.Prelude.{◌≡◌, ◌≢◌, ℕ, ◌+◌, ◌<◌, ◌≤◌, List, [], ◌∷◌, ◌++◌, Some, None, option_map, filter, length, slice_get, Contains, IfSome, ◌⊎◌}
+use Rattle.std.specs.Prelude.{◌≡◌, ◌≢◌, ℕ, ◌+◌, ◌<◌, ◌≤◌, List, [], ◌∷◌, ◌++◌, Some, None, Ok, option_map, filter, length, slice_get, Contains, IfSome, ◌⊎◌}
 use Rattle.std.specs.List.{list_any}
 use Rattle.std.specs.FinMap as map
+use Rattle.ts_base.specs.Keys.{frag_of}
 use Rattle.ts_base.specs.Names.{wrt_of}
+use Rattle.ts_base.specs.declared.heads.Cell.{Cell}
 use Rattle.ts_base.specs.declared.heads.Piece.{Piece}
 use Rattle.ts_base.specs.declared.heads.Stop.{Stop}
 use Rattle.ts_base.specs.declared.heads.Stop.TheVariants as stop
@@ -18,11 +20,13 @@ use Rattle.ts_commit.specs.declared.vacs.Limits.{Limits}
 use Rattle.ts_commit.specs.declared.vacs.Planned.{Planned}
 use Rattle.ts_commit.specs.declared.vacs.Planned.TheVariants.{Nothing, Take}
 use Rattle.ts_commit.specs.declared.vacs.VacOf.{VacOf}
+use Rattle.ts_cond.specs.Tests.{Condition}
 use Rattle.ts_cond.specs.declared.query.Query.{Query}
 use Rattle.ts_lease.specs.declared.verdicts.Verdict.TheVariants.{Held as Opposed}
 use Rattle.ts_lease.specs.Leases.{verdict_in}
 use Rattle.ts_schema.specs.declared.frames.Frame.{Frame}
 use Rattle.ts_schema.specs.declared.schemas.Schema.{Schema}
+use Rattle.ts_schema.specs.Evolutions.{evolved_attrs, evolution_fault}
 use Rattle.ts_store.specs.declared.call.Call.TheVariants as call
 use Rattle.ts_store.specs.declared.fate.Fate.TheVariants as fate
 use Rattle.ts_store.specs.Calls.{names_under}
@@ -34,22 +38,24 @@ use Rattle.ts_model.specs.declared.answers.Outcome.TheVariants as outcome
 use Rattle.ts_model.specs.declared.answers.Refusal.{Refusal}
 use Rattle.ts_model.specs.declared.answers.Refusal.TheVariants as refusal
 use Rattle.ts_model.specs.declared.commands.Command.{Command}
-use Rattle.ts_model.specs.declared.commands.Command.TheVariants.{Create, Read, Consolidate, Vacuum, Unlock, Fragments}
+use Rattle.ts_model.specs.declared.commands.Command.TheVariants.{Create, Evolve, Write, Read, Delete, Consolidate, Vacuum, Unlock, Fragments}
+use Rattle.ts_model.specs.declared.commands.FrameIn.{FrameIn}
 use Rattle.ts_model.specs.declared.deeds.Deed.{Deed}
-use Rattle.ts_model.specs.Commands.{create_refusal, frame_made}
-use Rattle.ts_model.specs.Deeds.{IsNewKey, current_schema, frame_in, schemas}
+use Rattle.ts_model.specs.declared.deeds.Deed.TheVariants.{Framed, Declared, Wrote, Erased}
+use Rattle.ts_model.specs.Commands.{create_refusal, frame_made, laid}
+use Rattle.ts_model.specs.Deeds.{IsNewKey, current_schema, deletions, frame_in, schema_with, schemas, writes}
+use Rattle.ts_model.specs.Queries.{delete_condition}
 use Rattle.ts_model.specs.Stages.{mode_of}
-use Rattle.ts_model.specs.States.{get_frame, leases_unlocked, place_of}
+use Rattle.ts_model.specs.States.{frame_put, get_frame, leases_unlocked, place_of}
 use Rattle.ts_law.specs.Changes.{IsOwn, OnlyLooks, RemovesNone}
 use Rattle.ts_law.specs.Ends.{AreAllVacs, IsAnswerOver, IsPlanned}
 use Rattle.ts_law.specs.Refusals.{IsNoFault, refusal_in}
 use Rattle.ts_law.specs.Since.{HeldSince}
 use Rattle.ts_law.specs.Stands.{HoldsIn, IsCommitted, Names}
 use Rattle.ts_top.specs.Causes.{looks_for, own_faults}
-use Rattle.ts_top.specs.Promise.{HasDone, IsDeedOf}
 use Rattle.ts_top.specs.Runners.{run_spelled}
 use Rattle.ts_top.specs.Sweeps.{IsSwept}
-use Rattle.ts_top.specs.Times.{Made, Span, IsCall, IsSpan, Lists, Makes, before, held_at, now}
+use Rattle.ts_top.specs.Times.{HasMade, Made, Span, IsCall, IsSpan, Lists, Makes, held_at, now}
 
 -- ---- what the calls of a command did
 
@@ -70,11 +76,27 @@ LeftAll s k command = LeftOthers s k command (λ n x. ⊥)
 abbrev pub LeftNoLease : Span → Key → Command → Type 0
 LeftNoLease s k command = IfSome (mode_of command) (λ mode. map.get (held_at s.run s.to) (name.Lease k mode) ≡ None)
 
--- at a time of the command the object was not held
-abbrev pub WasGone : Span → Name → Type 0
-WasGone s x = (n : ℕ) × (s.from ≤ n) × (n ≤ s.to) × (map.get (held_at s.run n) x ≡ None)
+-- a call of the command removed the object, which was not held right after the call
+abbrev pub DidRemove : Span → Name → Type 0
+DidRemove s x = (n : ℕ) × Makes s n (call.Remove x) × (map.get (held_at s.run (n + 1)) x ≡ None)
+
+-- a call of the command removed the object, or at a time from the listing to the command's end it was not held
+abbrev pub WasGone : Span → ℕ → Name → Type 0
+WasGone s listed x = DidRemove s x ⊎ ((n : ℕ) × (listed ≤ n) × (n ≤ s.to) × (map.get (held_at s.run n) x ≡ None))
 
 -- ---- what it found
+
+-- before a time the command listed the schemas, and this one held then at the stamp of its key.
+-- The history had no deed of the command then.
+abbrev pub HeldAsListed : Span → ℕ → Key → Schema → Type 0
+HeldAsListed s till k schema = (n : ℕ) × (n < till) × Lists s n Schemas × IsNewKey (s.run.history n) k × (current_schema (s.run.history n) k.t ≡ Some schema)
+
+-- a create found no array before a time.
+-- Its put of the frame was done where the history had no deed, or as it listed the schemas there was none.
+abbrev pub FoundNoArray : Span → ℕ → FrameIn → Type 0
+FoundNoArray s till made =
+    ((n : ℕ) × (n < till) × HasMade s n (frame_put made) × (s.run.history n ≡ []))
+    ⊎ ((n : ℕ) × (n < till) × Lists s n Schemas × (schemas (s.run.history n) ≡ []))
 
 -- as the command listed the schemas, one held at a stamp
 abbrev pub FoundSchema : Span → ℕ → Type 0
@@ -98,7 +120,7 @@ pub record PlannedSo (s : Span) (from to : ℕ) (limits : Limits) (plan : Planne
   pub by_plan : IsPlanned run_spelled (s.run.history listed) (held_at s.run listed) from to limits plan
 
 -- a consolidation with the key merged so many fragments into one of its own: those that its plan takes.
--- Once it put the `.wrt` of that one, it was committed.
+-- Once it put the `.wrt` of that one, after the listing that it planned by, it was committed.
 -- All that went into a source went into it, and nothing else.
 -- Its `.vac` named the sources, and what the `.vac` objects of these named.
 pub record MergedSo (s : Span) (k : Key) (from to : ℕ) (limits : Limits) (f : FragKey) (count : ℕ) : Type 0 where
@@ -108,6 +130,7 @@ pub record MergedSo (s : Span) (k : Key) (from to : ℕ) (limits : Limits) (f : 
   pub own : f.id ≡ k.id
   pub put : ℕ
   pub puts : Makes s put (call.Put (wrt_of f) [])
+  pub order : plans.listed < put
   pub committed : IsCommitted (held_at s.run (put + 1)) f
   pub piece : Piece
   pub holds : HoldsIn run_spelled (s.run.history (put + 1)) (held_at s.run (put + 1)) f piece
@@ -119,13 +142,14 @@ abbrev pub FoundVacs : Span → ℕ → List VacOf → Type 0
 FoundVacs s n vacs = Lists s n Commits × AreAllVacs (held_at s.run n) vacs
 
 -- the removal set of a vacuum has so many fragments: all that the `.vac` objects name which it found, also those that were gone already.
--- Each of their objects, and each of these `.vac` objects, was gone at a time of the vacuum.
+-- It removed each of their objects and each of these `.vac` objects.
+-- One that no call of it removed was not held at some time from its listing of the commits to its end.
 pub record VacuumedSo (s : Span) (count : ℕ) : Type 0 where
   pub listed : ℕ
   pub vacs : List VacOf
   pub found : FoundVacs s listed vacs
   pub counted : count ≡ length (removal_set vacs)
-  pub gone : (x : Name) → IsSwept vacs x → WasGone s x
+  pub gone : (x : Name) → IsSwept vacs x → WasGone s listed x
 
 -- the leases that an unlock of a seed and a lane takes for dead, of those that were held at a time
 abbrev pub dead_at : Span → ℕ → ℕ → ℕ → List Name
@@ -136,7 +160,7 @@ pub record UnlockedSo (s : Span) (seed lane count : ℕ) : Type 0 where
   pub listed : ℕ
   pub lists : Lists s listed Leases
   pub counted : count ≡ length (dead_at s seed lane listed)
-  pub gone : (x : Name) → Contains (dead_at s seed lane listed) x → WasGone s x
+  pub removed : (x : Name) → Contains (dead_at s seed lane listed) x → DidRemove s x
 
 -- ---- refusals
 
@@ -179,6 +203,39 @@ ToldRefusal s k command (refusal.Taken n) = ⊥
 ToldRefusal s k command (refusal.StoreFault p) = OwnFailed s p × (IsNewKey (now s) k ⊎ Contains (own_faults k command) (refusal.StoreFault p))
 ToldRefusal s k command r = DidNone s × IsNewKey (now s) k × HadCause s k r command
 
+-- ---- deeds
+
+-- a deed that a command with the key may do by its call at a time
+abbrev pub IsDeedAt : Span → ℕ → Key → Command → Deed → Type 0
+IsDeedAt s n k (Create made) (Framed frame) = (create_refusal made ≡ None) × (frame ≡ frame_made made)
+IsDeedAt s n k (Create made) (Declared new) = FoundNoArray s n made × (create_refusal made ≡ None) × (new ≡ record { key = k; attrs = made.attrs })
+IsDeedAt s n k (Evolve change) (Declared new) =
+    (current : Schema) × HeldAsListed s n k current × (frame : Frame) × (frame_in (s.run.history n) ≡ Some frame)
+    × (evolution_fault frame.domain current.attrs change ≡ None) × (new ≡ record { key = k; attrs = evolved_attrs current.attrs change })
+IsDeedAt s n k (Write columns) (Wrote w) =
+    (current : Schema) × HeldAsListed s n k current × (frame : Frame) × (frame_in (s.run.history n) ≡ Some frame)
+    × (cells : List Cell) × (laid frame current.attrs columns ≡ Ok cells) × (w ≡ record { key = k; schema = current.key; cells = cells })
+IsDeedAt s n k (Delete text) (Erased e) =
+    (current : Schema) × HeldAsListed s n k current × (frame : Frame) × (frame_in (s.run.history n) ≡ Some frame)
+    × (condition : Condition) × (delete_condition frame current.attrs text ≡ Ok condition) × (e ≡ record { key = k; cond = condition })
+IsDeedAt s n k _ _ = ⊥
+
+-- the end of a command with the key tells of its deed, which the history has as the command ended.
+-- A create and an evolve tell of a schema, a write and a delete of their own.
+abbrev pub HasDoneSo : Span → Key → Outcome → Command → Type 0
+HasDoneSo s k outcome.Created (Create made) =
+    FoundNoArray s s.to made × (create_refusal made ≡ None) × (frame_in (now s) ≡ Some (frame_made made)) × (schema_with (now s) k ≡ Some (record { key = k; attrs = made.attrs }))
+HasDoneSo s k (outcome.Evolved n) (Evolve change) =
+    (n ≡ k) × (current : Schema) × HeldAsListed s s.to k current × (frame : Frame) × (frame_in (now s) ≡ Some frame)
+    × (evolution_fault frame.domain current.attrs change ≡ None) × (schema_with (now s) k ≡ Some (record { key = k; attrs = evolved_attrs current.attrs change }))
+HasDoneSo s k (outcome.Written f) (Write columns) =
+    (f ≡ frag_of k) × (current : Schema) × HeldAsListed s s.to k current × (frame : Frame) × (frame_in (now s) ≡ Some frame)
+    × (cells : List Cell) × (laid frame current.attrs columns ≡ Ok cells) × Contains (writes (now s)) (record { key = k; schema = current.key; cells = cells })
+HasDoneSo s k (outcome.Deleted f) (Delete text) =
+    (f ≡ frag_of k) × (current : Schema) × HeldAsListed s s.to k current × (frame : Frame) × (frame_in (now s) ≡ Some frame)
+    × (condition : Condition) × (delete_condition frame current.attrs text ≡ Ok condition) × Contains (deletions (now s)) (record { key = k; cond = condition })
+HasDoneSo s k _ _ = ⊥
+
 -- ---- ends
 
 -- what the end of a command with the key tells of the times of the command.
@@ -189,10 +246,10 @@ ToldRefusal s k command r = DidNone s × IsNewKey (now s) k × HadCause s k r co
 -- A command that ran short of memory has no deed of its key.
 abbrev pub ToldSo : Span → Key → Outcome → Command → Type 0
 ToldSo s k (outcome.Read answer) (Read from to query) = DidNone s × Answered s from to query answer × LeftNoLease s k (Read from to query)
-ToldSo s k outcome.Created command = HasDone (before s) (now s) k outcome.Created command
-ToldSo s k (outcome.Evolved n) command = HasDone (before s) (now s) k (outcome.Evolved n) command
-ToldSo s k (outcome.Written f) command = HasDone (before s) (now s) k (outcome.Written f) command
-ToldSo s k (outcome.Deleted f) command = HasDone (before s) (now s) k (outcome.Deleted f) command
+ToldSo s k outcome.Created command = HasDoneSo s k outcome.Created command
+ToldSo s k (outcome.Evolved n) command = HasDoneSo s k (outcome.Evolved n) command
+ToldSo s k (outcome.Written f) command = HasDoneSo s k (outcome.Written f) command
+ToldSo s k (outcome.Deleted f) command = HasDoneSo s k (outcome.Deleted f) command
 ToldSo s k (outcome.Consolidated f count) (Consolidate from to limits) = DidNone s × IsNewKey (now s) k × FoundSchema s k.t × MergedSo s k from to limits f count × LeftNoLease s k (Consolidate from to limits)
 ToldSo s k (outcome.Vacuumed count) Vacuum = DidNone s × IsNewKey (now s) k × FoundSchema s k.t × VacuumedSo s count × LeftNoLease s k Vacuum
 ToldSo s k (outcome.Unlocked count) (Unlock seed lane) = DidNone s × IsNewKey (now s) k × UnlockedSo s seed lane count
@@ -214,10 +271,11 @@ IsToSweepAt s n x = (listed : ℕ) × (listed < n) × (vacs : List VacOf) × Fou
 abbrev pub IsToUnlockAt : Span → ℕ → ℕ → ℕ → Name → Type 0
 IsToUnlockAt s seed lane n x = (listed : ℕ) × (listed < n) × Lists s listed Leases × Contains (dead_at s seed lane listed) x
 
--- a command with the key was done, to its end or to where it was stopped: each of its calls appended no deed, or one of it over the history before the call
+-- a command with the key was done, to its end or to where it was stopped.
+-- Each of its calls appended no deed, or one that it may do by that call.
 pub record WasDone (s : Span) (k : Key) (stops : Stop) (result : Driven Outcome) (command : Command) : Type 0 where
   pub span : IsSpan s
-  pub deeds : (n : ℕ) → IsCall s n → (s.run.history (n + 1) ≡ s.run.history n) ⊎ ((d : Deed) × (s.run.history (n + 1) ≡ s.run.history n ++ d ∷ []) × IsDeedOf (before s) (s.run.history n) k command d)
+  pub deeds : (n : ℕ) → IsCall s n → (s.run.history (n + 1) ≡ s.run.history n) ⊎ ((d : Deed) × (s.run.history (n + 1) ≡ s.run.history n ++ d ∷ []) × IsDeedAt s n k command d)
   pub tells : CameOutSo s k stops result command
   -- no call of another command than a vacuum takes away an object that is no lease
   pub stays : (command ≡ Vacuum → ⊥) → (n : ℕ) → IsCall s n → HeldSince (held_at s.run n) (held_at s.run (n + 1))
