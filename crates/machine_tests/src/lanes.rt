@@ -45,9 +45,9 @@ impl Crew for Clerks {
 
     type Task = u8;
 
-    ghost lane_count = { λ _. LANES };
+    ghost lane_count = { λ _. 2 };
 
-    ghost command_count = { λ _ _. COMMANDS };
+    ghost command_count = { λ _ _. 3 };
 
     ghost stop_of = { λ _ _ _. Calls 2 };
 
