@@ -87,7 +87,20 @@ module _ {F : Type 0} (codec : Codec F) (spelled : Spelled) (tracks : Tracking F
       record {
         gathers = record {
           reads = record { query = reads.query; reads = reads.reads; at = reads.at; framed = reads.framed; is_ready = reads.is_ready };
-          chosen = record { heads = chosen.heads; are_heads = chosen.are_heads; clipped_is = chosen.clipped_is; each = chosen.each; usable = chosen.usable; covered = chosen.covered };
+          chosen = record {
+            are_vacs = chosen.are_vacs;
+            all_vacs = chosen.all_vacs;
+            all = chosen.all;
+            are_open = chosen.are_open;
+            all_open = chosen.all_open;
+            loads = chosen.loads;
+            heads = chosen.heads;
+            are_heads = chosen.are_heads;
+            clipped_is = chosen.clipped_is;
+            each = chosen.each;
+            usable = chosen.usable;
+            covered = chosen.covered;
+          };
           gathered = gathers.gathered;
         };
         all_schemas = is.all_schemas;

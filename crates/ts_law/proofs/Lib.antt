@@ -96,8 +96,11 @@ pub mod RunLaw
 pub mod Alone
 pub mod FirstStands
 pub mod ReadBounds
+pub mod ReadCounts
 pub mod ReadGets
 pub mod ReadStages
+pub mod ReadClaims
+pub mod ReadListings
 pub mod WorkedBounds
 pub mod WorkedRows
 pub mod WorkedSweeps

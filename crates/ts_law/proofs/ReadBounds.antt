@@ -13,6 +13,7 @@ use Rattle.std.proofs.lemmas.Cmp.{eq_by_cmp_equiv}
 use Rattle.std.proofs.lemmas.Map.Keys.{IsDistinct-cons}
 use Rattle.std.proofs.lemmas.Map.Made.{length-le_from_is_member}
 use Rattle.std.proofs.lemmas.Map.Views.{Contains-from_any, list_any-from_Contains}
+use Rattle.ts_base.specs.declared.keys.FragKey.{FragKey}
 use Rattle.ts_base.specs.declared.keys.Key.{Key}
 use Rattle.ts_base.specs.declared.names.Name.{Name}
 use Rattle.ts_base.specs.declared.names.Prefix.{Prefix}
@@ -38,7 +39,7 @@ use Rattle.ts_model.specs.declared.queries.Ready.{Ready}
 use Rattle.ts_model.specs.declared.states.Reading.{Reading}
 use Rattle.ts_model.specs.Codecs.{Spelled}
 use Rattle.ts_model.specs.Gets.{MostGets}
-use Rattle.ts_model.specs.Deeds.{History, deletions, frame_in, current_schema}
+use Rattle.ts_model.specs.Deeds.{History, IsHistory, deletions, frame_in, current_schema}
 use Rattle.ts_model.specs.Queries.{ready_in}
 use Rattle.ts_model.specs.States.{counting_in, looked_into, reading_of, vac_of}
 use Rattle.ts_model.proofs.HistoryLaws.{framed_by_schema, current_is_with}
@@ -130,14 +131,25 @@ each_made {X} called P (y ∷ ys) made =
     let rest = each_made called P ys (λ z at. made z (Contains-there y ys z at)) in
     (first.0 ∷ rest.0, ap (λ z. z ∷ list_map called rest.0) first.1 ∙ ap (λ l. y ∷ l) rest.1, λ x at. elim (Contains-cons first.0 rest.0 x at) [ inl same ↦ subst P same first.2 | inr later ↦ rest.2 x later ])
 
-module _ (spelled : Spelled) (most : MostGets) (h : History) (m : Held) (stands : Stands spelled m h) (from to : ℕ) (query : Query) where
+-- a history goes on from the one that objects stand for: what fragments hold of that one they hold of it, and it has the deletes of that one
+pub record GoesOn (spelled : Spelled) (sooner h : History) (m : Held) : Type 0 where
+  pub stands : Stands spelled m sooner
+  pub history : IsHistory h
+  pub holds : (f : FragKey) (p : Piece) → HoldsIn spelled sooner m f p → HoldsIn spelled h m f p
+  pub erased : (x : Deletion) → Contains (deletions sooner) x → Contains (deletions h) x
+
+-- so does that one itself
+abbrev pub goes_on_itself : (spelled : Spelled) (h : History) (m : Held) → Stands spelled m h → GoesOn spelled h h m
+goes_on_itself spelled h m stands = record { stands = stands; history = stands.history; holds = λ f p is. is; erased = λ x at. at }
+
+module _ (spelled : Spelled) (most : MostGets) (sooner h : History) (m : Held) (goes : GoesOn spelled sooner h m) (from to : ℕ) (query : Query) where
   -- the pieces in the fragments that a read looks into
   pub pieces_there : (r : Reading) → ListsOver h m from to query r → (pieces : List Piece) × (list_map (λ p. p.head.frag) pieces ≡ r.fragments) × ((p : Piece) → Contains pieces p → HoldsIn spelled h m p.head.frag p)
   pieces_there r asks = each_made (λ p. p.head.frag) (λ p. HoldsIn spelled h m p.head.frag p) r.fragments (λ f at.
       let committed = (committed_from_looked m from to f (subst (λ fs. Contains fs f) asks.fragments_are at)).0 in
-      let whole = stands.whole f committed in
+      let whole = (goes.stands).whole f committed in
       let named = ((whole.1).spells).named in
-      (whole.0, named, subst (λ g. HoldsIn spelled h m g whole.0) (sym named) whole.1))
+      (whole.0, named, subst (λ g. HoldsIn spelled h m g whole.0) (sym named) (goes.holds f whole.0 whole.1)))
 
   -- the `.vac` objects that count
   vacs_there : (r : Reading) → ListsOver h m from to query r → (vacs : List VacOf) × AreAllVacs m vacs
@@ -145,15 +157,15 @@ module _ (spelled : Spelled) (most : MostGets) (h : History) (m : Held) (stands 
       let made = each_made (λ v. v.frag) (λ v. Names m v.frag v.names) (counting_in (names_under Commits m)) (λ f at.
       let held = counting_held m f at in
       let bytes = bytes_there m (vac_of f) held.1 in
-      let reads = ((stands.merged).reads f bytes.0 held.0 bytes.1).1 in
+      let reads = (((goes.stands).merged).reads f bytes.0 held.0 bytes.1).1 in
       (record { frag = f; names = reads.0 }, refl, record { bytes = bytes.0; held = bytes.1; reads = reads.1 })) in
       (made.0, record { frags = made.1; each = made.2 })
 
   -- the deletes in the interval
   deletes_there : (r : Reading) → ListsOver h m from to query r → (erased : List Deletion) × (list_map (λ e. frag_of e.key) erased ≡ r.delete_names) × ((e : Deletion) → Contains erased e → Contains (deletions h) e)
   deletes_there r asks = each_made (λ e. frag_of e.key) (Contains (deletions h)) r.delete_names (λ f at.
-      let of = erase_from_looked spelled m h stands from to f (subst (λ fs. Contains fs f) asks.deletes_are at) in
-      (of.0, of.2, of.1))
+      let of = erase_from_looked spelled m sooner goes.stands from to f (subst (λ fs. Contains fs f) asks.deletes_are at) in
+      (of.0, of.2, goes.erased of.0 of.1))
 
   -- what a read that asks so knows in the end
   abbrev in_the_end : Reading → List VacOf → List Deletion → Reading
@@ -192,7 +204,7 @@ module _ (spelled : Spelled) (most : MostGets) (h : History) (m : Held) (stands 
   -- two gets are few where a schema is there
   pub few_first : (there : Schema) → current_schema h to ≡ Some there → (count : ℕ) → count ≤ 2 → FewGets spelled most h m from to query count
   few_first there holds count few =
-      let framed = framed_by_schema h there.key there stands.history (current_is_with h to there stands.history holds) in
+      let framed = framed_by_schema h there.key there goes.history (current_is_with h to there goes.history holds) in
       by framed.0 framed.1 (ready_in framed.0 there.attrs query) refl
     where
       by : (frame : Frame) → frame_in h ≡ Some frame → (o : Result Ready Refusal) → ready_in frame there.attrs query ≡ o → FewGets spelled most h m from to query count

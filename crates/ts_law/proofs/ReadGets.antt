@@ -67,17 +67,13 @@ use Rattle.ts_law.proofs.Fetches.{Contains-map}
 use Rattle.ts_law.proofs.FetchSteps.{drop_first}
 use Rattle.ts_law.proofs.ListSteps.{committed_from_looked, counting_held, erase_from_looked, there_from_listed}
 use Rattle.ts_law.proofs.MapValues.{true_from_T}
-use Rattle.ts_law.proofs.ReadBounds.{Agrees, asks_there, few_early, few_first, few_listed, pieces_there, schemas_enough}
+use Rattle.ts_law.proofs.ReadBounds.{Agrees, asks_there, few_early, few_first, few_listed, goes_on_itself, pieces_there, schemas_enough}
+use Rattle.ts_law.proofs.ReadCounts.{fetch_gets, first_gets, gets_begun, picked_less}
 use Rattle.ts_law.proofs.ReadSteps.{as_many, asked_of, named_apart, push_next}
 
 -- a schema is that of its key and its attributes
 same_schema : (s : Schema) (k : Key) (attrs : List Attr) → s.key ≡ k → s.attrs ≡ attrs → s ≡ record { key = k; attrs = attrs }
 same_schema s k attrs key own i = record { key = key i; attrs = own i }
-
--- where two lists are picked from in the same way, what is picked of the one is no more than what is picked of the other
-picked_less : {X Y : Type 0} (f : X → ℕ) (g : Y → ℕ) (x : X) (xs : List X) (y : Y) (ys : List Y) → f x ≤ g y → sum_by f xs ≤ sum_by g ys → (b : Bool) → sum_by f (cond b (x ∷ xs) xs) ≤ sum_by g (cond b (y ∷ ys) ys)
-picked_less f g x xs y ys one rest true = let a = sum_by-cons f x xs in let b = sum_by-cons g y ys in omega (arith, a, b, one, rest)
-picked_less f g x xs y ys one rest false = rest
 
 module _ {F : Type 0} (codec : Codec F) (spelled : Spelled) (tracks : Tracking F) (laws : CodecLaws codec spelled tracks) (gets : F → ℕ) (most : MostGets) (bounded : AsksBounded codec spelled gets most)
     (h : History) (m : Held) (stands : Stands spelled m h) (from to : ℕ) (query : Query) where
@@ -140,24 +136,14 @@ module _ {F : Type 0} (codec : Codec F) (spelled : Spelled) (tracks : Tracking F
           let found = find-Some (λ t. key_eq t.key k) schemas s one in
           ap (schema_with h) (sym (key_same s.key k found.1)) ∙ each s found.0
 
-  -- how many gets a fetch that begins so may make
-  pub gets_begun : Result F ℕ → ℕ
-  gets_begun (Ok f) = gets f
-  gets_begun (Err at) = 0
-
-  -- how many gets the fetch of an open fragment may make
-  abbrev pub fetch_gets : Reading → List Schema → Opened → ℕ
-  fetch_gets r schemas o = option_map_or (λ s. gets_begun (codec.opens r.frame s o.frag o.object (want_of r s.attrs))) (known_schema r schemas o.head.schema) 0
-
   -- no more than the piece of the fragment allows
-  fetch_few : (r : Reading) → AsksSo r → (schemas : List Schema) → AreDeclared schemas → (o : Opened) → IsRead r.frame o → (p : Piece) → HoldsIn spelled h m o.frag p → fetch_gets r schemas o ≤ most_for most h r p
-  unfolding gets_begun
+  fetch_few : (r : Reading) → AsksSo r → (schemas : List Schema) → AreDeclared schemas → (o : Opened) → IsRead r.frame o → (p : Piece) → HoldsIn spelled h m o.frag p → fetch_gets codec gets r schemas o ≤ most_for most h r p
   fetch_few r asks schemas each o read p holds = by_schema (known_schema r schemas o.head.schema) refl
     where
       most_is : most_for most h r p ≡ most r.frame holds.schema p (want_of r (holds.schema).attrs)
       most_is = ap (λ q. option_map_or (λ s. most r.frame s p (want_of r s.attrs)) q 0) holds.declared
 
-      by_open : (s : Schema) → known_schema r schemas o.head.schema ≡ Some s → (b : Result F ℕ) → codec.opens r.frame s o.frag o.object (want_of r s.attrs) ≡ b → gets_begun b ≤ most_for most h r p
+      by_open : (s : Schema) → known_schema r schemas o.head.schema ≡ Some s → (b : Result F ℕ) → codec.opens r.frame s o.frag o.object (want_of r s.attrs) ≡ b → gets_begun gets b ≤ most_for most h r p
       by_open s known (Err at) is = omega arith
       by_open s known (Ok f) is =
           let head = same_head r asks.framed o read p holds in
@@ -169,14 +155,14 @@ module _ {F : Type 0} (codec : Codec F) (spelled : Spelled) (tracks : Tracking F
           subst (λ n. gets f ≤ n) (sym most_is)
           (bounded.fair r.frame holds.schema p (holds.spells).look (want_of r (holds.schema).attrs) o.object f has.spells (has.looked ∙ ap Some object) opens)
 
-      by_schema : (q : Option Schema) → known_schema r schemas o.head.schema ≡ q → option_map_or (λ s. gets_begun (codec.opens r.frame s o.frag o.object (want_of r s.attrs))) q 0 ≤ most_for most h r p
+      by_schema : (q : Option Schema) → known_schema r schemas o.head.schema ≡ q → option_map_or (λ s. gets_begun gets (codec.opens r.frame s o.frag o.object (want_of r s.attrs))) q 0 ≤ most_for most h r p
       by_schema None none = omega arith
       by_schema (Some s) known = by_open s known (codec.opens r.frame s o.frag o.object (want_of r s.attrs)) refl
 
   -- open fragments and the pieces in them, in the same order: they have the same heads, and of those that are chosen the fetches make no more gets than the pieces allow
   pub record AreAlike (r : Reading) (schemas : List Schema) (all : List Opened) (pieces : List Piece) : Type 0 where
     heads : heads_of all ≡ heads_in pieces
-    fewer : (frags : List FragKey) → sum_by (fetch_gets r schemas) (opened_among frags all) ≤ sum_by (most_for most h r) (filter (λ p. is_among p.head.frag frags) pieces)
+    fewer : (frags : List FragKey) → sum_by (fetch_gets codec gets r schemas) (opened_among frags all) ≤ sum_by (most_for most h r) (filter (λ p. is_among p.head.frag frags) pieces)
 
   alike : (r : Reading) → AsksSo r → (schemas : List Schema) → AreDeclared schemas → (all : List Opened) (pieces : List Piece) → list_map (λ o. o.frag) all ≡ list_map (λ p. p.head.frag) pieces
       → ((o : Opened) → Contains all o → IsRead r.frame o) → ((p : Piece) → Contains pieces p → HoldsIn spelled h m p.head.frag p) → AreAlike r schemas all pieces
@@ -194,8 +180,8 @@ module _ {F : Type 0} (codec : Codec F) (spelled : Spelled) (tracks : Tracking F
         fewer = λ frags.
             let others : List Opened = opened_among frags os in
             let left : List Piece = filter (λ q. is_among q.head.frag frags) ps in
-            subst (λ b. sum_by (fetch_gets r schemas) (cond b (o ∷ others) others) ≤ sum_by (most_for most h r) (cond (is_among p.head.frag frags) (p ∷ left) left)) (ap (λ f. is_among f frags) (sym same))
-            (picked_less (fetch_gets r schemas) (most_for most h r) o others p left few (rest.fewer frags) (is_among p.head.frag frags));
+            subst (λ b. sum_by (fetch_gets codec gets r schemas) (cond b (o ∷ others) others) ≤ sum_by (most_for most h r) (cond (is_among p.head.frag frags) (p ∷ left) left)) (ap (λ f. is_among f frags) (sym same))
+            (picked_less (fetch_gets codec gets r schemas) (most_for most h r) o others p left few (rest.fewer frags) (is_among p.head.frag frags));
       }
 
   -- ---- what a read knows
@@ -226,10 +212,6 @@ module _ {F : Type 0} (codec : Codec F) (spelled : Spelled) (tracks : Tracking F
     each : (o : Opened) → Contains all o → IsRead r.frame o
     chosen : opened ≡ opened_among (loaded_of r all) all
 
-  -- how many gets it makes before its first fetch
-  abbrev pub first_gets : Reading → List Opened → ℕ
-  first_gets r opened = 2 + length r.counting + length r.fragments + length (keys_named r opened) + length r.delete_names
-
   -- it got some of the further schemas
   pub record HasSchemas (count : ℕ) (r : Reading) (opened : List Opened) (schemas : List Schema) : Type 0 where
     chooses : Chooses r opened
@@ -256,7 +238,7 @@ module _ {F : Type 0} (codec : Codec F) (spelled : Spelled) (tracks : Tracking F
   -- its fetch waits for the reply to a call: with that call, with those that the fetch may still make and those of the fetches to come, the gets are no more than those before the first fetch and those of all fetches
   pub record IsFetching (count : ℕ) (r : Reading) (opened : List Opened) (schemas : List Schema) (next : ℕ) (f : F) (c : Call) : Type 0 where
     has : HasAll r opened schemas
-    few : count + gets_of c + gets f + sum_by (fetch_gets r schemas) (drop (suc next) opened) ≤ first_gets r opened + sum_by (fetch_gets r schemas) opened
+    few : count + gets_of c + gets f + sum_by (fetch_gets codec gets r schemas) (drop (suc next) opened) ≤ first_gets r opened + sum_by (fetch_gets codec gets r schemas) opened
 
   -- a read that made so many gets knows this in a state
   abbrev pub Known : ℕ → State F → Type 0
@@ -281,7 +263,7 @@ module _ {F : Type 0} (codec : Codec F) (spelled : Spelled) (tracks : Tracking F
   module _ (r : Reading) (opened : List Opened) (chooses : Chooses r opened) where
     -- what it finds in the fragments
     abbrev found : (pieces : List Piece) × (list_map (λ p. p.head.frag) pieces ≡ r.fragments) × ((p : Piece) → Contains pieces p → HoldsIn spelled h m p.head.frag p)
-    found = pieces_there spelled most h m stands from to query r chooses.asked
+    found = pieces_there spelled most h h m (goes_on_itself spelled h m stands) from to query r chooses.asked
 
     abbrev alike_in : (schemas : List Schema) → AreDeclared schemas → AreAlike r schemas chooses.all found.0
     alike_in schemas declared = alike r chooses.asked schemas declared chooses.all found.0 (chooses.frags ∙ sym found.1) chooses.each found.2
@@ -313,17 +295,17 @@ module _ {F : Type 0} (codec : Codec F) (spelled : Spelled) (tracks : Tracking F
 
     -- the gets before the first fetch are few
     few_chosen : (count : ℕ) → count ≤ first_gets r opened → Few count
-    few_chosen count few = let more = enough in few_listed spelled most h m stands from to query r chooses.asked found.0 found.1 found.2 count (omega (arith, few, more))
+    few_chosen count few = let more = enough in few_listed spelled most h h m (goes_on_itself spelled h m stands) from to query r chooses.asked found.0 found.1 found.2 count (omega (arith, few, more))
 
     -- those of the fetches too
-    few_fetched : (schemas : List Schema) → HasAll r opened schemas → (count : ℕ) → count ≤ first_gets r opened + sum_by (fetch_gets r schemas) opened → Few count
+    few_fetched : (schemas : List Schema) → HasAll r opened schemas → (count : ℕ) → count ≤ first_gets r opened + sum_by (fetch_gets codec gets r schemas) opened → Few count
     few_fetched schemas has count few =
         let more = enough in
         let same = alike_in schemas has.declared in
         let frags_in : List Head → List FragKey = λ heads. list_map (λ head. head.frag) (loaded r.from r.to heads r.vacs) in
-        let chosen : sum_by (fetch_gets r schemas) opened ≤ sum_by (most_for most h r) (pieces_loaded r found.0) =
-        subst (λ l. sum_by (fetch_gets r schemas) l ≤ sum_by (most_for most h r) (pieces_loaded r found.0)) (sym chooses.chosen)
-        (subst (λ heads. sum_by (fetch_gets r schemas) (opened_among (loaded_of r chooses.all) chooses.all) ≤ sum_by (most_for most h r) (filter (λ p. is_among p.head.frag (frags_in heads)) found.0)) same.heads
+        let chosen : sum_by (fetch_gets codec gets r schemas) opened ≤ sum_by (most_for most h r) (pieces_loaded r found.0) =
+        subst (λ l. sum_by (fetch_gets codec gets r schemas) l ≤ sum_by (most_for most h r) (pieces_loaded r found.0)) (sym chooses.chosen)
+        (subst (λ heads. sum_by (fetch_gets codec gets r schemas) (opened_among (loaded_of r chooses.all) chooses.all) ≤ sum_by (most_for most h r) (filter (λ p. is_among p.head.frag (frags_in heads)) found.0)) same.heads
         (same.fewer (loaded_of r chooses.all))) in
         GetsFew r found.0 (record { asks = chooses.asked; frags = found.1; each = found.2; vacs = chooses.vacs; deletes = has.deletes; deeds = has.deeds }) (omega (arith, few, more, chosen))
 
@@ -337,7 +319,7 @@ module _ {F : Type 0} (codec : Codec F) (spelled : Spelled) (tracks : Tracking F
   module _ (count : ℕ) (r : Reading) (opened : List Opened) (schemas : List Schema) (has : HasAll r opened schemas) where
     -- the gets of these fetches
     abbrev gets_in : List Opened → ℕ
-    gets_in os = sum_by (fetch_gets r schemas) os
+    gets_in os = sum_by (fetch_gets codec gets r schemas) os
 
     -- a step of a fetch
     step_known : (next : ℕ) (frag : FragKey) (got : List Version) (on : List Version → State F) (f : F) (said : Reply) → count + gets f + gets_in (drop (suc next) opened) ≤ first_gets r opened + gets_in opened
@@ -349,15 +331,14 @@ module _ {F : Type 0} (codec : Codec F) (spelled : Spelled) (tracks : Tracking F
     -- the fetch of one fragment
     one_known : (next : ℕ) (o : Opened) (rest : List Opened) (got : List Version) (on : List Version → State F) → drop (suc next) opened ≡ rest → count + gets_in (o ∷ rest) ≤ first_gets r opened + gets_in opened
         → ((vs : List Version) → Known count (on vs)) → (q : Option Schema) → known_schema r schemas o.head.schema ≡ q → Known count (fetches_one codec r opened schemas next o got on q)
-    unfolding gets_begun
     one_known next o rest got on left few later None none = tt
     one_known next o rest got on left few later (Some s) known = by_open (codec.opens r.frame s o.frag o.object (want_of r s.attrs)) refl
       where
         by_open : (b : Result F ℕ) → codec.opens r.frame s o.frag o.object (want_of r s.attrs) ≡ b → Known count (fetch_begins codec r opened schemas next o.frag got on b)
         by_open (Err at) is = tt
         by_open (Ok f) is =
-            let own : fetch_gets r schemas o ≡ gets f = ap (λ q. option_map_or (λ s. gets_begun (codec.opens r.frame s o.frag o.object (want_of r s.attrs))) q 0) known ∙ ap gets_begun is in
-            let both = sum_by-cons (fetch_gets r schemas) o rest in
+            let own : fetch_gets codec gets r schemas o ≡ gets f = ap (λ q. option_map_or (λ s. gets_begun gets (codec.opens r.frame s o.frag o.object (want_of r s.attrs))) q 0) known ∙ ap (gets_begun gets) is in
+            let both = sum_by-cons (fetch_gets codec gets r schemas) o rest in
             let others : gets_in (drop (suc next) opened) ≡ gets_in rest = ap gets_in left in
             step_known next o.frag got on f reply.Start (omega (arith, few, own, both, others)) later (codec.steps f reply.Start) refl
 
@@ -366,7 +347,7 @@ module _ {F : Type 0} (codec : Codec F) (spelled : Spelled) (tracks : Tracking F
     fetching_known [] next got left few = tt
     fetching_known (o ∷ rest) next got left few =
         let parts = drop_first opened next o rest left in
-        let both = sum_by-cons (fetch_gets r schemas) o rest in
+        let both = sum_by-cons (fetch_gets codec gets r schemas) o rest in
         one_known next o rest got _ parts.1 few (λ vs. fetching_known rest (suc next) (got ++ vs) parts.1 (omega (arith, few, both))) (known_schema r schemas o.head.schema) refl
 
   -- the next delete, or the first fetch
@@ -526,7 +507,7 @@ module _ {F : Type 0} (codec : Codec F) (spelled : Spelled) (tracks : Tracking F
     schema_led : (count : ℕ) (listed : Listed) (k : Key) (r : Reply) → Agrees m (get_schema k) r → Known count (Seeks (GetsSchema listed k)) → LedBy count (Seeks (GetsSchema listed k)) (get_schema k) r
     schema_led count listed k r agrees (none, same, (s, named, there)) =
         let with : schema_with h k ≡ Some s = ap (schema_with h) (sym named) ∙ current_is_with h to s stands.history there in (
-          few_first spelled most h m stands from to query s there (count + 1) (omega (arith, none)),
+          few_first spelled most h h m (goes_on_itself spelled h m stands) from to query s there (count + 1) (omega (arith, none)),
           bytes_lead (count + 1) (get_schema k) (λ bytes. on_read (name.Schema k) (λ attrs. Seeks (GetsFrame listed (record { key = k; attrs = attrs }))) (schema_of bytes)) r (λ bytes said.
               read_lead (count + 1) (name.Schema k) (λ attrs. Seeks (GetsFrame listed (record { key = k; attrs = attrs }))) (schema_of bytes) (λ attrs spells.
               let own : s.attrs ≡ attrs = same_ok (schema_of bytes) s.attrs attrs (told_schema k s with r agrees bytes said) spells in
@@ -539,7 +520,7 @@ module _ {F : Type 0} (codec : Codec F) (spelled : Spelled) (tracks : Tracking F
     asks_known count frame there few framed holds (Err refused) ready = tt
     asks_known count frame there few framed holds (Ok found) ready =
         getting_vacs_known count (reading_of from to (looked_into (Read from to query) (names_under Commits m)) frame there found) (record {
-          asked = asks_there spelled most h m stands from to query frame there found framed holds ready;
+          asked = asks_there spelled most h h m (goes_on_itself spelled h m stands) from to query frame there found framed holds ready;
           frags = refl;
           each = λ v at. absurd (Contains-nil v at);
           erased = refl;
@@ -549,7 +530,7 @@ module _ {F : Type 0} (codec : Codec F) (spelled : Spelled) (tracks : Tracking F
     frame_led : (count : ℕ) (listed : Listed) (there : Schema) (r : Reply) → Agrees m get_frame r → Known count (Seeks (GetsFrame listed there)) → LedBy count (Seeks (GetsFrame listed there)) get_frame r
     frame_led count listed there r agrees (few, same, holds) =
         let framed = framed_by_schema h there.key there stands.history (current_is_with h to there stands.history holds) in (
-          few_first spelled most h m stands from to query there holds (count + 1) (omega (arith, few)),
+          few_first spelled most h h m (goes_on_itself spelled h m stands) from to query there holds (count + 1) (omega (arith, few)),
           bytes_lead (count + 1) get_frame (λ bytes. on_read name.Domain (λ frame. works codec job job.command listed frame there) (frame_of bytes)) r (λ bytes said.
               read_lead (count + 1) name.Domain (λ frame. works codec job job.command listed frame there) (frame_of bytes) (λ frame spells.
               let own : framed.0 ≡ frame = same_ok (frame_of bytes) framed.0 frame (told_frame framed.0 framed.1 r agrees bytes said) spells in
@@ -566,7 +547,7 @@ module _ {F : Type 0} (codec : Codec F) (spelled : Spelled) (tracks : Tracking F
         let within = slice_get_within r.counting (length r.vacs) f at in
         let counts = counting_held m f (subst (λ fs. Contains fs f) (has.asked).counting_are (Contains-slice_get r.counting (length r.vacs) f at)) in
         let short : (object : List ℕ) → map.get m (vac_of f) ≡ Some object → IsShort object = λ object held. ((stands.merged).reads f object counts.0 held).0 in (
-          few_early spelled most h m stands from to query r has.asked (count + 1) (omega (arith, few, within)),
+          few_early spelled most h h m (goes_on_itself spelled h m stands) from to query r has.asked (count + 1) (omega (arith, few, within)),
           subst (λ o. Known (count + 1) (with_item (λ g. on_bytes (get_vac g) (after_vac codec r g) said) o)) (sym at)
               (bytes_lead (count + 1) (get_vac f) (after_vac codec r f) said (λ bytes is_said.
               read_lead (count + 1) (vac_of f) (λ names. getting_vacs codec (with_vac r f names)) (names_of bytes) (λ names spells.
@@ -594,7 +575,7 @@ module _ {F : Type 0} (codec : Codec F) (spelled : Spelled) (tracks : Tracking F
         let n : Name = name.Part f (codec.head_part r.frame) in
         let short : (bytes : List ℕ) → map.get m n ≡ Some bytes → IsShort bytes = λ bytes held.
         subst IsShort (same_Some object.object bytes (sym object.held ∙ held)) ((holds.spells).short (codec.head_part r.frame) object.object object.looked) in (
-          few_early spelled most h m stands from to query r has.asked (count + 1) (omega (arith, few, within)),
+          few_early spelled most h h m (goes_on_itself spelled h m stands) from to query r has.asked (count + 1) (omega (arith, few, within)),
           subst (λ o. Known (count + 1) (with_item (λ g. on_bytes (get_head codec r g) (after_head codec r opened g) said) o)) (sym at)
               (bytes_lead (count + 1) (get_head codec r f) (after_head codec r opened f) said (λ bytes is_said.
               read_lead (count + 1) n (λ head. opening codec r (opened ++ record { frag = f; head = head; object = bytes } ∷ [])) (codec.head r.frame f bytes) (λ head reads.

@@ -207,6 +207,12 @@ module _ {F : Type 0} (codec : Codec F) (spelled : Spelled) (tracks : Tracking F
   chosen_are : CodecLaws codec spelled tracks → (r : Reading) (opened : List Opened) (opens : Opening codec spelled opening past jobs seen m number job r opened) → length opened ≡ length r.fragments
       → AreChosen codec spelled (history_then r opens.reads) (then_at r opens.reads) (with_clipped r (clipped_names r.from r.to (heads_of opened))) (opened_among (loaded_of r opened) opened)
   chosen_are laws r opened opens all = record {
+    are_vacs = opens.are_vacs;
+    all_vacs = opens.all_vacs;
+    all = opened;
+    are_open = opens.are_open;
+    all_open = all;
+    loads = refl;
     heads = heads;
     are_heads = are;
     clipped_is = refl;
@@ -283,7 +289,12 @@ module _ {F : Type 0} (codec : Codec F) (spelled : Spelled) (tracks : Tracking F
   getting_vacs_claims laws clean is r none vacs =
       elim (nat_lt (length r.vacs) (length r.counting)) as (λ b. nat_lt (length r.vacs) (length r.counting) ≡ b → Claimed (cond b (Collects (GetsVacs r)) (opening_on codec r []))) [
         | true ↦ λ _. (clean, vacs, none)
-        | false ↦ λ end. opening_claims laws clean is r [] none (record { reads = vacs.reads; are_vacs = vacs.are_vacs; are_open = record { frags = refl; each = λ o at. absurd (Contains-nil o at) } })
+        | false ↦ λ end. opening_claims laws clean is r [] none (record {
+          reads = vacs.reads;
+          are_vacs = vacs.are_vacs;
+          all_vacs = as_many (λ v. v.frag) r.vacs r.counting vacs.are_vacs.frags (ltb-false (length r.vacs) (length r.counting) end);
+          are_open = record { frags = refl; each = λ o at. absurd (Contains-nil o at) };
+        })
       ] refl
 
 -- ---- the gets
@@ -533,6 +544,7 @@ module _ {F : Type 0} (codec : Codec F) (spelled : Spelled) (tracks : Tracking F
     opened_more = record {
       reads = opens.reads;
       are_vacs = opens.are_vacs;
+      all_vacs = opens.all_vacs;
       are_open = record {
         frags = push_next (λ o. o.frag) opened more r.fragments opens.are_open.frags next;
         each = λ o at. elim (Contains-push_cases opened more o at) [

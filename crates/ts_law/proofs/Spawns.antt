@@ -325,6 +325,7 @@ module _ (jobs : List Job) (job : Job) where
     opening_more r opened is = record {
       reads = reads_in_more r is.reads;
       are_vacs = is.are_vacs;
+      all_vacs = is.all_vacs;
       are_open = subst (λ g. AreOpen codec spelled g (held_told opening (((is.reads).at).listed).since.commits.before) r.frame r.fragments opened) (listed_more Commits (((is.reads).at).listed).since.commits) is.are_open;
     }
 

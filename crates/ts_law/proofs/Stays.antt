@@ -245,6 +245,7 @@ module _ (spelled : Spelled) (opening : Held) (past : History) (jobs : List Job)
     opening_stays job r opened unlisted is = record {
       reads = reads_in_stays job r unlisted is.reads;
       are_vacs = is.are_vacs;
+      all_vacs = is.all_vacs;
       are_open = is.are_open;
     }
 

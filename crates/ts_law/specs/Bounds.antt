@@ -1,12 +1,12 @@
 -- How many gets a read makes at the most: by what it lists, and by the pieces that it loads.
-use Rattle.std.specs.Prelude.{◌≡◌, ℕ, ◌+◌, ◌≤◌, List, ◌∷◌, Some, Ok, Err, filter, length, Contains, map as list_map, ◌++◌, slice_get}
+use Rattle.std.specs.Prelude.{◌≡◌, ℕ, ◌+◌, ◌≤◌, List, ◌∷◌, Some, Ok, Err, ◌⊎◌, filter, length, Contains, map as list_map, ◌++◌, slice_get}
 use Rattle.std.specs.List.{sum_by}
 use Rattle.std.specs.Option.{option_map_or}
 use Rattle.std.specs.Set.{distinct_count}
 use Rattle.ts_base.specs.declared.keys.Key.{Key}
 use Rattle.ts_base.specs.declared.heads.Head.{Head}
 use Rattle.ts_base.specs.declared.heads.Piece.{Piece}
-use Rattle.ts_base.specs.declared.names.Prefix.TheVariants.{Commits}
+use Rattle.ts_base.specs.declared.names.Prefix.TheVariants.{Commits, Schemas}
 use Rattle.ts_base.specs.Held.{Held}
 use Rattle.ts_base.specs.Keys.{key_eq, frag_of}
 use Rattle.ts_store.specs.declared.call.Call.{Call}
@@ -26,7 +26,7 @@ use Rattle.ts_model.specs.Deeds.{History, frame_in, schema_with, current_schema,
 use Rattle.ts_model.specs.Queries.{ready_in}
 use Rattle.ts_model.specs.Told.{Told, held_told, history_told, trace_of}
 use Rattle.ts_model.specs.States.{committed_in, counting_in, deletes_in, meets, want_of}
-use Rattle.ts_law.specs.Ends.{AreAllVacs}
+use Rattle.ts_law.specs.Ends.{AreAllVacs, ListedAt}
 use Rattle.ts_law.specs.Stands.{HoldsIn}
 
 -- how many of the calls are gets
@@ -83,6 +83,24 @@ pub data FewGets (spelled : Spelled) (most : MostGets) (h : History) (m : Held) 
       → FewGets spelled most h m from to query count
   -- it gets no more than it may of what it lists, and of the pieces that it loads
   GetsFew : (r : Reading) (pieces : List Piece) → ReadsOver spelled h m from to query r pieces → count ≤ most_gets_of most h r pieces → FewGets spelled most h m from to query count
+
+-- how many gets a job makes, those counted too that found no memory
+abbrev pub gets_told : ℕ → List Told → ℕ
+gets_told number told = gets_among (list_map (λ x. x.call) (trace_of number told))
+
+-- so many gets of a read of a run are few by its listings: by what was held as it listed the commits, in the history as it then listed the schemas
+pub record FewByListings (spelled : Spelled) (most : MostGets) (opening : Held) (jobs : List Job) (past : History) (told : List Told) (number from to : ℕ) (query : Query) (count : ℕ) : Type 0 where
+  pub commits : ListedAt told number Commits
+  pub schemas : ListedAt told number Schemas
+  pub between : List Told
+  pub order : schemas.before ≡ commits.before ++ commits.listing ∷ between
+  pub few : FewGets spelled most (history_told jobs past schemas.before) (held_told opening commits.before) from to query count
+
+-- each read of a run makes no get, or few by its listings
+abbrev pub ReadsFewListed : Spelled → MostGets → List Job → History → Held → List Told → Type 0
+ReadsFewListed spelled most jobs h m told =
+    (number : ℕ) (job : Job) (from to : ℕ) (query : Query) → slice_get jobs number ≡ Some job → job.command ≡ Read from to query
+    → (gets_told number told ≡ 0) ⊎ FewByListings spelled most m jobs h told number from to query (gets_told number told)
 
 -- a read of a run made its calls one after the other: it makes few gets, by what was held before them
 pub record IsFewRead (spelled : Spelled) (most : MostGets) (jobs : List Job) (h : History) (m : Held) (told : List Told) (number from to : ℕ) (query : Query) : Type 0 where

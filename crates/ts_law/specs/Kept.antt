@@ -63,7 +63,7 @@ use Rattle.ts_domain.specs.Boxes.{is_in_box}
 use Rattle.ts_model.specs.Queries.{ready_in, delete_condition}
 use Rattle.ts_model.specs.Used.{used_row}
 use Rattle.ts_model.specs.Driven.{MayAsk}
-use Rattle.ts_model.specs.States.{delete_object_of, schema_object_of, write_objects, keys_named, known_attrs, want_of, begun, committed_in, counting_in, deletes_in, heads_of, meets, vac_of, all_of, frags_of, schemas_named, piece_merged, can_be_named, merge_objects}
+use Rattle.ts_model.specs.States.{delete_object_of, schema_object_of, write_objects, keys_named, known_attrs, want_of, begun, committed_in, counting_in, deletes_in, heads_of, loaded_of, meets, opened_among, vac_of, all_of, frags_of, schemas_named, piece_merged, can_be_named, merge_objects}
 use Rattle.ts_model.specs.Stages.{lease_of, stage_of}
 use Rattle.ts_model.specs.Codecs.{Codec, Spelled, Tracking}
 use Rattle.ts_model.specs.Jobs.{key_of, frag_of_job, AreFit, AreApart, looked_at, job_with}
@@ -149,6 +149,13 @@ pub record AreOpen {F : Type 0} (codec : Codec F) (spelled : Spelled) (g : Histo
 
 -- a read that knows what it clips loads these fragments: each is open, and one that the read can use; each write in the interval that is not clipped went into one of them
 pub record AreChosen {F : Type 0} (codec : Codec F) (spelled : Spelled) (g : History) (m : Held) (r : Reading) (chosen : List Opened) : Type 0 where
+  -- it has all `.vac` objects, and opened all fragments: it loads those of them that it is to load by these
+  pub are_vacs : AreVacs m r.counting r.vacs
+  pub all_vacs : length r.vacs ≡ length r.counting
+  pub all : List Opened
+  pub are_open : AreOpen codec spelled g m r.frame r.fragments all
+  pub all_open : length all ≡ length r.fragments
+  pub loads : chosen ≡ opened_among (loaded_of r all) all
   pub heads : List Head
   pub are_heads : AreHeads spelled g m r.from r.to heads
   pub clipped_is : r.clipped ≡ clipped_names r.from r.to heads
@@ -193,10 +200,11 @@ pub record GettingVacs (spelled : Spelled) (opening : Held) (past : History) (jo
   pub reads : ReadsIn spelled opening past jobs seen m number job r
   pub are_vacs : AreVacs (held_told opening (told_before_read reads)) r.counting r.vacs
 
--- a read of which the first fragments are open
+-- a read that has all `.vac` objects, and of which the first fragments are open
 pub record Opening {F : Type 0} (codec : Codec F) (spelled : Spelled) (opening : Held) (past : History) (jobs : List Job) (seen : List Told) (m : Held) (number : ℕ) (job : Job) (r : Reading) (opened : List Opened) : Type 0 where
   pub reads : ReadsIn spelled opening past jobs seen m number job r
   pub are_vacs : AreVacs (held_told opening (told_before_read reads)) r.counting r.vacs
+  pub all_vacs : length r.vacs ≡ length r.counting
   pub are_open : AreOpen codec spelled (history_told jobs past (told_before_read reads)) (held_told opening (told_before_read reads)) r.frame r.fragments opened
 
 -- a read that knows what it loads, and has some of the schemas of these fragments
