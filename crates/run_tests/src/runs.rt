@@ -2,6 +2,7 @@
 //! stands in tests/cases.
 mod consolidations;
 mod deletes;
+mod meetings;
 mod tiles;
 mod vacuums;
 mod words;
@@ -10,9 +11,11 @@ ghost use Rattle.std.specs.Prelude.{◌≡◌};
 ghost use Rattle.ts_base.specs.Names.{IsSpelled};
 
 use std::alloc::Global;
+use std::sync::Wait;
 use std::test::Fail;
 use std::thread::Threads;
-use ts_base::{ByteList, CommitKind, FragKey, Key, Name, OutOfMemory, Part};
+use ts_base::{ByteList, FragKey, Name, OutOfMemory, Part};
+use ts_lanes::OpenGate;
 use ts_store::{Call, Fault, FaultList, FixedClock, Journal, MemSink, MemSource, MemStore};
 use ts_top::{Ran, run};
 
@@ -57,7 +60,7 @@ fn said(alloc: Global, text: &str) -> Result<ByteList, OutOfMemory> {
 }
 
 // Plays a script with a seed over a store.
-fn play<R: Threads + Sync + AllocGlobal>(
+fn play<R: Threads + Wait + Sync + AllocGlobal>(
     rt: &R,
     seed: u64,
     script: &str,
@@ -81,6 +84,7 @@ fn play<R: Threads + Sync + AllocGlobal>(
         &mut input,
         &mut out,
         &FixedClock::new(7),
+        &OpenGate,
     );
     Ok(Shown {
         status,
@@ -91,7 +95,7 @@ fn play<R: Threads + Sync + AllocGlobal>(
 }
 
 // Plays a script over a store, and streams without faults.
-fn play_over<R: Threads + Sync + AllocGlobal>(
+fn play_over<R: Threads + Wait + Sync + AllocGlobal>(
     rt: &R,
     seed: u64,
     script: &str,
@@ -103,7 +107,7 @@ fn play_over<R: Threads + Sync + AllocGlobal>(
 }
 
 // Plays a script over an empty store and streams without faults.
-fn play_well<R: Threads + Sync + AllocGlobal>(rt: &R, script: &str) -> Result<Shown, Fail> {
+fn play_well<R: Threads + Wait + Sync + AllocGlobal>(rt: &R, script: &str) -> Result<Shown, Fail> {
     let alloc = rt.alloc();
     play_over(rt, 0, script, MemStore::new(alloc, FaultList::new(alloc)))
 }
@@ -132,12 +136,6 @@ fn meta(id: u128) -> Name
     ensures { IsSpelled result }
 {
     Name::Part(frag(id), Part::Meta)
-}
-
-fn wrt(id: u128) -> Name
-    ensures { IsSpelled result }
-{
-    Name::Commit(frag(id), CommitKind::Wrt)
 }
 
 /// The puts of the parts of a write, by their places among the calls: the bytes of the object, and how
@@ -367,7 +365,7 @@ fn a_create_that_failed_can_be_tried_again(rt: HostRuntime) -> Result<(), Fail> 
 }
 
 // A store with an array of no cell, made by a run with the seed 0.
-fn with_array<R: Threads + Sync + AllocGlobal>(rt: &R) -> Result<MemStore, Fail> {
+fn with_array<R: Threads + Wait + Sync + AllocGlobal>(rt: &R) -> Result<MemStore, Fail> {
     let Shown {
         status: _,
         printed: _,
@@ -377,88 +375,17 @@ fn with_array<R: Threads + Sync + AllocGlobal>(rt: &R) -> Result<MemStore, Fail>
     Ok(store)
 }
 
-// A script that is played with the seed 1 over an array, and what it prints.
-#[derive(Clone, Copy)]
-struct Second {
-    script: &'static str,
-    text: &'static str,
-}
-
-// Whether a second run over the store prints what it should.
-fn is_second<R: Threads + Sync + AllocGlobal>(
-    rt: &R,
-    store: MemStore,
-    second: Second,
-) -> Result<bool, Fail> {
-    let shown = play_over(rt, 1, second.script, store)?;
-    Ok(shown.status == 0 && shown.printed == said(rt.alloc(), second.text)?)
-}
-
 /// The identifier of the first command of a run with the seed 1.
 const FIRST: u128 = (1 << 64) + 1;
 
 #[test]
-fn objects_that_are_not_as_a_write_leaves_them_are_refused(rt: HostRuntime) -> Result<(), Fail> {
+fn a_part_that_is_there_is_not_put_again(rt: HostRuntime) -> Result<(), Fail> {
     let alloc = rt.alloc();
-    let mut unparted = with_array(&rt)?;
-    unparted.plant(wrt(7), ByteList::new(alloc))?;
-    let missing = Second {
-        script: READ,
-        text: "0.1|read|refused|Missing|__fragments/__1_1_<7>_1/__fragment_metadata.tdb\n",
-    };
-    assert!(rt;
-        is_second(&rt, unparted, missing)?,
-        "a commit without a part"
-    );
-
-    let mut empty = with_array(&rt)?;
-    empty.plant(wrt(7), ByteList::new(alloc))?;
-    empty.plant(meta(7), ByteList::new(alloc))?;
-    let damaged = Second {
-        script: READ,
-        text: "0.1|read|refused|Damaged|__fragments/__1_1_<7>_1/__fragment_metadata.tdb|0\n",
-    };
-    assert!(rt; is_second(&rt, empty, damaged)?, "an empty part");
-
-    let mut there = with_array(&rt)?;
-    there.plant(meta(FIRST), ByteList::new(alloc))?;
-    let taken = Second {
-        script: WRITE,
-        text: "0.1|write|refused|Taken|\
-            __fragments/__1_1_00000000000000010000000000000001_1/__fragment_metadata.tdb\n",
-    };
-    assert!(rt; is_second(&rt, there, taken)?, "a part that is there");
-
-    let mut uncommitted = with_array(&rt)?;
-    uncommitted.plant(meta(7), ByteList::new(alloc))?;
-    let unseen = Second {
-        script: READ,
-        text: "0.1|read|ok|0|0\n",
-    };
-    assert!(rt;
-        is_second(&rt, uncommitted, unseen)?,
-        "a part without a commit"
-    );
-    Ok(())
-}
-
-#[test]
-fn damaged_frames_and_schemas_are_told(rt: HostRuntime) -> Result<(), Fail> {
-    let alloc = rt.alloc();
-    let mut framed = with_array(&rt)?;
-    framed.plant(Name::Domain, ByteList::new(alloc))?;
-    let damaged = Second {
-        script: READ,
-        text: "0.1|read|refused|Damaged|__domain.tdb|0\n",
-    };
-    assert!(rt; is_second(&rt, framed, damaged)?, "an empty frame");
-
-    let mut declared = with_array(&rt)?;
-    declared.plant(Name::Schema(Key { t: 3, id: 7 }), ByteList::new(alloc))?;
-    let late = Second {
-        script: "{'cmd':'read','at':2}\n{'cmd':'read','at':3}\n",
-        text: "0.1|read|ok|0|0\n0.2|read|refused|Damaged|__schema/__3_3_<7>|0\n",
-    };
-    assert!(rt; is_second(&rt, declared, late)?, "an empty schema");
+    let mut store = with_array(&rt)?;
+    store.plant(meta(FIRST), ByteList::new(alloc))?;
+    let shown = play_over(&rt, 1, WRITE, store)?;
+    let text = "0.1|write|refused|Taken|\
+        __fragments/__1_1_00000000000000010000000000000001_1/__fragment_metadata.tdb\n";
+    assert_eq!(rt; shown.printed, said(alloc, text)?);
     Ok(())
 }

@@ -14,11 +14,13 @@ use clock::RealClock;
 use std::alloc::Global;
 use std::process::ExitCode;
 use std::rt::Env;
+use std::sync::Wait;
 use std::thread::Threads;
 use std::time::Clock;
 use std::{env, io};
 use streams::{StdSink, StdSource};
 use ts_folder::{FolderStore, PathText};
+use ts_lanes::OpenGate;
 use ts_store::{FaultList, MemStore, Store};
 use ts_top::{Ran, run};
 
@@ -35,7 +37,7 @@ fn main(rt: HostRuntime) -> ExitCode {
 // Runs the words of the command line over the store that they begin with, and gives the status.
 // Where the arguments cannot be had, or name no store, none are run over an empty store in memory.
 // The machine gives files and the time.
-fn status<R: Env + Input + Print + AllocGlobal + Threads + Sync>(
+fn status<R: Env + Input + Print + AllocGlobal + Threads + Wait + Sync>(
     rt: &R,
     machine: HostRuntime,
 ) -> u8 {
@@ -73,7 +75,7 @@ fn store_of(arguments: &[String]) -> &str {
 }
 
 // Runs these words over an empty store in memory.
-fn run_in_memory<R: Input + Print + AllocGlobal + Threads + Sync>(
+fn run_in_memory<R: Input + Print + AllocGlobal + Threads + Wait + Sync>(
     rt: &R,
     machine: HostRuntime,
     words: &[&str],
@@ -89,7 +91,7 @@ fn run_in_memory<R: Input + Print + AllocGlobal + Threads + Sync>(
 // Runs these words over the store in this folder. The seed is the clock's nanoseconds since 1970, or
 // 0 where the clock cannot be read: then the folder takes no object, since its files are named by the
 // clock.
-fn run_in_folder<R: Input + Print + AllocGlobal + Threads + Sync>(
+fn run_in_folder<R: Input + Print + AllocGlobal + Threads + Wait + Sync>(
     rt: &R,
     machine: HostRuntime,
     folder: &str,
@@ -109,7 +111,7 @@ fn run_in_folder<R: Input + Print + AllocGlobal + Threads + Sync>(
 }
 
 // Runs these words over a store, with the standard streams and the machine's clock.
-fn run_words<R: Input + Print + AllocGlobal + Threads + Sync, S: Store + Drop>(
+fn run_words<R: Input + Print + AllocGlobal + Threads + Wait + Sync, S: Store + Drop>(
     rt: &R,
     machine: HostRuntime,
     words: &[&str],
@@ -127,6 +129,8 @@ fn run_words<R: Input + Print + AllocGlobal + Threads + Sync, S: Store + Drop>(
         status,
         store: _,
         journal: _,
-    } = run(rt, alloc, words, seed, store, &mut input, &mut out, &clock);
+    } = run(
+        rt, alloc, words, seed, store, &mut input, &mut out, &clock, &OpenGate,
+    );
     status
 }

@@ -42,13 +42,13 @@ use Rattle.ts_top.proofs.Removed.{call_among, same_names, trace_first}
 use Rattle.ts_top.proofs.RunCodec.{run_bounded, run_gets, run_laws}
 
 -- where so many gets are few, fewer are
-fewer_still : (spelled : Spelled) (most : MostGets) (h : History) (m : Held) (from to : ℕ) (query : Query) (less count : ℕ) → less ≤ count → FewGets spelled most h m from to query count → FewGets spelled most h m from to query less
+pub fewer_still : (spelled : Spelled) (most : MostGets) (h : History) (m : Held) (from to : ℕ) (query : Query) (less count : ℕ) → less ≤ count → FewGets spelled most h m from to query count → FewGets spelled most h m from to query less
 fewer_still spelled most h m from to query less count below (NoGets none) = NoGets (omega (arith, below, none))
 fewer_still spelled most h m from to query less count below (GetsTwo frame there r framed holds refused few) = GetsTwo frame there r framed holds refused (omega (arith, below, few))
 fewer_still spelled most h m from to query less count below (GetsFew r pieces over few) = GetsFew r pieces over (omega (arith, below, few))
 
 -- the journal has no more gets of a job than it made: those that found no memory it does not have
-entered_fewer : (lane : Option ℕ → ℕ) (number : ℕ) (c : List Told) → ((e : Told) → Contains c e → e.job ≡ Some number) → gets_among (list_map (λ (y : Entry). y.call) (entries_of lane c)) ≤ gets_among (list_map (λ (x : Exchange). x.call) (trace_of number c))
+pub entered_fewer : (lane : Option ℕ → ℕ) (number : ℕ) (c : List Told) → ((e : Told) → Contains c e → e.job ≡ Some number) → gets_among (list_map (λ (y : Entry). y.call) (entries_of lane c)) ≤ gets_among (list_map (λ (x : Exchange). x.call) (trace_of number c))
 entered_fewer lane number [] own = omega arith
 entered_fewer lane number (e ∷ c) own =
     let rest = entered_fewer lane number c (λ x at. own x (Contains-there e c x at)) in

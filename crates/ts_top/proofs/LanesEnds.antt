@@ -52,6 +52,7 @@ use Rattle.ts_top.specs.Runners.{run_codec, run_spelled}
 use Rattle.ts_top.specs.Sweeps.{IsObjectOf, IsSwept}
 use Rattle.ts_top.specs.Times.{Span, held_at, now}
 use Rattle.ts_top.specs.Together.{Answered, CameOutSo, DidNone, FoundNoArray, HasDoneSo, HeldAsListed, IsToSweepAt, IsToUnlockAt, LeftNoLease, MergedSo, ToldSo, UnlockedSo, VacuumedSo, WasDone, WasGone}
+use Rattle.ts_top.proofs.LanesGets.{gets_so}
 use Rattle.ts_top.proofs.LanesRefused.{plan_so, refusal_so, schema_so}
 use Rattle.ts_top.proofs.LanesTold.{after_held, after_history, deeds_so, gone_so, held_as_listed, held_so, is_span, later_time, left_all, left_so, listed_held, listed_history, listed_so, listed_time, made_so, new_now, no_lease_so, none_found, none_so, now_is, quiet_undone, span, time_of, until}
 use Rattle.ts_top.proofs.LeasesTold.{EndsWell}
@@ -368,6 +369,7 @@ module _ (gives : ℕ → Bool) (seed : ℕ) (items : List Numbered) (jobs : Lis
       ]);
       puts = λ none. left_so gives seed items jobs past m told results w i job is_job (λ n. IsOwn (key_of job) job.command) (λ d r e parts mine memory n other. true_run.puts i job is_job none d r e parts mine n other);
       looks = λ only. left_all gives seed items jobs past m told results w i job is_job (true_run.looks i job is_job only);
+      gets = λ from to query reads. gets_so gives seed items jobs past m told results w i job is_job (w.driven.driven i job result is_job at).asked from to query reads;
       idle = λ r is none. left_all gives seed items jobs past m told results w i job is_job (true_run.idle i job r is_job (at ∙ ap Some is) none);
     }
       where

@@ -1,6 +1,6 @@
-pub mod Recorded
 pub mod RunCodec
-pub mod LinesRan
+pub mod Queued
+pub mod Gathered
 pub mod Exact
 pub mod Places
 pub mod MergesTold
@@ -20,8 +20,15 @@ pub mod OwnCalls
 pub mod RunTimes
 pub mod LanesTold
 pub mod LanesRefused
+pub mod LanesGets
 pub mod LanesEnds
+pub mod Rows
+pub mod LaneRows
+pub mod CrewRuns
+pub mod Crewed
 pub mod LinesDone
 pub mod Promised
+pub mod FewListed
 pub mod FewReads
+pub mod LinesRan
 mod Refusing

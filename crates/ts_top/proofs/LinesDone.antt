@@ -9,18 +9,20 @@ use Rattle.ts_store.specs.Calls.{is_no_memory}
 use Rattle.ts_model.specs.declared.answers.Driven.{Driven}
 use Rattle.ts_model.specs.declared.answers.Outcome.{Outcome}
 use Rattle.ts_model.specs.declared.commands.Job.{Job}
+use Rattle.ts_model.specs.declared.commands.Line.{Line}
 use Rattle.ts_model.specs.Deeds.{History}
 use Rattle.ts_model.specs.Jobs.{key_of}
 use Rattle.ts_model.specs.Stops.{Uncut}
 use Rattle.ts_model.specs.Told.{Told, trace_of}
 use Rattle.ts_model.proofs.ListLemmas.{Contains-here, Contains-slice_get, slice_get-Contains}
-use Rattle.ts_law.specs.Fresh.{Numbered, command_at, id_of, lanes_of, seed_in, lane_of as line_lane}
+use Rattle.ts_law.specs.Fresh.{Numbered, command_at, id_of, in_lane_order, lanes_of, seed_in, lane_of as line_lane}
 use Rattle.ts_law.specs.Lanes.{IsBefore, IsOwned, IsWithin, InTurn, lane_by, one_lane}
 use Rattle.ts_law.specs.Runs.{AreSegments}
-use Rattle.ts_law.proofs.LineJobs.{IsFitItem, seed_of_id}
+use Rattle.ts_law.proofs.LineJobs.{IsFitItem, among_lines, seed_of_id}
 use Rattle.ts_law.proofs.Lists.{item_at}
 use Rattle.ts_top.specs.Lanes.{ComeInTurn, IsOfLane, LineWasDone}
 use Rattle.ts_top.specs.Runners.{run_codec}
+use Rattle.ts_top.specs.Seen.{AreInOneLane}
 use Rattle.ts_top.specs.Times.{Made, Span}
 use Rattle.ts_top.specs.Together.{WasDone}
 use Rattle.ts_top.proofs.LanesEnds.{done_so}
@@ -81,7 +83,7 @@ come_in_turn lanes (e ∷ told) owned turn i n a b order at_i at_n same =
     by later false (Some number) is k p less at_k at_p = by_place later number (mine.1 ∙ ap Some (sym (same_Some number mine.0 is))) k p less at_k at_p
 
 -- where all jobs have one lane they come one after the other
-pub turns_one : (lanes : ℕ → ℕ) (own : ℕ) (jobs : List Job) → ((number : ℕ) → number < length jobs → lanes number ≡ own) → (told : List Told) → All (IsWithin jobs) told → InTurn lanes told → InTurn one_lane told
+turns_one : (lanes : ℕ → ℕ) (own : ℕ) (jobs : List Job) → ((number : ℕ) → number < length jobs → lanes number ≡ own) → (told : List Told) → All (IsWithin jobs) told → InTurn lanes told → InTurn one_lane told
 turns_one lanes own jobs same [] within turn = tt
 turns_one lanes own jobs same (e ∷ told) within turn = (
   All-weaker (Contains told) (IsBefore one_lane e) (λ d among i j by_i by_j _.
@@ -90,6 +92,15 @@ turns_one lanes own jobs same (e ∷ told) within turn = (
       All-contains (IsBefore lanes e) told d turn.0 among i j by_i by_j (same i first ∙ sym (same j second))) told (All-contains_itself told),
   turns_one lanes own jobs same told (All-tail (IsWithin jobs) e told within) turn.1,
 )
+
+-- those of a script of one lane do
+pub one_turn : (lines : List Line) (jobs : List Job) → length jobs ≡ length (in_lane_order lines) → (told : List Told) → All (IsWithin jobs) told → InTurn (lanes_of (in_lane_order lines)) told → AreInOneLane lines → InTurn one_lane told
+one_turn lines jobs one_each told within turn (own, all) = turns_one (lanes_of (in_lane_order lines)) own jobs in_lane told within turn
+  where
+    in_lane : (number : ℕ) → number < length jobs → lanes_of (in_lane_order lines) number ≡ own
+    in_lane number less =
+        let (item, at) = item_at jobs (in_lane_order lines) number one_each less in
+        ap line_lane at ∙ All-contains (λ line. line.lane ≡ own) lines item.line all (among_lines lines item (Contains-slice_get (in_lane_order lines) number item at))
 
 -- the command of a line was done
 pub line_done : (gives : ℕ → Bool) (seed : ℕ) (items : List Numbered) (jobs : List Job) (past : History) (m : Held) (told : List Told) (results : List (Driven Outcome)) (w : InLanes gives seed items jobs past m told results)

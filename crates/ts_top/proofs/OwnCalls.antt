@@ -37,18 +37,18 @@ use Rattle.ts_top.proofs.TimesTold.{all_made, call_made, made_in}
 -- ---- its calls
 
 -- the calls of a command
-abbrev own_calls : ℕ → List Told → List Told
+abbrev pub own_calls : ℕ → List Told → List Told
 own_calls number told = filter (λ e. is_by number e.job) told
 
 by_is : (number : ℕ) (o : Option ℕ) → is_by number o ≡ true → o ≡ Some number
 by_is number None is = absurd (true≢false (sym is))
 by_is number (Some n) is = ap Some (eqb-true n number is)
 
-own_are : (number : ℕ) (told : List Told) (e : Told) → Contains (own_calls number told) e → e.job ≡ Some number
+pub own_are : (number : ℕ) (told : List Told) (e : Told) → Contains (own_calls number told) e → e.job ≡ Some number
 own_are number told e at = by_is number e.job (filter-Contains (λ x. is_by number x.job) told e at).1
 
 -- they are all that its trace has
-own_trace : (number : ℕ) (told : List Told) → trace_of number (own_calls number told) ≡ trace_of number told
+pub own_trace : (number : ℕ) (told : List Told) → trace_of number (own_calls number told) ≡ trace_of number told
 own_trace number [] = refl
 own_trace number (e ∷ told) = by (own_trace number told) (is_by number e.job) refl
   where
@@ -60,7 +60,7 @@ own_trace number (e ∷ told) = by (own_trace number told) (is_by number e.job) 
 
 module _ (lane : Option ℕ → ℕ) (number : ℕ) where
   -- the journal has the entries of these
-  own_entries : (told : List Told) → All IsOwned told → entries_by number (all_made lane told) ≡ entries_of lane (own_calls number told)
+  pub own_entries : (told : List Told) → All IsOwned told → entries_by number (all_made lane told) ≡ entries_of lane (own_calls number told)
   own_entries [] owned = refl
   own_entries (e ∷ told) owned =
       let P : Option ℕ → Type 0 = λ o. entries_by number (cons_option (cond (is_no_memory e.reply) None (made_in lane e o)) (all_made lane told)) ≡ entries_of lane (cond (is_by number o) (e ∷ own_calls number told) (own_calls number told)) in

@@ -3,7 +3,6 @@ use Rattle.std.proofs.Common.{◌≡◌, ◌⊎◌, inl, inr, ℕ, ◌<◌, ◌^
 use Rattle.std.specs.Prelude.{IfSome}
 use Rattle.std.proofs.lemmas.List.{append-nil}
 use Rattle.std.proofs.lemmas.Option.{slice_get_within}
-use Rattle.std.proofs.lemmas.List.Elements.{All-contains}
 use Rattle.ts_base.specs.Held.{Held}
 use Rattle.std.specs.Io.KnownBytes.{Appends}
 use Rattle.ts_store.specs.Journals.{held_after}
@@ -16,8 +15,7 @@ use Rattle.ts_model.specs.declared.answers.Outcome.{Outcome}
 use Rattle.ts_model.specs.declared.answers.Outcome.TheVariants as outcome
 use Rattle.ts_model.specs.Deeds.{History}
 use Rattle.ts_model.specs.Told.{Told, entries_of, history_told}
-use Rattle.ts_model.proofs.ListLemmas.{Contains-slice_get}
-use Rattle.ts_law.specs.Fresh.{IsFreshSeed, Numbered, in_lane_order, lanes_of, lane_of as line_lane}
+use Rattle.ts_law.specs.Fresh.{IsFreshSeed, Numbered, in_lane_order, lanes_of}
 use Rattle.ts_law.specs.Lanes.{lane_by, one_lane, InTurn}
 use Rattle.ts_law.specs.Runs.{IsRunOver}
 use Rattle.ts_law.proofs.FirstStands.{nothing_stands, fresh_over_nothing}
@@ -26,9 +24,8 @@ use Rattle.ts_law.proofs.NoSweeps.{no_sweeps, unclipped_run}
 use Rattle.ts_law.proofs.LineJobs.{AreInOrder, each_line, in_order}
 use Rattle.ts_top.specs.Promise.{IsStored, Promise}
 use Rattle.ts_top.specs.Promised.{Began, Promised}
-use Rattle.ts_law.proofs.LineJobs.{among_lines}
-use Rattle.ts_top.specs.Lanes.{AreInOneLane, PromiseOfLanes}
-use Rattle.ts_top.proofs.LinesDone.{come_in_turn, line_done, of_lanes, turns_one}
+use Rattle.ts_top.specs.Lanes.{PromiseOfLanes}
+use Rattle.ts_top.proofs.LinesDone.{come_in_turn, line_done, of_lanes, one_turn}
 use Rattle.ts_top.proofs.RunTimes.{InLanes, history_first, run, stood}
 use Rattle.ts_top.proofs.TimesTold.{journal_is}
 use Rattle.ts_top.proofs.Promises.{after, all_calls, entered_by, is_done, no_calls, stood_by}
@@ -38,7 +35,7 @@ use Rattle.ts_script.specs.declared.words.Asked.{Asked}
 use Rattle.ts_script.specs.Words.{asked}
 use Rattle.ts_script.specs.Meanings.{report_of}
 use Rattle.ts_top.specs.Reports.{report_text, status_printed}
-use Rattle.ts_top.specs.Seen.{Seen, Means, Stopped as HasStopped, Performed, PrintsEnds, whole, sink_failed, no_text, Plays, ended, ran_short}
+use Rattle.ts_top.specs.Seen.{AreInOneLane, Seen, Means, Stopped as HasStopped, Performed, PrintsEnds, whole, sink_failed, no_text, Plays, ended, ran_short}
 use Rattle.ts_top.specs.declared.top.Stop.{Stop}
 use Rattle.ts_top.specs.declared.top.Stop.TheVariants.{Usage, BadScript, ReadFault, OutOfMemory}
 
@@ -105,15 +102,6 @@ module _ {S : Type 0} (held : S → Option Held) (made : S → List Told → S �
         whole = whole_of (report_text (report_of job) items results) (status_printed (report_of job) results) prints;
       }
 
-  -- a script of one lane is done one command after the other
-  one_turn : AreInOneLane lines → InTurn one_lane (performed.run).told
-  one_turn (own, all) = turns_one (lanes_of items) own performed.jobs within_lane (performed.run).told (performed.run).in_lanes.within (performed.run).in_lanes.in_turn
-    where
-      within_lane : (number : ℕ) → number < length performed.jobs → lanes_of items number ≡ own
-      within_lane number less =
-          let (item, at) = item_at performed.jobs items number performed.of_lines.one_each less in
-          ap line_lane at ∙ All-contains (λ line. line.lane ≡ own) lines item.line all (among_lines lines item (Contains-slice_get items number item at))
-
   kept_lanes : (job : Asked) → seen.seed < 2 ^ 64 → AreLimited lines → asked seen.words ≡ Some job → Means job seen.input.old (Ok lines) → PrintsEnds seen.out (report_text (report_of job) items results) (status_printed (report_of job) results) seen.status
       → (m : Held) → held seen.store ≡ Some m → (past : History) → IsStored m past → IsFreshSeed m past seen.seed → PromiseOfLanes held seen m past
   unfolding kept_promise
@@ -136,7 +124,7 @@ module _ {S : Type 0} (held : S → Option Held) (made : S → List Told → S �
         in_turn = ran.in_lanes.in_turn;
         driven = ran.driven;
       } in
-      let one : AreInOneLane lines → Promise held seen m past = λ alone. kept_promise (one_turn alone) job seed_fits limited asks means prints m holds past stands fresh in
+      let one : AreInOneLane lines → Promise held seen m past = λ alone. kept_promise (one_turn lines jobs performed.of_lines.one_each ran.told ran.in_lanes.within performed.in_turn alone) job seed_fits limited asks means prints m holds past stands fresh in
       record {
         job = job;
         asks = asks;
@@ -190,15 +178,9 @@ module _ {S : Type 0} (held : S → Option Held) (made : S → List Told → S �
   promise_stopped stop h = record {
     over = λ begun m holds past stands fresh. absurd (not_begun stop h begun);
     from_nothing = λ begun holds. absurd (not_begun stop h begun);
-    lanes_over = λ begun m holds past stands fresh. absurd (not_begun stop h begun);
-    lanes_from_nothing = λ begun holds. absurd (not_begun stop h begun);
   }
 
   module _ (job : Asked) (lines : List Line) (seed_fits : seen.seed < 2 ^ 64) (limited : AreLimited lines) (asks : asked seen.words ≡ Some job) (means : Means job seen.input.old (Ok lines)) where
-    over_any : Plays held made seen (report_of job) lines → Began seen → (m : Held) → held seen.store ≡ Some m → (past : History) → IsStored m past → IsFreshSeed m past seen.seed → Promise held seen m past
-    over_any (ended results performed prints) begun m holds past stands fresh = kept_promise held made seen lines results performed performed.in_turn job seed_fits limited asks means prints m holds past stands fresh
-    over_any (ran_short seven silent same nothing) begun m holds past stands fresh = absurd (not_begun_short seven silent begun)
-
     in_lanes : Plays held made seen (report_of job) lines → Began seen → (m : Held) → held seen.store ≡ Some m → (past : History) → IsStored m past → IsFreshSeed m past seen.seed → PromiseOfLanes held seen m past
     in_lanes (ended results performed prints) begun m holds past stands fresh = kept_lanes held made seen lines results performed job seed_fits limited asks means prints m holds past stands fresh
     in_lanes (ran_short seven silent same nothing) begun m holds past stands fresh = absurd (not_begun_short seven silent begun)
@@ -206,8 +188,6 @@ module _ {S : Type 0} (held : S → Option Held) (made : S → List Told → S �
     -- a run that did its commands keeps its promise
     pub promise_played : Plays held made seen (report_of job) lines → Promised held seen
     promise_played plays = record {
-      over = over_any plays;
-      from_nothing = λ begun holds. over_any plays begun _ holds [] (nothing_stands run_spelled) (fresh_over_nothing seen.seed);
-      lanes_over = in_lanes plays;
-      lanes_from_nothing = λ begun holds. in_lanes plays begun _ holds [] (nothing_stands run_spelled) (fresh_over_nothing seen.seed);
+      over = in_lanes plays;
+      from_nothing = λ begun holds. in_lanes plays begun _ holds [] (nothing_stands run_spelled) (fresh_over_nothing seen.seed);
     }

@@ -64,10 +64,10 @@ module _ (gives : ℕ → Bool) (seed : ℕ) (items : List Numbered) (jobs : Lis
   pub is_true : IsTrueRun run_spelled (lanes_of items) jobs past m told results
   is_true = true_run run_codec run_spelled run_tracks run_laws gives seed items jobs past m told results w.are w.order w.stands w.fresh w.seed_fits w.replied w.suit w.owned w.within w.in_turn w.driven
 
-  begins : Kept run_codec run_spelled run_tracks m past jobs [] [] m
+  pub begins : Kept run_codec run_spelled run_tracks m past jobs [] [] m
   begins = kept_first run_codec run_spelled run_tracks gives seed items jobs past m w.are w.order w.stands w.fresh w.seed_fits
 
-  may : AreAllowed run_codec jobs [] (stopped_before results (length jobs)) [] told
+  pub may : AreAllowed run_codec jobs [] (stopped_before results (length jobs)) [] told
   may = turns_allowed run_codec run_spelled run_tracks run_laws m past (lanes_of items) jobs (lines_take gives seed items jobs w.are w.order) results told begins w.replied w.owned w.within w.suit w.in_turn w.driven
 
   -- ---- a first part of the calls

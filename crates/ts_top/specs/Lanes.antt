@@ -1,4 +1,4 @@
--- What a run promises whose lanes may be at work beside one another: what its printed text and the end of each command mean, in words of the times of the run.
+-- What a run promises while its lanes are at work beside one another: what its printed text and the end of each command mean, in words of the times of the run.
 use Rattle.std.specs.Prelude.{◌≡◌, ℕ, ◌≤◌, Bool, List, Option, Some, Ok, length, slice_get, All, ◌⊎◌}
 use Rattle.std.specs.Io.KnownBytes.{Appends}
 use Rattle.ts_base.specs.Held.{Held}
@@ -21,7 +21,7 @@ use Rattle.ts_script.specs.Meanings.{report_of}
 use Rattle.ts_top.specs.Promise.{IsStored, KeepsStop, Promise}
 use Rattle.ts_top.specs.Reports.{report_text}
 use Rattle.ts_top.specs.Runners.{run_spelled}
-use Rattle.ts_top.specs.Seen.{Seen, Means}
+use Rattle.ts_top.specs.Seen.{AreInOneLane, Seen, Means}
 use Rattle.ts_top.specs.Times.{Made, Span, Timeline, entries_by, held_at, journal_of}
 use Rattle.ts_top.specs.Together.{WasDone}
 
@@ -39,10 +39,6 @@ abbrev pub LineWasDone : (ℕ → Bool) → ℕ → Span → Numbered → Driven
 LineWasDone gives seed s item result =
     KeepsStop item.line.stop (record { opening = s.run.opening; entries = entries_by s.number s.run.calls })
     × ((at : ℕ) × IsStampOf gives item.line at × WasDone s (record { t = at; id = id_of seed item.line.lane item.number }) item.line.stop result (command_at seed item.line at))
-
--- all lines are of one lane
-abbrev pub AreInOneLane : List Line → Type 0
-AreInOneLane lines = (lane : ℕ) × All (λ line. line.lane ≡ lane) lines
 
 -- what a run promises over objects and the history that they stand for.
 -- The commands that were asked for were done, those of a lane one after the other, and came out so: each with an end, or stopped.

@@ -3,6 +3,8 @@ pub mod Summaries
 pub mod Reports
 pub mod Notices
 pub mod Items
+pub mod Queues
+pub mod Crews
 pub mod Runners
 pub mod Seen
 pub mod Merges

@@ -1,4 +1,4 @@
--- What a run promises: what its printed text and the end of each command mean, in words of the history.
+-- What a run promises whose commands come one after the other: what its printed text and the end of each command mean, in words of the history.
 use Rattle.std.specs.Prelude.{◌≡◌, ◌≢◌, ℕ, ◌+◌, ◌≤◌, Bool, false, List, [], ◌∷◌, ◌++◌, Option, Some, None, Ok, option_map, length, slice_get, All, Contains, IfSome, ⊤, ◌⊎◌, map as list_map}
 use Rattle.std.specs.Io.KnownBytes.{Appends}
 use Rattle.std.specs.FinMap as map
@@ -178,8 +178,8 @@ IsLineDone gives seed calls before now item result =
 abbrev pub IsStored : Held → History → Type 0
 IsStored m h = Stands run_spelled m h
 
--- what a run promises over objects and the history that they stand for.
--- The commands that were asked for were done one after the other in lane order, and came out so: each with an end, or stopped.
+-- what a run of one lane promises over objects and the history that they stand for.
+-- The commands that were asked for were done one after the other, and came out so: each with an end, or stopped.
 -- After each of them the objects stand for the history, and the store holds those after the last.
 -- What was printed tells the ends, with status 0 or 6, or is a front of that.
 pub record Promise {S : Type 0} (held : S → Option Held) (seen : Seen S) (m : Held) (past : History) : Type 0 where

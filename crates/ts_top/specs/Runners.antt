@@ -1,12 +1,10 @@
--- What doing jobs keeps, and what the program does them by.
-use Rattle.std.specs.Prelude.{ℕ, ◌+◌, ◌≤◌, Bool, List, Option}
+-- What the program does jobs by, and what doing the lines of a script is.
+use Rattle.std.specs.Prelude.{ℕ, Bool, List, Option}
 use Rattle.ts_base.specs.Held.{Held}
 use Rattle.ts_store.specs.declared.call.Call.{Call}
 use Rattle.ts_store.specs.declared.call.Reply.{Reply}
 use Rattle.ts_store.specs.declared.fate.Fate.{Fate}
 use Rattle.ts_store.specs.declared.journal.Entry.{Entry}
-use Rattle.ts_store.specs.Counts.{capped}
-use Rattle.ts_store.specs.Journals.{failures}
 use Rattle.ts_store.specs.Recorders.{WasMade}
 use Rattle.ts_model.specs.declared.answers.Driven.{Driven}
 use Rattle.ts_model.specs.declared.answers.Outcome.{Outcome}
@@ -14,21 +12,17 @@ use Rattle.ts_model.specs.declared.commands.Job.{Job}
 use Rattle.ts_model.specs.Codecs.{Codec, Spelled, Tracking}
 use Rattle.ts_model.specs.Gets.{MostGets}
 use Rattle.ts_model.specs.Told.{Told}
-use Rattle.ts_law.specs.Doing.{AllRan, RanOver}
-use Rattle.ts_law.specs.Fresh.{AreJobsOf, IsStampOf, Numbered, id_of, job_from}
+use Rattle.ts_law.specs.Fresh.{AreJobsOf, Numbered, lanes_of}
+use Rattle.ts_law.specs.Runs.{IsRun}
 use Rattle.ts_dense.specs.Dense.{IsDense}
 use Rattle.ts_actor.specs.Drives.{Exchanged, MadeOf}
-use Rattle.ts_fetch.specs.Plans.{Going}
+use Rattle.ts_fetch.specs.Plans.{Going, calls_left}
 use Rattle.ts_kinds.specs.declared.either_fetch.EitherFetch.{EitherFetch}
-use Rattle.ts_kinds.specs.Kinds.{either_codec, either_most, either_spelled, either_tracks}
+use Rattle.ts_kinds.specs.Kinds.{either_codec, either_count, either_most, either_spelled, either_tracks}
 use Rattle.ts_sparse_read.specs.declared.opened.Opened.{Opened as SparseOpened}
 use Rattle.ts_sparse_read.specs.Codecs.{sparse_codec, sparse_gets, SparseTracks, IsSparseIn}
 use Rattle.ts_dense_read.specs.declared.opened.Opened.{Opened as DenseOpened}
 use Rattle.ts_dense_read.specs.SpaceCodecs.{space_codec, space_gets, SpaceTracks}
-
--- where a store's count of faults kept up with the failed calls of the journal before, it does so now
-abbrev pub KeepsCount : ℕ → ℕ → List Entry → List Entry → Type 0
-KeepsCount before now journal longer = (base : ℕ) → capped (base + failures journal) ≤ before → capped (base + failures longer) ≤ now
 
 -- just these calls were made of a store, but for such as found no memory; the store's own members say what each did, each get raised its count of gets by one, and the fate that is told of a call is the store's own
 abbrev pub JustMade : {S : Type 0} → (S → Option Held) → (S → Fate) → (S → ℕ) → (S → ℕ) → (S → Call → Reply → S → Type 0) → S → List Told → S → Type 0
@@ -54,14 +48,12 @@ run_tracks = either_tracks SpaceTracks SparseTracks
 abbrev pub run_most : MostGets
 run_most = either_most space_gets sparse_gets
 
--- the command of a line was done, as a job of it in its lane, at a stamp of the line
-pub record RanLine {S : Type 0} (held : S → Option Held) (made : S → List Told → S → Type 0) (gives : ℕ → Bool) (seed : ℕ) (item : Numbered) (store later : S) (before after : List Entry) (result : Driven Outcome) : Type 0 where
-  pub at : ℕ
-  pub stamp : IsStampOf gives item.line at
-  pub ran : (number : ℕ) → RanOver run_codec held made number item.line.lane (job_from (id_of seed item.line.lane item.number) item.line at) store later before after result
+-- more than the calls that a fetch of the program still asks for
+abbrev pub run_left : RunFetch → ℕ
+run_left = either_count calls_left calls_left
 
--- the commands of lines, whose jobs have these lanes, were done one after the other
-pub record RanLines {S : Type 0} (held : S → Option Held) (made : S → List Told → S → Type 0) (gives : ℕ → Bool) (seed : ℕ) (lanes : ℕ → ℕ) (items : List Numbered) (store later : S) (before after : List Entry) (results : List (Driven Outcome)) : Type 0 where
+-- the commands of lines were done, those of a lane one after the other, each as a job of its line: the journal and how they came out are a run of these, each in its lane
+pub record RanLines {S : Type 0} (held : S → Option Held) (made : S → List Told → S → Type 0) (gives : ℕ → Bool) (seed : ℕ) (items : List Numbered) (store later : S) (journal : List Entry) (results : List (Driven Outcome)) : Type 0 where
   pub jobs : List Job
   pub of_lines : AreJobsOf gives seed items jobs
-  pub ran : AllRan run_codec held made lanes jobs store later before after results
+  pub run : IsRun run_codec run_spelled held made seed (lanes_of items) jobs store later journal results

@@ -1,5 +1,5 @@
 -- What is seen of a run of the program, and what a run may be.
-use Rattle.std.specs.Prelude.{◌≡◌, ℕ, List, [], ◌∷◌, Bool, true, false, Option, Some, None, Result, Ok, Err, IfSome, ⊤}
+use Rattle.std.specs.Prelude.{◌≡◌, ℕ, List, [], ◌∷◌, Bool, true, false, Option, Some, None, Result, Ok, Err, IfSome, All, ⊤}
 use Rattle.std.specs.Io.KnownBytes.{Appends}
 use Rattle.ts_base.specs.Held.{Held}
 use Rattle.ts_store.specs.Counts.{Rose}
@@ -11,9 +11,9 @@ use Rattle.ts_model.specs.declared.answers.Outcome.{Outcome}
 use Rattle.ts_model.specs.declared.commands.Job.{Job}
 use Rattle.ts_model.specs.Deeds.{History}
 use Rattle.ts_model.specs.Told.{Told}
-use Rattle.ts_law.specs.Bounds.{ReadsFew}
+use Rattle.ts_law.specs.Bounds.{ReadsFew, ReadsFewListed}
 use Rattle.ts_law.specs.Fresh.{AreJobsOf, IsFreshSeed, in_lane_order, lanes_of}
-use Rattle.ts_law.specs.Lanes.{InTurn, one_lane}
+use Rattle.ts_law.specs.Lanes.{InTurn}
 use Rattle.ts_law.specs.Runs.{IsRun}
 use Rattle.ts_law.specs.Stands.{Stands}
 use Rattle.ts_top.specs.declared.top.Prepared.{Prepared}
@@ -145,16 +145,23 @@ pub data PrintsEnds (out : Stream) (text : List ℕ) (printed status : ℕ) : Ty
   sink_failed : status ≡ 5 → Rose out.before out.now → AppendsFront out.old out.new text → PrintsEnds out text printed status
   no_text : status ≡ 7 → Appends out.old out.new [] → PrintsEnds out text printed status
 
+-- all lines are of one lane
+abbrev pub AreInOneLane : List Line → Type 0
+AreInOneLane lines = (lane : ℕ) × All (λ line. line.lane ≡ lane) lines
+
 -- below `held` is what a store holds, where it tells that, and `made` that just these calls were made of it, with these fates
 
--- the commands were done one after the other in lane order, each as a job of its line: the journal and how they came out are a run of these, each in its lane
+-- the commands were done, those of a lane one after the other, each as a job of its line: the journal and how they came out, in lane order, are a run of these, each in its lane
 pub record Performed {S : Type 0} (held : S → Option Held) (made : S → List Told → S → Type 0) (seen : Seen S) (lines : List Line) (results : List (Driven Outcome)) : Type 0 where
   pub jobs : List Job
   pub of_lines : AreJobsOf seen.gives seen.seed (in_lane_order lines) jobs
   pub run : IsRun run_codec run_spelled held made seen.seed (lanes_of (in_lane_order lines)) jobs seen.store seen.later seen.journal results
-  pub in_turn : InTurn one_lane run.told
-  -- over a store that told what it held, where that stands for a history that the seed is fresh over, each read makes few gets
-  pub few_gets : IfSome (held seen.store) (λ m. (h : History) → Stands run_spelled m h → IsFreshSeed m h seen.seed → ReadsFew run_spelled run_most jobs h m run.told)
+  -- the calls of a lane come in turn
+  pub in_turn : InTurn (lanes_of (in_lane_order lines)) run.told
+  -- over a store that told what it held, where that stands for a history that the seed is fresh over, each read makes few gets, by its listings
+  pub gets : IfSome (held seen.store) (λ m. (h : History) → Stands run_spelled m h → IsFreshSeed m h seen.seed → ReadsFewListed run_spelled run_most jobs h m run.told)
+  -- where all lines are of one lane: over a store that told what it held, where that stands for a history that the seed is fresh over, each read makes few gets
+  pub few_gets : AreInOneLane lines → IfSome (held seen.store) (λ m. (h : History) → Stands run_spelled m h → IsFreshSeed m h seen.seed → ReadsFew run_spelled run_most jobs h m run.told)
 
 -- the commands were done and their ends printed, or there was no memory to begin with them
 pub data Plays {S : Type 0} (held : S → Option Held) (made : S → List Told → S → Type 0) (seen : Seen S) (report : Report) (lines : List Line) : Type 0 where

@@ -1,5 +1,5 @@
 -- What the end of a command tells where commands of other lanes make calls between its own: of what was held, and of the history, at times of its own.
-use Rattle.std.specs.Prelude.{◌≡◌, ◌≢◌, ℕ, ◌+◌, ◌<◌, ◌≤◌, List, [], ◌∷◌, ◌++◌, Some, None, Ok, option_map, filter, length, slice_get, Contains, IfSome, ◌⊎◌}
+use Rattle.std.specs.Prelude.{◌≡◌, ◌≢◌, ℕ, ◌+◌, ◌<◌, ◌≤◌, List, [], ◌∷◌, ◌++◌, Some, None, Ok, option_map, filter, length, slice_get, Contains, IfSome, ◌⊎◌, map as list_map}
 use Rattle.std.specs.List.{list_any}
 use Rattle.std.specs.FinMap as map
 use Rattle.ts_base.specs.Keys.{frag_of}
@@ -47,15 +47,16 @@ use Rattle.ts_model.specs.Deeds.{IsNewKey, current_schema, deletions, frame_in, 
 use Rattle.ts_model.specs.Queries.{delete_condition}
 use Rattle.ts_model.specs.Stages.{mode_of}
 use Rattle.ts_model.specs.States.{frame_put, get_frame, leases_unlocked, place_of}
+use Rattle.ts_law.specs.Bounds.{FewGets, gets_among}
 use Rattle.ts_law.specs.Changes.{IsOwn, OnlyLooks, RemovesNone}
 use Rattle.ts_law.specs.Ends.{AreAllVacs, IsAnswerOver, IsPlanned}
 use Rattle.ts_law.specs.Refusals.{IsNoFault, refusal_in}
 use Rattle.ts_law.specs.Since.{HeldSince}
 use Rattle.ts_law.specs.Stands.{HoldsIn, IsCommitted, Names}
 use Rattle.ts_top.specs.Causes.{looks_for, own_faults}
-use Rattle.ts_top.specs.Runners.{run_spelled}
+use Rattle.ts_top.specs.Runners.{run_most, run_spelled}
 use Rattle.ts_top.specs.Sweeps.{IsSwept}
-use Rattle.ts_top.specs.Times.{HasMade, Made, Span, IsCall, IsSpan, Lists, Makes, held_at, now}
+use Rattle.ts_top.specs.Times.{HasMade, Made, Span, IsCall, IsSpan, Lists, Makes, entries_by, held_at, now}
 
 -- ---- what the calls of a command did
 
@@ -83,6 +84,10 @@ DidRemove s x = (n : ℕ) × Makes s n (call.Remove x) × (map.get (held_at s.ru
 -- a call of the command removed the object, or at a time from the listing to the command's end it was not held
 abbrev pub WasGone : Span → ℕ → Name → Type 0
 WasGone s listed x = DidRemove s x ⊎ ((n : ℕ) × (listed ≤ n) × (n ≤ s.to) × (map.get (held_at s.run n) x ≡ None))
+
+-- how many gets the calls of the command are
+abbrev pub gets_by : Span → ℕ
+gets_by s = gets_among (list_map (λ e. e.call) (entries_by s.number s.run.calls))
 
 -- ---- what it found
 
@@ -112,6 +117,19 @@ pub record Answered (s : Span) (from to : ℕ) (query : Query) (answer : Answer)
   pub shows : Lists s shown Schemas
   pub order : listed < shown
   pub over : IsAnswerOver run_spelled (s.run.history listed) (held_at s.run listed) (s.run.history shown) from to query answer
+
+-- the gets of a read of [from, to] are few by its listings: no more than it may make by what was held as it listed the commits, in the history as it then listed the schemas
+pub record FewSo (s : Span) (from to : ℕ) (query : Query) : Type 0 where
+  pub listed : ℕ
+  pub lists : Lists s listed Commits
+  pub shown : ℕ
+  pub shows : Lists s shown Schemas
+  pub order : listed < shown
+  pub few : FewGets run_spelled run_most (s.run.history shown) (held_at s.run listed) from to query (gets_by s)
+
+-- a read made few gets: none, or few by its listings
+abbrev pub MadeFewGets : Span → ℕ → ℕ → Query → Type 0
+MadeFewGets s from to query = (gets_by s ≡ 0) ⊎ FewSo s from to query
 
 -- a consolidation came to this plan: it is that of the fragments in its interval that were committed as it listed the commits
 pub record PlannedSo (s : Span) (from to : ℕ) (limits : Limits) (plan : Planned) : Type 0 where
@@ -287,5 +305,7 @@ pub record WasDone (s : Span) (k : Key) (stops : Stop) (result : Driven Outcome)
   pub puts : RemovesNone command → LeftOthers s k command (λ n. IsOwn k command)
   -- each call of a read and of a list of the commits leaves each object as it was, but a lease of their own
   pub looks : OnlyLooks command → LeftAll s k command
+  -- a read, to its end or not, made few gets, by the fragments, the `.vac` objects and the deletes that were held as it listed the commits
+  pub gets : (from to : ℕ) (query : Query) → command ≡ Read from to query → MadeFewGets s from to query
   -- each call of one that is refused for no fault leaves each object as it was, but its lease
   pub idle : (r : Refusal) → result ≡ Done (outcome.Refused r) → IsNoFault r → LeftAll s k command

@@ -1,4 +1,4 @@
-//! The lines of a script in the order in which they are done.
+//! The lines of a script in the order in which their ends are printed.
 ghost use Rattle.std.specs.Prelude.{◌≡◌, ◌++◌, ◌≤◌, length, IfOk, OnOk};
 ghost use Rattle.ts_law.specs.Fresh.{in_lane_order, lines_in};
 ghost use Rattle.ts_top.specs.Items.{numbered};
@@ -31,8 +31,12 @@ pub(crate) fn in_lane_order(alloc: Global, lines: &[Line]) -> Result<Vec<Item<'_
     Ok(items)
 }
 
-// Appends the lines of a lane, numbered from 1.
-fn push_lane<'a>(items: &mut Vec<Item<'a>>, lane: u32, lines: &'a [Line]) -> Result<(), OutOfMemory>
+/// Appends the lines of a lane, numbered from 1.
+pub(crate) fn push_lane<'a>(
+    items: &mut Vec<Item<'a>>,
+    lane: u32,
+    lines: &'a [Line],
+) -> Result<(), OutOfMemory>
     requires few { length lines.now ≤ 4096 }
     ensures { OnOk result (numbered items.new.items ≡ numbered items.old.items ++ lines_in lane 1 lines.now) }
 {

@@ -1,10 +1,14 @@
-//! The top call: words and a script in, printed text and a status out.
+//! The top call: words and a script in, printed text and a status out. The commands of each lane are done
+//! in a thread of its own.
 #![tactic(auto)]
 
+mod crew;
 mod ends;
 mod items;
+mod jobs;
 mod notices;
-mod runner;
+mod queues;
+mod results;
 mod summaries;
 mod tiled;
 mod top;

@@ -14,17 +14,20 @@ ghost use Rattle.ts_top.specs.Items.{numbered};
 ghost use Rattle.ts_top.specs.Promised.{Promised};
 ghost use Rattle.ts_top.specs.Seen.{Stream, stream, AskFor, HasReason, IsPrepared, IsTaken, Plays, Prints, PrintsEnds, IsRunOf, WasRefused, status_of, stop_text};
 
+use crate::crew::run_lines;
 use crate::ends::print_ends;
 use crate::items::{Item, in_lane_order};
 use crate::notices::{bad_script_notice, usage_notice};
-use crate::runner::run_items;
 use crate::summaries::{print_summary, status_generated};
 use std::alloc::Global;
+use std::sync::Wait;
 use std::thread::Threads;
 use ts_base::{ByteList, OutOfMemory};
+use ts_lanes::Gate;
 use ts_model::{Driven, Line, LineList, Outcome};
 use ts_script::{FormFault, Report, ScriptFault, read_lines, read_words};
-use ts_store::{Clock, InputFault, Journal, Recorder, Sink, Source, Store, read_input, write_all};
+use ts_store::{Clock, InputFault, Journal, Sink, Source, Store, read_input, write_all};
+use ts_turnstile::Closed;
 
 /// What a run leaves: its status, the store, and every call that was made of it, in order.
 pub struct Ran<S> {
@@ -200,7 +203,7 @@ fn status_alone(end: &Outcome) -> u8
 }
 
 // Does the commands of a script over a store, and prints their ends.
-fn play<R: Threads + Sync, S: Store, O: Sink, C: Clock>(
+fn play<R: Threads + Wait + Sync, S: Store, O: Sink, C: Clock, G: Gate>(
     rt: &R,
     alloc: Global,
     seed: u64,
@@ -209,28 +212,29 @@ fn play<R: Threads + Sync, S: Store, O: Sink, C: Clock>(
     lines: &[Line],
     report: Report,
     clock: &C,
+    gate: &G,
 ) -> Ran<S>
     requires { AreLimited lines.now }
     ensures plays { (words : List (List ℕ)) (input : Stream) → Plays S.held (JustMade S.held S.last S.faults S.asked S.notes) (record { words = words; seed = seed; gives = C.gives clock.now; input = input; out = stream O.contents O.faults out.old out.new; store = store; later = result.store; status = result.status; journal = result.journal }) report lines.now }
     ensures counted { capped (S.faults store + failures result.journal) ≤ S.faults result.store }
 {
-    let mut recorder = Recorder::new(store, Journal::new(alloc), 0);
     let Ok(items) = in_lane_order(alloc, lines) else {
-        return left_by(recorder, 7);
+        let journal = Journal::new(alloc);
+        return left_by(Closed { store, journal }, 7);
     };
-    let items = items.as_slice();
-    let Ok(results) = run_items(rt, alloc, clock, &mut recorder, seed, items) else {
-        return left_by(recorder, 7);
+    let (closed, results) = run_lines(rt, alloc, seed, store, lines, clock, gate);
+    let Ok(results) = results else {
+        return left_by(closed, 7);
     };
-    let status = print_all(alloc, out, items, results.as_slice(), report);
-    left_by(recorder, status)
+    let status = print_all(alloc, out, items.as_slice(), results.as_slice(), report);
+    left_by(closed, status)
 }
 
 // What a run leaves that ends with this status.
-fn left_by<S: Store>(recorder: Recorder<S>, status: u8) -> Ran<S>
-    ensures { result ≡ record { status = status; store = recorder.store; journal = recorder.book.journal } }
+fn left_by<S>(closed: Closed<S>, status: u8) -> Ran<S>
+    ensures { result ≡ record { status = status; store = closed.store; journal = closed.journal } }
 {
-    let (store, journal) = recorder.into_parts();
+    let Closed { store, journal } = closed;
     Ran {
         status,
         store,
@@ -238,32 +242,45 @@ fn left_by<S: Store>(recorder: Recorder<S>, status: u8) -> Ran<S>
     }
 }
 
-/// Reads the words, and the input of what they ask for, does the commands one after the other, lane by
-/// lane, and prints how each came out.
+/// Reads the words, and the input of what they ask for, does the commands, those of each lane in a thread
+/// of its own, and prints how each came out, lane by lane.
 ///
 /// The words ask for a script, or for a single command, which is done as a script of one line. Or they
 /// ask for a generated script, of which a summary is printed.
-/// Everything that is printed goes to `out`. The lines of lane 0 are done first, then those of lane 1,
-/// up to lane 7. A line without a stamp gets the number of the `clock`, in milliseconds since
+/// Everything that is printed goes to `out`: the ends of lane 0 first, then those of lane 1, up to lane 7.
+/// The commands of a lane are done one after the other, beside those of other lanes. The store gets one
+/// call at a time, in any order that leaves each lane its own. A lane comes to the `gate` before each of its
+/// commands, which may hold it up. A script of lane 0 alone makes no thread for a lane, and where no thread can
+/// be made the lanes are done one after the other.
+///
+/// The call may wait, for the gate or for the turn of a lane: what is said here holds once it returns.
+/// Nothing is proved of whether lanes are at work at once, nor of when a lane comes to its gate.
+///
+/// A line without a stamp gets the number of the `clock`, in milliseconds since
 /// 1970-01-01, as its command starts. `seed` stands in the upper 64 bits of each identifier that the
 /// run makes:
 /// over a store that holds something it has to be one that no identifier there has, for what is said
 /// of answers.
 ///
 /// `Ran::status` says how the run ended. The clause `promise` says what that means, over a store that
-/// told what it held, where that stands for a history and no identifier there has the seed. The commands
-/// are done one after the other, each to its end or to where its line stops it. Each appends deeds of its
-/// own, and its end tells the truth of the history before and after it. After each, also a stopped one,
-/// the store stands for the history. What was printed is the text of how they came out.
+/// told what it held, where that stands for a history and no identifier there has the seed. Each command
+/// was done, to its end or to where its line stops it, at times of its own between the calls of other lanes.
+/// By each of its calls it appended no deed, or one of its own, and its end tells the truth of what was
+/// held and of the history at those times. After each call, whoever made it, the store stands for the
+/// history. What was printed is the text of how they came out.
 ///
 /// So a read that names no clipped fragment shows of each cell the last write, in the order of timestamp
 /// and identifier, among those stamped in its interval, of the writes committed when the read lists them,
-/// unless a later delete stamped there matches it, through the schema that holds at the end of the
-/// interval. A read that names clipped fragments shows the same of the writes that are not clipped.
+/// unless a later delete of those stamped there and committed then matches it. It shows it through the schema
+/// that holds at the end of the interval, of those that are there when the read then lists the schemas. A read
+/// that names clipped fragments shows the same of the writes that are not clipped.
+///
+/// A script of one lane, as each single command is, is done one command after the other. The promise then
+/// says besides, as `alone`, what each end tells of the history before and after its command.
 ///
 /// The clause `run` says of every command which calls it made and how it ended, and that no other calls
 /// were made of the store.
-pub fn run<R: Threads + Sync, S: Store, I: Source, O: Sink, C: Clock>(
+pub fn run<R: Threads + Wait + Sync, S: Store, I: Source, O: Sink, C: Clock, G: Gate>(
     rt: &R,
     alloc: Global,
     words: &[&str],
@@ -272,6 +289,7 @@ pub fn run<R: Threads + Sync, S: Store, I: Source, O: Sink, C: Clock>(
     input: &mut I,
     out: &mut O,
     clock: &C,
+    gate: &G,
 ) -> Ran<S>
     ensures run { IsRunOf S.held (JustMade S.held S.last S.faults S.asked S.notes) (record {
       words = word_texts words.entry.now;
@@ -327,7 +345,17 @@ pub fn run<R: Threads + Sync, S: Store, I: Source, O: Sink, C: Clock>(
     match prepare(alloc, words, input) {
         Ok(prepared) => {
             let lines = prepared.lines.as_slice();
-            play(rt, alloc, seed, store, out, lines, prepared.report, clock)
+            play(
+                rt,
+                alloc,
+                seed,
+                store,
+                out,
+                lines,
+                prepared.report,
+                clock,
+                gate,
+            )
         }
         Err(stop) => {
             print_stop(out, stop);

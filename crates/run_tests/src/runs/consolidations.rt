@@ -1,13 +1,12 @@
-//! Consolidations: what one leaves, calls of one that fail, and an object that one cannot use.
+//! Consolidations: what one leaves, and calls of one that fail.
 
 ghost use Rattle.ts_base.specs.Names.{IsSpelled};
 
-use super::{
-    C1, READ, Second, Shown, WRITE, fails_at, frag, is_second, play_over, play_well, said,
-};
+use super::{C1, READ, Shown, WRITE, fails_at, frag, play_over, play_well, said};
+use std::sync::Wait;
 use std::test::Fail;
 use std::thread::Threads;
-use ts_base::{ByteList, CommitKind, Name, Prefix};
+use ts_base::{CommitKind, Name, Prefix};
 use ts_store::{MemStore, Store};
 
 /// A consolidation of what `WRITE` writes.
@@ -77,7 +76,7 @@ const CALLS: [(u64, &str); 21] = [
 ];
 
 // Whether a call of a consolidation that fails is told, and a read behind it shows what was written.
-fn is_told<R: Threads + Sync + AllocGlobal>(
+fn is_told<R: Threads + Wait + Sync + AllocGlobal>(
     rt: &R,
     call: u64,
     whole: bool,
@@ -98,24 +97,5 @@ fn a_failed_call_of_a_consolidation_is_told_and_hides_nothing(rt: HostRuntime) -
         assert!(rt; is_told(&rt, call, false, object)?, "{call} was not done");
         assert!(rt; is_told(&rt, call, true, object)?, "{call} was done");
     }
-    Ok(())
-}
-
-#[test]
-fn a_broken_list_of_sources_is_told(rt: HostRuntime) -> Result<(), Fail> {
-    let alloc = rt.alloc();
-    let script = format!(in alloc; "{C1}{WRITE}{WRITE}")?;
-    let Shown {
-        status: _,
-        printed: _,
-        journal: _,
-        mut store,
-    } = play_well(&rt, script.as_str())?;
-    store.plant(vac(2), ByteList::new(alloc))?;
-    let damaged = Second {
-        script: CONSOLIDATE,
-        text: "0.1|consolidate|refused|Damaged|__commits/__1_1_<2>_1.vac|0\n",
-    };
-    assert!(rt; is_second(&rt, store, damaged)?, "an empty list");
     Ok(())
 }

@@ -2,6 +2,7 @@
 
 use super::{Shown, play_over, play_well, said};
 use std::alloc::Global;
+use std::sync::Wait;
 use std::test::Fail;
 use std::thread::Threads;
 use ts_base::{ByteList, Name, OutOfMemory, Part};
@@ -98,7 +99,7 @@ fn gets(journal: &Journal) -> usize {
 }
 
 // What a read of a run of its own prints, and its calls.
-fn read_of<R: Threads + Sync + AllocGlobal>(
+fn read_of<R: Threads + Wait + Sync + AllocGlobal>(
     rt: &R,
     written: &str,
     low: u64,

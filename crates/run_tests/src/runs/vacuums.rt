@@ -1,6 +1,7 @@
-//! Vacuums: what one leaves, calls of one that fail, and leases that hold one up.
+//! Vacuums: what one leaves, and calls of one that fail.
 
-use super::{C1, READ, Second, Shown, WRITE, fails_at, is_second, play_over, play_well, said};
+use super::{C1, READ, Shown, fails_at, play_over, play_well, said};
+use std::sync::Wait;
 use std::test::Fail;
 use std::thread::Threads;
 use ts_store::MemStore;
@@ -14,9 +15,6 @@ const MERGED: &str = "{'cmd':'write','at':1,'cols':{'x':[5],'v':[10]}}\n\
 const VACUUM: &str = "{'cmd':'vacuum','at':8}\n";
 
 const UNLOCK: &str = "{'cmd':'unlock'}\n";
-
-/// A read that is stopped while it holds its lease.
-const STOPPED: &str = "{'cmd':'read','at':9,'stop':2}\n";
 
 /// What is printed of a create, of the writes and of the consolidation.
 const DONE: &str = "0.1|create|ok\n0.2|write|ok|__1_1_<2>_1\n0.3|write|ok|__1_1_<3>_1\n\
@@ -66,7 +64,7 @@ const CALLS: [(u64, &str); 16] = [
 
 // Whether a call of a vacuum that fails is told, and a read behind it shows what was written. An unlock
 // before the read removes the lease that is left where its removal failed.
-fn is_told<R: Threads + Sync + AllocGlobal>(
+fn is_told<R: Threads + Wait + Sync + AllocGlobal>(
     rt: &R,
     call: u64,
     whole: bool,
@@ -88,35 +86,5 @@ fn a_failed_call_of_a_vacuum_is_told_and_hides_nothing(rt: HostRuntime) -> Resul
         assert!(rt; is_told(&rt, call, false, object)?, "{call} was not done");
         assert!(rt; is_told(&rt, call, true, object)?, "{call} was done");
     }
-    Ok(())
-}
-
-/// What a second run does over a store with the lease of a read of another run, which was stopped: a
-/// read leaves its own lease too, an unlock in another lane takes that of the other run alone, and so a
-/// vacuum is held up.
-const HELD_UP: Second = Second {
-    script: "{'cmd':'read','at':9,'stop':2}\n\
-        {'cmd':'unlock','lane':1}\n\
-        {'cmd':'vacuum','at':9,'lane':2}\n",
-    text: "0.1|read|stopped\n1.1|unlock|ok|1\n\
-        2.1|vacuum|refused|Leased|__leases/__9_9_00000000000000010000000000000001.shr\n",
-};
-
-#[test]
-fn an_unlock_takes_the_leases_of_other_runs(rt: HostRuntime) -> Result<(), Fail> {
-    let alloc = rt.alloc();
-    let script = format!(in alloc; "{C1}{WRITE}{STOPPED}")?;
-    let Shown {
-        status,
-        printed,
-        journal,
-        store,
-    } = play_well(&rt, script.as_str())?;
-    let text = "0.1|create|ok\n0.2|write|ok|__1_1_<2>_1\n0.3|read|stopped\n";
-    assert_eq!(rt; status, 0);
-    assert_eq!(rt; printed, said(alloc, text)?);
-    // Nine calls, and two of the read.
-    assert_eq!(rt; journal.len(), 11);
-    assert!(rt; is_second(&rt, store, HELD_UP)?, "the lease of this run");
     Ok(())
 }
