@@ -10,8 +10,8 @@ use std::alloc::Global;
 use std::sync::Wait;
 use std::test::Fail;
 use std::thread::{Threads, join};
-use ts_base::{ByteList, Key, Name};
-use ts_store::{Call, FaultList, Journal, MemStore, Reply, enter_call};
+use ts_base::{ByteList, Key, Name, NameList, Prefix};
+use ts_store::{Call, Fault, FaultList, Journal, MemStore, Reply, enter_call};
 use ts_turnstile::{Closed, Pass, Turnstile};
 
 // The lane that is split off.
@@ -147,6 +147,109 @@ fn two_passes_in_turn_are_answered_as_one_thread(rt: HostRuntime) -> Result<(), 
         [Name::Schema(Key { t: 1, id: 2 })].as_slice()
     );
     assert_eq!(rt; names, alone.store.names(alloc)?);
+    Ok(())
+}
+
+// Whether a call of a pass is answered as wanted, and its entry has this place.
+fn is_placed<R: Wait>(
+    rt: &R,
+    alloc: Global,
+    turnstile: &Turnstile<MemStore>,
+    pass: &mut Pass,
+    call: Call,
+    want: &Reply,
+    place: u64,
+) -> bool
+    requires own { Belongs turnstile.now pass.old }
+    requires spelled { IsSpelledCall call }
+    ensures own { Belongs turnstile.now pass.new }
+    ensures same { claim_of (pass_view pass.new) ≡ claim_of (pass_view pass.old) }
+{
+    let reply = turnstile.call_as(rt, alloc, pass, call);
+    reply == *want && pass.place() == Some(place)
+}
+
+// Whether one pass is answered so: a put, the same put again, a listing and a get.
+fn plays_alone<R: Wait>(
+    rt: &R,
+    alloc: Global,
+    turnstile: &Turnstile<MemStore>,
+    pass: &mut Pass,
+) -> Option<bool>
+    requires own { Belongs turnstile.now pass.old }
+    ensures own { Belongs turnstile.now pass.new }
+    ensures same { claim_of (pass_view pass.new) ≡ claim_of (pass_view pass.old) }
+{
+    let put = Call::Put(Name::Domain, text(alloc, "a")?);
+    let again = Call::Put(Name::Domain, text(alloc, "a")?);
+    let list = Call::List(Prefix::Schemas);
+    let none = Reply::Names(NameList::new(alloc));
+    let get = Call::Get(Name::Domain, 0, 9);
+    let bytes = Reply::Bytes(text(alloc, "a")?);
+    let new = pass.place().is_none();
+    let a = is_placed(rt, alloc, turnstile, pass, put, &Reply::Made, 0);
+    let b = is_placed(rt, alloc, turnstile, pass, again, &Reply::Taken, 1);
+    let c = is_placed(rt, alloc, turnstile, pass, list, &none, 2);
+    let d = is_placed(rt, alloc, turnstile, pass, get, &bytes, 3);
+    Some(new && a && b && c && d)
+}
+
+// Whether one pass is answered so where the first call fails and is done: a put, and the same put again.
+fn plays_after_a_fault<R: Wait>(
+    rt: &R,
+    alloc: Global,
+    turnstile: &Turnstile<MemStore>,
+    pass: &mut Pass,
+) -> Option<bool>
+    requires own { Belongs turnstile.now pass.old }
+    ensures own { Belongs turnstile.now pass.new }
+    ensures same { claim_of (pass_view pass.new) ≡ claim_of (pass_view pass.old) }
+{
+    let put = Call::Put(Name::Domain, text(alloc, "a")?);
+    let again = Call::Put(Name::Domain, text(alloc, "a")?);
+    let a = is_placed(rt, alloc, turnstile, pass, put, &Reply::Failed, 0);
+    let b = is_placed(rt, alloc, turnstile, pass, again, &Reply::Taken, 1);
+    Some(a && b)
+}
+
+// The journal, once the only pass is done.
+fn closed_alone(turnstile: Turnstile<MemStore>, pass: Pass) -> Journal
+    requires own { Belongs turnstile pass }
+    requires claim { claim_of (pass_view pass) ≡ record { lanes = 0 ∷ []; first = true; split_off = [] } }
+{
+    let Closed { store: _, journal } = turnstile.close(pass);
+    journal
+}
+
+#[test]
+fn each_call_of_a_pass_has_its_place(rt: HostRuntime) -> Result<(), Fail> {
+    let alloc = rt.alloc();
+    let store = MemStore::new(alloc, FaultList::new(alloc));
+    let Ok((turnstile, mut pass)) = Turnstile::new(&rt, alloc, store) else {
+        return Err(Fail::from("no memory"));
+    };
+    let played = plays_alone(&rt, alloc, &turnstile, &mut pass);
+    let journal = closed_alone(turnstile, pass);
+    assert_eq!(rt; played, Some(true));
+    assert_eq!(rt; journal.len(), 4);
+    Ok(())
+}
+
+#[test]
+fn a_call_that_failed_may_have_been_done(rt: HostRuntime) -> Result<(), Fail> {
+    let alloc = rt.alloc();
+    let mut plan = FaultList::new(alloc);
+    plan.push(Fault {
+        call: 0,
+        whole: true,
+    })?;
+    let Ok((turnstile, mut pass)) = Turnstile::new(&rt, alloc, MemStore::new(alloc, plan)) else {
+        return Err(Fail::from("no memory"));
+    };
+    let played = plays_after_a_fault(&rt, alloc, &turnstile, &mut pass);
+    let journal = closed_alone(turnstile, pass);
+    assert_eq!(rt; played, Some(true));
+    assert_eq!(rt; journal.len(), 2);
     Ok(())
 }
 
