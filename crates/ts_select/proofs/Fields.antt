@@ -1,0 +1,68 @@
+-- The fields of a version: its coordinates, and then its values.
+use Rattle.std.proofs.Common.{◌≡◌, ℕ, zero, suc, ◌+◌, ◌-◌, ◌<◌, ◌≤◌, List, [], ◌∷◌, ◌++◌, map, length, get_or, sym, ap, ◌∙◌, refl, arith, length-append}
+use Rattle.std.specs.Prelude.{All, ℤ, pos, None}
+use Rattle.std.specs.List.{slice_get}
+use Rattle.std.specs.Option.{option_map}
+use Rattle.std.proofs.lemmas.List.{length-map}
+use Rattle.std.proofs.lemmas.Option.{slice_get-map}
+use Rattle.ts_base.specs.declared.heads.Version.{Version}
+use Rattle.ts_base.specs.declared.values.Val.{Val}
+use Rattle.ts_base.specs.declared.values.Val.TheVariants.{Null, Int}
+use Rattle.ts_table.specs.Tables.{no_version, version_or}
+use Rattle.ts_select.specs.Cells.{fields_at}
+use Rattle.ts_select.specs.Columns.{or_null}
+
+-- an item of the first of two lists
+get_left : {A : Type 0} (xs ys : List A) (i : ℕ) → i < length xs → slice_get (xs ++ ys) i ≡ slice_get xs i
+get_left [] ys i within = absurd (omega (arith, within))
+get_left (x ∷ xs) ys zero within = refl
+get_left (x ∷ xs) ys (suc i) within = get_left xs ys i (omega (arith, within))
+
+-- an item of the second of two lists
+get_right : {A : Type 0} (xs ys : List A) (i : ℕ) → length xs ≤ i → slice_get (xs ++ ys) i ≡ slice_get ys (i - length xs)
+get_right [] ys i past = let same : i ≡ i - 0 = omega arith in ap (slice_get ys) same
+get_right (x ∷ xs) ys zero past = absurd (omega (arith, past))
+get_right (x ∷ xs) ys (suc i) past =
+    let same : i - length xs ≡ suc i - suc (length xs) = omega arith in
+    get_right xs ys i (omega (arith, past)) ∙ ap (slice_get ys) same
+
+-- a field below the number of dimensions is a coordinate
+pub number_found : (versions : List Version) (dims place field : ℕ) → All (λ (v : Version). length v.coords ≡ dims) versions → place < length versions → field < dims
+    → option_map Int (slice_get (version_or versions place).coords field) ≡ slice_get (fields_at versions place) field
+number_found versions dims place field long within below =
+    let v = version_or versions place in
+    let count : length (map Int v.coords) ≡ dims = length-map v.coords Int ∙ long place no_version within in
+    sym (slice_get-map Int v.coords field) ∙ sym (get_left (map Int v.coords) v.row field (omega (arith, below, count)))
+
+-- any other one is a value
+pub value_found : (versions : List Version) (dims place field : ℕ) → All (λ (v : Version). length v.coords ≡ dims) versions → place < length versions → dims ≤ field
+    → slice_get (version_or versions place).row (field - dims) ≡ slice_get (fields_at versions place) field
+value_found versions dims place field long within past =
+    let v = version_or versions place in
+    let count : length (map Int v.coords) ≡ dims = length-map v.coords Int ∙ long place no_version within in
+    ap (λ n. slice_get v.row (field - n)) (sym count) ∙ sym (get_right (map Int v.coords) v.row field (omega (arith, past, count)))
+
+pub ruleset founds = (number_found, value_found)
+
+-- the item at a place, or null where there is none
+pub null_if_none : (vals : List Val) (place : ℕ) → or_null (slice_get vals place) ≡ get_or vals place Null
+null_if_none [] place = refl
+null_if_none (val ∷ vals) zero = refl
+null_if_none (val ∷ vals) (suc place) = null_if_none vals place
+
+pub ruleset nulls = (null_if_none)
+
+-- where there is no coordinate the default is found
+pub zero_if_none : (numbers : List ℤ) (dim : ℕ) → None ≡ slice_get numbers dim → pos 0 ≡ get_or numbers dim (pos 0)
+zero_if_none [] dim none = refl
+zero_if_none (x ∷ numbers) zero none = cc
+zero_if_none (x ∷ numbers) (suc dim) none = zero_if_none numbers dim none
+
+-- the number of all fields
+pub fields_long : (versions : List Version) (dims attrs place : ℕ) → All (λ (v : Version). length v.coords ≡ dims) versions → All (λ (v : Version). length v.row ≡ attrs) versions
+    → place < length versions → length (fields_at versions place) ≡ dims + attrs
+fields_long versions dims attrs place long wide within =
+    let v = version_or versions place in
+    let first : length v.coords ≡ dims = long place no_version within in
+    let second : length v.row ≡ attrs = wide place no_version within in
+    length-append (map Int v.coords) v.row ∙ omega (arith, length-map v.coords Int, first, second)

@@ -1,0 +1,5 @@
+pub mod Fields
+pub mod Gathered
+pub mod Ranges
+pub mod Ascending
+pub mod Placed

@@ -1,0 +1,45 @@
+-- The places of a list, one after another.
+use Rattle.std.proofs.Common.{◌≡◌, ℕ, suc, ◌+◌, ◌-◌, ◌<◌, ◌≤◌, Bool, true, false, List, [], ◌∷◌, ◌++◌, map, length, sym, ap, ◌∙◌, arith}
+use Rattle.std.specs.Prelude.{All, cond, filter}
+use Rattle.std.specs.List.{range_with_len}
+use Rattle.std.proofs.lemmas.List.{length-map, get_or-map, map-id, append-nil}
+use Rattle.std.proofs.lemmas.List.Elements.{All-filter}
+use Rattle.std.proofs.lemmas.List.FromFn.{length-range_with_len, get_or-range_with_len, fill_by_all, filter_of_map_range_with_len_more}
+use Rattle.ts_base.specs.declared.heads.Version.{Version}
+use Rattle.ts_table.specs.Tables.{no_version}
+use Rattle.ts_select.specs.Cells.{cell_of, cell_at}
+
+-- one place more passes, or not
+passing_more : (passes : ℕ → Bool) (n : ℕ) → filter passes (range_with_len 0 (n + 1)) ≡ filter passes (range_with_len 0 n) ++ cond (passes n) (n ∷ []) []
+passing_more passes n =
+    ap (filter passes) (sym (map-id (range_with_len 0 (n + 1)))) ∙ filter_of_map_range_with_len_more passes (λ k. k) 0 n n (omega arith)
+    ∙ ap (λ ks. filter passes ks ++ cond (passes n) (n ∷ []) []) (map-id (range_with_len 0 n))
+
+pub passing_taken : (passes : ℕ → Bool) (n : ℕ) → passes n ≡ true → filter passes (range_with_len 0 (n + 1)) ≡ filter passes (range_with_len 0 n) ++ n ∷ []
+passing_taken passes n here = passing_more passes n ∙ ap (λ t. filter passes (range_with_len 0 n) ++ cond t (n ∷ []) []) here
+
+pub passing_left : (passes : ℕ → Bool) (n : ℕ) → passes n ≡ false → filter passes (range_with_len 0 (n + 1)) ≡ filter passes (range_with_len 0 n)
+passing_left passes n here = passing_more passes n ∙ ap (λ t. filter passes (range_with_len 0 n) ++ cond t (n ∷ []) []) here ∙ append-nil (filter passes (range_with_len 0 n))
+
+pub ruleset steps = (passing_taken, passing_left)
+
+-- each place of a list lies within it
+pub range_within : (n : ℕ) → All (λ place. place < n) (range_with_len 0 n)
+range_within n k d below =
+    let there : k < n = omega (arith, below, length-range_with_len 0 n) in
+    omega (arith, there, get_or-range_with_len 0 n k d there)
+
+pub passing_within : (passes : ℕ → Bool) (n : ℕ) → All (λ place. place < n) (filter passes (range_with_len 0 n))
+passing_within passes n = All-filter passes (λ place. place < n) (range_with_len 0 n) (range_within n)
+
+-- the cells at all places are all cells
+pub all_cells : (versions : List Version) → map (cell_at versions) (range_with_len 0 (length versions)) ≡ map cell_of versions
+all_cells versions =
+    sym (fill_by_all (cell_at versions) (map cell_of versions) (length versions) (cell_of no_version) (length-map versions cell_of) (λ k below. get_or-map cell_of versions k no_version (cell_of no_version) below))
+
+-- the places from the one before on
+pub place_before : (left n : ℕ) → 0 < left → left ≤ n → range_with_len (left - 1) (n - (left - 1)) ≡ (left - 1) ∷ range_with_len left (n - left)
+place_before left n some within =
+    let longer : n - (left - 1) ≡ suc (n - left) = omega arith in
+    let next : left - 1 + 1 ≡ left = omega arith in
+    ap (range_with_len (left - 1)) longer ∙ ap (λ k. (left - 1) ∷ range_with_len k (n - left)) next

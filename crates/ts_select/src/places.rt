@@ -1,0 +1,138 @@
+//! The places of the cells that a query selects.
+ghost use Rattle.std.specs.Prelude.{◌≡◌, ◌<◌, ◌^◌, filter, length, map, IfOk, OnOk, IsTrue, All};
+ghost use Rattle.std.specs.List.{range_with_len};
+ghost use Rattle.ts_base.specs.declared.heads.Version.{Version as AnyVersion};
+ghost use Rattle.ts_domain.specs.Domains.{is_in_domain};
+ghost use Rattle.ts_schema.specs.SchemaTexts.{AreAttrs};
+ghost use Rattle.ts_model.specs.Queries.{in_layout, passes};
+ghost use Rattle.ts_model.specs.Selections.{picks_in, passes_by};
+ghost use Rattle.ts_select.specs.Cells.{cell_at};
+ghost use Rattle.ts_select.specs.Places.{passes_at, placed_behind, with_place};
+
+use crate::layout::is_in_layout;
+use std::alloc::Global;
+use std::collections::BTreeMap;
+use ts_base::{IndexList, OutOfMemory};
+use ts_batch::{Batch, BatchCell};
+use ts_cond::{Cond, PickList};
+use ts_match::matches_cell;
+use ts_model::{GlobalPlace, Ready, attr_fields, place_in};
+use ts_schema::{Frame, Schema};
+
+/// The places of the cells that a query's filter matches, in its layout.
+pub(crate) fn places_of(
+    alloc: Global,
+    frame: &Frame,
+    schema: &Schema,
+    ready: &Ready,
+    cells: &Batch,
+) -> Result<IndexList, OutOfMemory>
+    requires few { length cells.now < 2 ^ 32 }
+    requires attrs { AreAttrs schema.now.attrs }
+    requires inside { All (λ (v : AnyVersion). IsTrue (is_in_domain frame.now.domain v.coords)) cells.now }
+    ensures within { IfOk result (All (λ place. place < length cells.now)) }
+    ensures cells { IfOk result (λ places. map (cell_at cells.now) places ≡ in_layout frame.now ready.now.layout (filter (λ e. passes ready.now.filter schema.now.attrs e.0 e.1) (map (λ (v : AnyVersion). (v.coords, v.row)) cells.now))) }
+{
+    let picks = picks_in(alloc, schema, &ready.filter)?;
+    if is_in_layout(frame, ready.layout, cells) {
+        return passing(alloc, ready, &picks, cells);
+    }
+    let placed = placed(alloc, frame, ready, &picks, cells)?;
+    in_order(alloc, &placed)
+}
+
+// Where a filter finds its values in rows of the schema's attributes.
+fn picks_in(alloc: Global, schema: &Schema, filter: &Option<Cond>) -> Result<PickList, OutOfMemory>
+    requires attrs { AreAttrs schema.now.attrs }
+    ensures { IfOk result (λ picks. picks ≡ picks_in schema.now.attrs filter.now) }
+{
+    match filter {
+        None => Ok(PickList::new(alloc)),
+        Some(condition) => condition.bind(alloc, &attr_fields(alloc, &schema.attrs)?),
+    }
+}
+
+// The places of the cells that pass the filter, in the order of the cells.
+#[tactic(auto, using(crate::proofs::Ranges::steps))]
+fn passing(
+    alloc: Global,
+    ready: &Ready,
+    picks: &PickList,
+    cells: &Batch,
+) -> Result<IndexList, OutOfMemory>
+    requires { length cells.now < 2 ^ 32 }
+    ensures { IfOk result (λ places. places ≡ filter (passes_at picks.now ready.now.filter cells.now) (range_with_len 0 (length cells.now))) }
+{
+    let mut places = IndexList::from_vec(Vec::with_capacity(alloc, cells.len() as usize)?);
+    for place in 0..cells.len() {
+        if passes_at(picks, &ready.filter, cells, place) {
+            places.push(place as u32)?;
+        }
+    }
+    Ok(places)
+}
+
+// Whether the cell at a place passes the filter, whose values are found so.
+fn passes_at(picks: &PickList, filter: &Option<Cond>, cells: &Batch, place: u64) -> bool
+    requires { place < length cells.now }
+    ensures { result ≡ passes_at picks.now filter.now cells.now place }
+{
+    match filter {
+        None => true,
+        Some(condition) => matches_cell(condition, picks, &BatchCell::of(cells, place)),
+    }
+}
+
+// The places of the cells that pass the filter, by those in the layout. Where two have one place in
+// the layout the first is kept.
+fn placed(
+    alloc: Global,
+    frame: &Frame,
+    ready: &Ready,
+    picks: &PickList,
+    cells: &Batch,
+) -> Result<BTreeMap<GlobalPlace, u32>, OutOfMemory>
+    requires few { length cells.now < 2 ^ 32 }
+    requires inside { All (λ (v : AnyVersion). IsTrue (is_in_domain frame.now.domain v.coords)) cells.now }
+    ensures { IfOk result (λ placed. placed.entries ≡ placed_behind frame.now ready.now picks.now cells.now (range_with_len 0 (length cells.now))) }
+{
+    let mut left = cells.len();
+    let mut placed = BTreeMap::new(alloc);
+    while left > 0 {
+        left -= 1;
+        place(&mut placed, frame, ready, picks, cells, left)?;
+    }
+    Ok(placed)
+}
+
+// One cell takes its place, where it passes the filter.
+fn place(
+    placed: &mut BTreeMap<GlobalPlace, u32>,
+    frame: &Frame,
+    ready: &Ready,
+    picks: &PickList,
+    cells: &Batch,
+    place: u64,
+) -> Result<(), OutOfMemory>
+    requires few { length cells.now < 2 ^ 32 }
+    requires inside { All (λ (v : AnyVersion). IsTrue (is_in_domain frame.now.domain v.coords)) cells.now }
+    requires place { place < length cells.now }
+    ensures { OnOk result (placed.new.entries ≡ with_place frame.now ready.now picks.now cells.now place placed.old.entries) }
+{
+    if passes_at(picks, &ready.filter, cells, place) {
+        let at = place_in(frame, ready.layout, &cells.coords(place));
+        placed.insert(at, place as u32)?;
+    }
+    Ok(())
+}
+
+// The places of cells, in the order of those in the layout.
+fn in_order(alloc: Global, placed: &BTreeMap<GlobalPlace, u32>) -> Result<IndexList, OutOfMemory>
+    ensures { IfOk result (λ places. places ≡ map (λ e. e.1) placed.now.entries) }
+{
+    let mut places = IndexList::new(alloc);
+    for (_at, place) in placed.iter() {
+        places.push(*place)?;
+    }
+    Ok(places)
+}
