@@ -1,10 +1,8 @@
 -- The cells that columns hold, one by one.
-use Rattle.std.proofs.Common.{◌≡◌, ℕ, zero, suc, ◌<◌, ℤ, pos, List, [], ◌∷◌, length, map, get_or, replicate, Some, None, refl, sym, ap, ◌∙◌, arith}
+use Rattle.std.proofs.Common.{◌≡◌, ℕ, zero, suc, ◌<◌, ℤ, pos, List, [], ◌∷◌, length, map, get_or, replicate, refl, sym, ap, ◌∙◌, arith}
 use Rattle.std.specs.List.{All}
-use Rattle.std.specs.Prelude.{slice_get}
 use Rattle.std.proofs.Math.ListN.{length-replicate}
 use Rattle.std.proofs.lemmas.List.Elements.{All-head, All-tail}
-use Rattle.std.proofs.lemmas.Option.{get_or_from_slice_get}
 use Rattle.ts_base.specs.declared.values.Val.{Val}
 use Rattle.ts_base.specs.declared.values.Val.TheVariants.{Null}
 use Rattle.ts_plain.specs.declared.stored.StoredCell.{StoredCell}
@@ -77,21 +75,3 @@ cell_there count coords origins vals k cell a b c within =
     let x = row_of (pos 0) count coords k a within in
     let r = row_of Null count vals k c within in
     at ∙ (λ i. record { coords = x i; origin = get_or origins k 0; row = r i })
-
--- the value that a column has at a place
-pub val_there : (columns : List (List Val)) (place attr : ℕ) (column : List Val) (v x : Val) → slice_get columns attr ≡ Some column → slice_get column place ≡ Some v → x ≡ v
-    → x ≡ get_or (map (λ xs. get_or xs place Null) columns) attr Null
-val_there [] place attr column v x is got same = absurd (cc)
-val_there (xs ∷ columns) place zero column v x is got same =
-    let here : xs ≡ column = cc in
-    same ∙ sym (get_or_from_slice_get column place v Null got) ∙ ap (λ (ys : List Val). get_or ys place Null) (sym here)
-val_there (xs ∷ columns) place (suc attr) column v x is got same = val_there columns place attr column v x is got same
-
--- null stands where there is no column
-pub val_missing : (columns : List (List Val)) (place attr : ℕ) → slice_get columns attr ≡ None → Null ≡ get_or (map (λ xs. get_or xs place Null) columns) attr Null
-val_missing [] place attr is = refl
-val_missing (xs ∷ columns) place zero is = absurd (cc)
-val_missing (xs ∷ columns) place (suc attr) is = val_missing columns place attr is
-
--- the value of an attribute
-pub ruleset val_steps = (val_there, val_missing)

@@ -5,6 +5,7 @@ pub mod CellSteps
 pub mod ColumnSteps
 pub mod TileSteps
 pub mod SiftLaws
+pub mod PickLaws
 pub mod TileSifts
 pub mod TileCounts
 pub mod DecodeSteps

@@ -204,6 +204,3 @@ module _ (opened : Opened) where
   part_goes also s leaf count ranges c r is told =
       let next = λ (c : Columns). sift_cells opened ranges 0 s (cells_in c) in
       told_same also (sift_part opened s leaf count ranges) (sift_cells opened ranges 0 s (cells_in c)) r (part_split s leaf count ranges ∙ ap (λ (a : Result Columns Fault). and_then a next) is) told
-
--- the steps of the loop over the cells
-pub ruleset cells_steps = (cells_more, cells_done)

@@ -1,16 +1,17 @@
 -- What is taken of the cells of tiles, cell by cell and tile by tile.
-use Rattle.std.specs.Prelude.{◌≡◌, ℕ, ◌≤◌, ℤ, List, [], ◌∷◌, ◌++◌, length, map, Option, Some, None, Result, Ok}
+use Rattle.std.specs.Prelude.{◌≡◌, ℕ, ◌≤◌, Bool, true, false, ℤ, List, [], ◌∷◌, ◌++◌, length, map, Option, Some, None, Result, Ok}
 use Rattle.std.specs.List.{All}
 use Rattle.ts_base.specs.declared.heads.Version.{Version}
 use Rattle.ts_base.specs.declared.values.Val.{Val}
 use Rattle.ts_domain.specs.declared.boxes.SubBox.{SubBox}
 use Rattle.ts_schema.specs.declared.frames.Frame.{Frame}
 use Rattle.ts_schema.specs.declared.wants.Want.{Want}
-use Rattle.ts_schema.specs.Wants.{taken}
+use Rattle.ts_schema.specs.Wants.{is_wanted, taken}
 use Rattle.ts_plain.specs.declared.stored.StoredHead.{StoredHead}
 use Rattle.ts_plain.specs.declared.stored.StoredCell.{StoredCell}
 use Rattle.ts_plain.specs.Insides.{IsInside}
 use Rattle.ts_plain.specs.Pieces.{version_in}
+use Rattle.ts_gather.specs.Rows.{version_there}
 use Rattle.ts_sparse_read.specs.declared.columns.Columns.{Columns}
 use Rattle.ts_sparse_read.specs.declared.opened.Opened.{Opened}
 use Rattle.ts_sparse_read.specs.declared.opened.WantedTile.{WantedTile}
@@ -70,6 +71,25 @@ pub record AreSound (frame : Frame) (c : Columns) : Type 0 where
   pub origins : length c.origins ≡ c.count
   pub vals : All (λ (column : List Val). length column ≡ c.count) c.vals
   pub inside : All (IsInside frame) (cells_in c)
+
+-- ---- places in a tile
+
+-- a cell that stands there is wanted
+abbrev pub is_spot_wanted : Want → StoredHead → Spot → Bool
+is_spot_wanted want head s = is_wanted want (version_in head (bare s))
+
+-- the place, if it is one of those
+abbrev pub place_if : Bool → ℕ → List ℕ
+place_if true place = place ∷ []
+place_if false place = []
+
+-- the versions of the cells at these places of a tile, with the wanted values alone
+abbrev pub versions_at : Opened → Columns → List ℕ → List Version
+versions_at opened c places = map (version_there (opened.head).origins (opened.head).schema (opened.want).attrs c.coords c.origins c.vals) places
+
+-- the versions at these places were taken, and the last cell stands there
+abbrev pub picked : Opened → Columns → List ℕ → Option Spot → Sifted
+picked opened c places last = record { found = versions_at opened c places; last = last }
 
 -- ---- what is taken
 

@@ -1,17 +1,11 @@
 //! Cells from the columns of a tile.
-ghost use Rattle.std.specs.Prelude.{◌≡◌, ◌≤◌, ◌<◌, List, ℤ, pos, length, map, get_or, IfOk};
-ghost use Rattle.std.specs.List.{All};
-ghost use Rattle.ts_base.specs.declared.values.Val.{Val as AnyVal};
-ghost use Rattle.ts_base.specs.declared.values.Val.TheVariants as val;
-ghost use Rattle.ts_schema.specs.Wants.{value_of, cut_row};
+ghost use Rattle.std.specs.Prelude.{◌≡◌, ◌≤◌, ◌<◌, pos, length, map, get_or};
 ghost use Rattle.ts_sparse_read.specs.Sifts.{spot_of, cell_in};
 
 use crate::columns::{Columns, NumberLists};
 use crate::sifted::Spot;
 use arrayvec::ArrayVec;
-use std::alloc::Global;
-use ts_base::{Coords, OutOfMemory, Row, Val};
-use ts_table::Column;
+use ts_base::Coords;
 
 /// Where the cell at a place stands.
 pub(crate) fn spot_at(columns: &Columns, place: u64) -> Spot
@@ -37,28 +31,4 @@ fn coords_at(coords: &NumberLists, place: u64) -> Coords
         numbers.push(column.at_or_zero(place));
     }
     Coords::new(numbers.as_slice())
-}
-
-/// The values of the cell at a place, those of these attributes alone. One that has no column is null.
-pub fn row_at(alloc: Global, attrs: &[u32], vals: &[Column], place: u64) -> Result<Row, OutOfMemory>
-    requires { All (λ (column : List AnyVal). place < length column) vals.now }
-    ensures { IfOk result (λ row. row ≡ cut_row attrs.now (map (λ column. get_or column place val.Null) vals.now)) }
-{
-    let mut row = Row::from_vec(Vec::with_capacity(alloc, attrs.len())?);
-    for attr in attrs {
-        row.push(val_at(alloc, *attr, vals, place)?)?;
-    }
-    Ok(row)
-}
-
-// The value of an attribute of the cell at a place.
-#[tactic(auto, using(crate::proofs::CellSteps::val_steps))]
-fn val_at(alloc: Global, attr: u32, vals: &[Column], place: u64) -> Result<Val, OutOfMemory>
-    requires { All (λ (column : List AnyVal). place < length column) vals.now }
-    ensures { IfOk result (λ found. found ≡ value_of (map (λ column. get_or column place val.Null) vals.now) attr) }
-{
-    match vals.get(attr as usize) {
-        Some(column) => column.at(place).to_val(alloc),
-        None => Ok(Val::Null),
-    }
 }

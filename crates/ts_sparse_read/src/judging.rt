@@ -11,8 +11,8 @@ use crate::reading::sift_tile;
 use crate::sifted::Sifted;
 use std::alloc::Global;
 use std::thread::Threads;
-use ts_base::{ByteList, OutOfMemory, VersionList};
-use ts_batch::{Batch, Batches};
+use ts_base::{ByteList, OutOfMemory};
+use ts_batch::Batches;
 use ts_fetch::{Judge, Verdict};
 
 impl Judge for Opened {
@@ -25,10 +25,7 @@ impl Judge for Opened {
         got: &[ByteList],
     ) -> Result<Verdict, OutOfMemory> {
         match sift_tiles(rt, alloc, self, got) {
-            Ok(sifted) => {
-                let versions = Batch::of_rows(sifted.found);
-                Ok(Verdict::Whole(Batches::of(alloc, versions)?))
-            }
+            Ok(sifted) => Ok(Verdict::Whole(sifted.found)),
             Err(fault) => told(fault),
         }
     }
@@ -64,7 +61,7 @@ fn sift_tiles<R: Threads + Sync>(
     let tiles = opened.tiles.as_slice();
     let mut decoded = decode_tiles(rt, alloc, places, attrs, tiles, got)?;
     let mut sifted = Sifted {
-        found: VersionList::new(alloc),
+        found: Batches::new(alloc),
         last: None,
     };
     let mut next = 0;

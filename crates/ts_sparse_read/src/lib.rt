@@ -23,7 +23,6 @@ mod used;
 mod versions;
 
 pub use bounds::{are_bounds, is_box_in};
-pub use cells::row_at;
 pub use columns::vals_or_read;
 pub use decoding::{TileColumns, decode_tiles};
 pub use faults::CellFault;
@@ -41,4 +40,4 @@ pub use pieces::SparsePieces;
 pub use planning::plan_of;
 pub use ranges::Ranges;
 pub use used::{NamedParts, column_parts, is_among, used_among};
-pub use versions::{is_wanted, origin_key};
+pub use versions::origin_key;

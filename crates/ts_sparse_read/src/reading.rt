@@ -1,11 +1,12 @@
 //! Reading a tile.
-ghost use Rattle.std.specs.Prelude.{◌≡◌, ◌≤◌, ◌<◌, Ok, length, IfSome, IsTrue, OnOk};
+ghost use Rattle.std.specs.Prelude.{◌≡◌, ◌≤◌, ◌<◌, [], ◌++◌, Ok, length, IfOk, IfSome, IsTrue, OnOk};
 ghost use Rattle.std.specs.Option.{option_copied};
 ghost use Rattle.ts_domain.specs.Domains.{LiesInDomain};
+ghost use Rattle.ts_gather.specs.Rows.{AreRows};
 ghost use Rattle.ts_sparse_read.specs.Judges.{ranged};
 ghost use Rattle.ts_sparse_read.specs.TileReads.{vals_of_tile};
 ghost use Rattle.ts_sparse_read.specs.Reads.{DecodesFault};
-ghost use Rattle.ts_sparse_read.specs.Sifts.{spot_of, IsSpotInside, cells_in, cell_in, AreSound, sift_cell, sift_cells, sift_tile, sift_part};
+ghost use Rattle.ts_sparse_read.specs.Sifts.{spot_of, IsSpotInside, cells_in, cell_in, AreSound, is_spot_wanted, place_if, picked, sift_cell, sift_cells, sift_tile, sift_part};
 
 use crate::cells::spot_at;
 use crate::columns::{Columns, read_columns};
@@ -14,7 +15,7 @@ use crate::opened::{Opened, WantedTile};
 use crate::ordering::check_place;
 use crate::ranges::Ranges;
 use crate::sifted::{Sifted, Spot};
-use crate::versions::take_cell;
+use crate::versions::{add_rows, push_wanted};
 use std::alloc::Global;
 use ts_base::ByteList;
 use ts_column::ColumnList;
@@ -74,49 +75,69 @@ fn sift_part(
     ensures { DecodesFault (λ _. sifted.new) (sift_part opened.now sifted.old leaf.now count ranges.now) result }
 {
     let columns = read_columns(alloc, opened, entries, leaf, count, ranges, decoded)?;
-    sift_cells(alloc, opened, ranges, &columns, sifted)
+    sift_cells(alloc, opened, ranges, columns, sifted)
 }
 
 // Takes what is wanted of the cells that columns hold.
-#[tactic(auto, using(crate::proofs::SiftLaws::cells_steps))]
 fn sift_cells(
     alloc: Global,
     opened: &Opened,
     ranges: &Ranges,
-    columns: &Columns,
+    columns: Columns,
     sifted: &mut Sifted,
 ) -> Result<(), CellFault>
-    requires sound { AreSound opened.now.frame columns.now }
+    requires sound { AreSound opened.now.frame columns }
     requires last { IfSome sifted.old.last (IsSpotInside opened.now.frame) }
-    ensures { DecodesFault (λ _. sifted.new) (sift_cells opened.now ranges.now 0 sifted.old (cells_in columns.now)) result }
+    ensures { DecodesFault (λ _. sifted.new) (sift_cells opened.now ranges.now 0 sifted.old (cells_in columns)) result }
 {
-    for place in 0..columns.count {
-        sift_cell(alloc, opened, ranges, columns, place, sifted)?;
-    }
+    let places = pick_cells(alloc, opened, ranges, &columns, &mut sifted.last)?;
+    add_rows(alloc, opened, columns, places.as_slice(), &mut sifted.found)?;
     Ok(())
 }
 
-// Takes the cell at a place, if it is wanted.
-fn sift_cell(
+// The places of the cells that are wanted. The last cell is then that of these columns.
+#[tactic(auto, using(crate::proofs::PickLaws::pick_steps))]
+fn pick_cells(
     alloc: Global,
     opened: &Opened,
     ranges: &Ranges,
     columns: &Columns,
+    last: &mut Option<Spot>,
+) -> Result<Vec<u32>, CellFault>
+    requires sound { AreSound opened.now.frame columns.now }
+    requires inside { IfSome last.old (IsSpotInside opened.now.frame) }
+    ensures picks { DecodesFault (λ places. picked opened.now columns.now places.items last.new) (sift_cells opened.now ranges.now 0 (picked opened.now columns.now [] last.old) (cells_in columns.now)) result }
+    ensures rows { IfOk result (λ places. AreRows columns.now.count places.items) }
+{
+    let mut places = Vec::new(alloc);
+    for place in 0..columns.count {
+        pick_cell(opened, ranges, columns, place, last, &mut places)?;
+    }
+    Ok(places)
+}
+
+// Appends the place of a cell, if the cell is wanted. The last cell is then that one.
+fn pick_cell(
+    opened: &Opened,
+    ranges: &Ranges,
+    columns: &Columns,
     place: u64,
-    sifted: &mut Sifted,
+    last: &mut Option<Spot>,
+    places: &mut Vec<u32>,
 ) -> Result<(), CellFault>
     requires sound { AreSound opened.now.frame columns.now }
     requires within { place < columns.now.count }
-    requires last { IfSome sifted.old.last (IsSpotInside opened.now.frame) }
-    ensures sifts { DecodesFault (λ _. sifted.new) (sift_cell opened.now ranges.now place sifted.old (cell_in columns.now place)) result }
-    ensures last { OnOk result (IfSome sifted.new.last (IsSpotInside opened.now.frame)) }
+    requires inside { IfSome last.old (IsSpotInside opened.now.frame) }
+    ensures picks { DecodesFault (λ _. picked opened.now columns.now places.new.items last.new) (sift_cell opened.now ranges.now place (picked opened.now columns.now places.old.items last.old) (cell_in columns.now place)) result }
+    ensures inside { OnOk result (IfSome last.new (IsSpotInside opened.now.frame)) }
+    ensures rows { OnOk result (places.new.items ≡ places.old.items ++ place_if (is_spot_wanted opened.now.want opened.now.head (spot_of (cell_in columns.now place))) place) }
 {
     let spot = spot_at(columns, place);
     let consolidated = opened.head.consolidated;
-    let before = sifted.last.as_ref();
+    let before = last.as_ref();
     check_place(&opened.frame, consolidated, ranges, place, before, &spot)?;
-    take_cell(alloc, opened, columns, place, &spot, &mut sifted.found)?;
-    sifted.last = Some(spot);
+    push_wanted(opened, place, &spot, places)?;
+    *last = Some(spot);
     Ok(())
 }
 

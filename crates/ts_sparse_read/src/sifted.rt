@@ -1,5 +1,6 @@
 //! What is taken of the cells of tiles.
-use ts_base::{Coords, VersionList};
+use ts_base::Coords;
+use ts_batch::Batches;
 
 /// Where a cell stands in the order of its fragment.
 #[derive(Clone, Copy, Debug, PartialEq, Eq)]
@@ -13,8 +14,8 @@ pub(crate) struct Spot {
 /// What was taken of the cells so far.
 #[derive(Debug, Drop)]
 pub(crate) struct Sifted {
-    /// The versions that are wanted, in the order of their cells.
-    pub(crate) found: VersionList,
+    /// The versions that are wanted, in the order of their cells: a batch for each tile that has any.
+    pub(crate) found: Batches,
     /// Where the last cell stands, whether it is wanted or not.
     pub(crate) last: Option<Spot>,
 }
