@@ -1,137 +1,153 @@
--- The space tiles that meet a box, one after another, with the cells that stand before each.
-use Rattle.std.proofs.Common.{◌≡◌, ℕ, ◌+◌, ◌-◌, ◌^◌, ◌<◌, ◌≤◌, min, Bool, true, false, List, [], ◌∷◌, ◌++◌, length, map, get_or, take, drop, refl, sym, ap, subst, ◌∙◌, arith, append_assoc}
-use Rattle.std.specs.Prelude.{if◌then◌else◌, IsTrue}
+-- The space tiles that meet a box, found by their numbers.
+use Rattle.std.proofs.Common.{◌≡◌, ℕ, ◌+◌, ◌-◌, ◌^◌, ◌<◌, ◌≤◌, min, true, false, ℤ, List, [], ◌++◌, ◌∷◌, length, map, get_or, take, Some, sym, ap, subst, ◌∙◌, arith}
+use Rattle.std.specs.Prelude.{if◌then◌else◌, IsTrue, slice_get, Result, Ok, Err, IfOk}
 use Rattle.std.specs.List.{All, sum}
-use Rattle.std.proofs.lemmas.List.{drop_more, drop_all, append-nil, length-map, get_or-map, get_or_default}
-use Rattle.std.proofs.lemmas.List.Sums.{sum_by_more, sum_by_more_le}
-use Rattle.std.proofs.lemmas.Option.{slice_get-get_or}
-use Rattle.ts_domain.specs.declared.dims.Dim.{Dim}
-use Rattle.ts_domain.specs.declared.orders.Order.{Order}
+use Rattle.std.proofs.lemmas.List.{length-map, get_or-map, map-append, take_all}
+use Rattle.std.proofs.lemmas.Option.{get_or_from_slice_get, slice_get_within}
 use Rattle.ts_domain.specs.declared.boxes.SubBox.{SubBox}
 use Rattle.ts_domain.specs.Boxes.{IsBox, is_in_box, cells_of, do_boxes_meet}
-use Rattle.ts_domain.specs.Domains.{LiesInDomain}
-use Rattle.ts_domain.specs.Rects.{IsLike, places_from, places_meeting}
-use Rattle.ts_domain.proofs.Between.{length-is_between, is_between-low}
 use Rattle.ts_domain.specs.Dims.{IsSoundDim}
-use Rattle.ts_order.specs.Orders.{coords_in_order}
-use Rattle.ts_order.specs.Tiles.{tile_box, cut_box, tiles_in, AreTiles}
-use Rattle.ts_order.proofs.OrderedCoords.{length-coords_in_order}
-use Rattle.ts_order.proofs.HullCells.{counts_many}
+use Rattle.ts_domain.specs.Domains.{LiesInDomain}
+use Rattle.ts_domain.specs.Rects.{places_meeting}
+use Rattle.ts_domain.proofs.Between.{length-are_bounds, length-is_between, is_between-low, is_between-high}
+use Rattle.ts_order.specs.Orders.{turned, coords_in_order}
+use Rattle.ts_order.specs.Tiles.{cut_box, tile_box}
+use Rattle.ts_order.proofs.OrderLemmas.{length-is_in_domain, length-tile_numbers}
+use Rattle.ts_order.proofs.OrderedCoords.{place_of-only}
+use Rattle.ts_order.proofs.TileSteps.{take_more_get}
+use Rattle.ts_order.proofs.TileLaws.{is_between-cut}
+use Rattle.ts_order.proofs.TilesLemmas.{IsBox-cut_box}
+use Rattle.ts_order.proofs.TurnedLemmas.{are_bounds-turned, cells_between-turned, is_between-turned}
 use Rattle.ts_schema.specs.declared.frames.Frame.{Frame}
-use Rattle.ts_footer.proofs.FooterReads.{numbers_valid}
 use Rattle.ts_dense.specs.Slots.{tiles_over}
+use Rattle.ts_sparse_read.specs.declared.opened.Span.{Span}
 use Rattle.ts_sparse_read.specs.declared.opened.UsedColumn.{UsedColumn}
 use Rattle.ts_sparse_read.specs.declared.opened.WantedTile.{WantedTile}
 use Rattle.ts_sparse_read.specs.Opens.{no_box, is_box_in}
-use Rattle.ts_sparse_read.proofs.TileLaws.{box_dims}
-use Rattle.ts_dense_read.specs.SpaceTakes.{tile_behind, met_here, tile_among, tiles_met}
-
--- ---- boxes
-
--- a part of a box has as many sides as the box
-part_sides : (dims : List Dim) (tile : Order) (hull box : SubBox) (tiles : List SubBox) (i : ℕ) → AreTiles dims tile hull tiles → i < length tiles → length (get_or tiles i box).low ≡ length hull.low
-part_sides dims tile hull box tiles i are within =
-    let t = get_or tiles i box in
-    let at = slice_get-get_or tiles i box within in
-    let here : IsTrue (is_in_box t t.low) = is_between-low t.low t.high (are.valid i t at) in
-    sym (length-is_between hull.low hull.high t.low (are.within t.low i t at here)).0
-
--- a box in a domain has a side for each dimension
-box_sides : (dims : List Dim) (hull : SubBox) → LiesInDomain dims hull → length hull.low ≡ length (map (λ (d : Dim). d.low) dims)
-box_sides dims hull inside = sym (length-is_between (map (λ (d : Dim). d.low) dims) (map (λ (d : Dim). d.high) dims) hull.low inside.0).0
-
--- the space tiles of a hull are boxes with as many sides as a box in the array
-pub tiles_like : (dims : List Dim) (tile : Order) (hull sub : SubBox) (tiles : List SubBox) → AreTiles dims tile hull tiles → LiesInDomain dims hull → is_box_in dims sub ≡ true → All (IsLike sub) tiles
-tiles_like dims tile hull sub tiles are inside is i d within =
-    let same : length hull.low ≡ length sub.low = box_sides dims hull inside ∙ length-map dims (λ (d : Dim). d.low) ∙ sym (box_dims dims sub is) in
-    record { valid = are.valid i (get_or tiles i d) (slice_get-get_or tiles i d within); dims = part_sides dims tile hull d tiles i are within ∙ same }
-
-module _ (dims : List Dim) (tile cell : Order) (hull : SubBox) (tiles : List SubBox) (are : tiles ≡ tiles_in dims tile hull) (sound : All IsSoundDim dims) (box : IsBox hull) (inside : LiesInDomain dims hull) where
-  -- there are as many as the numbers of space tiles that meet the hull
-  pub tiles_few : cells_of (tile_box dims hull) < 2 ^ 32 → length tiles < 2 ^ 32
-  tiles_few few =
-      let numbers = numbers_valid dims hull sound box inside in
-      omega (arith, few, ap length are, length-map (coords_in_order tile (tile_box dims hull)) (cut_box dims hull), length-coords_in_order tile (tile_box dims hull) numbers)
-
-  -- together they have the cells of the hull
-  pub tiles_cells : sum (map cells_of tiles) ≡ cells_of hull
-  tiles_cells = ap (λ ts. sum (map cells_of ts)) are ∙ counts_many dims tile cell hull sound box inside
+use Rattle.ts_sparse_read.proofs.TileLaws.{box_dims, box_valid}
+use Rattle.ts_dense_read.specs.SpaceTakes.{span_behind, tile_behind, tile_among, tiles_met}
+use Rattle.ts_dense_read.specs.TileRanges.{range_of, cells_before, tile_of}
+use Rattle.ts_dense_read.proofs.BeforeLaws.{part_fits}
+use Rattle.ts_dense_read.proofs.TurnedTiles.{before_is, range_made, apart_none}
 
 -- ---- which are read
-
-pub tiles_all : (frame : Frame) (hull : SubBox) (used : List UsedColumn) (sub : SubBox) → is_box_in frame.domain sub ≡ true
-    → tiles_met frame hull used sub ≡ map (tile_among (tiles_over frame hull) used) (places_meeting sub (tiles_over frame hull))
-tiles_all frame hull used sub is = ap (λ b. map (tile_among (tiles_over frame hull) used) (if b then places_meeting sub (tiles_over frame hull) else [])) is
 
 pub tiles_none : (frame : Frame) (hull : SubBox) (used : List UsedColumn) (sub : SubBox) → is_box_in frame.domain sub ≡ false → tiles_met frame hull used sub ≡ []
 tiles_none frame hull used sub is = ap (λ b. map (tile_among (tiles_over frame hull) used) (if b then places_meeting sub (tiles_over frame hull) else [])) is
 
+tiles_all : (frame : Frame) (hull : SubBox) (used : List UsedColumn) (sub : SubBox) → is_box_in frame.domain sub ≡ true → tiles_met frame hull used sub ≡ map (tile_among (tiles_over frame hull) used) (places_meeting sub (tiles_over frame hull))
+tiles_all frame hull used sub is = ap (λ b. map (tile_among (tiles_over frame hull) used) (if b then places_meeting sub (tiles_over frame hull) else [])) is
+
+-- a tile of so many cells
+abbrev record_of : ℕ → SubBox → List Span → WantedTile
+record_of cells leaf spans = record { cells = cells; leaf = leaf; spans = spans }
+
 -- ---- one after another
 
--- how many cells stand before the tile at a place
-abbrev pub before_tile : List SubBox → ℕ → ℕ
-before_tile boxes k = sum (take k (map cells_of boxes))
-
--- the next tile has more cells than stand before it, and no more than all have
-pub before_more : (boxes : List SubBox) (k : ℕ) (box : SubBox) → k < length boxes → before_tile boxes (k + 1) ≡ before_tile boxes k + cells_of (get_or boxes k box)
-before_more boxes k box within =
-    let counts = map cells_of boxes in
-    let many : k < length counts = rw (length-map boxes cells_of) within in
-    sum_by_more (λ (n : ℕ). n) counts k 0 many ∙ ap (λ n. before_tile boxes k + n) (get_or-map cells_of boxes k box 0 within)
-
-pub before_within : (boxes : List SubBox) (k : ℕ) (box : SubBox) → k < length boxes → before_tile boxes k + cells_of (get_or boxes k box) ≤ sum (map cells_of boxes)
-before_within boxes k box within =
-    let counts = map cells_of boxes in
-    let many : k < length counts = rw (length-map boxes cells_of) within in
-    subst (λ n. before_tile boxes k + n ≤ sum counts) (get_or-map cells_of boxes k box 0 within) (sum_by_more_le (λ (n : ℕ). n) counts k 0 many)
-
--- a tile has no more cells than all have, so they are counted exactly
-pub count_there : (boxes : List SubBox) (k : ℕ) (box : SubBox) (cells : ℕ) → k < length boxes → box ≡ get_or boxes k box → sum (map cells_of boxes) < 2 ^ 64 - 1 → cells ≡ min (cells_of box) (2 ^ 64 - 1) → cells ≡ cells_of box
-count_there boxes k box cells within is few capped = omega (arith, capped, few, before_within boxes k box within, ap cells_of is)
-
--- the cells before a tile and its own are no more than all
-pub room_there : (boxes : List SubBox) (k : ℕ) (box : SubBox) (before cells : ℕ) → k < length boxes → box ≡ get_or boxes k box → before ≡ before_tile boxes k → cells ≡ cells_of box → before + cells ≤ sum (map cells_of boxes)
-room_there boxes k box before cells within is counted size = omega (arith, counted, size, before_within boxes k box within, ap cells_of is)
-
--- the tiles so far, and those of the places that are left, are all tiles
-pub record Laying (boxes : List SubBox) (used : List UsedColumn) (sub : SubBox) (tiles : List WantedTile) (before k : ℕ) : Type 0 where
-  pub counted : before ≡ before_tile boxes k
-  pub laid : tiles ++ map (tile_among boxes used) (places_from sub k (drop k boxes)) ≡ map (tile_among boxes used) (places_meeting sub boxes)
-
-pub laying_none : (boxes : List SubBox) (used : List UsedColumn) (sub : SubBox) (tiles : List WantedTile) → tiles ≡ [] → Laying boxes used sub tiles 0 0
-laying_none boxes used sub tiles none = record { counted = refl; laid = ap (λ ts. ts ++ map (tile_among boxes used) (places_meeting sub boxes)) none }
-
--- the tile at a place is the one that stands there
-tile_is : (boxes : List SubBox) (used : List UsedColumn) (before cells k : ℕ) (box : SubBox) → k < length boxes → box ≡ get_or boxes k box → before ≡ before_tile boxes k → cells ≡ cells_of box
-    → tile_behind before cells k box used ≡ tile_among boxes used k
-tile_is boxes used before cells k box within is counted size =
-    let there : box ≡ get_or boxes k no_box = is ∙ get_or_default boxes k box no_box within in
-    let many : cells ≡ get_or (map cells_of boxes) k 0 = size ∙ ap cells_of there ∙ sym (get_or-map cells_of boxes k no_box 0 within) in
-    λ i. tile_behind (counted i) (many i) k (there i) used
-
 -- one tile more
-pub laying_more : (boxes : List SubBox) (used : List UsedColumn) (sub : SubBox) (tiles more : List WantedTile) (before cells k : ℕ) (box : SubBox) → Laying boxes used sub tiles before k → k < length boxes → box ≡ get_or boxes k box
-    → cells ≡ cells_of box → more ≡ tiles ++ met_here sub box before cells k used → Laying boxes used sub more (before + cells) (k + 1)
-laying_more boxes used sub tiles more before cells k box laying within is size push = record {
-  counted = ap (λ n. n + cells) laying.counted ∙ ap (λ n. before_tile boxes k + n) (size ∙ ap cells_of is) ∙ sym (before_more boxes k box within);
-  laid =
-      ap (λ ts. ts ++ rest) push ∙ append_assoc tiles (met_here sub box before cells k used) rest
-      ∙ ap (λ ts. tiles ++ ts) (go (do_boxes_meet box sub)) ∙ ap (λ bs. tiles ++ map (tile_among boxes used) (places_from sub k bs)) (sym left) ∙ laying.laid;
-}
-  where
-    rest : List WantedTile
-    rest = map (tile_among boxes used) (places_from sub (k + 1) (drop (k + 1) boxes))
-
-    left : drop k boxes ≡ box ∷ drop (k + 1) boxes
-    left = drop_more boxes k box within ∙ ap (λ b. b ∷ drop (k + 1) boxes) (sym is)
-
-    go : (b : Bool) → (if b then tile_behind before cells k box used ∷ [] else []) ++ rest
-        ≡ map (tile_among boxes used) (if b then k ∷ places_from sub (k + 1) (drop (k + 1) boxes) else places_from sub (k + 1) (drop (k + 1) boxes))
-    go true = ap (λ t. t ∷ rest) (tile_is boxes used before cells k box within is laying.counted size)
-    go false = refl
+pub laying_more : {X W : Type 0} (made : X → W) (all : List X) (tiles more : List W) (k : ℕ) (n : X) (tile : W) → tiles ≡ map made (take k all) → slice_get all k ≡ Some n → tile ≡ made n → more ≡ tiles ++ tile ∷ [] → more ≡ map made (take (k + 1) all)
+laying_more made all tiles more k n tile so at is push =
+    push ∙ (λ i. so i ++ is i ∷ []) ∙ sym (map-append made (take k all) (n ∷ [])) ∙ ap (map made) (sym (take_more_get all k n at))
 
 -- behind the last place there are all tiles
-pub laying_all : (boxes : List SubBox) (used : List UsedColumn) (sub : SubBox) (tiles : List WantedTile) (before k : ℕ) → Laying boxes used sub tiles before k → length boxes ≤ k
-    → tiles ≡ map (tile_among boxes used) (places_meeting sub boxes)
-laying_all boxes used sub tiles before k laying over =
-    sym (append-nil tiles) ∙ ap (λ bs. tiles ++ map (tile_among boxes used) (places_from sub k bs)) (sym (drop_all k boxes over)) ∙ laying.laid
+pub laying_all : {X W : Type 0} (made : X → W) (all : List X) (tiles : List W) (k : ℕ) → tiles ≡ map made (take k all) → length all ≤ k → tiles ≡ map made all
+laying_all made all tiles k so over = so ∙ ap (map made) (take_all k all over)
+
+module _ (frame : Frame) (hull : SubBox) (sound : All IsSoundDim frame.domain) (box : IsBox hull) (inside : LiesInDomain frame.domain hull) where
+  lows : length hull.low ≡ length frame.domain
+  lows = length-is_in_domain frame.domain hull.low inside.0
+
+  highs : length hull.high ≡ length frame.domain
+  highs = length-is_in_domain frame.domain hull.high inside.1
+
+  -- where the box does not meet the hull no tile is read
+  pub tiles_apart : (used : List UsedColumn) (sub : SubBox) → is_box_in frame.domain sub ≡ true → do_boxes_meet hull sub ≡ false → tiles_met frame hull used sub ≡ []
+  tiles_apart used sub is apart =
+      let sub_lows = box_dims frame.domain sub is in
+      let sub_highs = length-are_bounds sub.low sub.high (box_valid frame.domain sub is) ∙ sub_lows in
+      tiles_all frame hull used sub is ∙ ap (map (tile_among (tiles_over frame hull) used)) (apart_none frame.domain frame.tile hull sub sound box inside sub_lows sub_highs apart)
+
+  -- a box of the array has as many dimensions as the hull
+  pub as_many : (sub : SubBox) → is_box_in frame.domain sub ≡ true → length sub.low ≡ length hull.low
+  as_many sub is = box_dims frame.domain sub is ∙ sym lows
+
+  -- ---- one tile
+
+  module _ (n : List ℤ) (reached : IsTrue (is_in_box (tile_box frame.domain hull) n)) where
+    -- its part of the hull
+    abbrev leaf : SubBox
+    leaf = cut_box frame.domain hull n
+
+    pub leaf_valid : IsBox leaf
+    leaf_valid = IsBox-cut_box frame.domain frame.tile hull sound box inside n reached
+
+    long : length n ≡ length frame.domain
+    long = sym (length-is_between (tile_box frame.domain hull).low (tile_box frame.domain hull).high n reached).0 ∙ length-tile_numbers frame.domain hull.low lows
+
+    pub leaf_low : IsTrue (is_in_box hull leaf.low)
+    leaf_low = (is_between-cut frame.domain n hull.low hull.high leaf.low sound inside.0 highs long (is_between-low leaf.low leaf.high leaf_valid)).0
+
+    pub leaf_high : IsTrue (is_in_box hull leaf.high)
+    leaf_high = (is_between-cut frame.domain n hull.low hull.high leaf.high sound inside.0 highs long (is_between-high leaf.low leaf.high leaf_valid)).0
+
+    -- it and the cells before it are no more than the hull has
+    pub leaf_fits : cells_before (turned frame.tile hull.low) (turned frame.tile hull.high) (turned frame.tile leaf.low) (turned frame.tile leaf.high) + cells_of leaf ≤ cells_of hull
+    leaf_fits =
+        let fits = part_fits (turned frame.tile hull.low) (turned frame.tile hull.high) (turned frame.tile leaf.low) (turned frame.tile leaf.high)
+        (is_between-turned frame.tile hull.low hull.high leaf.low leaf_low) (is_between-turned frame.tile hull.low hull.high leaf.high leaf_high) (are_bounds-turned frame.tile leaf.low leaf.high leaf_valid) in
+        let all = cells_between-turned frame.tile hull.low hull.high (length-are_bounds hull.low hull.high box) in
+        let part = cells_between-turned frame.tile leaf.low leaf.high (length-are_bounds leaf.low leaf.high leaf_valid) in
+        omega (arith, fits, all, part)
+
+    -- so are they as the code counts them
+    pub tile_room : (leaf : SubBox) (cells before : ℕ) → leaf ≡ cut_box frame.domain hull n → cells ≡ min (cells_of leaf) (2 ^ 64 - 1) → before ≡ cells_before (turned frame.tile hull.low) (turned frame.tile hull.high) (turned frame.tile leaf.low) (turned frame.tile leaf.high)
+        → before + cells ≤ cells_of hull
+    tile_room part cells before is capped count =
+        let fits = subst (λ (b : SubBox). cells_before (turned frame.tile hull.low) (turned frame.tile hull.high) (turned frame.tile b.low) (turned frame.tile b.high) + cells_of b ≤ cells_of hull) (sym is) leaf_fits in
+        omega (arith, fits, capped, count)
+
+    -- the tile that the code makes
+    pub tile_made : (used : List UsedColumn) (numbers leaf : SubBox) (cells before place : ℕ) (spans : List Span) → cells_of hull < 2 ^ 64 - 1 → numbers ≡ tile_box frame.domain hull → leaf ≡ cut_box frame.domain hull n → cells ≡ min (cells_of leaf) (2 ^ 64 - 1)
+        → before ≡ cells_before (turned frame.tile hull.low) (turned frame.tile hull.high) (turned frame.tile leaf.low) (turned frame.tile leaf.high) → slice_get (coords_in_order frame.tile numbers) place ≡ Some n
+        → spans ≡ map (span_behind before cells place) used → record_of cells leaf spans ≡ tile_of frame hull used n
+    tile_made used numbers part cells before place spans few known is capped count at laid =
+        let fits = subst (λ (b : SubBox). cells_before (turned frame.tile hull.low) (turned frame.tile hull.high) (turned frame.tile b.low) (turned frame.tile b.high) + cells_of b ≤ cells_of hull) (sym is) leaf_fits in
+        let exact : cells ≡ cells_of part = omega (arith, fits, capped, few) in
+        let sized = exact ∙ ap cells_of is in
+        let counted = count ∙ ap (λ (b : SubBox). cells_before (turned frame.tile hull.low) (turned frame.tile hull.high) (turned frame.tile b.low) (turned frame.tile b.high)) is in
+        let there = subst (λ (b : SubBox). slice_get (coords_in_order frame.tile b) place ≡ Some n) known at in
+        let placed = place_of-only frame.tile (tile_box frame.domain hull) n reached place there in
+        let first : record_of cells part spans ≡ record_of cells part (map (span_behind before cells place) used) = ap (record_of cells part) laid in
+        first ∙ (λ j. tile_behind (counted j) (sized j) (placed j) (is j) used)
+
+    -- the tile at a place with these numbers is the one that they count
+    tile_there : (used : List UsedColumn) (i : ℕ) → slice_get (coords_in_order frame.tile (tile_box frame.domain hull)) i ≡ Some n → tile_of frame hull used n ≡ tile_among (tiles_over frame hull) used i
+    tile_there used i at =
+        let numbers = coords_in_order frame.tile (tile_box frame.domain hull) in
+        let cut = cut_box frame.domain hull in
+        let boxes = tiles_over frame hull in
+        let within : i < length numbers = slice_get_within numbers i n at in
+        let below : i < length (map cut numbers) = omega (arith, within, length-map numbers cut) in
+        let place = place_of-only frame.tile (tile_box frame.domain hull) n reached i at in
+        let box_there : get_or boxes i no_box ≡ cut n = get_or-map cut numbers i [] no_box within ∙ ap cut (get_or_from_slice_get numbers i n [] at) in
+        let count_there : get_or (map cells_of boxes) i 0 ≡ cells_of (cut n) = get_or-map cells_of boxes i no_box 0 below ∙ ap cells_of box_there in
+        let before_there : sum (take i (map cells_of boxes)) ≡ cells_before (turned frame.tile hull.low) (turned frame.tile hull.high) (turned frame.tile (cut n).low) (turned frame.tile (cut n).high) =
+        ap (λ k. sum (take k (map cells_of boxes))) place ∙ before_is frame.domain frame.tile hull sound box inside n reached in
+        sym (λ j. tile_behind (before_there j) (count_there j) (place j) (box_there j) used)
+
+  -- ---- all tiles
+
+  -- the tiles from the first to the last along each dimension are those that meet the box
+  pub tiles_laid : (used : List UsedColumn) (sub : SubBox) (tiles : List WantedTile) → is_box_in frame.domain sub ≡ true → do_boxes_meet hull sub ≡ true → tiles ≡ map (tile_of frame hull used) (coords_in_order frame.tile (range_of frame.domain hull sub))
+      → tiles ≡ tiles_met frame hull used sub
+  tiles_laid used sub tiles is meet laid =
+      laid ∙ range_made frame.domain hull sub sound box inside (box_valid frame.domain sub is) (as_many sub is) meet frame.tile (tile_of frame hull used) (tile_among (tiles_over frame hull) used) (λ i n at reached. tile_there n reached used i at)
+      ∙ sym (tiles_all frame hull used sub is)
+
+  -- so of the answer
+  pub tiles_answer : {E : Type 0} (used : List UsedColumn) (sub : SubBox) (r : Result (List WantedTile) E) → is_box_in frame.domain sub ≡ true → do_boxes_meet hull sub ≡ true → IfOk r (λ tiles. tiles ≡ map (tile_of frame hull used) (coords_in_order frame.tile (range_of frame.domain hull sub)))
+      → IfOk r (λ tiles. tiles ≡ tiles_met frame hull used sub)
+  tiles_answer used sub (Ok tiles) is meet laid = tiles_laid used sub tiles is meet laid
+  tiles_answer used sub (Err e) is meet laid = tt
+
+pub ruleset meeting_steps = (tiles_none, tiles_apart, as_many)

@@ -28,6 +28,7 @@ pub mod SpaceWrites
 pub mod SpaceMerges
 pub mod SpaceParts
 pub mod SpaceTakes
+pub mod TileRanges
 pub mod SpaceLaws
 pub mod FoundPlans
 pub mod SpaceBegins

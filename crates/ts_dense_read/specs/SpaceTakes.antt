@@ -1,20 +1,22 @@
 -- What is laid of the space tiles that a fetch reads, and what is taken of the slots of those that it got.
-use Rattle.std.specs.Prelude.{◌≡◌, ⊤, ℕ, ◌+◌, ◌*◌, ◌-◌, ◌^◌, ◌<◌, ◌≤◌, if◌then◌else◌, List, [], ◌∷◌, ◌++◌, length, map, take, get_or, Result, Ok}
-use Rattle.std.specs.List.{All, sum}
+use Rattle.std.specs.Prelude.{◌≡◌, ⊤, ℕ, ◌+◌, ◌*◌, ◌-◌, ◌^◌, ◌<◌, ◌≤◌, Bool, not, ◌&&◌, nat_eq, if◌then◌else◌, List, [], ◌∷◌, ◌++◌, length, map, filter, take, get_or, Result, Ok}
+use Rattle.std.specs.List.{All, sum, range_with_len}
 use Rattle.ts_base.specs.declared.heads.Version.{Version}
 use Rattle.ts_base.specs.declared.values.Val.{Val}
 use Rattle.ts_base.specs.declared.values.Val.TheVariants.{Null}
+use Rattle.ts_base.specs.Keys.{is_within}
 use Rattle.ts_domain.specs.declared.boxes.SubBox.{SubBox}
-use Rattle.ts_domain.specs.Boxes.{IsBox, cells_of, do_boxes_meet}
+use Rattle.ts_domain.specs.Boxes.{IsBox, is_in_box, cells_of}
 use Rattle.ts_domain.specs.Rects.{places_meeting}
 use Rattle.ts_order.specs.Orders.{coords_in_order}
 use Rattle.ts_schema.specs.declared.frames.Frame.{Frame}
 use Rattle.ts_schema.specs.Wants.{taken}
 use Rattle.ts_plain.specs.declared.stored.StoredCell.{StoredCell}
+use Rattle.ts_plain.specs.Pieces.{origin_key}
 use Rattle.ts_footer.specs.declared.columns.ColumnForm.{ColumnForm}
 use Rattle.ts_footer.specs.declared.columns.ColumnForm.TheVariants.{Fixed, Var}
 use Rattle.ts_footer.specs.declared.columns.ColumnSize.{ColumnSize}
-use Rattle.ts_dense.specs.Slots.{tiles_over, versions_of}
+use Rattle.ts_dense.specs.Slots.{no_origin, tiles_over, versions_of}
 use Rattle.ts_sparse_read.specs.declared.opened.Span.{Span}
 use Rattle.ts_sparse_read.specs.declared.opened.UsedColumn.{UsedColumn}
 use Rattle.ts_sparse_read.specs.declared.opened.WantedTile.{WantedTile}
@@ -48,10 +50,6 @@ span_behind before cells i column = span_from column.form before cells i column.
 -- the tile at a place with this box, where so many cells stand before it, and it has so many
 abbrev pub tile_behind : ℕ → ℕ → ℕ → SubBox → List UsedColumn → WantedTile
 tile_behind before cells i leaf used = record { cells = cells; leaf = leaf; spans = map (span_behind before cells i) used }
-
--- that tile, if its box meets the one that is wanted
-abbrev pub met_here : SubBox → SubBox → ℕ → ℕ → ℕ → List UsedColumn → List WantedTile
-met_here sub leaf before cells i used = if do_boxes_meet leaf sub then tile_behind before cells i leaf used ∷ [] else []
 
 -- the tile at a place, of those with these boxes
 abbrev pub tile_among : List SubBox → List UsedColumn → ℕ → WantedTile
@@ -92,6 +90,20 @@ slots_in opened leaf s = cells_from (coords_in_order (opened.frame).cell leaf) s
 -- the slot at a place of a space tile
 abbrev pub slot_at : Opened → SubBox → TileSlots → ℕ → StoredCell
 slot_at opened leaf s k = record { coords = get_or (coords_in_order (opened.frame).cell leaf) k []; origin = get_or s.origins k 0; row = row_there s.vals k }
+
+-- ---- which slots are wanted
+
+-- a slot with this origin has a cell, of a write that is stamped in the interval
+abbrev pub is_origin_wanted : Opened → ℕ → Bool
+is_origin_wanted opened origin = not (nat_eq origin no_origin) && is_within (opened.want).a (opened.want).b (origin_key (opened.head).origins origin)
+
+-- the slot at a place has a cell that is wanted
+abbrev pub is_slot_wanted : Opened → SubBox → TileSlots → ℕ → Bool
+is_slot_wanted opened leaf s k = is_origin_wanted opened (get_or s.origins k 0) && is_in_box (opened.want).sub (get_or (coords_in_order (opened.frame).cell leaf) k [])
+
+-- the places of the slots that have a cell which is wanted, ascending
+abbrev pub rows_wanted : Opened → SubBox → TileSlots → List ℕ
+rows_wanted opened leaf s = filter (is_slot_wanted opened leaf s) (range_with_len 0 s.count)
 
 -- ---- what is taken
 

@@ -8,8 +8,8 @@ use crate::opened::Opened;
 use crate::reading::take_tile;
 use std::alloc::Global;
 use std::thread::Threads;
-use ts_base::{ByteList, OutOfMemory, VersionList};
-use ts_batch::{Batch, Batches};
+use ts_base::{ByteList, OutOfMemory};
+use ts_batch::Batches;
 use ts_fetch::{Judge, Verdict};
 use ts_sparse_read::{CellFault, MOST_ATTRS, decode_tiles, told};
 
@@ -23,10 +23,7 @@ impl Judge for Opened {
         got: &[ByteList],
     ) -> Result<Verdict, OutOfMemory> {
         match take_tiles(rt, alloc, self, got) {
-            Ok(found) => {
-                let versions = Batch::of_rows(found);
-                Ok(Verdict::Whole(Batches::of(alloc, versions)?))
-            }
+            Ok(found) => Ok(Verdict::Whole(found)),
             Err(fault) => told(fault),
         }
     }
@@ -40,7 +37,7 @@ fn take_tiles<R: Threads + Sync>(
     alloc: Global,
     opened: &Opened,
     got: &[ByteList],
-) -> Result<VersionList, CellFault>
+) -> Result<Batches, CellFault>
     ensures { DecodesFault (λ found. found) (tiles_taken opened.now opened.now.tiles got.now) result }
 {
     // No schema has more.
@@ -51,7 +48,7 @@ fn take_tiles<R: Threads + Sync>(
     let places = opened.want.attrs.as_slice();
     let tiles = opened.tiles.as_slice();
     let mut decoded = decode_tiles(rt, alloc, places, attrs, tiles, got)?;
-    let mut found = VersionList::new(alloc);
+    let mut found = Batches::new(alloc);
     let mut next = 0;
     for tile in tiles {
         let vals = decoded.pop_front();

@@ -1,13 +1,17 @@
 //! Reading dense fragments in space tiles: which tiles of which columns a fetch gets, and what they hold.
 #![tactic(auto)]
 
+mod before;
 mod holes;
 mod judging;
 mod opened;
 mod opening;
 mod origins;
+mod parts;
 mod pieces;
+mod ranges;
 mod reading;
+mod rows;
 mod slots;
 mod spans;
 mod tiles;

@@ -10,7 +10,8 @@ use crate::origins::read_origins;
 use crate::slots::TileSlots;
 use crate::versions::take_slots;
 use std::alloc::Global;
-use ts_base::{ByteList, VersionList};
+use ts_base::ByteList;
+use ts_batch::Batches;
 use ts_column::ColumnList;
 use ts_domain::SubBox;
 use ts_sparse_read::{CellFault, Ranges, WantedTile, are_bounds, vals_or_read};
@@ -25,7 +26,7 @@ pub(crate) fn take_tile(
     tile: &WantedTile,
     got: &[ByteList],
     decoded: Option<ColumnList>,
-    found: &mut VersionList,
+    found: &mut Batches,
 ) -> Result<(), CellFault>
     requires few { length opened.now.attrs ≤ 64 }
     requires decoded { IfSome decoded (λ vals. vals_of_tile opened.now.want.attrs tile.now.cells (ranged tile.now.spans got.now) 0 opened.now.attrs ≡ Ok vals) }
@@ -65,7 +66,7 @@ fn take_part(
     count: u64,
     ranges: &Ranges,
     decoded: Option<ColumnList>,
-    found: &mut VersionList,
+    found: &mut Batches,
 ) -> Result<(), CellFault>
     requires few { length opened.now.attrs ≤ 64 }
     requires decoded { IfSome decoded (λ vals. vals_of_tile opened.now.want.attrs count ranges.now 0 opened.now.attrs ≡ Ok vals) }
@@ -74,7 +75,7 @@ fn take_part(
     ensures { DecodesFault (λ _. found.new) (behind found.old (part_taken opened.now leaf.now count ranges.now)) result }
 {
     let slots = read_slots(alloc, opened, entries, count, ranges, decoded)?;
-    take_slots(alloc, opened, leaf, &slots, found)?;
+    take_slots(alloc, opened, leaf, slots, found)?;
     Ok(())
 }
 

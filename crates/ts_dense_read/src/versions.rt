@@ -1,91 +1,63 @@
 //! The versions that are wanted of slots.
-ghost use Rattle.std.specs.Prelude.{◌≡◌, ◌<◌, [], ◌∷◌, ◌++◌, List, length, All, OnOk};
-ghost use Rattle.ts_base.specs.declared.values.Val.{Val as AnyVal};
-ghost use Rattle.ts_schema.specs.Wants.{taken};
-ghost use Rattle.ts_plain.specs.Pieces.{version_in};
-ghost use Rattle.ts_dense_read.specs.SpaceTakes.{IsCounted, AreWhole, row_there, slots_in, slot_at, taken_of};
+ghost use Rattle.std.specs.Prelude.{◌≡◌, ◌++◌, IfOk, OnOk};
+ghost use Rattle.ts_dense_read.specs.SpaceTakes.{IsCounted, AreWhole, slots_in, taken_of};
 
 use crate::opened::Opened;
-use crate::slots::{NO_ORIGIN, TileSlots};
+use crate::rows::wanted_rows;
+use crate::slots::TileSlots;
 use std::alloc::Global;
-use ts_base::{Coords, OutOfMemory, Version, VersionList};
+use ts_base::OutOfMemory;
+use ts_batch::{Batch, Batches};
 use ts_domain::SubBox;
-use ts_order::coords_at;
-use ts_sparse_read::{is_wanted, origin_key, row_at};
-use ts_table::Column;
+use ts_gather::{coords_columns, table_of};
+use ts_table::Table;
 
 /// Appends the versions of the slots of a space tile that have a cell which is wanted.
-#[tactic(auto, using(crate::proofs::SlotTakes::taking_none))]
 pub(crate) fn take_slots(
     alloc: Global,
     opened: &Opened,
     leaf: &SubBox,
-    slots: &TileSlots,
-    found: &mut VersionList,
+    slots: TileSlots,
+    found: &mut Batches,
 ) -> Result<(), OutOfMemory>
-    requires counted { IsCounted leaf.now slots.now.count }
-    requires whole { AreWhole slots.now }
-    ensures { OnOk result (found.new ≡ found.old ++ taken_of opened.now (slots_in opened.now leaf.now slots.now)) }
+    requires counted { IsCounted leaf.now slots.count }
+    requires whole { AreWhole slots }
+    ensures { OnOk result (found.new ≡ found.old ++ taken_of opened.now (slots_in opened.now leaf.now slots)) }
 {
-    for place in 0..slots.count {
-        take_slot(alloc, opened, leaf, slots, place, found)?;
-    }
-    Ok(())
+    let table = wanted_table(alloc, opened, leaf, slots)?;
+    found.push(Batch::of_table(table))
 }
 
-// Appends the version of the slot at a place, if it has a cell that is wanted.
-fn take_slot(
+// The versions of the slots of a space tile that have a cell which is wanted. Columns are moved where all
+// slots have.
+fn wanted_table(
     alloc: Global,
     opened: &Opened,
     leaf: &SubBox,
-    slots: &TileSlots,
-    place: u64,
-    found: &mut VersionList,
-) -> Result<(), OutOfMemory>
-    requires counted { IsCounted leaf.now slots.now.count }
-    requires whole { AreWhole slots.now }
-    requires within { place < slots.now.count }
-    ensures { OnOk result (found.new ≡ found.old ++ taken_of opened.now (slot_at opened.now leaf.now slots.now place ∷ [])) }
+    slots: TileSlots,
+) -> Result<Table, OutOfMemory>
+    requires counted { IsCounted leaf.now slots.count }
+    requires whole { AreWhole slots }
+    ensures { IfOk result (λ table. table ≡ taken_of opened.now (slots_in opened.now leaf.now slots)) }
 {
-    let origin = *slots.origins.at(place);
-    if origin == NO_ORIGIN {
-        return Ok(());
-    }
-    let coords = coords_at(leaf, opened.frame.cell, place);
-    take_cell(
+    // Coordinates are of 1 to 8 dimensions.
+    let _dims = leaf.low.len();
+    let coords = coords_columns(alloc, leaf, opened.frame.cell)?;
+    let rows = wanted_rows(alloc, opened, leaf, &slots, coords.as_slice())?;
+    let TileSlots {
+        count,
+        origins,
+        vals,
+    } = slots;
+    table_of(
         alloc,
-        opened,
-        slots.vals.as_slice(),
-        place,
-        origin,
-        &coords,
-        found,
+        opened.head.origins.as_slice(),
+        opened.head.schema,
+        opened.want.attrs.as_slice(),
+        count,
+        coords,
+        &origins,
+        vals.into_vec(),
+        rows.as_slice(),
     )
-}
-
-// Appends the version of a cell, if it is wanted, from its coordinates, its origin and the values at its
-// place.
-fn take_cell(
-    alloc: Global,
-    opened: &Opened,
-    vals: &[Column],
-    place: u64,
-    origin: u32,
-    coords: &Coords,
-    found: &mut VersionList,
-) -> Result<(), OutOfMemory>
-    requires { All (λ (column : List AnyVal). place < length column) vals.now }
-    ensures { OnOk result (found.new ≡ found.old ++ taken opened.now.want (version_in opened.now.head (record { coords = coords.now; origin = origin; row = row_there vals.now place }) ∷ [])) }
-{
-    let key = origin_key(&opened.head.origins, origin);
-    if !is_wanted(&opened.want, key, coords) {
-        return Ok(());
-    }
-    let row = row_at(alloc, opened.want.attrs.as_slice(), vals, place)?;
-    found.push(Version {
-        key,
-        schema: opened.head.schema,
-        coords: *coords,
-        row,
-    })
 }

@@ -1,18 +1,15 @@
 -- What was taken is answered.
-use Rattle.std.proofs.Common.{ap, ◌∙◌}
 use Rattle.std.specs.Prelude.{List}
-use Rattle.ts_fetch.specs.declared.judging.Verdict.TheVariants.{Whole}
 use Rattle.ts_base.specs.declared.heads.Version.{Version}
 use Rattle.ts_dense_read.specs.SpaceJudges.{slots_of_tiles, space_judge}
 use Rattle.ts_dense_read.proofs.TileTakes.{whole_judged, told_judged}
 use Rattle.ts_dense_read.proofs.judging.OpenedJudge.judge.Goals as goal
 
-pub returns-in_ok-of-in-Ok : goal.returns-in_ok-of-in-Ok
+pub returns-in-Ok : goal.returns-in-Ok
 unfolding space_judge
-returns-in_ok-of-in-Ok g c =
+returns-in-Ok g c =
     let o = c.args.self.now in
-    ap Whole (c.in_ok-of-in-Ok.ensures ∙ c.of_rows-versions.ensures)
-    ∙ whole_judged o (slots_of_tiles o.frame o.attrs o.want.attrs o.head o.tiles c.args.got.now) c.in-Ok.found c.in-Ok.ensures
+    whole_judged o (slots_of_tiles o.frame o.attrs o.want.attrs o.head o.tiles c.args.got.now) c.in-Ok.found c.in-Ok.ensures
 
 pub returns-in-Err : goal.returns-in-Err
 unfolding space_judge

@@ -1,0 +1,165 @@
+//! Which slots of a space tile have a cell that is wanted.
+ghost use Rattle.std.specs.Prelude.{◌≡◌, ◌<◌, ◌&&◌, ℤ, pos, [], ◌∷◌, ◌++◌, cond, List, length, map, get_or, slice_index_or, int_le, All, IfOk, OnOk, IsTrue};
+ghost use Rattle.ts_domain.specs.Boxes.{IsBox, is_in_box, cells_of, Covers};
+ghost use Rattle.ts_order.specs.Orders.{coords_in_order};
+ghost use Rattle.ts_gather.specs.Sides.{AreCoords};
+ghost use Rattle.ts_dense_read.specs.SpaceTakes.{IsCounted, AreWhole, is_origin_wanted, is_slot_wanted, rows_wanted};
+
+use crate::opened::Opened;
+use crate::slots::{NO_ORIGIN, TileSlots};
+use std::alloc::Global;
+use ts_base::{IndexList, OutOfMemory};
+use ts_domain::SubBox;
+use ts_sparse_read::origin_key;
+use ts_table::Numbers;
+
+/// The places of the slots of a space tile that have a cell which is wanted, ascending. The slots have
+/// these coordinates, one column for each dimension.
+///
+/// `OutOfMemory` comes too where there are 2^32 slots or more.
+pub(crate) fn wanted_rows(
+    alloc: Global,
+    opened: &Opened,
+    leaf: &SubBox,
+    slots: &TileSlots,
+    coords: &[Numbers],
+) -> Result<IndexList, OutOfMemory>
+    requires counted { IsCounted leaf.now slots.now.count }
+    requires whole { AreWhole slots.now }
+    requires coords { AreCoords opened.now.frame.cell leaf.now coords.now }
+    ensures { IfOk result (λ rows. rows ≡ rows_wanted opened.now leaf.now slots.now) }
+{
+    match u32::try_from(slots.count) {
+        Ok(count) => rows_below(alloc, opened, leaf, slots, coords, count),
+        Err(_many) => Err(OutOfMemory),
+    }
+}
+
+// The places of the slots, of so many, that have a cell which is wanted.
+fn rows_below(
+    alloc: Global,
+    opened: &Opened,
+    leaf: &SubBox,
+    slots: &TileSlots,
+    coords: &[Numbers],
+    count: u32,
+) -> Result<IndexList, OutOfMemory>
+    requires many { count ≡ slots.now.count }
+    requires counted { IsCounted leaf.now slots.now.count }
+    requires whole { AreWhole slots.now }
+    requires coords { AreCoords opened.now.frame.cell leaf.now coords.now }
+    ensures { IfOk result (λ rows. rows ≡ rows_wanted opened.now leaf.now slots.now) }
+{
+    let covered = does_cover(&opened.want.sub, leaf);
+    let mut rows = IndexList::new(alloc);
+    for row in 0..count {
+        push_row(opened, leaf, slots, coords, covered, row, &mut rows)?;
+    }
+    Ok(rows)
+}
+
+// Whether a box has both corners of another, and so all of its cells.
+#[tactic(auto, using(crate::proofs::InsideLaws::covered_by_corners))]
+fn does_cover(outer: &SubBox, inner: &SubBox) -> bool
+    ensures { IsTrue result → Covers outer.now inner.now }
+{
+    outer.contains(&inner.low) && outer.contains(&inner.high)
+}
+
+// Appends the place of a slot, if it has a cell which is wanted.
+fn push_row(
+    opened: &Opened,
+    leaf: &SubBox,
+    slots: &TileSlots,
+    coords: &[Numbers],
+    covered: bool,
+    row: u32,
+    rows: &mut IndexList,
+) -> Result<(), OutOfMemory>
+    requires counted { IsCounted leaf.now slots.now.count }
+    requires whole { AreWhole slots.now }
+    requires coords { AreCoords opened.now.frame.cell leaf.now coords.now }
+    requires covered { IsTrue covered → Covers opened.now.want.sub leaf.now }
+    requires within { row < slots.now.count }
+    ensures { OnOk result (rows.new ≡ rows.old ++ cond (is_slot_wanted opened.now leaf.now slots.now row) (row ∷ []) []) }
+{
+    if !is_slot_wanted(opened, leaf, slots, coords, covered, u64::from(row)) {
+        return Ok(());
+    }
+    rows.push(row)
+}
+
+// Whether the slot at a place has a cell that is wanted. All cells of the tile may lie in the box.
+#[tactic(auto, using(std::proofs::lemmas::Option::get_or_from_slice_get))]
+fn is_slot_wanted(
+    opened: &Opened,
+    leaf: &SubBox,
+    slots: &TileSlots,
+    coords: &[Numbers],
+    covered: bool,
+    place: u64,
+) -> bool
+    requires counted { IsCounted leaf.now slots.now.count }
+    requires whole { AreWhole slots.now }
+    requires coords { AreCoords opened.now.frame.cell leaf.now coords.now }
+    requires covered { IsTrue covered → Covers opened.now.want.sub leaf.now }
+    requires within { place < slots.now.count }
+    ensures { result ≡ is_slot_wanted opened.now leaf.now slots.now place }
+{
+    let origin = *slots.origins.at(place);
+    is_origin_wanted(opened, origin) && is_inside(opened, leaf, coords, covered, place)
+}
+
+// Whether a slot with this origin has a cell of a write that is stamped in the interval.
+fn is_origin_wanted(opened: &Opened, origin: u32) -> bool
+    ensures { result ≡ is_origin_wanted opened.now origin }
+{
+    let want = &opened.want;
+    origin != NO_ORIGIN && origin_key(&opened.head.origins, origin).is_within(want.a, want.b)
+}
+
+// Whether the slot at a place lies in the box that is wanted.
+#[tactic(auto, using(crate::proofs::InsideLaws::insides))]
+fn is_inside(opened: &Opened, leaf: &SubBox, coords: &[Numbers], covered: bool, place: u64) -> bool
+    requires valid { IsBox leaf.now }
+    requires coords { AreCoords opened.now.frame.cell leaf.now coords.now }
+    requires covered { IsTrue covered → Covers opened.now.want.sub leaf.now }
+    requires within { place < cells_of leaf.now }
+    ensures { result ≡ is_in_box opened.now.want.sub (get_or (coords_in_order opened.now.frame.cell leaf.now) place []) }
+{
+    covered || is_between(&opened.want.sub, coords, place)
+}
+
+// Whether what columns of coordinates hold at a place lies in a box.
+#[tactic(auto, using(crate::proofs::InsideLaws::along_steps))]
+fn is_between(sub: &SubBox, coords: &[Numbers], place: u64) -> bool
+    requires { All (λ (column : List ℤ). place < length column) coords.now }
+    ensures { result ≡ is_in_box sub.now (map (λ column. get_or column place (pos 0)) coords.now) }
+{
+    let (low, high) = (sub.low.as_slice(), sub.high.as_slice());
+    if high.len() != low.len() {
+        return false;
+    }
+    if coords.len() != low.len() {
+        return false;
+    }
+    for dim in 0..low.len() {
+        if !is_along(low, high, coords, dim, place) {
+            return false;
+        }
+    }
+    true
+}
+
+// Whether what a column holds at a place lies between the bounds of its dimension.
+#[tactic(auto, using(std::proofs::lemmas::Option::get_or_from_slice_get))]
+fn is_along(low: &[i128], high: &[i128], coords: &[Numbers], dim: usize, place: u64) -> bool
+    requires lows { dim < length low.now }
+    requires highs { dim < length high.now }
+    requires columns { dim < length coords.now }
+    requires within { All (λ (column : List ℤ). place < length column) coords.now }
+    ensures { let x = get_or (get_or coords.now dim []) place (pos 0) in result ≡ (int_le (slice_index_or low.now dim (pos 0)) x && int_le x (slice_index_or high.now dim (pos 0))) }
+{
+    let at = coords[dim].at(place);
+    low[dim] <= at && at <= high[dim]
+}
