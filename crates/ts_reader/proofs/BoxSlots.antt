@@ -15,14 +15,10 @@ use Rattle.ts_domain.specs.declared.orders.Order.TheVariants.{Row}
 use Rattle.ts_domain.specs.Boxes.{cells_of, coords_of_box}
 use Rattle.ts_domain.proofs.Between.{length-coords_between}
 use Rattle.ts_order.specs.Orders.{coords_in_order}
-use Rattle.ts_base.specs.declared.values.Val.{Val}
-use Rattle.ts_schema.specs.declared.schemas.Schema.{Schema}
-use Rattle.ts_model.specs.declared.states.Reading.{Reading}
-use Rattle.ts_model.specs.Pieces.{Newest, newest_of, with_version}
-use Rattle.ts_model.specs.States.{cells_filled, row_or_fill}
+use Rattle.ts_model.specs.Pieces.{Newest, with_version}
 use Rattle.ts_model.proofs.Newest.{coords_total, coords_same, coords_tie, coords_itself}
 use Rattle.ts_reader.specs.Newest.{slots_in}
-use Rattle.ts_reader.proofs.Erased.{mapped_at, mapped_more}
+use Rattle.ts_reader.proofs.Erased.{mapped_at}
 
 -- the coordinates of a box are those in row order
 pub in_row_order : (sub : SubBox) → coords_in_order Row sub ≡ coords_of_box sub
@@ -92,14 +88,3 @@ slots_empty sub = none_at (coords_of_box sub)
 -- one place more
 pub none_more : (cs : List (List ℤ)) (place : ℕ) → place < length cs → map {B = Option Version} (λ c. None) (take (place + 1) cs) ≡ map (λ c. None) (take place cs) ++ None ∷ []
 none_more cs place within = ap (map (λ c. None)) (take_more cs place [] within) ∙ map-append (λ c. None) (take place cs) _
-
-module _ (r : Reading) (schemas : List Schema) (got : List Version) where
-  -- the cells of a dense array up to one place more
-  pub filled_more : (place : ℕ) (c : List ℤ) (slot : Option Version) → slice_get (coords_of_box (r.ready).sub) place ≡ Some c → slice_get (slots_in (r.ready).sub (newest_of got)) place ≡ Some slot
-      → take (place + 1) (cells_filled r schemas got) ≡ take place (cells_filled r schemas got) ++ (c, row_or_fill r schemas slot) ∷ []
-  filled_more place c slot at stands =
-      let sub = (r.ready).sub in
-      let newest : List ℤ → Option Version = finite.get (newest_of got) in
-      let cell : List ℤ → List ℤ × List Val = λ d. (d, row_or_fill r schemas (newest d)) in
-      mapped_more cell (coords_of_box sub) place c at
-      ∙ ap (λ o. take place (cells_filled r schemas got) ++ (c, row_or_fill r schemas o) ∷ []) (sym (mapped_at newest (coords_of_box sub) place c slot at stands))

@@ -1,9 +1,14 @@
+pub mod Across
+pub mod Alone
 pub mod BoxSlots
 pub mod Erased
 pub mod Inside
+pub mod Kept
 pub mod Leads
 pub mod Newer
 pub mod Ordered
+pub mod Places
 pub mod QueryLaws
+pub mod RowOrder
+pub mod ShownCells
 pub mod UsedNames
-pub mod Whole

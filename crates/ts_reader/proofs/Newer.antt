@@ -11,7 +11,7 @@ use Rattle.ts_base.specs.Keys.{key_cmp, key_eq}
 use Rattle.ts_base.specs.Exact.{key_total, key_exact}
 use Rattle.ts_store.proofs.Trees.{insert-tree, entries-tree}
 use Rattle.ts_model.specs.Pieces.{Newest, with_version, newest_of, newest_after}
-pub use Rattle.ts_actor.proofs.Newer.{newest_after_more, newest_of_is, values_in_order}
+pub use Rattle.ts_actor.proofs.Newer.{newest_after_more, newest_of_is}
 use Rattle.ts_model.proofs.Newest.{coords_total}
 use Rattle.ts_reader.specs.Newest.{keys_in, with_other}
 

@@ -1,8 +1,7 @@
 -- Versions in row order: to bring them there leaves their newest ones as they are, and those that ascend are their own newest ones.
-use Rattle.std.proofs.Common.{◌≡◌, ℕ, zero, suc, ◌+◌, ◌<◌, ℤ, Bool, true, false, not, ◌&&◌, cond, List, [], ◌∷◌, ◌++◌, length, get_or, take, Option, Some, Result, Ok, Err, IfOk, map, int_cmp, refl, sym, ap, subst, ◌∙◌, arith, Ordering, Less, Equal, Greater}
+use Rattle.std.proofs.Common.{◌≡◌, ℕ, zero, suc, ◌+◌, ◌<◌, ℤ, Bool, true, false, not, ◌&&◌, cond, List, [], ◌∷◌, ◌++◌, length, get_or, take, Option, Some, map, int_cmp, refl, sym, ap, subst, ◌∙◌, arith, Ordering, Less, Equal, Greater}
 use Rattle.std.specs.Prelude.{filter, slice_get}
 use Rattle.std.specs.Cmp.Lexicographic.{slice_cmp}
-use Rattle.std.specs.BTreeMap as tree
 use Rattle.std.specs.FinMap as finite
 use Rattle.std.specs.List.{AllByRecursion}
 use Rattle.std.specs.List.Sorted.{IsStableByKey, IsStrictlySortedBy, ties}
@@ -22,9 +21,7 @@ use Rattle.ts_schema.specs.declared.schemas.Schema.{Schema}
 use Rattle.ts_store.proofs.Trees.{entries-tree}
 use Rattle.ts_model.specs.declared.states.Reading.{Reading}
 use Rattle.ts_model.specs.States.{cells_filled, row_or_fill}
-use Rattle.ts_actor.specs.Newest.{newest_in}
-use Rattle.ts_actor.proofs.Newer.{values_in_order}
-use Rattle.ts_model.specs.Pieces.{Newest, newest_of}
+use Rattle.ts_model.specs.Pieces.{newest_of}
 use Rattle.ts_reader.proofs.BoxSlots.{in_row_order}
 use Rattle.ts_model.proofs.Newest.{coords_total, coords_exact, coords_same, coords_tie, get_newest_of}
 
@@ -93,14 +90,6 @@ pub newest_of_ascending : (vs : List Version) → IsStrictlySortedBy (λ (a b : 
 newest_of_ascending vs sorted =
     ap finite.values (finite.same_map coords_total coords_exact (newest_of vs) (finite.from_entries (map entry vs)) (λ c. get_newest_of vs c ∙ one_there vs sorted c ∙ sym (finite.get-from_entries coords_total (map entry vs) c)))
     ∙ ap (map (λ e. e.1)) (entries-tree coords_total (map entry vs) (keys_ascend vs sorted)) ∙ versions_back vs
-
--- ---- in a tree
-
--- the versions of a tree in row order are the newest ones
-pub values_newest : {E : Type 0} (m : tree.BTreeMap (List ℤ) Version) (all : Newest) (r : Result (List Version) E) → IfOk r (λ list. list ≡ tree.values m) → IfOk r (λ _. tree.IsOrdered (slice_cmp int_cmp) m)
-    → newest_in m ≡ all → IfOk r (λ list. list ≡ finite.values all)
-values_newest m all (Ok list) is ordered same = is ∙ values_in_order m all ordered same
-values_newest m all (Err e) is ordered same = tt
 
 -- ---- one for each place of a box
 

@@ -1,12 +1,11 @@
 -- Deletes over the rows of known schemas: where each finds its fields, and what is left.
-use Rattle.std.specs.Prelude.{ℤ, Bool, ◌&&◌, cond, not, List, [], ◌∷◌, filter, map as list_map}
+use Rattle.std.specs.Prelude.{ℤ, Bool, ◌&&◌, not, List, [], filter, map as list_map}
 use Rattle.std.specs.List.{list_any}
 use Rattle.ts_base.specs.declared.heads.Version.{Version}
 use Rattle.ts_base.specs.declared.values.Val.{Val}
 use Rattle.ts_base.specs.Keys.{key_lt}
 use Rattle.ts_schema.specs.declared.attrs.Attr.{Attr}
 use Rattle.ts_schema.specs.declared.schemas.Schema.{Schema}
-use Rattle.ts_schema.specs.Attrs.{shown_row}
 use Rattle.ts_cond.specs.declared.fields.Pick.{Pick}
 use Rattle.ts_cond.specs.Picks.{matches, picks_of}
 use Rattle.ts_model.specs.declared.deeds.Deletion.{Deletion}
@@ -32,10 +31,6 @@ binding_of erased attrs = record { attrs = attrs; picks = picks_under attrs eras
 -- the rows of each schema that a read knows, and of those that it does not know, with the values that it uses
 abbrev pub bindings_of : Reading → List Schema → Bindings
 bindings_of r schemas = record { current = binding_of r.deletions (used_attrs r (r.current).attrs); further = list_map (λ s. binding_of r.deletions (used_attrs r s.attrs)) schemas; unknown = binding_of r.deletions [] }
-
--- the version's cell, unless it is erased
-abbrev pub one_shown : Reading → List Attr → Version → List (List ℤ × List Val)
-one_shown r attrs v = cond (list_any (erases attrs v) r.deletions) [] ((v.coords, shown_row attrs v.row (r.current).attrs) ∷ [])
 
 -- the cells of versions, but of those that are erased
 abbrev pub all_shown : Reading → List Schema → List Version → List (List ℤ × List Val)

@@ -12,8 +12,10 @@ ghost use Rattle.ts_schema.specs.declared.attrs.Attr.{Attr as AnyAttr};
 use crate::used::used_attrs;
 use std::alloc::Global;
 use ts_actor::search_schemas;
-use ts_base::{Key, OutOfMemory, Sequence, Version};
+use ts_base::{Key, OutOfMemory, Sequence};
+use ts_batch::BatchCell;
 use ts_cond::{CondFieldList, PickList};
+use ts_match::matches_cell;
 use ts_model::{Deletion, DeletionList, Reading, attr_fields};
 use ts_schema::{AttrList, Schema, SchemaList};
 
@@ -143,7 +145,7 @@ pub(crate) fn binding_at<'a>(
 }
 
 /// Whether one of the deletes has a greater key than the version and matches it.
-pub(crate) fn is_erased(erased: &DeletionList, binding: &Binding, version: &Version) -> bool
+pub(crate) fn is_erased(erased: &DeletionList, binding: &Binding, version: &BatchCell) -> bool
     requires { binding.now.picks ≡ picks_under binding.now.attrs erased.now }
     ensures { result ≡ list_any (erases binding.now.attrs version.now) erased.now }
 {
@@ -156,8 +158,8 @@ pub(crate) fn is_erased(erased: &DeletionList, binding: &Binding, version: &Vers
 }
 
 // Whether a delete has a greater key than the version and matches it.
-fn erases(deletion: &Deletion, picks: &PickList, version: &Version) -> bool
+fn erases(deletion: &Deletion, picks: &PickList, version: &BatchCell) -> bool
     ensures { (attrs : List AnyAttr) → picks.now ≡ picks_of (attr_fields attrs) deletion.now.cond.fields → result ≡ erases attrs version.now deletion.now }
 {
-    version.key < deletion.key && deletion.cond.matches(picks, &version.coords, &version.row)
+    version.key() < deletion.key && matches_cell(&deletion.cond, picks, version)
 }

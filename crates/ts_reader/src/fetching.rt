@@ -166,8 +166,7 @@ pub(crate) fn fetch_from<P: Pieces, R: Threads + Sync>(
             FetchStep::Ends(end) => return Ok(State::Over(end)),
         }
     }
-    let versions = got.into_rows(alloc)?;
-    let answer = answer_of(alloc, &gathered.reading, &gathered.schemas, versions)?;
+    let answer = answer_of(alloc, &gathered.reading, &gathered.schemas, got)?;
     Ok(State::Over(Outcome::Read(answer)))
 }
 

@@ -1,19 +1,15 @@
--- The cells lie in the domain.
-use Rattle.std.specs.Prelude.{IsTrue}
-use Rattle.std.proofs.lemmas.List.Elements.{All-weaker}
-use Rattle.ts_domain.specs.Boxes.{is_in_box}
-use Rattle.ts_domain.specs.Domains.{is_in_domain}
-use Rattle.ts_model.specs.declared.queries.Shown.{Shown}
+-- The cells lie in the domain, and each has a value for each attribute.
+use Rattle.std.proofs.Common.{◌≡◌, ℤ, List, length}
+use Rattle.ts_base.specs.declared.values.Val.{Val}
 use Rattle.ts_model.specs.States.{cells_shown}
-use Rattle.ts_reader.proofs.Erased.{placed_so}
-use Rattle.ts_reader.proofs.Inside.{shown_lie}
+use Rattle.ts_reader.proofs.ShownCells.{pairs_so, shown_inside, shown_wide}
 use Rattle.ts_reader.proofs.answers.answer_of.Goals as goal
 
 pub rows_of-requires-clause-inside : goal.rows_of-requires-clause-inside
-rows_of-requires-clause-inside c =
+rows_of-requires-clause-inside c = shown_inside c.args.reading.now c.requires.reading c.args.schemas.now c.args.got c.in_ok-cells.cells c.requires.inside c.in_ok-cells.ensures
+
+pub rows_of-requires-clause-wide : goal.rows_of-requires-clause-wide
+rows_of-requires-clause-wide c =
     let r = c.args.reading.now in
-    let cells = c.in_ok-cells.cells in
-    let Here : Shown → Type 0 = λ cell. IsTrue (is_in_box (r.ready).sub cell.coords) in
-    let There : Shown → Type 0 = λ cell. IsTrue (is_in_domain (r.frame).domain cell.coords) in
-    let all = placed_so (λ at. IsTrue (is_in_box (r.ready).sub at)) cells (cells_shown r c.args.schemas.now c.args.got) c.in_ok-cells.ensures (shown_lie r c.args.schemas.now c.args.got c.requires.reading.valid c.requires.inside) in
-    All-weaker Here There (λ cell is. c.requires.reading.inside cell.coords is) cells all
+    let schemas = c.args.schemas.now in
+    pairs_so (λ (e : List ℤ × List Val). length e.1 ≡ length (r.current).attrs) c.in_ok-cells.cells (cells_shown r schemas c.args.got) c.in_ok-cells.ensures (shown_wide r schemas c.args.got)

@@ -1,17 +1,13 @@
--- Versions that ascend are the newest ones, and else the tree has these.
+-- Versions that ascend are the newest ones, and else these are found among them once they are in order.
 use Rattle.std.proofs.Common.{int_cmp, sym, ap, ◌∙◌, subst}
 use Rattle.std.specs.Cmp.Lexicographic.{slice_cmp}
 use Rattle.std.specs.FinMap as finite
 use Rattle.std.specs.List.Sorted.{IsStrictlySortedBy}
 use Rattle.ts_base.specs.declared.heads.Version.{Version}
-use Rattle.ts_model.specs.Pieces.{newest_of}
-use Rattle.ts_reader.proofs.Ordered.{newest_of_ascending, values_newest}
+use Rattle.ts_reader.proofs.Ordered.{newest_of_ascending}
 use Rattle.ts_reader.proofs.newest.newest_in_order.Goals as goal
 
 pub returns-then-ascend : goal.returns-then-ascend
 returns-then-ascend c =
     let up = subst (IsStrictlySortedBy (λ (a b : Version). slice_cmp int_cmp a.coords b.coords)) c.as_slice.ensures (c.ascend.ensures.0 c.if-ascend.true) in
-    sym (newest_of_ascending c.in_ok-sorted.sorted up) ∙ ap finite.values c.in_ok-sorted.ensures
-
-pub returns : goal.returns
-returns c = values_newest c.in_ok-newest.newest (newest_of c.args.got) c.in_row_order.result c.in_row_order.ensures.list c.in_row_order.ensures.ordered (c.in_ok-newest.ensures ∙ c.in_ok-sorted.ensures)
+    sym (newest_of_ascending c.args.got up)

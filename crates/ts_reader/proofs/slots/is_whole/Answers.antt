@@ -14,7 +14,7 @@ loop-place-preserved c =
     let v = c.index-versions-place.result in
     let place = c.loop-place.place in
     let stands : c.position_of.result ≡ place = omega arith in
-    let at = ap (λ n. slice_get (coords_of_box sub) n) (sym stands) ∙ ap (λ cs. slice_get cs c.position_of.result) (sym (in_row_order sub)) ∙ c.position_of.ensures.place ∙ ap (λ (w : Version). Some w.coords) (sym c.index-versions-place.is) in
+    let at = ap (λ n. slice_get (coords_of_box sub) n) (sym stands) ∙ ap (λ cs. slice_get cs c.position_of.result) (sym (in_row_order sub)) ∙ c.position_of.ensures.place ∙ ap Some c.coords.ensures in
     next_stands c.args.versions.now (coords_of_box sub) place v c.loop-place-test.true c.index-versions-place.is at c.loop-place.invariant
 
 pub returns : goal.returns
