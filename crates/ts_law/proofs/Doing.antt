@@ -1,26 +1,19 @@
 -- A job that was driven over a store, and the calls that were made of it.
-use Rattle.std.proofs.Common.{◌≡◌, ℕ, inr, List, [], ◌∷◌, ◌++◌, Option, Some, None, refl, sym, ◌∙◌, subst, append_assoc, append-nil}
-use Rattle.std.specs.Prelude.{IfSome}
-use Rattle.std.proofs.lemmas.List.Elements.{All-nil}
+use Rattle.std.proofs.Common.{◌≡◌, ℕ, List, [], ◌∷◌, ◌++◌, Option, sym, ◌∙◌, subst, append_assoc, append-nil}
 use Rattle.ts_base.specs.Held.{Held}
 use Rattle.ts_store.specs.declared.journal.Entry.{Entry}
 use Rattle.ts_model.specs.declared.commands.Job.{Job}
 use Rattle.ts_model.specs.declared.answers.Driven.{Driven}
-use Rattle.ts_model.specs.declared.answers.Driven.TheVariants.{Done}
 use Rattle.ts_model.specs.declared.answers.Outcome.{Outcome}
-use Rattle.ts_model.specs.declared.answers.Outcome.TheVariants.{OutOfMemory}
 use Rattle.ts_model.specs.declared.states.Stage.{Stage}
 use Rattle.ts_model.specs.Codecs.{Codec}
 use Rattle.ts_model.specs.States.{Exchange}
 use Rattle.ts_model.specs.Stages.{first_stage, stage_of}
 use Rattle.ts_model.specs.Stops.{Uncut}
 use Rattle.ts_model.specs.Driven.{AskedFrom, ComesOut, IsDriven}
-use Rattle.ts_model.specs.Driving.{Leaves, RanTo, Ran}
-use Rattle.ts_model.specs.Told.{Told, Suits}
+use Rattle.ts_model.specs.Driving.{RanTo, Ran}
 use Rattle.ts_model.proofs.Driving.{Makes, ran-none, ran-step}
-use Rattle.ts_model.proofs.Asked.{starts_unleased}
 use Rattle.ts_model.proofs.Traces.{stage_from-append}
-use Rattle.ts_law.specs.Doing.{RanOver}
 use Rattle.ts_law.proofs.Lanes.{exchanges, own_exchanges}
 
 -- stores that tell what they hold and the journal of their calls, and lists of calls that lead from one to another
@@ -51,19 +44,3 @@ module _ {F : Type 0} (codec : Codec F) {S : Type 0} (held : S → Option Held) 
         record { told = ran.told; calls = ran.calls; driven = subst P (sym ran.same) (record { asked = asked; uncut = uncut; ends = ends }) },
         own_exchanges number ran.told ran.calls.own ∙ ran.same,
       )
-
--- a job for which there was no memory made no call
-pub ran-no_call : {F S : Type 0} (codec : Codec F) (held : S → Option Held) (made : S → List Told → S → Type 0) (number lane : ℕ) (job : Job) (store : S) (journal : List Entry)
-    → made store [] store → RanOver codec held made number lane job store store journal journal (Done OutOfMemory)
-ran-no_call {F} codec held made number lane job store journal none = record {
-  ran = record {
-    told = [];
-    calls = record { own = All-nil (λ e. e.job ≡ Some number); suit = All-nil Suits; entries = sym (append-nil journal); over = nothing (held store) };
-    driven = record { asked = tt; uncut = tt; ends = inr (refl, (starts_unleased F job, refl)) };
-  };
-  made_of = none;
-}
-  where
-    nothing : (now : Option Held) → IfSome now (λ m. Leaves m now [])
-    nothing None = tt
-    nothing (Some m) = record { replied = tt; held = refl }

@@ -1,11 +1,11 @@
 -- The calls of jobs that come one after the other in a lane.
 use Rattle.std.proofs.Common.{◌≡◌, ℕ, cond, inl, inr, List, [], ◌∷◌, ◌++◌, Option, Some, None, refl, sym, ◌∙◌, ap, subst, arith}
-use Rattle.std.specs.Prelude.{All, Contains, slice_get, map as list_map}
+use Rattle.std.specs.Prelude.{All, slice_get, map as list_map}
 use Rattle.std.specs.List.{cons_option}
 use Rattle.std.proofs.lemmas.Bool.{cases_eq}
 use Rattle.std.proofs.lemmas.List.{length_push}
 use Rattle.std.proofs.lemmas.Option.{same_Some, none-some, slice_get_within}
-use Rattle.std.proofs.lemmas.List.Elements.{All-nil, All-cons, All-head, All-tail, All-append, All-push, All-weaker}
+use Rattle.std.proofs.lemmas.List.Elements.{All-nil, All-cons, All-head, All-tail, All-push, All-weaker}
 use Rattle.ts_store.specs.declared.journal.Entry.{Entry}
 use Rattle.ts_store.specs.Calls.{is_no_memory}
 use Rattle.ts_model.specs.declared.commands.Job.{Job}
@@ -15,7 +15,7 @@ use Rattle.ts_model.specs.States.{Exchange}
 use Rattle.ts_model.specs.Stages.{first_stage, stage_of}
 use Rattle.ts_model.specs.Told.{Told, trace_of, only_lane, entry_of, entries_of}
 use Rattle.ts_model.proofs.Asked.{asked-push}
-use Rattle.ts_model.proofs.ListLemmas.{Contains-here, Contains-there, slice_get_push}
+use Rattle.ts_model.proofs.ListLemmas.{slice_get_push}
 use Rattle.ts_model.proofs.Traces.{exchange_of_own, exchange_of_other, trace_of-own, trace_of-other}
 use Rattle.ts_law.specs.Lanes.{lane_by, one_lane, own_lane, IsBefore, IsWithin, InTurn, AreInLanes}
 use Rattle.ts_law.specs.Sweeps.{IsNoSweep}
@@ -69,23 +69,6 @@ own_entries lanes number (e ∷ own) by_it =
     ∙ ap (λ es. cons_option (entry_of (lane_by lanes) e) es) (own_entries lanes number own (All-tail (λ x. x.job ≡ Some number) e own by_it))
 
 -- ---- turns
-
--- calls that come in turn after calls that do
-pub in_turn-append : (lanes : ℕ → ℕ) (a b : List Told) → InTurn lanes a → InTurn lanes b → ((d : Told) → Contains a d → All (IsBefore lanes d) b) → InTurn lanes (a ++ b)
-in_turn-append lanes [] b front back pairs = back
-in_turn-append lanes (e ∷ a) b front back pairs =
-    (All-append (IsBefore lanes e) a b front.0 (pairs e (Contains-here e a)), in_turn-append lanes a b front.1 back (λ d at. pairs d (Contains-there e a d at)))
-
--- a job's calls come in turn
-pub own_in_turn : (lanes : ℕ → ℕ) (number : ℕ) (own : List Told) → AreBy number own → InTurn lanes own
-own_in_turn lanes number [] by_it = tt
-own_in_turn lanes number (e ∷ own) by_it =
-    let mine = All-head (λ x. x.job ≡ Some number) e own by_it in
-    let rest = All-tail (λ x. x.job ≡ Some number) e own by_it in (
-      All-weaker (λ x. x.job ≡ Some number) (IsBefore lanes e)
-          (λ d by_same i j ei dj same. let a = same_Some number i (sym mine ∙ ei) in let b = same_Some number j (sym by_same ∙ dj) in omega arith) own rest,
-      own_in_turn lanes number own rest,
-    )
 
 -- where all jobs come one after the other, those of each lane do
 pub in_turn_lanes : (lanes : ℕ → ℕ) (told : List Told) → InTurn one_lane told → InTurn lanes told

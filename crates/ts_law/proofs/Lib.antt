@@ -54,7 +54,6 @@ pub mod KeptLaws
 pub mod Sharing
 pub mod Lanes
 pub mod Doing
-pub mod OneMoreJob
 pub mod Journals
 pub mod JournalHistories
 pub mod OwnLanes
@@ -92,7 +91,6 @@ pub mod LineLanes
 pub mod Turns
 pub mod TrueRuns
 pub mod NoSweeps
-pub mod RunLaw
 pub mod Alone
 pub mod FirstStands
 pub mod ReadBounds

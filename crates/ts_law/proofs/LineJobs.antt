@@ -11,7 +11,7 @@ use Rattle.ts_model.specs.declared.commands.Line.{Line}
 use Rattle.ts_model.specs.Commands.{are_limits, fits, is_spelled_query}
 use Rattle.ts_model.specs.Jobs.{IsFit, AreFit, IsFitLine, AreApart}
 use Rattle.ts_model.proofs.ListLemmas.{Contains-here, Contains-there, Contains-slice_get, slice_get-Contains}
-use Rattle.ts_law.specs.Fresh.{Numbered, lines_in, by_lanes, in_lane_order, command_at, ends_at, id_of, seed_in, seeded, IsJobOf, AreJobsOf}
+use Rattle.ts_law.specs.Fresh.{Numbered, lines_in, by_lanes, in_lane_order, command_at, ends_at, id_of, job_from, seed_in, seeded, IsStampOf, IsJobOf, AreJobsOf}
 use Rattle.ts_law.proofs.Lists.{item_at}
 
 -- ---- lines in their places
@@ -273,3 +273,7 @@ module _ (gives : ℕ → Bool) (seed : ℕ) (items : List Numbered) (jobs : Lis
             command = subst (λ c. IsTrue (fits c)) (sym (is.command ∙ ap (λ s. command_at s x.line job.at) (seed_of_id seed (x.line).lane x.number (omega (arith, (small.fit).lane)) small.few)))
                 (seeded_fits seed (x.line).lane (ends_at (x.line).to_stamp job.at (x.line).command) seed_fits (omega (arith, (small.fit).lane)) (command_fits (x.line).to_stamp job.at (x.line).command (is.stamp).width (small.fit).command));
           }
+
+-- the job that is made of a line is that of the line
+pub job_of_line : (gives : ℕ → Bool) (id : ℕ) (line : Line) (at : ℕ) → IsStampOf gives line at → IsJobOf gives id line (job_from id line at)
+job_of_line gives id line at stamp = record { id_is = refl; stamp = stamp; command = refl; stop = refl }

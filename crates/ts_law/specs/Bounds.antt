@@ -54,7 +54,7 @@ abbrev pub most_gets_of : MostGets → History → Reading → List Piece → �
 most_gets_of most h r pieces =
     1 + schema_count r.current.key (heads_in pieces) + length r.counting + length r.delete_names + length r.fragments + sum_by (most_for most h r) (pieces_loaded r pieces)
 
--- what a read of [from, to] asks for and what it lists, over objects that stand for a history: the committed fragments whose span meets the interval, the committed fragments that have a `.vac`, whatever their span, and the deletes in the interval
+-- what a read of [from, to] asks for, by the schemas of a history, and what it lists of the objects that were held as it listed the commits; the history may have gone on from these. It is the committed fragments whose span meets the interval, the committed fragments that have a `.vac`, whatever their span, and the deletes in the interval
 pub record ListsOver (h : History) (m : Held) (from to : ℕ) (query : Query) (r : Reading) : Type 0 where
   pub begins : r.from ≡ from
   pub ends : r.to ≡ to
@@ -74,7 +74,7 @@ pub record ReadsOver (spelled : Spelled) (h : History) (m : Held) (from to : ℕ
   pub deletes : list_map (λ e. frag_of e.key) r.deletions ≡ r.delete_names
   pub deeds : (e : Deletion) → Contains r.deletions e → Contains (deletions h) e
 
--- so many gets are no more than a read of [from, to] may make over objects that stand for a history
+-- so many gets are no more than a read of [from, to] may make that sees this history, and listed the commits as these objects were held
 pub data FewGets (spelled : Spelled) (most : MostGets) (h : History) (m : Held) (from to : ℕ) (query : Query) (count : ℕ) : Type 0 where
   -- it makes none
   NoGets : count ≡ 0 → FewGets spelled most h m from to query count

@@ -9,7 +9,6 @@ pub mod Ends
 pub mod Swept
 pub mod Refusals
 pub mod Runs
-pub mod Doing
 pub mod Leases
 pub mod Since
 pub mod Sweeps

@@ -7,8 +7,7 @@ use Rattle.ts_model.specs.declared.answers.Outcome.{Outcome}
 use Rattle.ts_model.specs.declared.commands.Line.{Line}
 use Rattle.ts_model.specs.Told.{Told}
 use Rattle.ts_law.specs.Fresh.{IsJobOf, IsStampOf, Numbered, id_of, in_lane_order, job_from, lanes_of}
-use Rattle.ts_law.proofs.LineJobs.{in_order}
-use Rattle.ts_law.proofs.OneMoreJob.{job_of_line}
+use Rattle.ts_law.proofs.LineJobs.{in_order, job_of_line}
 use Rattle.ts_script.specs.Script.{AreLimited}
 use Rattle.ts_top.specs.Crews.{IsTaskOf, item_of}
 use Rattle.ts_top.specs.Runners.{RanLines}

@@ -25,6 +25,7 @@ use Rattle.ts_model.specs.declared.answers.Refusal.{Refusal}
 use Rattle.ts_model.specs.declared.deeds.Deed.{Deed}
 use Rattle.ts_model.specs.Deeds.{History, IsHistory, IsNewKey}
 use Rattle.ts_model.specs.Driven.{AskedFrom, IsDriven}
+use Rattle.ts_model.proofs.Asked.{starts_unleased}
 use Rattle.ts_model.specs.Jobs.{key_of, looks_at}
 use Rattle.ts_model.specs.Stages.{first_stage}
 use Rattle.ts_model.specs.Stops.{Uncut, cuts}
@@ -44,7 +45,6 @@ use Rattle.ts_law.specs.Kept.{HeldSince}
 use Rattle.ts_law.specs.Runs.{AreDriven, AreSegments, IsTrueRun}
 use Rattle.ts_law.proofs.TrueOver.{true_end_of}
 use Rattle.ts_law.specs.Stands.{Stands}
-use Rattle.ts_law.proofs.Doing.{ran-no_call}
 use Rattle.ts_law.proofs.Journals.{journal_held}
 use Rattle.ts_law.proofs.KeptLaws.{Replied-front}
 use Rattle.ts_law.proofs.Lists.{item_at}
@@ -53,7 +53,7 @@ use Rattle.ts_law.proofs.Lanes.{in_turn_lanes}
 use Rattle.ts_law.proofs.TrueRuns.{true_run}
 use Rattle.ts_top.proofs.DeedsTold.{and_then_some, created_tells, deed_own, deleted_tells, evolved_tells, none_split, one_grown, written_tells}
 use Rattle.ts_top.specs.Promise.{CameOut, Extends, HasNoLease, IsDone, IsDeedOf, IsLineDone, LeavesAll, LeavesOthers, Tells, IsStored}
-use Rattle.ts_top.specs.Runners.{run_codec, run_most, run_spelled, run_tracks}
+use Rattle.ts_top.specs.Runners.{RunFetch, run_codec, run_most, run_spelled, run_tracks}
 use Rattle.ts_top.specs.Sweeps.{MaySweep, dead_leases}
 use Rattle.ts_top.proofs.RunCodec.{run_laws}
 use Rattle.ts_top.proofs.Places.{Early, Late, cancelled, fronts, goes_on, stands_after}
@@ -308,11 +308,7 @@ no_trace number (e ∷ told) none =
 
 -- a job may have run short before its first call
 short_driven : (job : Job) → IsDriven run_codec job [] (Done outcome.OutOfMemory)
-short_driven job =
-    let nowhere : ℕ → Option Held = λ n. None in
-    let nothing : ℕ → List Told → ℕ → Type 0 = λ n told k. told ≡ [] in
-    let short = ran-no_call run_codec nowhere nothing 0 0 job 0 [] refl in
-    subst (λ t. IsDriven run_codec job t (Done outcome.OutOfMemory)) (ap (trace_of 0) short.made_of) short.ran.driven
+short_driven job = record { asked = tt; uncut = tt; ends = inr (refl, (starts_unleased RunFetch job, refl)) }
 
 -- calls in turn, cut at the first one of a job from a number on
 pub cut : (n : ℕ) (told : List Told) → All IsOwned told → InTurn one_lane told → (a : List Told) × (b : List Told) × (told ≡ a ++ b) × Early n a × Late n b
