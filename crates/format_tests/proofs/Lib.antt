@@ -1,2 +1,1 @@
 mod LikeLemmas
-mod OneCellFits

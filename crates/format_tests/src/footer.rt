@@ -1,8 +1,8 @@
-//! Worked objects of the metadata of fragments in tiles: what each byte says, and which offset each
-//! broken field gives.
+//! Worked objects of the metadata of fragments in tiles: what each byte says. Which offset each broken
+//! field gives is shown by the sessions of tests/cases/folders.
 use std::alloc::Global;
 use std::test::Fail;
-use ts_base::{ByteList, FragKey, Key, Label, OutOfMemory, Val, ValType};
+use ts_base::{FragKey, Key, Label, Val, ValType};
 use ts_domain::{Dim, Domain, Order};
 use ts_footer::{Meta, read_dense_head, read_head};
 use ts_schema::{Attr, AttrList, Frame, Schema};
@@ -39,45 +39,6 @@ const ONE_TILE: [u8; 160] = [
     // the box of the tile: from 5 to 5
     0x05, 0x00, 0x00, 0x00, 0x00, 0x00, 0x00, 0x00, 0x00, 0x00, 0x00, 0x00, 0x00, 0x00, 0x00, 0x00,
     0x05, 0x00, 0x00, 0x00, 0x00, 0x00, 0x00, 0x00, 0x00, 0x00, 0x00, 0x00, 0x00, 0x00, 0x00, 0x00,
-];
-
-// The metadata of the write of 10, 11, 12 and 13 at the coordinates from 0 to 3, three cells a tile.
-#[rattlefmt::skip]
-const TWO_TILES: [u8; 224] = [
-    // the text TDBU, the kind 5, the version 1
-    0x54, 0x44, 0x42, 0x55, 0x05, 0x01,
-    // the length of what follows: 210
-    0xd2, 0x00, 0x00, 0x00, 0x00, 0x00, 0x00, 0x00,
-    // the schema: timestamp 0, identifier 1
-    0x00, 0x00, 0x00, 0x00, 0x00, 0x00, 0x00, 0x00, 0x01, 0x00, 0x00, 0x00, 0x00, 0x00, 0x00, 0x00,
-    0x00, 0x00, 0x00, 0x00, 0x00, 0x00, 0x00, 0x00,
-    // sparse, and not consolidated
-    0x00, 0x00,
-    // the box: from 0 to 3
-    0x00, 0x00, 0x00, 0x00, 0x00, 0x00, 0x00, 0x00, 0x00, 0x00, 0x00, 0x00, 0x00, 0x00, 0x00, 0x00,
-    0x03, 0x00, 0x00, 0x00, 0x00, 0x00, 0x00, 0x00, 0x00, 0x00, 0x00, 0x00, 0x00, 0x00, 0x00, 0x00,
-    // four cells
-    0x04, 0x00, 0x00, 0x00, 0x00, 0x00, 0x00, 0x00,
-    // one origin
-    0x01, 0x00, 0x00, 0x00,
-    // the origin: timestamp 1, identifier 2
-    0x01, 0x00, 0x00, 0x00, 0x00, 0x00, 0x00, 0x00, 0x02, 0x00, 0x00, 0x00, 0x00, 0x00, 0x00, 0x00,
-    0x00, 0x00, 0x00, 0x00, 0x00, 0x00, 0x00, 0x00,
-    // two tiles
-    0x02, 0x00, 0x00, 0x00,
-    // the coordinates have 46 bytes
-    0x2e, 0x00, 0x00, 0x00, 0x00, 0x00, 0x00, 0x00,
-    // the values have 46 bytes
-    0x2e, 0x00, 0x00, 0x00, 0x00, 0x00, 0x00, 0x00,
-    // the box of the first tile: from 0 to 2
-    0x00, 0x00, 0x00, 0x00, 0x00, 0x00, 0x00, 0x00, 0x00, 0x00, 0x00, 0x00, 0x00, 0x00, 0x00, 0x00,
-    0x02, 0x00, 0x00, 0x00, 0x00, 0x00, 0x00, 0x00, 0x00, 0x00, 0x00, 0x00, 0x00, 0x00, 0x00, 0x00,
-    // the box of the second tile: from 3 to 3
-    0x03, 0x00, 0x00, 0x00, 0x00, 0x00, 0x00, 0x00, 0x00, 0x00, 0x00, 0x00, 0x00, 0x00, 0x00, 0x00,
-    0x03, 0x00, 0x00, 0x00, 0x00, 0x00, 0x00, 0x00, 0x00, 0x00, 0x00, 0x00, 0x00, 0x00, 0x00, 0x00,
-    // the box above both: from 0 to 3
-    0x00, 0x00, 0x00, 0x00, 0x00, 0x00, 0x00, 0x00, 0x00, 0x00, 0x00, 0x00, 0x00, 0x00, 0x00, 0x00,
-    0x03, 0x00, 0x00, 0x00, 0x00, 0x00, 0x00, 0x00, 0x00, 0x00, 0x00, 0x00, 0x00, 0x00, 0x00, 0x00,
 ];
 
 // The metadata of the write of the texts "ab" and "c" at the coordinates 5 and 6, one cell a tile. The
@@ -164,61 +125,6 @@ const FRAG: FragKey = FragKey {
     v: 1,
 };
 
-// A byte of an object, what it is changed to, and the offset that then is broken.
-#[derive(Clone, Copy)]
-struct Change(u64, u8, u64);
-
-const ONE_TILE_CHANGES: [Change; 14] = [
-    Change(4, 7, 4),
-    Change(6, 0x91, 6),
-    Change(38, 1, 38),
-    Change(56, 4, 56),
-    Change(72, 0, 72),
-    Change(72, 2, 112),
-    Change(84, 2, 84),
-    Change(108, 0, 108),
-    Change(108, 2, 108),
-    Change(112, 0x17, 112),
-    Change(120, 0x1e, 120),
-    Change(128, 4, 128),
-    Change(144, 6, 144),
-    Change(159, 1, 144),
-];
-
-const TWO_TILES_CHANGES: [Change; 6] = [
-    Change(108, 1, 108),
-    Change(160, 4, 176),
-    Change(176, 4, 208),
-    Change(128, 1, 192),
-    Change(192, 1, 192),
-    Change(208, 2, 208),
-];
-
-const TEXTS_CHANGES: [Change; 9] = [
-    Change(120, 0x12, 120),
-    Change(128, 15, 144),
-    Change(128, 13, 136),
-    Change(136, 13, 136),
-    Change(136, 15, 136),
-    Change(144, 13, 144),
-    Change(144, 18, 144),
-    Change(152, 0x1e, 152),
-    Change(72, 3, 108),
-];
-
-// A consolidated fragment has an object of origins more, and the object ends before its length.
-const SPACE_TILES_CHANGES: [Change; 9] = [
-    Change(6, 0x89, 6),
-    Change(38, 0, 38),
-    Change(39, 1, 152),
-    Change(72, 2, 104),
-    Change(104, 5, 104),
-    Change(140, 1, 140),
-    Change(140, 3, 140),
-    Change(143, 1, 140),
-    Change(144, 0x27, 144),
-];
-
 // The frame of a sparse array of one dimension from 0 to 9, with so many cells a tile.
 fn frame(capacity: u32) -> Result<Frame, Fail> {
     let dim = Dim {
@@ -277,42 +183,6 @@ fn schema(alloc: Global, ty: ValType, nullable: bool, fill: Val) -> Result<Schem
     Ok(Schema { key, attrs })
 }
 
-// The offset that is broken once the change is made.
-fn broken_at(
-    alloc: Global,
-    frame: &Frame,
-    schema: &Schema,
-    object: &[u8],
-    change: &Change,
-) -> Result<Option<u64>, OutOfMemory> {
-    let Change(at, byte, _) = change;
-    let mut bytes = ByteList::of_bytes(alloc, object)?;
-    if *at < bytes.len() {
-        bytes.set(*at, *byte);
-    }
-    match Meta::decode(alloc, frame, schema, FRAG, bytes.as_slice()) {
-        Err(ReadFault::Damaged(damaged)) => Ok(Some(damaged.at)),
-        _ => Ok(None),
-    }
-}
-
-// Whether each change breaks the object at its offset.
-fn breaks_so(
-    alloc: Global,
-    frame: &Frame,
-    schema: &Schema,
-    object: &[u8],
-    changes: &[Change],
-) -> Result<bool, OutOfMemory> {
-    for change in changes {
-        let Change(_, _, broken) = change;
-        if broken_at(alloc, frame, schema, object, change)? != Some(*broken) {
-            return Ok(false);
-        }
-    }
-    Ok(true)
-}
-
 // Whether the object is read as metadata with these lengths of objects, and these starts of texts, its
 // head also without the schema, and is written back.
 fn is_read_back(
@@ -344,14 +214,11 @@ fn is_read_back(
 }
 
 #[test]
-fn metadata_of_integers_has_its_160_and_224_bytes(rt: HostRuntime) -> Result<(), Fail> {
+fn metadata_of_integers_has_its_160_bytes(rt: HostRuntime) -> Result<(), Fail> {
     let alloc = rt.alloc();
     let schema = schema(alloc, ValType::I64, false, Val::Int(0))?;
-    let (wide, narrow) = (frame(10_000)?, frame(3)?);
-    assert!(rt; is_read_back(alloc, &wide, &schema, &ONE_TILE, &[22, 22], &[])?);
-    assert!(rt; breaks_so(alloc, &wide, &schema, &ONE_TILE, &ONE_TILE_CHANGES)?);
-    assert!(rt; is_read_back(alloc, &narrow, &schema, &TWO_TILES, &[46, 46], &[])?);
-    assert!(rt; breaks_so(alloc, &narrow, &schema, &TWO_TILES, &TWO_TILES_CHANGES)?);
+    let frame = frame(10_000)?;
+    assert!(rt; is_read_back(alloc, &frame, &schema, &ONE_TILE, &[22, 22], &[])?);
     Ok(())
 }
 
@@ -361,7 +228,6 @@ fn metadata_of_texts_tells_where_their_tiles_start(rt: HostRuntime) -> Result<()
     let schema = schema(alloc, ValType::Text, true, Val::Null)?;
     let frame = frame(1)?;
     assert!(rt; is_read_back(alloc, &frame, &schema, &TEXTS, &[30, 30, 17, 16], &[14, 16])?);
-    assert!(rt; breaks_so(alloc, &frame, &schema, &TEXTS, &TEXTS_CHANGES)?);
     Ok(())
 }
 
@@ -371,16 +237,5 @@ fn metadata_of_space_tiles_has_its_152_bytes(rt: HostRuntime) -> Result<(), Fail
     let schema = schema(alloc, ValType::I32, false, Val::Int(0))?;
     let frame = dense_frame()?;
     assert!(rt; is_read_back(alloc, &frame, &schema, &SPACE_TILES, &[38], &[])?);
-    assert!(rt; breaks_so(alloc, &frame, &schema, &SPACE_TILES, &SPACE_TILES_CHANGES)?);
-    // An object that is cut is broken at its length, whatever is changed behind it.
-    assert!(rt;
-        breaks_so(
-            alloc,
-            &frame,
-            &schema,
-            &SPACE_TILES[..151],
-            &[Change(140, 3, 6)]
-        )?
-    );
     Ok(())
 }

@@ -1,5 +1,5 @@
 //! The tests of the libraries that the model does not need to know of, each over their public calls: what no
-//! script shows of values, boxes, orders, schemas, and the objects of fragments.
+//! case or session shows of values, boxes, orders, and the objects of fragments.
 //!
 //! A crate with tests is proved twice, so these stand in a crate that holds nothing else.
 #![tactic(auto)]
@@ -18,10 +18,6 @@ mod order;
 mod plain;
 #[cfg(test)]
 mod rtree;
-#[cfg(test)]
-mod schema;
-#[cfg(test)]
-mod sparse;
 #[cfg(test)]
 mod table;
 #[cfg(test)]

@@ -1,8 +1,8 @@
 //! Fields and objects byte for byte, and where a broken one is damaged.
 use std::alloc::Global;
 use std::test::Fail;
-use ts_base::{ByteList, Key, Label, OutOfMemory, Val};
-use ts_wire::{Cursor, Damaged, Kind, ReadFault, Scribe, unwrap_body, wrap};
+use ts_base::{ByteList, Key, OutOfMemory, Val};
+use ts_wire::{Cursor, Damaged, Kind, ReadFault, Scribe, unwrap_body};
 
 // The frame of a dense array with one dimension x from 0 to 9 in tiles of 10, as an object.
 const FRAME: [u8; 73] = [
@@ -21,35 +21,6 @@ const SCHEMA: [u8; 36] = [
     0x01, 0, 0, 0, 0, 0, 0, 0, 0x80, // its fill, an integer
     0xff, 0xff, 0xff, 0xff, 0xff, 0xff, 0xff, 0xff,
 ];
-
-fn schema_body(alloc: Global, label: &Label) -> Result<ByteList, OutOfMemory> {
-    let mut scribe = Scribe::new(alloc);
-    scribe.u8(1)?;
-    scribe.label(label)?;
-    scribe.u8(4)?;
-    scribe.bool(false)?;
-    scribe.val(&Val::Int(i64::MIN as i128))?;
-    Ok(scribe.take())
-}
-
-#[test]
-fn a_schema_is_spelled_and_read_byte_for_byte(rt: HostRuntime) -> Result<(), Fail> {
-    let alloc = rt.alloc();
-    let label = Label::new("v").ok_or("no label")?;
-    let body = schema_body(alloc, &label)?;
-    let object = wrap(alloc, Kind::Schema, body.as_slice())?;
-    assert_eq!(rt; object.as_slice(), SCHEMA.as_slice());
-    let found = unwrap_body(Kind::Schema, &SCHEMA).ok().ok_or("damaged")?;
-    let mut cursor = Cursor::new(found, 14);
-    assert_eq!(rt; cursor.u8(), Ok(1));
-    assert_eq!(rt; cursor.label(), Ok(label));
-    assert_eq!(rt; cursor.u8(), Ok(4));
-    assert_eq!(rt; cursor.bool(), Ok(false));
-    assert_eq!(rt; cursor.val(alloc), Ok(Val::Int(-9223372036854775808)));
-    assert_eq!(rt; cursor.at(), 36);
-    assert_eq!(rt; cursor.end(), Ok(()));
-    Ok(())
-}
 
 #[test]
 fn an_object_is_damaged_at_its_first_broken_field(rt: HostRuntime) {

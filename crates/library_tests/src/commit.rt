@@ -1,17 +1,13 @@
-//! Worked rows: what reads load, what consolidations take, what is named and removed, and `.vac` objects byte by byte.
+//! Worked rows: what reads load, what consolidations take, and what is named and removed.
 ghost use Rattle.std.specs.Prelude.{◌≡◌, ◌++◌, ◌∷◌, [], IfOk, OnOk, map as list_map};
 ghost use Rattle.ts_commit.specs.Asked.{AreOfKind};
 
 use std::alloc::Global;
 use std::test::Fail;
-use ts_base::{
-    ByteList, Coords, CountList, FragKey, FragList, Head, HeadList, Key, KeyList, OutOfMemory,
-};
+use ts_base::{Coords, CountList, FragKey, FragList, Head, HeadList, Key, KeyList, OutOfMemory};
 use ts_commit::{
-    Limits, Planned, Selection, VacList, VacOf, decode_vac, encode_vac, names_merged, plan,
-    removal_set, select,
+    Limits, Planned, Selection, VacList, VacOf, names_merged, plan, removal_set, select,
 };
-use ts_wire::ReadFault;
 
 // Two writes, stamped 1 and 5, and what a consolidation merged them into.
 const FIRST: FragKey = FragKey {
@@ -238,72 +234,5 @@ fn a_plan_takes_what_one_schema_shares(rt: HostRuntime) -> Result<(), Fail> {
     // Cells of one attribute weigh two each: here of two writes more than 2^24 together.
     let found = planned(alloc, &[7, 7, 7], 4194305, &none, usual)?;
     assert_eq!(rt; found, Planned::Nothing { eligible: 3 });
-    Ok(())
-}
-
-// The object of a `.vac` with these lines.
-fn object_of(alloc: Global, lines: &str) -> Result<ByteList, OutOfMemory> {
-    let mut object = ByteList::of_bytes(alloc, &[0x54, 0x44, 0x42, 0x55, 0x04, 0x01])?;
-    for byte in (lines.len() as u64).to_le_bytes() {
-        object.push(byte)?;
-    }
-    for byte in lines.as_bytes() {
-        object.push(*byte)?;
-    }
-    Ok(object)
-}
-
-// The offset of the first broken field, where the object is damaged.
-fn broken_at(alloc: Global, object: &[u8]) -> Option<u64> {
-    match decode_vac(alloc, object) {
-        Err(ReadFault::Damaged(damaged)) => Some(damaged.at),
-        _ => None,
-    }
-}
-
-#[test]
-fn a_vac_object_is_a_line_for_each_name(rt: HostRuntime) -> Result<(), Fail> {
-    let alloc = rt.alloc();
-    let lines =
-        "__1_1_00000000000000000000000000000002_1\n__5_5_00000000000000000000000000000003_1\n";
-    let names = FragList::from_vec(vec![in alloc; FIRST, SECOND]?);
-    let object = encode_vac(alloc, &names)?;
-    assert_eq!(rt; object.as_slice(), object_of(alloc, lines)?.as_slice());
-    let read = decode_vac(alloc, object.as_slice()).ok().ok_or("damaged")?;
-    assert_eq!(rt; read.as_slice(), [FIRST, SECOND].as_slice());
-
-    // No name, a line without line feed, a last one without it, a name twice, names that descend,
-    // and what is no name.
-    for (lines, at) in [
-        ("", 14),
-        ("__1_1_00000000000000000000000000000002_1", 14),
-        (
-            "__1_1_00000000000000000000000000000002_1\n__5_5_00000000000000000000000000000003_1",
-            55,
-        ),
-        (
-            "__1_1_00000000000000000000000000000002_1\n__1_1_00000000000000000000000000000002_1\n",
-            55,
-        ),
-        (
-            "__5_5_00000000000000000000000000000003_1\n__1_1_00000000000000000000000000000002_1\n",
-            55,
-        ),
-        ("__5_4_00000000000000000000000000000003_1\n", 14),
-        ("notes\n", 14),
-    ] {
-        let found = broken_at(alloc, object_of(alloc, lines)?.as_slice());
-        assert_eq!(rt; found, Some(at), "in {lines}");
-    }
-
-    // A wrong byte in the envelope: the mark, the kind, the version and the length.
-    for (place, at) in [(0, 0), (3, 0), (4, 4), (5, 5), (6, 6), (13, 6)] {
-        let mut changed = object_of(alloc, lines)?;
-        if place < changed.len() {
-            changed.set(place, 0x77);
-        }
-        let found = broken_at(alloc, changed.as_slice());
-        assert_eq!(rt; found, Some(at), "at byte {place}");
-    }
     Ok(())
 }

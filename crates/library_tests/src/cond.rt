@@ -1,6 +1,4 @@
 //! What conditions say of cells, and how their texts are read, where no script can show it.
-mod codec;
-
 ghost use Rattle.std.specs.Prelude.{◌≤◌, length, IfOk};
 
 use std::alloc::Global;
@@ -9,8 +7,8 @@ use ts_base::{Boxed, ByteList, Coords, Label, Row, Val, ValType};
 use ts_cond::{Cond, CondFault, CondField, CondFieldList, CondNode, CondOp, NodeList, Pick};
 use ts_value::default_fill;
 
-/// A field: a dimension where it has an index.
-pub fn field(
+// A field: a dimension where it has an index.
+fn field(
     alloc: Global,
     name: &str,
     dim: Option<u8>,
@@ -26,8 +24,8 @@ pub fn field(
     })
 }
 
-/// A dimension x, and the attributes v, t and b.
-pub fn fields(alloc: Global) -> Result<CondFieldList, Fail>
+// A dimension x, and the attributes v, t and b.
+fn fields(alloc: Global) -> Result<CondFieldList, Fail>
     ensures { IfOk result (λ fields. length fields ≤ 255) }
 {
     let mut list = CondFieldList::new(alloc);

@@ -1,4 +1,0 @@
-//! Worked frames and schemas.
-mod changes;
-mod frame_objects;
-mod schema_objects;
