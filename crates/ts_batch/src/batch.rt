@@ -129,17 +129,6 @@ impl Batch {
             Held::Columns(table) => table.version(alloc, place),
         }
     }
-
-    /// The versions, each with a row of its own. Where they are rows they are moved.
-    pub fn into_rows(self, alloc: Global) -> Result<VersionList, OutOfMemory>
-        ensures { IfOk result (λ list. list ≡ self) }
-    {
-        let Batch { held } = self;
-        match held {
-            Held::Rows(versions) => Ok(versions),
-            Held::Columns(table) => table.to_rows(alloc),
-        }
-    }
 }
 
 // The coordinate along a dimension, if there is one.

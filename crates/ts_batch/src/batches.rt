@@ -6,7 +6,7 @@ use crate::batch::Batch;
 use crate::cell::{BatchCell, BatchCellList};
 use std::alloc::Global;
 use std::marker::Model;
-use ts_base::{OutOfMemory, VersionList};
+use ts_base::{OutOfMemory, Sequence};
 
 /// The versions of some batches. Contracts see the list of all versions, those of one batch behind
 /// those of another.
@@ -14,6 +14,9 @@ use ts_base::{OutOfMemory, VersionList};
 pub struct Batches {
     batches: Vec<Batch>,
 }
+
+/// A list of such lists: the versions of one source after the other.
+pub type BatchesList = Sequence<Batches>;
 
 impl Model for Batches {
     ghost use Rattle.std.specs.Prelude.{List};
@@ -71,21 +74,12 @@ impl Batches {
         Ok(())
     }
 
-    /// All versions, each with a row of its own. Those that are rows are moved.
-    pub fn into_rows(self, alloc: Global) -> Result<VersionList, OutOfMemory>
-        ensures { IfOk result (λ list. list ≡ self) }
+    /// The batches, which are moved.
+    pub fn into_vec(self) -> Vec<Batch>
+        ensures { versions_of result.items ≡ self }
     {
         let Batches { batches } = self;
-        let mut all = Vec::new(alloc);
-        for batch in batches {
-            let mut versions = batch.into_rows(alloc)?.into_vec();
-            if all.is_empty() {
-                all = versions;
-            } else {
-                all.append(&mut versions)?;
-            }
-        }
-        Ok(VersionList::from_vec(all))
+        batches
     }
 
     /// The versions in their places. None is copied.

@@ -9,7 +9,7 @@ mod row_batch;
 mod seen;
 
 pub use batch::Batch;
-pub use batches::Batches;
+pub use batches::{Batches, BatchesList};
 pub use cell::{BatchCell, BatchCellList};
 pub use row_batch::RowBatch;
 pub use seen::{seen_in, seen_of};

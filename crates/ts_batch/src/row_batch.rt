@@ -1,5 +1,5 @@
 //! Rows that lie in memory as rows or as columns.
-ghost use Rattle.std.specs.Prelude.{◌≡◌, ◌<◌, All, List, length, slice_get, slice_index_or, option_map, [], IfOk};
+ghost use Rattle.std.specs.Prelude.{◌≡◌, ◌<◌, All, List, length, slice_get, slice_index_or, option_map, []};
 ghost use Rattle.std.specs.Cmp.Lexicographic.{pointwise, lists_per, lists_equiv};
 ghost use Rattle.ts_base.specs.declared.values.Val.{Val as AnyVal};
 ghost use Rattle.ts_table.specs.Columns.{val_seen};
@@ -7,9 +7,8 @@ ghost use Rattle.ts_table.specs.Tables.{across};
 ghost use Rattle.ts_batch.specs.Rows.{rows_across, val_eq, option_eq, val_per, val_equiv};
 
 use crate::seen::{is_same, seen_in};
-use std::alloc::Global;
 use std::marker::Model;
-use ts_base::{OutOfMemory, Row, RowList};
+use ts_base::RowList;
 use ts_table::{Column, Seen};
 
 /// How rows lie in memory.
@@ -99,17 +98,6 @@ impl RowBatch {
             RowsHeld::Columns { columns, count: _ } => columns.as_slice().len() as u64,
         }
     }
-
-    /// The rows, each with values of its own. Where they lie so they are moved.
-    pub fn into_rows(self, alloc: Global) -> Result<RowList, OutOfMemory>
-        ensures { IfOk result (λ list. list ≡ self) }
-    {
-        let RowBatch { held } = self;
-        match held {
-            RowsHeld::Rows(rows) => Ok(rows),
-            RowsHeld::Columns { columns, count } => rows_of(alloc, columns.as_slice(), count),
-        }
-    }
 }
 
 impl PartialEq for RowBatch {
@@ -179,28 +167,4 @@ fn across_at(columns: &[Column], row: u64, column: u64) -> Option<Seen<'_>>
     } else {
         None
     }
-}
-
-// The first rows of columns.
-fn rows_of(alloc: Global, columns: &[Column], count: u64) -> Result<RowList, OutOfMemory>
-    requires { All (λ (column : List AnyVal). length column ≡ count) columns.now }
-    ensures { IfOk result (λ rows. rows ≡ rows_across columns.now count) }
-{
-    let mut rows = RowList::new(alloc);
-    for row in 0..count {
-        rows.push(row_at(alloc, columns, row)?)?;
-    }
-    Ok(rows)
-}
-
-// The row at a place of columns.
-fn row_at(alloc: Global, columns: &[Column], place: u64) -> Result<Row, OutOfMemory>
-    requires { All (λ (column : List AnyVal). place < length column) columns.now }
-    ensures { IfOk result (λ row. row ≡ across place columns.now) }
-{
-    let mut row = Row::new(alloc);
-    for column in columns {
-        row.push(column.at(place).to_val(alloc)?)?;
-    }
-    Ok(row)
 }

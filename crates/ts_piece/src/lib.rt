@@ -1,8 +1,10 @@
-//! Pieces whose versions stand in columns, and what else is done with columns on the way to a fragment.
+//! Pieces whose versions stand in batches, and what else is done with columns on the way to a fragment.
 #![tactic(auto)]
 
 mod columns;
-mod table_piece;
+mod pieces;
+mod spots;
 
 pub use columns::copied;
-pub use table_piece::TablePiece;
+pub use pieces::{BatchPiece, PieceCells};
+pub use spots::{Spot, all_spots, cell_at, cells_at};
