@@ -16,7 +16,8 @@ use crate::metadata::meta_object;
 use crate::slots::{Slots, slots_of};
 use crate::starts::{starts_object, tile_starts};
 use std::alloc::Global;
-use ts_base::{LengthList, OutOfMemory, Part, PartBytes, PartList, Piece};
+use ts_base::{LengthList, OutOfMemory, Part, PartBytes, PartList};
+use ts_piece::BatchPiece;
 use ts_schema::{Attr, Frame, Schema};
 use ts_sparse::Laid;
 use ts_wire::{Kind, wrap};
@@ -38,18 +39,20 @@ pub fn build(
     alloc: Global,
     frame: &Frame,
     schema: &Schema,
-    piece: &Piece,
+    piece: &BatchPiece,
 ) -> Result<PartList, OutOfMemory>
     requires names { NamesWrites piece.now }
     requires fits { FitsDense frame.now schema.now.attrs piece.now.head.frag (hulled_for piece.now) }
     ensures parts { IfOk result (λ parts. parts ≡ parts_of frame.now schema.now.attrs (hulled_for piece.now)) }
     ensures spelled { All (λ (v : AnyVersion). v.schema ≡ piece.now.head.schema) piece.now.versions → IfOk result (λ parts. IsDense frame.now schema.now piece.now (look_in parts)) }
 {
-    let slots = slots_of(alloc, frame, schema, piece)?;
+    let cells = piece.cells(alloc)?;
+    let head = cells.head();
+    let slots = slots_of(alloc, frame, schema, &cells)?;
     let tiles = slots.counts.len() as u32;
-    let laid = lay_columns(alloc, schema, piece.head.consolidated, &slots)?;
+    let laid = lay_columns(alloc, schema, head.consolidated, &slots)?;
     let Laid { mut parts, sizes } = laid;
-    let bytes = meta_object(alloc, &piece.head, tiles, sizes.as_slice())?;
+    let bytes = meta_object(alloc, head, tiles, sizes.as_slice())?;
     // No object has 2^64 bytes.
     let _size = bytes.len();
     parts.push(PartBytes {
@@ -64,7 +67,7 @@ fn lay_columns(
     alloc: Global,
     schema: &Schema,
     consolidated: bool,
-    slots: &Slots<'_>,
+    slots: &Slots<'_, '_>,
 ) -> Result<Laid, OutOfMemory>
     requires few_attrs { length schema.now.attrs ≤ 64 }
     requires fits { ValuesFit schema.now.attrs slots.now.versions.items }
@@ -87,7 +90,7 @@ fn lay_attrs(
     alloc: Global,
     laid: &mut Laid,
     attrs: &[Attr],
-    slots: &Slots<'_>,
+    slots: &Slots<'_, '_>,
 ) -> Result<(), OutOfMemory>
     requires few { length attrs.now ≤ 64 }
     requires fits { ValuesFit attrs.now slots.now.versions.items }
@@ -105,7 +108,7 @@ fn lay_attr(
     laid: &mut Laid,
     place: u8,
     attr: &Attr,
-    slots: &Slots<'_>,
+    slots: &Slots<'_, '_>,
 ) -> Result<(), OutOfMemory>
     requires { ValuesFitOne attr.now place slots.now.versions.items }
     ensures { OnOk result (laid.new ≡ with_objects (with_objects laid.old (fixed_objects (is_integer attr.now.ty) slots.now.counts place attr.now.ty (value_column place (slot_cells slots.now)))) (validity_objects attr.now.nullable place (value_column place (slot_cells slots.now)))) }
@@ -125,7 +128,7 @@ fn lay_numbers(
     laid: &mut Laid,
     place: u8,
     attr: &Attr,
-    slots: &Slots<'_>,
+    slots: &Slots<'_, '_>,
 ) -> Result<(), OutOfMemory>
     requires integer { is_integer attr.now.ty ≡ true }
     requires fits { ValuesFitOne attr.now place slots.now.versions.items }
@@ -142,7 +145,7 @@ fn lay_texts(
     alloc: Global,
     laid: &mut Laid,
     place: u8,
-    slots: &Slots<'_>,
+    slots: &Slots<'_, '_>,
 ) -> Result<(), OutOfMemory>
     ensures { OnOk result (laid.new ≡ with_objects laid.old (starts_object slots.now.counts place (value_column place (slot_cells slots.now)) ∷ bytes_object slots.now.counts place (value_column place (slot_cells slots.now)) ∷ [])) }
 {
@@ -165,7 +168,7 @@ fn lay_validity(
     laid: &mut Laid,
     place: u8,
     nullable: bool,
-    slots: &Slots<'_>,
+    slots: &Slots<'_, '_>,
 ) -> Result<(), OutOfMemory>
     ensures { OnOk result (laid.new ≡ with_objects laid.old (validity_objects nullable place (value_column place (slot_cells slots.now)))) }
 {
@@ -182,7 +185,7 @@ fn lay_origins(
     alloc: Global,
     laid: &mut Laid,
     consolidated: bool,
-    slots: &Slots<'_>,
+    slots: &Slots<'_, '_>,
 ) -> Result<(), OutOfMemory>
     requires few { length slots.now.origins.now < 2 ^ 32 }
     requires ascend { IsStrictlySortedBy key_cmp slots.now.origins.now }

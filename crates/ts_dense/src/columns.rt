@@ -16,7 +16,8 @@ ghost use Rattle.ts_plain.specs.Writes.{HasPlace};
 ghost use Rattle.ts_dense.specs.Laying.{held, value_in, values_along, origin_in, origins_along, NamedIn, NumbersFit};
 
 use std::alloc::Global;
-use ts_base::{ByteList, KeyList, OutOfMemory, ValType, Version};
+use ts_base::{ByteList, KeyList, OutOfMemory, ValType};
+use ts_batch::BatchCell;
 use ts_column::is_signed;
 use ts_plain::place_of;
 use ts_table::Texts;
@@ -26,7 +27,11 @@ use ts_wire::{Kind, Scribe};
 const NO_ORIGIN: u32 = 4_294_967_295;
 
 // A scribe with room for so many bytes for each slot.
-fn room_for(alloc: Global, slots: &[Option<&Version>], width: u8) -> Result<Scribe, OutOfMemory>
+fn room_for(
+    alloc: Global,
+    slots: &[Option<&BatchCell<'_>>],
+    width: u8,
+) -> Result<Scribe, OutOfMemory>
     ensures { IfOk result (λ scribe. scribe ≡ []) }
 {
     let mut scribe = Scribe::new(alloc);
@@ -36,7 +41,7 @@ fn room_for(alloc: Global, slots: &[Option<&Version>], width: u8) -> Result<Scri
 }
 
 // The integer that is stored for the value of an attribute: 0 for a null and in a hole.
-fn number_in(slot: Option<&Version>, attr: u8) -> i128
+fn number_in(slot: Option<&BatchCell<'_>>, attr: u8) -> i128
     ensures { result ≡ number_of (value_in attr (option_copied slot.entry)) }
 {
     match slot {
@@ -51,7 +56,7 @@ pub(crate) fn numbers_object(
     alloc: Global,
     ty: ValType,
     attr: u8,
-    slots: &[Option<&Version>],
+    slots: &[Option<&BatchCell<'_>>],
 ) -> Result<ByteList, OutOfMemory>
     requires integer { is_integer ty ≡ true }
     requires fits { NumbersFit ty attr slots.now }
@@ -65,7 +70,7 @@ pub(crate) fn numbers_object(
 }
 
 // Whether a slot has a value of an attribute that is no null.
-fn is_there(slot: Option<&Version>, attr: u8) -> bool
+fn is_there(slot: Option<&BatchCell<'_>>, attr: u8) -> bool
     ensures { result ≡ is_there (value_in attr (option_copied slot.entry)) }
 {
     match slot {
@@ -78,7 +83,7 @@ fn is_there(slot: Option<&Version>, attr: u8) -> bool
 pub(crate) fn validity_object(
     alloc: Global,
     attr: u8,
-    slots: &[Option<&Version>],
+    slots: &[Option<&BatchCell<'_>>],
 ) -> Result<ByteList, OutOfMemory>
     ensures { IfOk result (λ bytes. bytes ≡ wrapped kind.Column (flat_map bool_bytes (map is_there (values_along attr (held slots.now))))) }
 {
@@ -90,7 +95,7 @@ pub(crate) fn validity_object(
 }
 
 // The bytes that are stored for the value of an attribute: none for a null and in a hole.
-fn text_in(slot: Option<&Version>, attr: u8) -> &[u8]
+fn text_in<'a>(slot: Option<&BatchCell<'a>>, attr: u8) -> &'a [u8]
     ensures { result.now ≡ text_of (value_in attr (option_copied slot.entry)) }
 {
     match slot {
@@ -103,7 +108,7 @@ fn text_in(slot: Option<&Version>, attr: u8) -> &[u8]
 pub(crate) fn texts_of(
     alloc: Global,
     attr: u8,
-    slots: &[Option<&Version>],
+    slots: &[Option<&BatchCell<'_>>],
 ) -> Result<Texts, OutOfMemory>
     ensures { IfOk result (λ texts. texts ≡ map text_of (values_along attr (held slots.now))) }
 {
@@ -115,14 +120,14 @@ pub(crate) fn texts_of(
 }
 
 // Which write the cell of a slot is of: its place among the origins.
-fn origin_in(origins: &KeyList, slot: Option<&Version>) -> u32
+fn origin_in(origins: &KeyList, slot: Option<&BatchCell<'_>>) -> u32
     requires few { length origins.now < 2 ^ 32 }
     requires ascend { IsStrictlySortedBy key_cmp origins.now }
     requires known { IfSome (option_copied slot) (λ (v : AnyVersion). HasPlace origins.now v.key) }
     ensures { result ≡ origin_in origins.now (option_copied slot.entry) }
 {
     match slot {
-        Some(version) => place_of(origins, version.key),
+        Some(version) => place_of(origins, version.key()),
         None => NO_ORIGIN,
     }
 }
@@ -131,7 +136,7 @@ fn origin_in(origins: &KeyList, slot: Option<&Version>) -> u32
 pub(crate) fn origins_object(
     alloc: Global,
     origins: &KeyList,
-    slots: &[Option<&Version>],
+    slots: &[Option<&BatchCell<'_>>],
 ) -> Result<ByteList, OutOfMemory>
     requires few { length origins.now < 2 ^ 32 }
     requires ascend { IsStrictlySortedBy key_cmp origins.now }

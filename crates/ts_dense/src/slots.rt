@@ -9,38 +9,40 @@ ghost use Rattle.ts_dense.specs.Slots.{tiles_over};
 ghost use Rattle.ts_dense.specs.Laying.{held, taken_at, versions_at, hull_of_head, IsSlots};
 
 use std::alloc::Global;
-use ts_base::{Coords, CountList, KeyList, OutOfMemory, Piece, Version};
+use ts_base::{Coords, CountList, KeyList, OutOfMemory};
+use ts_batch::BatchCell;
 use ts_domain::{BoxList, Order, SubBox};
 use ts_order::{coords_at, tiles_of};
+use ts_piece::PieceCells;
 use ts_schema::{Frame, Schema};
 
 /// The slots of a piece, space tile by space tile.
 #[derive(Drop)]
-pub(crate) struct Slots<'a> {
+pub(crate) struct Slots<'s, 'p> {
     /// The keys of the writes that the versions are of.
-    pub origins: &'a KeyList,
+    pub origins: &'s KeyList,
     /// How many slots each space tile has.
     pub counts: CountList,
     /// The version of each slot, or none where the piece does not have the cell.
-    pub versions: Vec<Option<&'a Version>>,
+    pub versions: Vec<Option<&'s BatchCell<'p>>>,
 }
 
 /// The slots of a piece.
 ///
 /// The versions stand in the same order as the slots. So the next version is that of a slot, or of a
 /// slot behind it.
-pub(crate) fn slots_of<'a>(
+pub(crate) fn slots_of<'s, 'p>(
     alloc: Global,
     frame: &Frame,
     schema: &Schema,
-    piece: &'a Piece,
-) -> Result<Slots<'a>, OutOfMemory>
+    piece: &'s PieceCells<'p>,
+) -> Result<Slots<'s, 'p>, OutOfMemory>
     requires names { NamesWrites piece.now }
     requires fits { FitsDense frame.now schema.now.attrs piece.now.head.frag (hulled_for piece.now) }
     ensures { IfOk result (λ slots. IsSlots frame.now piece.entry.now slots) }
 {
     let tiles = tiles_over(alloc, frame, schema, piece)?;
-    let found = piece.versions.as_slice();
+    let found = piece.versions();
     let mut counts = CountList::new(alloc);
     let mut versions = Vec::new(alloc);
     let mut next = 0;
@@ -50,7 +52,7 @@ pub(crate) fn slots_of<'a>(
         next = fill(&mut versions, frame.cell, tile, cells, found, next)?;
     }
     Ok(Slots {
-        origins: &piece.head.origins,
+        origins: &piece.head().origins,
         counts,
         versions,
     })
@@ -61,16 +63,17 @@ fn tiles_over(
     alloc: Global,
     frame: &Frame,
     schema: &Schema,
-    piece: &Piece,
+    piece: &PieceCells<'_>,
 ) -> Result<BoxList, OutOfMemory>
     requires names { NamesWrites piece.now }
     requires fits { FitsDense frame.now schema.now.attrs piece.now.head.frag (hulled_for piece.now) }
     ensures tiles { IfOk result (λ tiles. tiles ≡ tiles_over frame.now (hull_of_head piece.now.head)) }
     ensures valid { IfOk result (λ tiles. All IsBox tiles) }
 {
+    let head = piece.head();
     let hull = SubBox {
-        low: piece.head.low,
-        high: piece.head.high,
+        low: head.low,
+        high: head.high,
     };
     let _cells = count(&hull)?;
     tiles_of(alloc, &frame.domain, frame.tile, &hull)
@@ -91,12 +94,12 @@ fn count(sub: &SubBox) -> Result<u64, OutOfMemory>
 
 // Fills the slots of a tile of so many cells with the versions from a place on, and says from which
 // place on the next tile is filled.
-fn fill<'a>(
-    slots: &mut Vec<Option<&'a Version>>,
+fn fill<'s, 'p>(
+    slots: &mut Vec<Option<&'s BatchCell<'p>>>,
     order: Order,
     tile: &SubBox,
     cells: u64,
-    versions: &'a [Version],
+    versions: &'s [BatchCell<'p>],
     first: usize,
 ) -> Result<usize, OutOfMemory>
     requires valid { IsBox tile.now }
@@ -117,11 +120,15 @@ fn fill<'a>(
 }
 
 // The version at a place, if it has these coordinates.
-fn version_at<'a>(versions: &'a [Version], place: usize, at: &Coords) -> Option<&'a Version>
+fn version_at<'s, 'p>(
+    versions: &'s [BatchCell<'p>],
+    place: usize,
+    at: &Coords,
+) -> Option<&'s BatchCell<'p>>
     ensures { option_copied result ≡ taken_at at.now (slice_get versions.entry.now place) }
 {
     match versions.get(place) {
-        Some(version) if version.coords == *at => Some(version),
+        Some(version) if version.coords() == *at => Some(version),
         _ => None,
     }
 }

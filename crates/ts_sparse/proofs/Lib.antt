@@ -22,3 +22,4 @@ pub mod BuildLaws
 pub mod CountLaws
 pub mod TileBoxes
 pub mod ToldLaws
+pub mod SeenValues

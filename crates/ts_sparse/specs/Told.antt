@@ -1,5 +1,5 @@
 -- What the metadata of a sparse fragment tells of its objects and its tiles.
-use Rattle.std.specs.Prelude.{ℕ, ◌+◌, List, length, map, Some}
+use Rattle.std.specs.Prelude.{◌+◌, List, length, map, Some}
 use Rattle.ts_base.specs.declared.keys.FragKey.{FragKey}
 use Rattle.ts_schema.specs.declared.attrs.Attr.{Attr}
 use Rattle.ts_schema.specs.declared.frames.Frame.{Frame}

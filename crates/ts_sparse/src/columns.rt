@@ -10,20 +10,22 @@ ghost use Rattle.ts_wire.specs.declared.kinds.Kind.TheVariants as kind;
 ghost use Rattle.ts_wire.specs.Envelope.{wrapped};
 ghost use Rattle.ts_wire.specs.Fields.{bool_bytes};
 ghost use Rattle.ts_wire.specs.Numbers.{FitsInt, number_bytes, int_bytes};
+ghost use Rattle.ts_table.specs.Columns.{val_seen};
 ghost use Rattle.ts_column.specs.Spelled.{number_of, text_of};
 ghost use Rattle.ts_column.specs.Tiles.{is_signed, is_there};
 ghost use Rattle.ts_plain.specs.Writes.{place_of, HasPlace};
 ghost use Rattle.ts_sparse.specs.Laying.{coords_along, values_along};
 
 use std::alloc::Global;
-use ts_base::{ByteList, KeyList, OutOfMemory, Val, ValType, Version};
+use ts_base::{ByteList, KeyList, OutOfMemory, ValType};
+use ts_batch::BatchCell;
 use ts_column::is_signed;
 use ts_plain::place_of;
-use ts_table::Texts;
+use ts_table::{Seen, Texts};
 use ts_wire::{Kind, Scribe};
 
 // A scribe with room for so many bytes for each cell.
-fn room_for(alloc: Global, versions: &[Version], width: u8) -> Result<Scribe, OutOfMemory>
+fn room_for(alloc: Global, versions: &[BatchCell<'_>], width: u8) -> Result<Scribe, OutOfMemory>
     ensures { IfOk result (λ scribe. scribe ≡ []) }
 {
     let mut scribe = Scribe::new(alloc);
@@ -33,11 +35,12 @@ fn room_for(alloc: Global, versions: &[Version], width: u8) -> Result<Scribe, Ou
 }
 
 // The coordinate of a cell along a dimension, or 0 where there is no such dimension.
-fn coord_of(version: &Version, dim: u8) -> i128
+#[tactic(auto, using(crate::proofs::SeenValues::coord_there))]
+fn coord_of(version: &BatchCell<'_>, dim: u8) -> i128
     ensures { result ≡ get_or version.now.coords dim (pos 0) }
 {
-    match version.coords.as_slice().get(dim as usize) {
-        Some(x) => *x,
+    match version.coord(dim) {
+        Some(x) => x,
         None => 0,
     }
 }
@@ -48,7 +51,7 @@ pub(crate) fn coords_object(
     alloc: Global,
     ty: ValType,
     dim: u8,
-    versions: &[Version],
+    versions: &[BatchCell<'_>],
 ) -> Result<ByteList, OutOfMemory>
     requires integer { is_integer ty ≡ true }
     requires fits { All (λ (v : AnyVersion). FitsInt (width_of ty) (is_signed ty) (get_or v.coords dim (pos 0))) versions.now }
@@ -61,13 +64,23 @@ pub(crate) fn coords_object(
     scribe.into_object(Kind::Column)
 }
 
+// The value of an attribute, null where there is none.
+fn value_of<'a>(version: &BatchCell<'a>, attr: u8) -> Seen<'a>
+    ensures { val_seen result ≡ get_or version.now.row attr val.Null }
+{
+    match version.val(attr as u64) {
+        Some(value) => value,
+        None => Seen::Null,
+    }
+}
+
 /// The integer that is stored for the value of an attribute: 0 for a null.
-pub fn number_of(version: &Version, attr: u8) -> i128
+pub fn number_of(version: &BatchCell<'_>, attr: u8) -> i128
     ensures { result ≡ number_of (get_or version.now.row attr val.Null) }
 {
-    match version.row.as_slice().get(attr as usize) {
-        Some(Val::Int(number)) => *number,
-        Some(Val::Null) | Some(Val::Bytes(_)) | None => 0,
+    match value_of(version, attr) {
+        Seen::Int(number) => number,
+        Seen::Null | Seen::Bytes(_) => 0,
     }
 }
 
@@ -77,7 +90,7 @@ pub(crate) fn numbers_object(
     alloc: Global,
     ty: ValType,
     attr: u8,
-    versions: &[Version],
+    versions: &[BatchCell<'_>],
 ) -> Result<ByteList, OutOfMemory>
     requires integer { is_integer ty ≡ true }
     requires fits { All (λ (v : AnyVersion). FitsInt (width_of ty) (is_signed ty) (number_of (get_or v.row attr val.Null))) versions.now }
@@ -91,12 +104,12 @@ pub(crate) fn numbers_object(
 }
 
 /// Whether the value of an attribute is no null.
-pub fn is_there(version: &Version, attr: u8) -> bool
+pub fn is_there(version: &BatchCell<'_>, attr: u8) -> bool
     ensures { result ≡ is_there (get_or version.now.row attr val.Null) }
 {
-    match version.row.as_slice().get(attr as usize) {
-        Some(Val::Int(_)) | Some(Val::Bytes(_)) => true,
-        Some(Val::Null) | None => false,
+    match value_of(version, attr) {
+        Seen::Int(_) | Seen::Bytes(_) => true,
+        Seen::Null => false,
     }
 }
 
@@ -104,7 +117,7 @@ pub fn is_there(version: &Version, attr: u8) -> bool
 pub(crate) fn validity_object(
     alloc: Global,
     attr: u8,
-    versions: &[Version],
+    versions: &[BatchCell<'_>],
 ) -> Result<ByteList, OutOfMemory>
     ensures { IfOk result (λ bytes. bytes ≡ wrapped kind.Column (flat_map bool_bytes (map is_there (values_along attr versions.now)))) }
 {
@@ -116,17 +129,21 @@ pub(crate) fn validity_object(
 }
 
 /// The bytes that are stored for the value of an attribute: none for a null.
-pub fn text_of(version: &Version, attr: u8) -> &[u8]
+pub fn text_of<'a>(version: &BatchCell<'a>, attr: u8) -> &'a [u8]
     ensures { result.now ≡ text_of (get_or version.now.row attr val.Null) }
 {
-    match version.row.as_slice().get(attr as usize) {
-        Some(Val::Bytes(bytes)) => bytes.as_slice(),
-        Some(Val::Int(_)) | Some(Val::Null) | None => &[],
+    match value_of(version, attr) {
+        Seen::Bytes(bytes) => bytes,
+        Seen::Null | Seen::Int(_) => &[],
     }
 }
 
 /// The values of an attribute that are byte lists, a null as the empty one.
-pub(crate) fn texts_of(alloc: Global, attr: u8, versions: &[Version]) -> Result<Texts, OutOfMemory>
+pub(crate) fn texts_of(
+    alloc: Global,
+    attr: u8,
+    versions: &[BatchCell<'_>],
+) -> Result<Texts, OutOfMemory>
     ensures { IfOk result (λ texts. texts ≡ map text_of (values_along attr versions.now)) }
 {
     let mut texts = Texts::new(alloc);
@@ -140,7 +157,7 @@ pub(crate) fn texts_of(alloc: Global, attr: u8, versions: &[Version]) -> Result<
 pub(crate) fn origins_object(
     alloc: Global,
     origins: &KeyList,
-    versions: &[Version],
+    versions: &[BatchCell<'_>],
 ) -> Result<ByteList, OutOfMemory>
     requires few { length origins.now < 2 ^ 32 }
     requires ascend { IsStrictlySortedBy key_cmp origins.now }
@@ -149,7 +166,7 @@ pub(crate) fn origins_object(
 {
     let mut scribe = room_for(alloc, versions, 4)?;
     for version in versions {
-        scribe.u32(place_of(origins, version.key))?;
+        scribe.u32(place_of(origins, version.key()))?;
     }
     scribe.into_object(Kind::Column)
 }

@@ -1,19 +1,22 @@
 //! The metadata of a sparse fragment.
-ghost use Rattle.std.specs.Prelude.{◌≡◌, ◌++◌, ◌≤◌, length, IfOk, OnOk};
+ghost use Rattle.std.specs.Prelude.{◌≡◌, ◌++◌, ◌≤◌, ◌<◌, ◌^◌, length, IfOk, OnOk};
 ghost use Rattle.std.specs.List.{flat_map};
 ghost use Rattle.ts_domain.specs.Rects.{AllLike};
 ghost use Rattle.ts_rtree.specs.Trees.{hulls_of};
 ghost use Rattle.ts_wire.specs.declared.kinds.Kind.TheVariants as kind;
 ghost use Rattle.ts_wire.specs.Envelope.{wrapped};
 ghost use Rattle.ts_wire.specs.Numbers.{number_bytes};
-ghost use Rattle.ts_plain.specs.Writes.{stored_for, NamesWrites};
+ghost use Rattle.ts_plain.specs.Plain.{head_bytes};
+ghost use Rattle.ts_plain.specs.Writes.{plain_head_for, stored_for, NamesWrites};
 ghost use Rattle.ts_sparse.specs.Sparse.{leaves_of, FitsSparse};
 ghost use Rattle.ts_sparse.specs.Laying.{box_of_version, boxes_of, cells_of, meta_with};
 
 use std::alloc::Global;
-use ts_base::{ByteList, OutOfMemory, Piece, Version};
+use ts_base::{ByteList, Duplicate, OutOfMemory};
+use ts_batch::BatchCell;
 use ts_domain::{BoxList, SubBox};
-use ts_plain::write_plain_head;
+use ts_piece::PieceCells;
+use ts_plain::write_head;
 use ts_rtree::Tree;
 use ts_schema::{Frame, Schema};
 use ts_wire::{Kind, Scribe};
@@ -24,7 +27,7 @@ pub(crate) fn meta_object(
     alloc: Global,
     frame: &Frame,
     schema: &Schema,
-    piece: &Piece,
+    piece: &PieceCells<'_>,
     sizes: &[u64],
 ) -> Result<ByteList, OutOfMemory>
     requires names { NamesWrites piece.now }
@@ -34,11 +37,26 @@ pub(crate) fn meta_object(
     let leaves = leaves_of(alloc, frame, schema, piece)?;
     let tree = Tree::build(alloc, &leaves)?;
     let mut scribe = Scribe::new(alloc);
-    write_plain_head(&mut scribe, piece)?;
+    write_piece_head(alloc, &mut scribe, piece)?;
     scribe.u32(leaves.len() as u32)?;
     write_sizes(&mut scribe, sizes)?;
     scribe.bytes(tree.bytes(alloc)?.as_slice())?;
     scribe.into_object(Kind::Meta)
+}
+
+// Writes what stands before the sizes, where the number of cells is that of the versions.
+fn write_piece_head(
+    alloc: Global,
+    scribe: &mut Scribe,
+    piece: &PieceCells<'_>,
+) -> Result<(), OutOfMemory>
+    requires corners { length piece.now.head.high ≡ length piece.now.head.low }
+    requires few { length piece.now.head.origins < 2 ^ 32 }
+    ensures { OnOk result (scribe.new ≡ scribe.old ++ head_bytes (plain_head_for piece.now)) }
+{
+    let mut head = piece.head().copy(alloc)?;
+    head.cells = piece.versions().len() as u64;
+    write_head(scribe, &head)
 }
 
 /// Writes sizes in eight bytes each.
@@ -56,18 +74,18 @@ fn leaves_of(
     alloc: Global,
     frame: &Frame,
     schema: &Schema,
-    piece: &Piece,
+    piece: &PieceCells<'_>,
 ) -> Result<BoxList, OutOfMemory>
     requires { FitsSparse frame.now schema.now.attrs piece.now.head.frag (stored_for piece.now) }
     ensures leaves { IfOk result (λ leaves. leaves ≡ leaves_of frame.now.capacity (cells_of piece.now)) }
     ensures alike { IfOk result AllLike }
     ensures some { IfOk result (λ leaves. 1 ≤ length leaves) }
 {
-    tile_boxes(alloc, frame.capacity, piece.versions.as_slice())
+    tile_boxes(alloc, frame.capacity, piece.versions())
 }
 
 // The boxes of the tiles of so many cells each. It makes no list of the boxes of the cells.
-fn tile_boxes(alloc: Global, tile: u32, versions: &[Version]) -> Result<BoxList, OutOfMemory>
+fn tile_boxes(alloc: Global, tile: u32, versions: &[BatchCell<'_>]) -> Result<BoxList, OutOfMemory>
     requires tile { 1 ≤ tile }
     requires some { 1 ≤ length versions.now }
     requires alike { AllLike (boxes_of versions.now) }
@@ -92,11 +110,12 @@ fn tile_boxes(alloc: Global, tile: u32, versions: &[Version]) -> Result<BoxList,
 }
 
 // The box of one cell.
-fn cell_box(version: &Version) -> SubBox
+fn cell_box(version: &BatchCell<'_>) -> SubBox
     ensures { result ≡ box_of_version version.now }
 {
+    let coords = version.coords();
     SubBox {
-        low: version.coords,
-        high: version.coords,
+        low: coords,
+        high: coords,
     }
 }

@@ -12,28 +12,28 @@ use Rattle.ts_sparse.proofs.metadata.leaves_of.Goals as goal
 
 pub tile_boxes-requires-clause-some : goal.tile_boxes-requires-clause-some
 tile_boxes-requires-clause-some c =
-    subst (λ (versions : List Version). 1 ≤ length versions) (sym c.as_slice.ensures) (some_versions c.args.frame.now c.args.schema.now.attrs c.args.piece.now.head.frag c.args.piece.now c.requires)
+    subst (λ (versions : List Version). 1 ≤ length versions) (sym c.versions.ensures) (some_versions c.args.frame.now c.args.schema.now.attrs c.args.piece.now.head.frag c.args.piece.now c.requires)
 
 pub tile_boxes-requires-clause-alike : goal.tile_boxes-requires-clause-alike
 tile_boxes-requires-clause-alike c =
-    subst (λ (versions : List Version). AllLike (boxes_of versions)) (sym c.as_slice.ensures) (boxes_alike c.args.frame.now c.args.schema.now.attrs c.args.piece.now.head.frag c.args.piece.now c.requires)
+    subst (λ (versions : List Version). AllLike (boxes_of versions)) (sym c.versions.ensures) (boxes_alike c.args.frame.now c.args.schema.now.attrs c.args.piece.now.head.frag c.args.piece.now c.requires)
 
 pub returns-clause-leaves : goal.returns-clause-leaves
 returns-clause-leaves c =
     let n = c.args.frame.now.capacity in
-    IfOk-weaker c.tile_boxes.result (λ leaves. leaves ≡ hulls_of n (boxes_of c.as_slice.result.now)) (λ leaves. leaves ≡ leaves_of n (cells_of c.args.piece.now))
-    (λ leaves h. h ∙ ap (λ (versions : List Version). hulls_of n (boxes_of versions)) c.as_slice.ensures ∙ leaves_same n c.args.piece.now) c.tile_boxes.ensures
+    IfOk-weaker c.tile_boxes.result (λ leaves. leaves ≡ hulls_of n (boxes_of c.versions.result.now)) (λ leaves. leaves ≡ leaves_of n (cells_of c.args.piece.now))
+    (λ leaves h. h ∙ ap (λ (versions : List Version). hulls_of n (boxes_of versions)) c.versions.ensures ∙ leaves_same n c.args.piece.now) c.tile_boxes.ensures
 
 pub returns-clause-alike : goal.returns-clause-alike
 returns-clause-alike c =
     let n = c.args.frame.now.capacity in
     let all = leaves_alike c.args.frame.now c.args.schema.now.attrs c.args.piece.now.head.frag c.args.piece.now c.requires in
-    IfOk-weaker c.tile_boxes.result (λ leaves. leaves ≡ hulls_of n (boxes_of c.as_slice.result.now)) AllLike
-    (λ leaves h. subst AllLike (sym (h ∙ ap (λ (versions : List Version). hulls_of n (boxes_of versions)) c.as_slice.ensures)) all) c.tile_boxes.ensures
+    IfOk-weaker c.tile_boxes.result (λ leaves. leaves ≡ hulls_of n (boxes_of c.versions.result.now)) AllLike
+    (λ leaves h. subst AllLike (sym (h ∙ ap (λ (versions : List Version). hulls_of n (boxes_of versions)) c.versions.ensures)) all) c.tile_boxes.ensures
 
 pub returns-clause-some : goal.returns-clause-some
 returns-clause-some c =
     let n = c.args.frame.now.capacity in
     let some = leaves_there c.args.frame.now c.args.schema.now.attrs c.args.piece.now.head.frag c.args.piece.now c.requires in
-    IfOk-weaker c.tile_boxes.result (λ leaves. leaves ≡ hulls_of n (boxes_of c.as_slice.result.now)) (λ leaves. 1 ≤ length leaves)
-    (λ leaves h. subst (λ (boxes : List SubBox). 1 ≤ length boxes) (sym (h ∙ ap (λ (versions : List Version). hulls_of n (boxes_of versions)) c.as_slice.ensures)) some) c.tile_boxes.ensures
+    IfOk-weaker c.tile_boxes.result (λ leaves. leaves ≡ hulls_of n (boxes_of c.versions.result.now)) (λ leaves. 1 ≤ length leaves)
+    (λ leaves h. subst (λ (boxes : List SubBox). 1 ≤ length boxes) (sym (h ∙ ap (λ (versions : List Version). hulls_of n (boxes_of versions)) c.versions.ensures)) some) c.tile_boxes.ensures
