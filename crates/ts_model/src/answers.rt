@@ -1,6 +1,7 @@
 //! How a command ends: its answer, or why it was refused.
 
-use ts_base::{FragKey, FragList, Key, Label, Name, NameList, Place, RowList, Sequence, ValType};
+use ts_base::{FragKey, FragList, Key, Label, Name, NameList, Place, Sequence, ValType};
+use ts_batch::RowBatch;
 use ts_cond::CondFault;
 use ts_domain::DomainFault;
 use ts_schema::SchemaFault;
@@ -15,7 +16,7 @@ pub struct Answer {
     pub types: TypeList,
     /// A row for each cell of the box that has a value and passes the filter, in the layout that
     /// was asked for: the value of each field that is shown.
-    pub rows: RowList,
+    pub rows: RowBatch,
     /// The fragments that are clipped, ascending: each is committed, but the read could not use it,
     /// and it holds a write that the answer leaves out. That can be where a vacuum removed what was
     /// merged into it.

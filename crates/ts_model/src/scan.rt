@@ -26,6 +26,7 @@ use crate::selection::{fills_of, rows_of, types_shown};
 use std::alloc::Global;
 use std::collections::BTreeMap;
 use ts_base::{Cell, Coords, Duplicate, FragList, Key, OutOfMemory, Row};
+use ts_batch::RowBatch;
 use ts_cond::Query;
 use ts_domain::Order;
 use ts_order::coords_at;
@@ -125,7 +126,7 @@ fn answer(alloc: Global, scan: &Scan) -> Result<Answer, OutOfMemory>
     let listed = listed(alloc, &cells)?;
     Ok(Answer {
         types: types_shown(alloc, scan.frame, scan.current, scan.ready)?,
-        rows: rows_of(alloc, scan.frame, scan.current, scan.ready, listed)?,
+        rows: RowBatch::of_rows(rows_of(alloc, scan.frame, scan.current, scan.ready, listed)?),
         clipped: FragList::new(alloc),
     })
 }

@@ -6,9 +6,9 @@ use crate::queries::Ready;
 use std::alloc::Global;
 use ts_base::{
     Boxed, ByteList, Duplicate, FragKey, FragList, Head, Key, KeyList, Name, NameList, OutOfMemory,
-    Sequence, VersionLists,
+    Sequence,
 };
-use ts_batch::Batches;
+use ts_batch::{Batches, BatchesList};
 use ts_commit::{Limits, VacList};
 use ts_schema::{Frame, Schema, SchemaList};
 use ts_store::Call;
@@ -334,9 +334,9 @@ pub enum Merging<F> {
         /// The fragment.
         frag: FragKey,
         /// The versions of each fragment before it.
-        got: VersionLists,
-        /// How far the fetch has come.
-        fetch: F,
+        got: BatchesList,
+        /// How far the fetch has come. This is large, so it lies in a place of its own.
+        fetch: Boxed<F>,
         /// The call that it asks for.
         asked: Call,
     },

@@ -26,7 +26,7 @@ returns-clause-rows c =
       cells = cells_in c.in_ok-cells.cells;
       each = c.in_ok-cells.ensures;
       same =
-          c.in_ok-rows_of.ensures
+          c.of_rows.ensures ∙ c.in_ok-rows_of.ensures
           ∙ ap (selected s.frame.now s.current.now.attrs s.ready.now)
           (ap (map placed) c.in_ok-listed.ensures.cells ∙ placed_back entries ∙ sym (entries-tree coords_total entries c.in_ok-listed.ensures.ordered));
     }
