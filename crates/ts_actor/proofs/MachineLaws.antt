@@ -1,6 +1,7 @@
 -- Where a machine's calls have led its job, and what it ends with.
-use Rattle.std.proofs.Common.{◌≡◌, Bool, true, false, cond, not, ◌&&◌, ◌||◌, ◌<◌, ◌+◌, ℕ, arith, inl, inr, List, [], ◌∷◌, ◌++◌, Option, Some, None, refl, sym, ◌∙◌, ap, subst}
-use Rattle.std.specs.Prelude.{IfSome, nat_lt, option_map, slice_get}
+use Rattle.std.proofs.Common.{◌≡◌, Bool, true, false, cond, not, ◌&&◌, ◌||◌, ◌<◌, ◌+◌, ℕ, arith, inl, inr, List, [], ◌∷◌, ◌++◌, Option, Some, None, refl, sym, ◌∙◌, ap, subst, Result, Ok, Err}
+use Rattle.ts_base.specs.declared.lists.OutOfMemory.{OutOfMemory}
+use Rattle.std.specs.Prelude.{IfSome, nat_lt, option_map, slice_get, IfOk}
 use Rattle.std.specs.Option.{is_none, is_some, option_map_or}
 use Rattle.std.proofs.lemmas.Bool.{true≢false}
 use Rattle.std.proofs.lemmas.Option.{none-some, same_Some}
@@ -245,6 +246,11 @@ module _ (serves : Job → Type 0) (calls : Job → Call → Type 0) (spares : S
   pub work_no_release : (o p : Option Call) → o ≡ p → IfSome o (calls job) → IfSome p (λ c. is_release job c ≡ false)
   work_no_release None p same works = subst (λ q. IfSome q (λ c. is_release job c ≡ false)) same tt
   work_no_release (Some c) p same works = subst (λ q. IfSome q (λ c. is_release job c ≡ false)) same (spares job c serves_it works).1
+
+  -- nor does the call that a stage asks for in which it works
+  pub works_no_release : {F : Type 0} (codec : Codec F) (stage : Stage F) (s : State F) (r : Result (Option Call) OutOfMemory) → stage ≡ Works s → IfOk r (λ call. call ≡ asks codec job s) → IfOk r (λ call. IfSome call (calls job)) → IfOk r (λ call. AsksNoRelease codec job stage)
+  works_no_release codec stage s (Ok call) is same works = subst (AsksNoRelease codec job) (sym is) (work_no_release call (asks codec job s) same works)
+  works_no_release codec stage s (Err e) is same works = tt
 
   -- and has a spelling
   pub work_spelled : (o : Option Call) → IfSome o (calls job) → IfSome o IsSpelledCall

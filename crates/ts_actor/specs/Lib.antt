@@ -11,6 +11,5 @@ pub mod PlainSources
 pub mod PlainLaws
 pub mod PlainHeads
 pub mod PlainStores
-pub mod Newest
 pub mod Listings
 pub mod Known

@@ -16,10 +16,9 @@ ghost use Rattle.ts_actor.specs.PieceLaws.{SpellsOne, RefusesBroken, OpensUnbrok
 
 use std::alloc::Global;
 use std::thread::Threads;
-use ts_base::{
-    ByteList, FragKey, Head, OutOfMemory, Part, PartList, Piece, VersionList, VersionLists,
-};
+use ts_base::{ByteList, FragKey, Head, OutOfMemory, Part, PartList, VersionList, VersionLists};
 use ts_batch::Batches;
+use ts_piece::BatchPiece;
 use ts_schema::{Frame, Schema, Spelling, Want};
 use ts_store::{Call, Reply};
 use ts_wire::ReadFault;
@@ -67,7 +66,7 @@ pub trait Pieces: Spelling {
         alloc: Global,
         frame: &Frame,
         schema: &Schema,
-        piece: &Piece,
+        piece: &BatchPiece,
     ) -> Result<PartList, OutOfMemory>
         requires { codec.writable frame.now schema.now.attrs piece.now }
         ensures is { IfOk result (λ parts. parts ≡ codec.parts frame.now schema.now piece.now) }

@@ -10,10 +10,10 @@ use std::alloc::Global;
 use std::mem;
 use std::thread::Threads;
 use ts_base::{
-    ByteList, FragKey, Head, OutOfMemory, Part, PartBytes, PartList, Piece, VersionList,
-    VersionLists,
+    ByteList, FragKey, Head, OutOfMemory, Part, PartBytes, PartList, VersionList, VersionLists,
 };
 use ts_batch::{Batch, Batches};
+use ts_piece::BatchPiece;
 use ts_plain::{merge_all, read_head, read_plain, write_plain};
 use ts_schema::{Frame, Schema, Spelling, Want, taken};
 use ts_store::Reply;
@@ -74,9 +74,10 @@ impl Pieces for PlainPieces {
         alloc: Global,
         _frame: &Frame,
         _schema: &Schema,
-        piece: &Piece,
+        piece: &BatchPiece,
     ) -> Result<PartList, OutOfMemory> {
-        let bytes = write_plain(alloc, piece)?;
+        let rows = piece.cells(alloc)?.to_rows(alloc)?;
+        let bytes = write_plain(alloc, &rows)?;
         let mut parts = PartList::new(alloc);
         parts.push(PartBytes {
             part: Part::Plain,

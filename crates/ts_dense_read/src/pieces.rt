@@ -20,13 +20,12 @@ use std::alloc::Global;
 use std::marker::PhantomData;
 use std::thread::Threads;
 use ts_actor::{Fetched, Pieces};
-use ts_base::{
-    ByteList, FragKey, Head, OutOfMemory, Part, PartList, Piece, VersionList, VersionLists,
-};
+use ts_base::{ByteList, FragKey, Head, OutOfMemory, Part, PartList, VersionList, VersionLists};
 use ts_dense::build;
 use ts_fetch::TileFetch;
 use ts_footer::read_dense_head;
 use ts_kinds::EitherFetch;
+use ts_piece::BatchPiece;
 use ts_plain::merge_all;
 use ts_schema::{Frame, Schema, Spelling, Want};
 use ts_store::Reply;
@@ -92,7 +91,7 @@ impl<S: Pieces> Pieces for DensePieces<S> {
         alloc: Global,
         frame: &Frame,
         schema: &Schema,
-        piece: &Piece,
+        piece: &BatchPiece,
     ) -> Result<PartList, OutOfMemory> {
         if frame.dense {
             parts_of(alloc, frame, schema, piece)
@@ -166,7 +165,7 @@ fn parts_of(
     alloc: Global,
     frame: &Frame,
     schema: &Schema,
-    piece: &Piece,
+    piece: &BatchPiece,
 ) -> Result<PartList, OutOfMemory>
     requires { IsSpaceStorable frame.now schema.now.attrs piece.now }
     ensures is { IfOk result (λ parts. parts ≡ space_parts frame.now schema.now piece.now) }

@@ -14,11 +14,10 @@ use crate::opening::open;
 use std::alloc::Global;
 use std::thread::Threads;
 use ts_actor::{Fetched, Pieces};
-use ts_base::{
-    ByteList, FragKey, Head, OutOfMemory, Part, PartList, Piece, VersionList, VersionLists,
-};
+use ts_base::{ByteList, FragKey, Head, OutOfMemory, Part, PartList, VersionList, VersionLists};
 use ts_fetch::TileFetch;
 use ts_footer::read_head;
+use ts_piece::BatchPiece;
 use ts_plain::merge_all;
 use ts_schema::{Frame, Schema, Spelling, Want};
 use ts_sparse::build;
@@ -81,7 +80,7 @@ impl Pieces for SparsePieces {
         alloc: Global,
         frame: &Frame,
         schema: &Schema,
-        piece: &Piece,
+        piece: &BatchPiece,
     ) -> Result<PartList, OutOfMemory> {
         // A domain has 8 dimensions at most.
         let _count = frame.domain.count();
