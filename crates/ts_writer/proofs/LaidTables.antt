@@ -149,23 +149,3 @@ box_columns_long count coords = All-map (λ (numbers : List ℤ). length numbers
 -- there are so many columns
 pub length-box_columns : (count : ℕ) (coords : List (List ℤ)) → length (box_columns count coords) ≡ count
 length-box_columns count coords = length-map (range_with_len 0 count) (λ dim. box_column dim coords) ∙ length-range_with_len 0 count
-
--- one column more
-pub columns_more : (coords : List (List ℤ)) (dim : ℕ) → box_columns (dim + 1) coords ≡ box_columns dim coords ++ box_column dim coords ∷ []
-columns_more coords dim = map-range_with_len_more (λ k. box_column k coords) 0 dim dim (omega arith)
-
--- one coordinate more of a column
-pub column_more : (coords : List (List ℤ)) (dim place : ℕ) → place < length coords → box_column dim (take (place + 1) coords) ≡ box_column dim (take place coords) ++ get_or (get_or coords place []) dim (pos 0) ∷ []
-column_more coords dim place lt = ap (box_column dim) (take_more coords place [] lt) ∙ map-append (λ c. get_or c dim (pos 0)) (take place coords) (get_or coords place [] ∷ [])
-
--- a column of all coordinates
-pub column_whole : (coords : List (List ℤ)) (dim place : ℕ) → length coords ≤ place → box_column dim (take place coords) ≡ box_column dim coords
-column_whole coords dim place le = ap (box_column dim) (take_all place coords le)
-
-pub ruleset boxes = (columns_more, column_more, column_whole, length-coords_in_order)
-
--- what is found at a place stands there
-pub found_is : (coords : List (List ℤ)) (place : ℕ) (c : List ℤ) → slice_get coords place ≡ Some c → get_or coords place [] ≡ c
-found_is coords place c e = get_or_from_slice_get coords place c [] e
-
-pub ruleset founds = (found_is)

@@ -4,6 +4,7 @@ pub mod Again
 pub mod Hulls
 pub mod Lengths
 pub mod LaidTables
+pub mod BoxColumns
 pub mod Globals
 pub mod Said
 pub mod Pieced

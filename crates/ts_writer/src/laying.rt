@@ -21,7 +21,7 @@ use std::alloc::Global;
 use ts_base::OutOfMemory;
 use ts_domain::{Domain, SubBox};
 use ts_model::{ColIn, Refusal, WriteIn, bound_outside, box_of, over_most, unknown_dim};
-use ts_piece::TablePiece;
+use ts_piece::BatchPiece;
 use ts_schema::{Attr, AttrList, Frame};
 use ts_table::{Origin, Table};
 
@@ -55,7 +55,7 @@ pub(crate) fn lay(
     origin: Origin,
     attrs: &AttrList,
     write: &WriteIn,
-) -> Result<TablePiece, LayFault>
+) -> Result<BatchPiece, LayFault>
     requires frame { IsFrame frame.now }
     requires spelled { IsTrue (is_spelled_write write.now) }
     ensures { LaysOr (pieced frame.now origin (laid frame.now attrs.now write.now)) result }
@@ -82,7 +82,7 @@ fn lay_box(
     origin: Origin,
     attrs: &[Attr],
     write: &WriteIn,
-) -> Result<TablePiece, LayFault>
+) -> Result<BatchPiece, LayFault>
     requires frame { IsFrame frame.now }
     requires dense { frame.now.dense ≡ true }
     requires named { All IsNamedBox write.now.sub }
@@ -128,7 +128,7 @@ fn lay_apart(
     origin: Origin,
     attrs: &[Attr],
     cols: &[ColIn],
-) -> Result<TablePiece, LayFault>
+) -> Result<BatchPiece, LayFault>
     requires frame { IsFrame frame.now }
     requires spelled { IsTrue (list_all is_spelled_col cols.now) }
     ensures { LaysOr (pieced frame.now origin (laid_apart frame.now.domain attrs.now cols.now)) result }
@@ -154,7 +154,7 @@ fn tested(
     frame: &Frame,
     origin: Origin,
     table: Table,
-) -> Result<TablePiece, LayFault>
+) -> Result<BatchPiece, LayFault>
     requires some { 1 ≤ length table }
     requires inside { All (λ (v : AnyVersion). IsTrue (is_in_domain frame.now.domain v.coords)) table }
     requires own { AreOf origin.key origin.schema table }

@@ -10,7 +10,7 @@ ghost use Rattle.ts_writer.specs.Tables.{AreGlobal, AreOf, cells_in};
 use std::alloc::Global;
 use ts_base::{Coords, FragKey, Head, IndexList, KeyList, OutOfMemory};
 use ts_domain::{Domain, SubBox};
-use ts_piece::TablePiece;
+use ts_piece::BatchPiece;
 use ts_schema::Frame;
 use ts_table::{Origin, Table};
 
@@ -21,7 +21,7 @@ pub(crate) fn piece_of(
     origin: Origin,
     table: Table,
     places: IndexList,
-) -> Result<TablePiece, OutOfMemory>
+) -> Result<BatchPiece, OutOfMemory>
     requires some { 1 ≤ length table }
     requires inside { All (λ (v : AnyVersion). IsTrue (is_in_domain frame.now.domain v.coords)) table }
     requires own { AreOf origin.key origin.schema table }
@@ -29,7 +29,7 @@ pub(crate) fn piece_of(
     ensures { IfOk result (λ p. p ≡ piece_of frame.now (record { key = origin.key; schema = origin.schema; cells = cells_in table })) }
 {
     let head = head_of(alloc, frame, origin, &table)?;
-    Ok(TablePiece::of(head, table, places))
+    BatchPiece::of_table(alloc, head, table, places)
 }
 
 // The head of the piece.

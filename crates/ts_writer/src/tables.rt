@@ -13,9 +13,9 @@ use crate::columns::{ColumnList, NumberLists};
 use std::alloc::Global;
 use ts_base::{Coords, OutOfMemory};
 use ts_domain::{Domain, Order, SubBox};
+use ts_gather::coords_columns;
 use ts_model::Refusal;
-use ts_order::coords_at;
-use ts_table::{Numbers, Origin, Table};
+use ts_table::{Origin, Table};
 
 /// The versions of the cells of columns, which are all of one origin.
 #[tactic(auto, using(crate::proofs::LaidTables::laid))]
@@ -38,7 +38,6 @@ pub(crate) fn table_of(
 }
 
 /// The coordinates of all cells of a box along each dimension, in the order of a layout.
-#[tactic(auto, using(crate::proofs::LaidTables::boxes))]
 pub(crate) fn box_columns(
     alloc: Global,
     sub: &SubBox,
@@ -48,46 +47,7 @@ pub(crate) fn box_columns(
     requires few_cells { cells_of sub.now < 2 ^ 64 - 1 }
     ensures { IfOk result (λ columns. columns ≡ box_columns (length sub.now.low) (coords_in_order layout sub.now)) }
 {
-    let mut columns = NumberLists::new(alloc);
-    for dim in 0..sub.low.len() {
-        columns.push(box_column(alloc, sub, layout, dim)?)?;
-    }
-    Ok(columns)
-}
-
-// The coordinates of all cells of a box along a dimension.
-#[tactic(auto, using(crate::proofs::LaidTables::boxes))]
-fn box_column(alloc: Global, sub: &SubBox, layout: Order, dim: u8) -> Result<Numbers, OutOfMemory>
-    requires valid { IsBox sub.now }
-    requires few_cells { cells_of sub.now < 2 ^ 64 - 1 }
-    ensures { IfOk result (λ column. column ≡ box_column dim (coords_in_order layout sub.now)) }
-{
-    let mut column = Numbers::new(alloc);
-    for place in 0..sub.cells() {
-        column.push(coord_at(sub, layout, place, dim))?;
-    }
-    Ok(column)
-}
-
-// The coordinate along a dimension of the cell at a place of a box, or 0 where there is none.
-#[tactic(auto, using(crate::proofs::LaidTables::founds))]
-fn coord_at(sub: &SubBox, layout: Order, place: u64, dim: u8) -> i128
-    requires valid { IsBox sub.now }
-    requires few_cells { cells_of sub.now < 2 ^ 64 - 1 }
-    requires below { place < cells_of sub.now }
-    ensures { result ≡ slice_index_or (slice_index_or (coords_in_order layout sub.now) place []) dim (pos 0) }
-{
-    coord_of(&coords_at(sub, layout, place), dim)
-}
-
-// The coordinate along a dimension, or 0 where there is none.
-fn coord_of(at: &Coords, dim: u8) -> i128
-    ensures { result ≡ slice_index_or at.now dim (pos 0) }
-{
-    match at.as_slice().get(dim as usize) {
-        Some(number) => *number,
-        None => 0,
-    }
+    Ok(NumberLists::from_vec(coords_columns(alloc, sub, layout)?))
 }
 
 /// The first coordinate outside the domain, cell by cell.

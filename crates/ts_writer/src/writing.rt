@@ -21,7 +21,7 @@ use std::marker::PhantomData;
 use ts_actor::Pieces;
 use ts_base::{ByteList, CommitKind, FragKey, Key, Name, OutOfMemory, PartBytes, PartList};
 use ts_model::{Command, Job, Listed, NewObject, NewObjectList, Outcome, State, WriteIn};
-use ts_piece::TablePiece;
+use ts_piece::BatchPiece;
 use ts_schema::{Frame, Schema};
 use ts_table::Origin;
 
@@ -107,7 +107,7 @@ fn put_piece<P: Pieces>(
     frame: &Frame,
     current: &Schema,
     write: &WriteIn,
-    piece: TablePiece,
+    piece: BatchPiece,
 ) -> Result<State<P::Fetch>, OutOfMemory>
     requires frame { IsFrame frame.now }
     requires attrs { AreAttrs current.now.attrs }
@@ -119,7 +119,6 @@ fn put_piece<P: Pieces>(
     ensures may { IfOk result IsLaterState }
     ensures fewer { IfOk result (λ state. calls_left state < 2 ^ 64) }
 {
-    let piece = piece.into_rows(alloc)?;
     let parts = P::parts(alloc, frame, current, &piece)?;
     let frag = frag_of(job);
     let objects = objects_of(alloc, frag, parts)?;
