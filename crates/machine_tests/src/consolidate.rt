@@ -8,8 +8,9 @@ use std::alloc::Global;
 use std::test::Fail;
 use ts_base::{
     Coords, FragKey, Head, HeadList, Key, KeyList, Label, OutOfMemory, Piece, Row, Val, ValType,
-    Version, VersionList, VersionLists,
+    Version, VersionList,
 };
+use ts_batch::{Batch, Batches, BatchesList};
 use ts_consolidate::{Unmerged, merge_pieces};
 use ts_domain::{Dim, Domain, Order};
 use ts_schema::Frame;
@@ -146,10 +147,22 @@ fn merged(alloc: Global, frame: &Frame, merge: &Merge<'_>) -> Result<Result<Piec
     let first = head_of(alloc, frame, 7, &merge.first)?;
     let mut others = HeadList::new(alloc);
     others.push(head_of(alloc, frame, 8, &merge.second)?)?;
-    let mut got = VersionLists::new(alloc);
-    got.push(versions_of(alloc, frame, &merge.first)?)?;
-    got.push(versions_of(alloc, frame, &merge.second)?)?;
-    Ok(merge_pieces(alloc, frame, 9, &first, others.as_slice(), got))
+    let mut got = BatchesList::new(alloc);
+    got.push(batches_of(alloc, frame, &merge.first)?)?;
+    got.push(batches_of(alloc, frame, &merge.second)?)?;
+    match merge_pieces(alloc, frame, 9, &first, others.as_slice(), got) {
+        Ok(piece) => Ok(Ok(piece.cells(alloc)?.to_rows(alloc)?)),
+        Err(cause) => Ok(Err(cause)),
+    }
+}
+
+// The versions of a fragment, as one batch.
+fn batches_of(alloc: Global, frame: &Frame, fragment: &Fragment<'_>) -> Result<Batches, Fail>
+    requires { length frame.now.domain ≡ 1 }
+    ensures { IfOk result (All (λ (version : AnyVersion). IsTrue (is_in_domain frame.now.domain version.coords))) }
+{
+    let batch = Batch::of_rows(versions_of(alloc, frame, fragment)?);
+    Ok(Batches::of(alloc, batch)?)
 }
 
 // The piece of the fragment that is wanted.

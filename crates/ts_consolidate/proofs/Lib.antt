@@ -1,6 +1,9 @@
 pub mod Folds
 pub mod Hulls
 pub mod Placed
+pub mod InOrder
+pub mod LastAlone
+pub mod Neighbours
 pub mod Merged
 pub mod Keys
 pub mod Leads

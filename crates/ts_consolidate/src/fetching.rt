@@ -13,7 +13,8 @@ use crate::putting::put_merged;
 use std::alloc::Global;
 use std::thread::Threads;
 use ts_actor::{Fetched, Pieces, wanted};
-use ts_base::{FragKey, Name, OutOfMemory, VersionList, VersionLists};
+use ts_base::{Boxed, FragKey, Name, OutOfMemory};
+use ts_batch::{Batches, BatchesList};
 use ts_model::{Job, Merging, Opened, OpenedList, Outcome, Refusal, State, Survey, box_of};
 use ts_schema::{AttrList, Frame, Schema, Want};
 use ts_store::{Call, Reply};
@@ -38,7 +39,7 @@ pub(crate) struct SourceFetch<F> {
     /// The fragment.
     pub frag: FragKey,
     /// The versions of each fragment before it.
-    pub got: VersionLists,
+    pub got: BatchesList,
     /// The fetch.
     pub fetch: F,
 }
@@ -49,7 +50,7 @@ pub(crate) enum SourceStep<F> {
     /// It asks for this call, and waits for its reply.
     Asks(F, Call),
     /// These are all versions of the fragment.
-    Takes(VersionList),
+    Takes(Batches),
     /// The consolidation ends.
     Ends(Outcome),
 }
@@ -62,7 +63,7 @@ pub(crate) fn merge_from<P: Pieces, R: Threads + Sync>(
     job: &Job,
     merged: Sources,
     next: u64,
-    got: VersionLists,
+    got: BatchesList,
 ) -> Result<State<P::Fetch>, OutOfMemory>
     requires has { HasSources P.codec merged.survey merged.schema merged.opened }
     requires within { next ≤ length merged.opened }
@@ -85,7 +86,8 @@ pub(crate) fn merge_from<P: Pieces, R: Threads + Sync>(
                     got,
                     fetch,
                 };
-                return Ok(State::Merges(fetches(merged, ongoing, asked)));
+                let state = fetches(alloc, merged, ongoing, asked)?;
+                return Ok(State::Merges(state));
             }
             SourceStep::Takes(versions) => got.push(versions)?,
             SourceStep::Ends(end) => return Ok(State::Over(end)),
@@ -95,8 +97,13 @@ pub(crate) fn merge_from<P: Pieces, R: Threads + Sync>(
 }
 
 // A consolidation waits for the reply to a call of a fetch.
-fn fetches<F>(merged: Sources, ongoing: SourceFetch<F>, asked: Call) -> Merging<F>
-    ensures { result ≡ Merging.Fetches merged.survey merged.opened merged.schema ongoing.next ongoing.frag ongoing.got ongoing.fetch asked }
+fn fetches<F: Drop>(
+    alloc: Global,
+    merged: Sources,
+    ongoing: SourceFetch<F>,
+    asked: Call,
+) -> Result<Merging<F>, OutOfMemory>
+    ensures { IfOk result (λ state. state ≡ Merging.Fetches merged.survey merged.opened merged.schema ongoing.next ongoing.frag ongoing.got ongoing.fetch asked) }
 {
     let Sources {
         survey,
@@ -109,16 +116,16 @@ fn fetches<F>(merged: Sources, ongoing: SourceFetch<F>, asked: Call) -> Merging<
         got,
         fetch,
     } = ongoing;
-    Merging::Fetches {
+    Ok(Merging::Fetches {
         survey,
         sources,
         schema,
         next,
         frag,
         got,
-        fetch,
+        fetch: Boxed::new(alloc, fetch)?,
         asked,
-    }
+    })
 }
 
 // Begins to fetch a source.
@@ -171,7 +178,7 @@ fn go_on<P: Pieces, R: Threads + Sync>(
     let mut fetch = fetch;
     match P::next(rt, alloc, &mut fetch, reply) {
         Fetched::Ask(call) => Ok(SourceStep::Asks(fetch, call)),
-        Fetched::Got(versions) => Ok(SourceStep::Takes(versions.into_rows(alloc)?)),
+        Fetched::Got(versions) => Ok(SourceStep::Takes(versions)),
         Fetched::Damaged { part, at } => {
             let name = Name::Part(frag, part);
             Ok(SourceStep::Ends(Outcome::Refused(Refusal::Damaged { name, at })))
@@ -260,7 +267,8 @@ fn after_told<P: Pieces, R: Threads + Sync>(
                 got,
                 fetch,
             };
-            Ok(State::Merges(fetches(merged, ongoing, asked)))
+            let state = fetches(alloc, merged, ongoing, asked)?;
+            Ok(State::Merges(state))
         }
         SourceStep::Takes(versions) => {
             let mut got = got;

@@ -10,9 +10,11 @@ ghost use Rattle.ts_consolidate.specs.Consolidations.{IsConsolidationOf};
 ghost use Rattle.ts_consolidate.specs.declared.merging.Unmerged.TheVariants as fault;
 
 use crate::heads::{merged_head, origins_of_all};
-use crate::versions::{joined, merged_versions};
+use crate::versions::{joined, merged_spots};
 use std::alloc::Global;
-use ts_base::{Head, OutOfMemory, Piece, VersionLists};
+use ts_base::{Head, OutOfMemory};
+use ts_batch::BatchesList;
+use ts_piece::BatchPiece;
 use ts_schema::Frame;
 
 /// Why pieces were not merged into one.
@@ -37,16 +39,16 @@ impl From<OutOfMemory> for Unmerged {
 /// identifier.
 ///
 /// `got` has the versions of each source, in the order of the heads, as a fetch that wants all of
-/// them finds them. It takes time in proportion to the number of versions and origins, times the
-/// number of binary digits of that.
+/// them finds them. No row is made of them. It takes time in proportion to the number of versions
+/// and origins, times the number of binary digits of that.
 pub fn merge_pieces(
     alloc: Global,
     frame: &Frame,
     id: u128,
     first: &Head,
     others: &[Head],
-    got: VersionLists,
-) -> Result<Piece, Unmerged>
+    got: BatchesList,
+) -> Result<BatchPiece, Unmerged>
     requires own { HasBox frame.now first.now }
     requires boxes { All (HasBox frame.now) others.now }
     requires inside { All (All (λ (version : AnyVersion). IsTrue (is_in_domain frame.now.domain version.coords))) got }
@@ -58,14 +60,15 @@ pub fn merge_pieces(
     if origins.len() > u64::from(u32::MAX) {
         return Err(Unmerged::TooMany);
     }
-    let all = joined(alloc, got)?;
-    let versions = merged_versions(alloc, frame, first.dense, all)?;
-    if versions.len() > u64::from(u32::MAX) {
+    let batches = joined(alloc, got)?;
+    let spots = merged_spots(alloc, frame, first.dense, batches.as_slice())?;
+    let count = spots.len() as u64;
+    if count > u64::from(u32::MAX) {
         return Err(Unmerged::TooMany);
     }
-    let head = merged_head(frame, id, first, others, origins, versions.len());
+    let head = merged_head(frame, id, first, others, origins, count);
     if head.cells > u64::from(u32::MAX) {
         return Err(Unmerged::TooMany);
     }
-    Ok(Piece { head, versions })
+    Ok(BatchPiece::of(head, batches, spots))
 }

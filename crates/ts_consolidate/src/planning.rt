@@ -9,7 +9,8 @@ use crate::fetching::{Sources, merge_from};
 use std::alloc::Global;
 use std::thread::Threads;
 use ts_actor::{Pieces, heads_of, opened_among, schema_among};
-use ts_base::{CountList, Duplicate, Head, Key, OutOfMemory, VersionLists};
+use ts_base::{CountList, Duplicate, Head, Key, OutOfMemory};
+use ts_batch::BatchesList;
 use ts_commit::{Planned, plan};
 use ts_model::{Job, Opened, OpenedList, Outcome, Refusal, State, Survey};
 use ts_schema::{Schema, SchemaList};
@@ -140,7 +141,7 @@ fn merge_all<P: Pieces, R: Threads + Sync>(
         schema,
         opened: sources,
     };
-    merge_from::<P, R>(rt, alloc, job, merged, 0, VersionLists::new(alloc))
+    merge_from::<P, R>(rt, alloc, job, merged, 0, BatchesList::new(alloc))
 }
 
 // Whether all of these are written in the schema.

@@ -11,12 +11,11 @@ use crate::merging::{Unmerged, merge_pieces};
 use crate::puts::put;
 use std::alloc::Global;
 use ts_actor::{Pieces, heads_of};
-use ts_base::{
-    ByteList, CommitKind, FragKey, FragList, Name, OutOfMemory, PartBytes, PartList, Piece,
-    VersionLists,
-};
+use ts_base::{ByteList, CommitKind, FragKey, FragList, Name, OutOfMemory, PartBytes, PartList};
+use ts_batch::BatchesList;
 use ts_commit::{encode_vac, names_merged};
 use ts_model::{Job, NewObject, NewObjectList, Opened, Outcome, State, Survey};
+use ts_piece::BatchPiece;
 use ts_schema::{Frame, Schema};
 
 /// A consolidation puts what its sources are merged into, of which it has got all versions. Sources
@@ -25,7 +24,7 @@ pub(crate) fn put_merged<P: Pieces>(
     alloc: Global,
     job: &Job,
     merged: Sources,
-    got: VersionLists,
+    got: BatchesList,
 ) -> Result<State<P::Fetch>, OutOfMemory>
     requires has { HasSources P.codec merged.survey merged.schema merged.opened }
     requires got { AreGot P.codec merged.survey.frame merged.schema.attrs merged.opened got }
@@ -68,7 +67,7 @@ fn put_sources<P: Pieces>(
     schema: &Schema,
     first: &Opened,
     others: &[Opened],
-    got: VersionLists,
+    got: BatchesList,
 ) -> Result<State<P::Fetch>, OutOfMemory>
     requires has { HasSources P.codec survey.now schema.now (first.now ∷ others.now) }
     requires got { AreGot P.codec survey.now.frame schema.now.attrs (first.now ∷ others.now) got }
@@ -99,8 +98,8 @@ fn merge_sources<P: Pieces>(
     _schema: &Schema,
     first: &Opened,
     others: &[Opened],
-    got: VersionLists,
-) -> Result<Piece, Unmerged>
+    got: BatchesList,
+) -> Result<BatchPiece, Unmerged>
     requires has { HasSources P.codec survey.now _schema.now (first.now ∷ others.now) }
     requires got { AreGot P.codec survey.now.frame _schema.now.attrs (first.now ∷ others.now) got }
     ensures is { IfOk result (λ piece. piece ≡ piece_merged job.now survey.now.frame first.now others.now got) }
@@ -120,7 +119,7 @@ fn put_piece<P: Pieces>(
     schema: &Schema,
     names: &FragList,
     count: u32,
-    piece: &Piece,
+    piece: &BatchPiece,
 ) -> Result<State<P::Fetch>, OutOfMemory>
     requires writable { P.codec.writable frame.now schema.now.attrs piece.now }
     requires spelled { IsSpelledFrag piece.now.head.frag }
@@ -128,7 +127,7 @@ fn put_piece<P: Pieces>(
     ensures may { IfOk result (IsMergeState P.codec) }
     ensures few_calls { IfOk result (λ state. merges_left P.left state < 2 ^ 64) }
 {
-    let frag = piece.head.frag;
+    let frag = piece.head().frag;
     let parts = P::parts(alloc, frame, schema, piece)?;
     let objects = objects_of(alloc, frag, parts, encode_vac(alloc, names)?)?;
     Ok(put::<P>(objects, 0, Outcome::Consolidated(frag, count)))

@@ -1,124 +1,90 @@
-//! The versions of a merged piece: those that are kept of what was got of its sources, in order.
-ghost use Rattle.std.specs.Prelude.{◌≡◌, [], All, IfOk, IsTrue, OnOk};
-ghost use Rattle.std.specs.BTreeMap.{values, IsOrdered};
-ghost use Rattle.std.specs.Ordering.{int_cmp};
-ghost use Rattle.std.specs.Cmp.Lexicographic.{slice_cmp};
-ghost use Rattle.std.specs.FinMap as finite;
+//! The versions of a merged piece: where those that are kept of what was got of its sources stand, in
+//! order.
+ghost use Rattle.std.specs.Prelude.{◌≡◌, ◌<◌, ◌+◌, drop, length, slice_index_or, All, IfOk, IsTrue};
 ghost use Rattle.ts_base.specs.declared.heads.Version.{Version as AnyVersion};
+ghost use Rattle.ts_base.specs.Coords.{coords_eq};
 ghost use Rattle.ts_domain.specs.Domains.{is_in_domain};
-ghost use Rattle.ts_model.specs.Pieces.{newest_of};
-ghost use Rattle.ts_model.specs.Merging.{all_got, in_version_order, merged_versions, version_place};
-ghost use Rattle.ts_consolidate.specs.Placing.{placed_behind};
+ghost use Rattle.ts_batch.specs.Batches.{versions_of};
+ghost use Rattle.ts_piece.specs.Spots.{IsSpot, spotted, version_in};
+ghost use Rattle.ts_table.specs.Tables.{version_or};
+ghost use Rattle.ts_model.specs.Merging.{all_got, merged_versions};
+ghost use Rattle.ts_consolidate.specs.Placing.{is_last, last_alone};
 
-use std::alloc::{AllocError, Global};
-use std::collections::BTreeMap;
-use ts_actor::newest_of;
-use ts_base::{Coords, OutOfMemory, Version, VersionList, VersionLists};
-use ts_model::{VersionPlace, place_of};
+use crate::placing::in_version_order;
+use std::alloc::Global;
+use ts_base::OutOfMemory;
+use ts_batch::{Batch, BatchesList};
+use ts_piece::{Spot, all_spots, cell_at};
 use ts_schema::Frame;
 
-/// What a consolidation keeps of versions: all of them, or of each cell the newest one alone; in
-/// global order, those of one cell by their keys.
-pub(crate) fn merged_versions(
+/// Where those versions of batches stand that a consolidation keeps: all of them, or of each cell the
+/// newest one alone; in global order, those of one cell by their keys.
+///
+/// `OutOfMemory` also where there are 2^32 batches, or as many versions in one of them.
+pub(crate) fn merged_spots(
     alloc: Global,
     frame: &Frame,
     last: bool,
-    got: VersionList,
-) -> Result<VersionList, OutOfMemory>
-    requires { All (λ (version : AnyVersion). IsTrue (is_in_domain frame.now.domain version.coords)) got }
-    ensures { IfOk result (λ versions. versions ≡ merged_versions frame.now last got) }
+    batches: &[Batch],
+) -> Result<Vec<Spot>, OutOfMemory>
+    requires { All (λ (version : AnyVersion). IsTrue (is_in_domain frame.now.domain version.coords)) (versions_of batches.now) }
+    ensures there { IfOk result (λ spots. All (IsSpot batches.now) spots.items) }
+    ensures kept { IfOk result (λ spots. spotted batches.now spots.items ≡ merged_versions frame.now last (versions_of batches.now)) }
 {
+    let all = all_spots(alloc, batches)?;
+    let ordered = in_version_order(alloc, frame, batches, all)?;
     if last {
-        let newest = newest_alone(alloc, got)?;
-        in_version_order(alloc, frame, newest)
+        last_alone(alloc, batches, ordered.as_slice())
     } else {
-        in_version_order(alloc, frame, got)
+        Ok(ordered)
     }
 }
 
-// The versions in order, each key and cell once.
-fn in_version_order(
-    alloc: Global,
-    frame: &Frame,
-    versions: VersionList,
-) -> Result<VersionList, OutOfMemory>
-    requires { All (λ (version : AnyVersion). IsTrue (is_in_domain frame.now.domain version.coords)) versions }
-    ensures { IfOk result (λ list. list ≡ in_version_order frame.now versions) }
+// The last version of each cell, where those of one cell are neighbours.
+fn last_alone(alloc: Global, batches: &[Batch], spots: &[Spot]) -> Result<Vec<Spot>, OutOfMemory>
+    requires { All (IsSpot batches.now) spots.now }
+    ensures there { IfOk result (λ list. All (IsSpot batches.now) list.items) }
+    ensures last { IfOk result (λ list. spotted batches.now list.items ≡ last_alone (spotted batches.now spots.now)) }
 {
-    let placed = placed(alloc, frame, versions)?;
-    Ok(VersionList::from_vec(by_place(alloc, placed)?))
-}
-
-// The versions by their places. Where two have one place the first is kept.
-fn placed(
-    alloc: Global,
-    frame: &Frame,
-    versions: VersionList,
-) -> Result<BTreeMap<VersionPlace, Version>, OutOfMemory>
-    requires { All (λ (version : AnyVersion). IsTrue (is_in_domain frame.now.domain version.coords)) versions }
-    ensures { IfOk result (λ placed. placed.entries ≡ placed_behind frame.now versions []) }
-{
-    let mut versions = versions;
-    let mut placed = BTreeMap::new(alloc);
-    while let Some(version) = versions.pop() {
-        let place = version_place(frame, &version);
-        placed.insert(place, version)?;
-    }
-    Ok(placed)
-}
-
-// The place of a version.
-fn version_place(frame: &Frame, version: &Version) -> VersionPlace
-    requires { IsTrue (is_in_domain frame.now.domain version.now.coords) }
-    ensures { result ≡ version_place frame.now version.now.coords version.now.key }
-{
-    VersionPlace {
-        place: place_of(frame, &version.coords),
-        key: version.key,
-    }
-}
-
-// All versions, in the order of their places.
-fn by_place(
-    alloc: Global,
-    placed: BTreeMap<VersionPlace, Version>,
-) -> Result<Vec<Version>, AllocError>
-    ensures { IfOk result (λ versions. versions.items ≡ values placed) }
-{
-    placed.into_values().collect(alloc)
-}
-
-// The newest version of each cell.
-fn newest_alone(alloc: Global, versions: VersionList) -> Result<VersionList, OutOfMemory>
-    ensures { IfOk result (λ list. list ≡ finite.values (newest_of versions)) }
-{
-    let newest = newest_of(alloc, versions)?;
-    in_row_order(alloc, newest)
-}
-
-// All versions, in row order.
-fn in_row_order(
-    alloc: Global,
-    newest: BTreeMap<Coords, Version>,
-) -> Result<VersionList, OutOfMemory>
-    ensures list { IfOk result (λ list. list ≡ values newest) }
-    ensures ordered { IfOk result (λ _. IsOrdered (slice_cmp int_cmp) newest) }
-{
-    let mut list = VersionList::new(alloc);
-    for (_at, version) in newest {
-        list.push(version)?;
+    let mut list = Vec::with_capacity(alloc, spots.len())?;
+    for place in 0..spots.len() {
+        if is_last(batches, spots, place) {
+            list.push(spots[place])?;
+        }
     }
     Ok(list)
 }
 
-/// The versions of several lists as one list.
-pub(crate) fn joined(alloc: Global, lists: VersionLists) -> Result<VersionList, OutOfMemory>
-    ensures { IfOk result (λ list. list ≡ all_got lists) }
+// Whether the next version, if there is one, stands at another cell.
+fn is_last(batches: &[Batch], spots: &[Spot], place: usize) -> bool
+    requires there { All (IsSpot batches.now) spots.now }
+    requires within { place < length spots.now }
+    ensures { result ≡ is_last (version_or (spotted batches.now spots.now) place) (drop (place + 1) (spotted batches.now spots.now)) }
+{
+    if place + 1 < spots.len() {
+        !is_one_cell(batches, spots[place], spots[place + 1])
+    } else {
+        true
+    }
+}
+
+// Whether two versions stand at one cell.
+fn is_one_cell(batches: &[Batch], spot: Spot, other: Spot) -> bool
+    requires first { IsSpot batches.now spot }
+    requires second { IsSpot batches.now other }
+    ensures { result ≡ coords_eq (version_in batches.now spot).coords (version_in batches.now other).coords }
+{
+    cell_at(batches, spot).coords() == cell_at(batches, other).coords()
+}
+
+/// The batches of several lists, one list behind another.
+pub(crate) fn joined(alloc: Global, lists: BatchesList) -> Result<Vec<Batch>, OutOfMemory>
+    ensures { IfOk result (λ batches. versions_of batches.items ≡ all_got lists) }
 {
     let mut all = Vec::new(alloc);
     for list in lists.into_vec() {
-        let mut versions = list.into_vec();
-        all.append(&mut versions)?;
+        let mut batches = list.into_vec();
+        all.append(&mut batches)?;
     }
-    Ok(VersionList::from_vec(all))
+    Ok(all)
 }

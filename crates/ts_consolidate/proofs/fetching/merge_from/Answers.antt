@@ -1,9 +1,7 @@
 -- The fetch of one more source begins.
 use Rattle.std.proofs.Common.{sym, ◌∙◌, ap, subst, drop, take, suc, arith, ◌≡◌, ◌+◌, ◌++◌, ◌∷◌, []}
-use Rattle.std.specs.Prelude.{Contains}
 use Rattle.std.proofs.lemmas.List.Elements.{All-contains}
 use Rattle.ts_schema.specs.declared.frames.Frame.{Frame}
-use Rattle.ts_schema.specs.FrameTexts.{IsFrame}
 use Rattle.ts_model.specs.States.{merging_from}
 use Rattle.ts_model.specs.declared.states.State.TheVariants.{Merges}
 use Rattle.ts_model.proofs.ListLemmas.{Contains-slice_get}
@@ -24,7 +22,7 @@ pub returns-in-Asks-clause-is : goal.returns-in-Asks-clause-is
 returns-in-Asks-clause-is g c =
     let m = c.args.merged in
     let led = c.in_ok-fetch.ensures.is ∙ ap (λ (frame : Frame). step_of g.P.Pieces.codec frame m.schema c.at-source.result.now) c.get.ensures in
-    ap Merges c.fetches.ensures
+    ap Merges c.in_ok-state-in-Asks.ensures
     ∙ sym (leads_on g.P.Pieces.codec c.args.job.now m.survey m.opened m.schema c.loop-place.place c.loop-place.got c.at-source.result.now _
     (source_step.Asks c.in-Asks.fetch c.in-Asks.asked) c.at-source.ensures c.loop-place.invariant.goes_on (sym c.in-Asks.is ∙ led))
 

@@ -3,7 +3,6 @@ use Rattle.std.proofs.Common.{sym, ◌∙◌, ◌∷◌, subst}
 use Rattle.std.specs.Prelude.{All}
 use Rattle.std.proofs.lemmas.List.Elements.{All-head, All-tail}
 use Rattle.std.proofs.lemmas.Result.{IfOk-weaker}
-use Rattle.ts_base.specs.declared.heads.Head.{Head}
 use Rattle.ts_schema.specs.declared.frames.Frame.{Frame}
 use Rattle.ts_model.specs.Merging.{HasBox, all_got}
 use Rattle.ts_model.specs.States.{heads_of}

@@ -1,7 +1,7 @@
 -- The names of the parts, of the `.vac` and of the `.wrt` have spellings.
 use Rattle.std.proofs.Common.{ap, ◌∙◌, [], ◌∷◌, ◌++◌, sym, subst}
 use Rattle.ts_base.specs.Names.{wrt_of}
-use Rattle.ts_model.specs.States.{part_objects, vac_of}
+use Rattle.ts_model.specs.States.{vac_of}
 use Rattle.ts_consolidate.specs.Merges.{HaveNames}
 use Rattle.ts_consolidate.proofs.Objects.{objects_spelled}
 use Rattle.ts_consolidate.proofs.putting.objects_of.Goals as goal

@@ -1,5 +1,5 @@
 -- What is put is what the piece that was made is put as.
-use Rattle.std.proofs.Common.{◌∷◌, length, ap, ◌∙◌, arith}
+use Rattle.std.proofs.Common.{ap, ◌∙◌, arith}
 use Rattle.std.proofs.lemmas.Result.{IfOk-weaker}
 use Rattle.ts_commit.specs.Selections.{names_merged}
 use Rattle.ts_consolidate.proofs.Sources.{puts_named}
