@@ -32,10 +32,9 @@ pub(crate) fn answer_of(
         current,
         ..
     } = reading;
-    let rows = rows_of(alloc, frame, current, ready, &cells)?;
     Ok(Answer {
         types: types_shown(alloc, frame, current, ready)?,
-        rows: rows.into_rows(alloc)?,
+        rows: rows_of(alloc, frame, current, ready, &cells)?,
         clipped: reading.clipped.copy(alloc)?,
     })
 }

@@ -43,7 +43,7 @@ all_images f P [] all = tt
 all_images f P (x ∷ xs) all = (all.0, all_images f P xs all.1)
 
 -- items whose images ascend have images that ascend
-sorted_images : {A B : Type 0} (f : A → B) (R : B → B → Ordering) (xs : List A) → IsStrictlySortedBy (on f R) xs → IsStrictlySortedBy R (map f xs)
+pub sorted_images : {A B : Type 0} (f : A → B) (R : B → B → Ordering) (xs : List A) → IsStrictlySortedBy (on f R) xs → IsStrictlySortedBy R (map f xs)
 unfolding IsStrictlySortedBy
 sorted_images f R [] sorted = tt
 sorted_images f R (x ∷ xs) sorted = (all_images f (λ y. R (f x) y ≡ Less) xs sorted.0, sorted_images f R xs sorted.1)
@@ -62,15 +62,21 @@ map_filter {A} f p (x ∷ xs) = by (p (f x)) (map_filter f p xs)
     by true later = ap (λ ys. f x ∷ ys) later
     by false later = later
 
+-- the versions that pass are the cells that pass
+pub passing_cells : (attrs : List Attr) (ready : Ready) (versions : List Version) → map (cell_at versions) (filter (passes_at (picks_in attrs ready.filter) ready.filter versions) (range_with_len 0 (length versions)))
+    ≡ filter (λ e. passes ready.filter attrs e.0 e.1) (map cell_of versions)
+passing_cells attrs ready versions =
+    let found = λ (e : List ℤ × List Val). passes_by (picks_in attrs ready.filter) ready.filter e.0 e.1 in
+    let passing = λ (e : List ℤ × List Val). passes ready.filter attrs e.0 e.1 in
+    map_filter (cell_at versions) found (range_with_len 0 (length versions)) ∙ ap (filter found) (all_cells versions)
+    ∙ filter_agree found passing (λ e. passes-picked attrs ready.filter e.0 e.1) (map cell_of versions)
+
 -- of versions that ascend in the layout those that pass are the cells that are selected
 pub cells_passing : (frame : Frame) (attrs : List Attr) (ready : Ready) (versions : List Version) → IsStrictlySortedBy (λ (a b : Version). layout_cmp frame ready.layout a.coords b.coords) versions
     → map (cell_at versions) (filter (passes_at (picks_in attrs ready.filter) ready.filter versions) (range_with_len 0 (length versions)))
     ≡ in_layout frame ready.layout (filter (λ e. passes ready.filter attrs e.0 e.1) (map cell_of versions))
 cells_passing frame attrs ready versions sorted =
     let by_place = on (λ (e : List ℤ × List Val). e.0) (layout_cmp frame ready.layout) in
-    let found = λ (e : List ℤ × List Val). passes_by (picks_in attrs ready.filter) ready.filter e.0 e.1 in
     let passing = λ (e : List ℤ × List Val). passes ready.filter attrs e.0 e.1 in
     let left = IsStrictlySortedBy-filter by_place passing (map cell_of versions) (sorted_images cell_of by_place versions sorted) in
-    map_filter (cell_at versions) found (range_with_len 0 (length versions)) ∙ ap (filter found) (all_cells versions)
-    ∙ filter_agree found passing (λ e. passes-picked attrs ready.filter e.0 e.1) (map cell_of versions)
-    ∙ sym (in_layout_same frame ready.layout (filter passing (map cell_of versions)) left)
+    passing_cells attrs ready versions ∙ sym (in_layout_same frame ready.layout (filter passing (map cell_of versions)) left)

@@ -1,9 +1,10 @@
 -- The places of a list, one after another.
-use Rattle.std.proofs.Common.{◌≡◌, ℕ, suc, ◌+◌, ◌-◌, ◌<◌, ◌≤◌, Bool, true, false, List, [], ◌∷◌, ◌++◌, map, length, sym, ap, ◌∙◌, arith}
+use Rattle.std.proofs.Common.{◌≡◌, ℕ, suc, ◌+◌, ◌-◌, ◌<◌, ◌≤◌, Bool, true, false, not, refl, List, [], ◌∷◌, ◌++◌, map, length, sym, ap, ◌∙◌, arith}
 use Rattle.std.specs.Prelude.{All, cond, filter}
 use Rattle.std.specs.List.{range_with_len}
 use Rattle.std.proofs.lemmas.List.{length-map, get_or-map, map-id, append-nil}
 use Rattle.std.proofs.lemmas.List.Elements.{All-filter}
+use Rattle.std.proofs.lemmas.List.Filters.{length-filter_both}
 use Rattle.std.proofs.lemmas.List.FromFn.{length-range_with_len, get_or-range_with_len, fill_by_all, filter_of_map_range_with_len_more}
 use Rattle.ts_base.specs.declared.heads.Version.{Version}
 use Rattle.ts_table.specs.Tables.{no_version}
@@ -31,6 +32,10 @@ range_within n k d below =
 
 pub passing_within : (passes : ℕ → Bool) (n : ℕ) → All (λ place. place < n) (filter passes (range_with_len 0 n))
 passing_within passes n = All-filter passes (λ place. place < n) (range_with_len 0 n) (range_within n)
+
+-- and there are no more than the list has
+pub passing_few : (passes : ℕ → Bool) (n : ℕ) → length (filter passes (range_with_len 0 n)) ≤ n
+passing_few passes n = omega (arith, length-filter_both passes (λ k. not (passes k)) (λ k. refl) (range_with_len 0 n), length-range_with_len 0 n)
 
 -- the cells at all places are all cells
 pub all_cells : (versions : List Version) → map (cell_at versions) (range_with_len 0 (length versions)) ≡ map cell_of versions

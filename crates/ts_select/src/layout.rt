@@ -38,8 +38,8 @@ fn do_neighbours_ascend(frame: &Frame, layout: Layout, cells: &Batch) -> bool
     true
 }
 
-// How the cells at two places stand in a layout.
-fn cmp_at(frame: &Frame, layout: Layout, cells: &Batch, a: u64, b: u64) -> Ordering
+/// How the cells at two places stand in a layout.
+pub(crate) fn cmp_at(frame: &Frame, layout: Layout, cells: &Batch, a: u64, b: u64) -> Ordering
     requires inside { All (λ (v : AnyVersion). IsTrue (is_in_domain frame.now.domain v.coords)) cells.now }
     requires first { a < length cells.now }
     requires second { b < length cells.now }
@@ -84,8 +84,8 @@ fn cmp_along(cells: &Batch, dim: u8, a: u64, b: u64) -> Ordering
     number_at(cells, a, dim).cmp(&number_at(cells, b, dim))
 }
 
-// The coordinate of the cell at a place along a dimension, or 0 where there is none.
-fn number_at(cells: &Batch, place: u64, dim: u8) -> i128
+/// The coordinate of the cell at a place along a dimension, or 0 where there is none.
+pub(crate) fn number_at(cells: &Batch, place: u64, dim: u8) -> i128
     requires { place < length cells.now }
     ensures { result ≡ slice_index_or (version_or cells.now place).coords dim (pos 0) }
 {

@@ -5,5 +5,7 @@ mod columns;
 mod layout;
 mod places;
 mod selecting;
+mod sites;
+mod sorted;
 
 pub use selecting::rows_of;

@@ -10,6 +10,7 @@ ghost use Rattle.ts_select.specs.Cells.{cell_at};
 ghost use Rattle.ts_select.specs.Places.{passes_at, placed_behind, with_place};
 
 use crate::layout::is_in_layout;
+use crate::sorted::sorted_places;
 use std::alloc::Global;
 use std::collections::BTreeMap;
 use ts_base::{IndexList, OutOfMemory};
@@ -20,6 +21,9 @@ use ts_model::{GlobalPlace, Ready, attr_fields, place_in};
 use ts_schema::{Frame, Schema};
 
 /// The places of the cells that a query's filter matches, in its layout.
+///
+/// Cells that ascend in the layout stay as they stand, and others are sorted. Only where two of them
+/// have one place in the layout, those that match are put in a tree, which keeps the first.
 pub(crate) fn places_of(
     alloc: Global,
     frame: &Frame,
@@ -34,8 +38,12 @@ pub(crate) fn places_of(
     ensures cells { IfOk result (λ places. map (cell_at cells.now) places ≡ in_layout frame.now ready.now.layout (filter (λ e. passes ready.now.filter schema.now.attrs e.0 e.1) (map (λ (v : AnyVersion). (v.coords, v.row)) cells.now))) }
 {
     let picks = picks_in(alloc, schema, &ready.filter)?;
+    let passing = passing(alloc, ready, &picks, cells)?;
     if is_in_layout(frame, ready.layout, cells) {
-        return passing(alloc, ready, &picks, cells);
+        return Ok(passing);
+    }
+    if let Some(places) = sorted_places(alloc, frame, ready.layout, cells, passing.as_slice())? {
+        return Ok(places);
     }
     let placed = placed(alloc, frame, ready, &picks, cells)?;
     in_order(alloc, &placed)

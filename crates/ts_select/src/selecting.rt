@@ -19,7 +19,7 @@ use ts_schema::{Frame, Schema};
 /// cut to the fields that are shown. The rows of the cells follow the attributes of the schema.
 ///
 /// Each field is gathered into a column of its own. Cells that ascend in the layout as they stand are
-/// taken as they stand. More than 2^32 - 1 cells count as want of memory.
+/// taken as they stand, and others are sorted. More than 2^32 - 1 cells count as want of memory.
 pub fn rows_of(
     alloc: Global,
     frame: &Frame,
