@@ -15,6 +15,7 @@ use std::test::Fail;
 use ts_base::{
     ByteList, Cell, CellList, Coords, Key, Label, LabelList, Row, RowList, Val, ValType,
 };
+use ts_batch::RowBatch;
 use ts_cond::{Cond, NamedBoxList, Query};
 use ts_domain::{Dim, Domain, Layout, Order};
 use ts_model::{Deed, Deletion, History, Outcome, Written, check_delete, fills_of, reference};
@@ -187,7 +188,7 @@ fn has_read(alloc: Global, end: &Outcome, wanted: &[[i128; 2]]) -> Result<bool, 
         rows.push(row)?;
     }
     match end {
-        Outcome::Read(answer) => Ok(answer.rows == rows),
+        Outcome::Read(answer) => Ok(answer.rows == RowBatch::of_rows(rows)),
         _ => Ok(false),
     }
 }

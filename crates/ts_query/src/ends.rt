@@ -28,7 +28,7 @@ pub fn print_outcome(
         Some(Outcome::Read(answer)) => {
             print_clipped(&mut text, answer.clipped.as_slice())?;
             let mut bytes = text.into_bytes();
-            print_rows(&mut bytes, answer.types.as_slice(), answer.rows.as_slice())?;
+            print_rows(&mut bytes, answer.types.as_slice(), &answer.rows)?;
             Ok(ByteList::from_vec(bytes))
         }
         Some(Outcome::Listed(names)) => {

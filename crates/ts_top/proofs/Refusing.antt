@@ -22,8 +22,8 @@ pub refusal_later : (items : List Item) (results : List (Driven Outcome)) (i : �
 refusal_later items results i came count less is past = rw (add-one i) (refusal_at items results i came count less is past)
 
 -- one row more is counted
-pub sum_later : (rows : List (List Val)) (i : ℕ) (row : List Val) → i < length rows → row ≡ get_or rows i row → sum_of (drop i rows) ≡ number_in (slice_get row 1) + sum_of (drop (i + 1) rows)
-sum_later rows i row less is = ap sum_of (drop_more rows i row less) ∙ ap (λ r. number_in (slice_get r 1) + sum_of (drop (i + 1) rows)) (sym is)
+pub sum_later : (rows : List (List Val)) (i : ℕ) → i < length rows → sum_of (drop i rows) ≡ number_in (slice_get (get_or rows i []) 1) + sum_of (drop (i + 1) rows)
+sum_later rows i less = ap sum_of (drop_more rows i [] less)
 
 -- one command more is counted
 pub write_later : (results : List (Driven Outcome)) (i : ℕ) (came : Driven Outcome) → i < length results → came ≡ get_or results i came → writes_in (drop i results) ≡ written_in came + writes_in (drop (i + 1) results)

@@ -1,7 +1,8 @@
 //! What is printed of a generated script: what came of it, or the first command that was refused.
-ghost use Rattle.std.specs.Prelude.{◌≡◌, ◌^◌, ◌<◌, ◌≤◌, ◌++◌, [], length, IfOk, OnOk, option_map, slice_get, string_bytes};
+ghost use Rattle.std.specs.Prelude.{◌≡◌, ◌^◌, ◌<◌, ◌≤◌, ◌++◌, [], length, IfOk, OnOk, option_map, slice_get, slice_index_or, string_bytes};
 ghost use Rattle.std.specs.List.{list_any};
-ghost use Rattle.std.specs.Option.{option_copied};
+ghost use Rattle.std.specs.Option.{unwrap_or};
+ghost use Rattle.ts_table.specs.Columns.{val_seen};
 ghost use Rattle.ts_top.specs.Items.{numbered};
 ghost use Rattle.ts_top.specs.Summaries.{first_in, generated_text, lacks_memory, line_text, number_in, refusal_text, removed_in, rows_in, sources_in, status_generated, sum_of, sums_of, sums_text, was_refused, writes_in, written_in};
 
@@ -9,8 +10,10 @@ use crate::ends::print_one;
 use crate::items::Item;
 use itoa::Buffer;
 use std::alloc::Global;
-use ts_base::{ByteList, OutOfMemory, Row, Val};
+use ts_base::{ByteList, OutOfMemory};
+use ts_batch::RowBatch;
 use ts_model::{Driven, Outcome, Refusal};
+use ts_table::Seen;
 
 // The least number that is too large to be counted.
 const LIMIT: i128 = 1 << 63;
@@ -150,8 +153,8 @@ fn sums_of(results: &[Driven<Outcome>]) -> Sums
         writes: writes_done(results),
         consolidated: sources_merged(results),
         removed: fragments_removed(results),
-        rows: read.len() as u64,
-        sum: sum_of(read),
+        rows: count_of(read),
+        sum: sum_in(read),
     }
 }
 
@@ -221,54 +224,75 @@ fn removed_in(came: &Driven<Outcome>) -> Option<u64>
     }
 }
 
-// The rows that the read shows.
-fn rows_read(results: &[Driven<Outcome>]) -> &[Row]
-    ensures { result.now ≡ first_in rows_in [] results.now }
+// The rows that the read shows, if there is one that was done.
+fn rows_read(results: &[Driven<Outcome>]) -> Option<&RowBatch>
+    ensures { unwrap_or (option_map (λ rows. rows.now) result) [] ≡ first_in rows_in [] results.now }
 {
     for came in results {
         if let Some(rows) = rows_in(came) {
-            return rows;
+            return Some(rows);
         }
     }
-    &[]
+    None
 }
 
 // The rows that it shows, if it is a read that was done.
-fn rows_in(came: &Driven<Outcome>) -> Option<&[Row]>
+fn rows_in(came: &Driven<Outcome>) -> Option<&RowBatch>
     ensures { option_map (λ rows. rows.now) result ≡ rows_in came.now }
 {
     match came {
-        Driven::Done(Outcome::Read(answer)) => Some(answer.rows.as_slice()),
+        Driven::Done(Outcome::Read(answer)) => Some(&answer.rows),
         _ => None,
     }
 }
 
+// How many rows there are.
+fn count_of(read: Option<&RowBatch>) -> u64
+    ensures { result ≡ length (unwrap_or (option_map (λ rows. rows.now) read.entry) []) }
+{
+    match read {
+        Some(rows) => rows.len(),
+        None => 0,
+    }
+}
+
+// The values of the rows, behind their one coordinate, added up.
+fn sum_in(read: Option<&RowBatch>) -> u128
+    ensures { result ≡ sum_of (unwrap_or (option_map (λ rows. rows.now) read.entry) []) }
+{
+    match read {
+        Some(rows) => sum_of(rows),
+        None => 0,
+    }
+}
+
 // The values of rows, behind their one coordinate, added up.
-fn sum_of(rows: &[Row]) -> u128
+fn sum_of(rows: &RowBatch) -> u128
     ensures { result ≡ sum_of rows.now }
 {
     let mut sum = 0;
-    for row in rows {
-        sum += u128::from(value_of(row.as_slice()));
+    for row in 0..rows.len() {
+        sum += u128::from(value_of(rows, row));
     }
     sum
 }
 
-// The value of a row, behind its one coordinate.
-fn value_of(row: &[Val]) -> u64
-    ensures is { result ≡ number_in (slice_get row.now 1) }
+// The value of the row at a place, behind its one coordinate.
+fn value_of(rows: &RowBatch, row: u64) -> u64
+    requires { row < length rows.now }
+    ensures is { result ≡ number_in (slice_get (slice_index_or rows.now row []) 1) }
     ensures few { result < 2 ^ 63 }
 {
-    number_in(row.get(1))
+    number_in(rows.val(row, 1))
 }
 
 // A whole number from 0 to 2^63 - 1, and 0 for any other value.
-fn number_in(value: Option<&Val>) -> u64
-    ensures is { result ≡ number_in (option_copied value.entry) }
+fn number_in(value: Option<Seen>) -> u64
+    ensures is { result ≡ number_in (option_map val_seen value.entry) }
     ensures few { result < 2 ^ 63 }
 {
     match value {
-        Some(Val::Int(number)) if 0 <= *number && *number < LIMIT => *number as u64,
+        Some(Seen::Int(number)) if 0 <= number && number < LIMIT => number as u64,
         _ => 0,
     }
 }

@@ -14,6 +14,7 @@ use std::test::Fail;
 use std::thread::Threads;
 use ts_actor::PlainPieces;
 use ts_base::{Key, Label, LabelList, OutOfMemory, Row, RowList, Val, ValType};
+use ts_batch::RowBatch;
 use ts_cond::{NamedBoxList, Query};
 use ts_domain::{Dim, DimList, Layout, Order};
 use ts_model::{ColIn, ColInList, Command, FrameIn, History, Outcome, WriteIn};
@@ -173,7 +174,7 @@ fn has_read(
     for cell in cells {
         rows.push(row(alloc, *cell)?)?;
     }
-    Ok(answer.rows == rows)
+    Ok(answer.rows == RowBatch::of_rows(rows))
 }
 
 // A world with its array, made by the actor 0, and a write of 20 (identifier 2) and one of 30
