@@ -32,9 +32,9 @@ RUNS = 5
 # A stage is that of the innermost function whose name has one of its words; the first that fits counts.
 STAGES = (
     ("printing", ("ts_query::", "ts_top::ends", "ts_top::top::print_all", "ts_top::items")),
-    ("encoding", ("PlainPieces::parts", "PlainPiecesPieces::parts", "ts_plain::writing", "SparsePieces::parts", "SparsePiecesPieces::parts", "ts_sparse::", "ts_column::objects", "ts_column::encode")),
-    ("decoding", ("PlainPieces::fetch", "PlainPiecesPieces::fetch", "ts_plain::reading", "ts_plain::pieces", "ts_schema::wants", "ts_sparse_read::", "ts_fetch::", "ts_footer::", "ts_column::")),
-    ("answering", ("ts_reader::answers", "ts_reader::newest", "ts_reader::slots", "ts_model::selection")),
+    ("encoding", ("PlainPieces::parts", "PlainPiecesPieces::parts", "ts_plain::writing", "SparsePieces::parts", "SparsePiecesPieces::parts", "DensePieces::parts", "DensePiecesPieces::parts", "ts_sparse::", "ts_dense::", "ts_piece::", "ts_column::objects", "ts_column::encode")),
+    ("decoding", ("PlainPieces::fetch", "PlainPiecesPieces::fetch", "ts_plain::reading", "ts_plain::pieces", "ts_schema::wants", "ts_sparse_read::", "ts_dense_read::", "ts_fetch::", "ts_footer::", "ts_column::")),
+    ("answering", ("ts_reader::answers", "ts_reader::newest", "ts_reader::slots", "ts_reader::vals", "ts_reader::sides", "ts_reader::shown", "ts_select::", "ts_match::")),
     ("laying", ("ts_writer::", "ts_model::places")),
     ("storing", ("ts_store::", "MemStore")),
     ("input", ("ts_script::", "serde_json::", "json::", "ts_top::top::prepare", "ts_top::runner::job_of")),
