@@ -4,7 +4,8 @@
     bench/columns.py
 
 It builds `crates/speed`, which it has to prove first, and `bench/columns.rs` by rustc. It prints nanoseconds for each
-cell, the least of five runs of each, and how many times plain Rust's the first is.
+cell, the least of five runs of each, and how many times plain Rust's the first is. Then it does so for a column of 64
+tiles that is decoded on all processors, and on one of them.
 """
 import os
 import subprocess
@@ -39,6 +40,10 @@ def main():
     print("work\town\tplain Rust\ttimes")
     for name, took in own.items():
         print("%s\t%.2f\t%.2f\t%.1f" % (name, took, others[name], took / others[name]))
+    at_once, alone = least([program, "many"]), least(["taskset", "-c", "0", program, "many"])
+    print("work\tall processors\tone\ttimes")
+    for name, took in at_once.items():
+        print("%s\t%.2f\t%.2f\t%.1f" % (name, took, alone[name], alone[name] / took))
 
 
 if __name__ == "__main__":

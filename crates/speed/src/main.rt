@@ -1,5 +1,6 @@
-//! Times the fields of objects, the orders of cells, the work of tables and that of tiles: `speed
-//! fields`, `speed orders`, `speed table` or `speed tiles`.
+//! Times the fields of objects, the orders of cells, the work of tables and that of tiles, one by one
+//! and all of a column at once: `speed fields`, `speed orders`, `speed table`, `speed tiles` or `speed
+//! many`.
 //!
 //! It prints picoseconds for each call, and a number that depends on all results, so that no call is
 //! left out. Without a word it does nothing.
@@ -8,9 +9,11 @@
 ghost use Rattle.std.specs.Prelude.{◌≡◌, ◌<◌, length};
 ghost use Rattle.ts_domain.specs.Dims.{IsDim};
 
+mod many;
 mod table;
 mod tiles;
 
+use crate::many::time_many;
 use crate::table::time_table;
 use crate::tiles::time_tiles;
 use std::alloc::Global;
@@ -39,6 +42,7 @@ fn main(rt: HostRuntime) -> io::Result<()> {
         Some(word) if word.as_str() == "orders" => time_orders(&rt),
         Some(word) if word.as_str() == "table" => time_table(&rt),
         Some(word) if word.as_str() == "tiles" => time_tiles(&rt),
+        Some(word) if word.as_str() == "many" => time_many(&rt),
         _ => Ok(()),
     }
 }

@@ -103,8 +103,8 @@ fn bytes_of(tile: &Tile) -> u64 {
         .saturating_add(tile.validity.len())
 }
 
-// The tile of so many cells from the first.
-fn made(
+/// The tile of so many cells from the first.
+pub(crate) fn made(
     alloc: Global,
     ty: ValType,
     nullable: bool,
