@@ -1,5 +1,6 @@
 pub mod Spans
 pub mod Columns
+pub mod Parts
 pub mod Tables
 pub mod Picks
 pub mod Gathers
@@ -16,3 +17,4 @@ pub mod RankSteps
 pub mod Neighbours
 pub mod BoxTables
 pub mod Narrow
+pub mod Vals

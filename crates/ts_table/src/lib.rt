@@ -17,7 +17,7 @@ mod spots;
 mod table;
 mod texts;
 
-pub use box_table::BoxTable;
+pub use box_table::{BoxParts, BoxTable};
 pub use cell::Cell;
 pub use column::{Column, Kind, Seen};
 pub use merging::{CellList, merge_tables, merge_two, newest_alone};

@@ -7,7 +7,7 @@ ghost use Rattle.std.specs.declared.cmp.Ordering.TheVariants.{Less};
 ghost use Rattle.ts_base.specs.declared.heads.Version.{Version as AnyVersion};
 ghost use Rattle.ts_base.specs.declared.values.Val.{Val as AnyVal};
 ghost use Rattle.ts_table.specs.Columns.{val_seen};
-ghost use Rattle.ts_table.specs.Tables.{across, column_of, no_origin, versions_from, IsTable, version_or};
+ghost use Rattle.ts_table.specs.Tables.{across, column_of, no_origin, versions_from, HaveRows, HasVals, IsTable, version_or};
 
 use crate::column::{Column, Seen};
 use crate::numbers::Numbers;
@@ -62,6 +62,31 @@ impl Table {
         }
     }
 
+    /// The values, one column for each attribute, which are moved.
+    pub fn into_attrs(self) -> Vec<Column>
+        ensures { HaveRows self result.items }
+    {
+        let Table {
+            origins: _,
+            dims: _,
+            attrs,
+            cells: _,
+        } = self;
+        attrs
+    }
+
+    /// The values of an attribute, if the table has a column of them. No clause says when it has.
+    pub fn vals(&self, attr: u64) -> Option<&Column>
+        ensures { IfSome result (λ column. HasVals self.now attr column.now) }
+    {
+        let (attr, attrs) = (attr as usize, self.attrs.as_slice());
+        if attr < attrs.len() {
+            Some(&attrs[attr])
+        } else {
+            None
+        }
+    }
+
     /// The number of versions.
     #[tactic(auto, using(crate::proofs::Tables::lengths))]
     pub fn len(&self) -> u64
@@ -91,7 +116,7 @@ impl Table {
     }
 
     /// The coordinates of all versions along a dimension, if the columns of the table have it.
-    pub(crate) fn column(&self, dim: u8) -> Option<&Numbers>
+    pub fn column(&self, dim: u8) -> Option<&Numbers>
         ensures some { IfSome result (λ column. column.now ≡ column_of self.now dim) }
         ensures none { IfNone result (All (λ (v : AnyVersion). length v.coords ≤ dim) self.now) }
     {
