@@ -1,13 +1,13 @@
 //! Batches of versions.
-ghost use Rattle.std.specs.Prelude.{◌≡◌, ◌<◌, length, slice_get, option_map, IfOk};
+ghost use Rattle.std.specs.Prelude.{◌≡◌, ◌<◌, length, slice_get, option_map, IfErr, IfOk, IfSome};
 ghost use Rattle.ts_table.specs.Columns.{val_seen};
-ghost use Rattle.ts_table.specs.Tables.{version_or};
+ghost use Rattle.ts_table.specs.Tables.{HaveRows, HasVals, version_or};
 
 use crate::seen::seen_in;
 use std::alloc::Global;
 use std::marker::Model;
 use ts_base::{Coords, Duplicate, Key, OutOfMemory, Version, VersionList};
-use ts_table::{Seen, Table};
+use ts_table::{BoxTable, Column, Seen, Table};
 
 /// How the versions of a batch lie in memory.
 #[derive(Debug, Drop)]
@@ -16,9 +16,11 @@ pub(crate) enum Held {
     Rows(VersionList),
     /// Field by field.
     Columns(Table),
+    /// Field by field, those of all cells of a box.
+    Box(BoxTable),
 }
 
-/// Some versions, as rows or as columns. Contracts see the list of the versions.
+/// Some versions, as rows, as columns or as the columns of a box. Contracts see the list of the versions.
 #[derive(Debug, Drop)]
 pub struct Batch {
     held: Held,
@@ -54,6 +56,50 @@ impl Batch {
         }
     }
 
+    /// The versions of all cells of a box. It takes no memory.
+    pub fn of_box(versions: BoxTable) -> Batch
+        ensures { result ≡ versions }
+    {
+        Batch {
+            held: Held::Box(versions),
+        }
+    }
+
+    /// The table of a box that the batch is made of, if it is. No clause says when.
+    pub fn as_box(&self) -> Option<&BoxTable>
+        ensures { IfSome result (λ versions. versions.now ≡ self.now) }
+    {
+        match &self.held {
+            Held::Box(table) => Some(table),
+            _ => None,
+        }
+    }
+
+    /// The values of an attribute of all versions, if there is a column of them. No clause says when.
+    pub fn vals(&self, attr: u64) -> Option<&Column>
+        ensures { IfSome result (λ column. HasVals self.now attr column.now) }
+    {
+        match &self.held {
+            Held::Rows(_) => None,
+            Held::Columns(table) => table.vals(attr),
+            Held::Box(table) => table.vals(attr),
+        }
+    }
+
+    /// The values of the versions, one column for each attribute, which are moved. Of versions that are
+    /// rows there are none, and these come back.
+    pub fn into_attrs(self) -> Result<Vec<Column>, Batch>
+        ensures ok { IfOk result (λ columns. HaveRows self columns.items) }
+        ensures err { IfErr result (λ batch. batch ≡ self) }
+    {
+        let Batch { held } = self;
+        match held {
+            Held::Rows(versions) => Err(Batch::of_rows(versions)),
+            Held::Columns(table) => Ok(table.into_attrs()),
+            Held::Box(table) => Ok(table.into_attrs()),
+        }
+    }
+
     /// The number of versions.
     pub fn len(&self) -> u64
         ensures { result ≡ length self.now }
@@ -61,6 +107,7 @@ impl Batch {
         match &self.held {
             Held::Rows(versions) => versions.len(),
             Held::Columns(table) => table.len(),
+            Held::Box(table) => table.len(),
         }
     }
 
@@ -72,6 +119,7 @@ impl Batch {
         match &self.held {
             Held::Rows(versions) => versions.at(place).key,
             Held::Columns(table) => table.origin(place).key,
+            Held::Box(table) => table.key(place),
         }
     }
 
@@ -83,6 +131,7 @@ impl Batch {
         match &self.held {
             Held::Rows(versions) => versions.at(place).schema,
             Held::Columns(table) => table.origin(place).schema,
+            Held::Box(table) => table.schema(place),
         }
     }
 
@@ -94,6 +143,7 @@ impl Batch {
         match &self.held {
             Held::Rows(versions) => versions.at(place).coords,
             Held::Columns(table) => table.coords(place),
+            Held::Box(table) => table.coords(place),
         }
     }
 
@@ -105,6 +155,7 @@ impl Batch {
         match &self.held {
             Held::Rows(versions) => coord_of(&versions.at(place).coords, dim),
             Held::Columns(table) => table.coord(place, dim),
+            Held::Box(table) => table.coord(place, dim),
         }
     }
 
@@ -116,6 +167,7 @@ impl Batch {
         match &self.held {
             Held::Rows(versions) => seen_in(versions.at(place).row.as_slice(), attr),
             Held::Columns(table) => table.val(place, attr),
+            Held::Box(table) => table.val(place, attr),
         }
     }
 
@@ -127,6 +179,7 @@ impl Batch {
         match &self.held {
             Held::Rows(versions) => versions.at(place).copy(alloc),
             Held::Columns(table) => table.version(alloc, place),
+            Held::Box(table) => table.version(alloc, place),
         }
     }
 }

@@ -48,14 +48,15 @@ impl Batches {
         Ok(batches)
     }
 
-    /// The batches.
+    /// The batches of these versions, in their order.
     pub fn as_slice(&self) -> &[Batch]
         ensures { versions_of result.now ≡ self.now }
     {
         self.batches.as_slice()
     }
 
-    /// Puts the versions of a batch behind the others. Want of memory leaves these as they were.
+    /// Puts the versions of a batch behind the others. Want of memory leaves these as they were, and the
+    /// batch is lost.
     pub fn push(&mut self, batch: Batch) -> Result<(), OutOfMemory>
         ensures ok { OnOk result (self.new ≡ self.old ++ batch) }
         ensures err { OnErr result (self.new ≡ self.old) }
@@ -64,7 +65,8 @@ impl Batches {
         Ok(())
     }
 
-    /// Puts the versions of other batches behind these. Want of memory leaves these as they were.
+    /// Puts the versions of other batches behind these. Want of memory leaves these as they were, and
+    /// the others are lost.
     pub fn append(&mut self, more: Batches) -> Result<(), OutOfMemory>
         ensures ok { OnOk result (self.new ≡ self.old ++ more) }
         ensures err { OnErr result (self.new ≡ self.old) }
@@ -74,7 +76,7 @@ impl Batches {
         Ok(())
     }
 
-    /// The batches, which are moved.
+    /// The batches of these versions, in their order, which are moved.
     pub fn into_vec(self) -> Vec<Batch>
         ensures { versions_of result.items ≡ self }
     {

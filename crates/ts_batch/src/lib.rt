@@ -12,4 +12,4 @@ pub use batch::Batch;
 pub use batches::{Batches, BatchesList};
 pub use cell::{BatchCell, BatchCellList};
 pub use row_batch::RowBatch;
-pub use seen::{seen_in, seen_of};
+pub use seen::seen_of;

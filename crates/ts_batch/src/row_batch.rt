@@ -87,9 +87,9 @@ impl RowBatch {
         }
     }
 
-    /// The number of values of the row at a place.
+    // The number of values of the row at a place.
     #[tactic(auto, using(crate::proofs::Rows::widths))]
-    pub fn width(&self, row: u64) -> u64
+    fn width(&self, row: u64) -> u64
         requires { row < length self.now }
         ensures { result ≡ length (slice_index_or self.now row []) }
     {

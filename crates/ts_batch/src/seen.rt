@@ -18,7 +18,7 @@ pub fn seen_of(val: &Val) -> Seen<'_>
 }
 
 /// The value at a place of a row, if there is one.
-pub fn seen_in(row: &[Val], place: u64) -> Option<Seen<'_>>
+pub(crate) fn seen_in(row: &[Val], place: u64) -> Option<Seen<'_>>
     ensures { option_map val_seen result ≡ slice_get row.now place }
 {
     match row.get(place as usize) {
