@@ -31,7 +31,7 @@ value_there [] k attr = refl
 value_there (c ∷ vals) k zero = refl
 value_there (c ∷ vals) k (suc attr) = value_there vals k attr
 
-row_there : (vals : List (List Val)) (rows attrs : List ℕ) (i : ℕ) → i < length rows → across i (chosen attrs rows vals) ≡ map (λ attr. get_or (map (λ column. get_or column (get_or rows i 0) Null) vals) attr Null) attrs
+pub row_there : (vals : List (List Val)) (rows attrs : List ℕ) (i : ℕ) → i < length rows → across i (chosen attrs rows vals) ≡ map (λ attr. get_or (map (λ column. get_or column (get_or rows i 0) Null) vals) attr Null) attrs
 row_there vals rows [] i within = refl
 row_there vals rows (a ∷ attrs) i within =
     let column = get_or vals a [] in
@@ -48,7 +48,7 @@ all_at_rows {X = X} d rows n [] many = All-nil (λ (column : List X). length col
 all_at_rows {X = X} d rows n (c ∷ columns) many =
     All-cons (λ (column : List X). length column ≡ n) (at_rows d rows c) (map (at_rows d rows) columns) (length-map rows (λ k. get_or c k d) ∙ many) (all_at_rows d rows n columns many)
 
-all_chosen : (rows attrs : List ℕ) (n : ℕ) (vals : List (List Val)) → length rows ≡ n → All (λ (column : List Val). length column ≡ n) (chosen attrs rows vals)
+pub all_chosen : (rows attrs : List ℕ) (n : ℕ) (vals : List (List Val)) → length rows ≡ n → All (λ (column : List Val). length column ≡ n) (chosen attrs rows vals)
 all_chosen rows [] n vals many = All-nil (λ (column : List Val). length column ≡ n)
 all_chosen rows (a ∷ attrs) n vals many =
     All-cons (λ (column : List Val). length column ≡ n) (at_rows Null rows (get_or vals a [])) (chosen attrs rows vals) (length-map rows (λ k. get_or (get_or vals a []) k Null) ∙ many) (all_chosen rows attrs n vals many)

@@ -1,3 +1,4 @@
 pub mod Sides
 pub mod Rows
 pub mod Runs
+pub mod Parts

@@ -30,8 +30,8 @@ pub(crate) fn chosen_columns(
     }
 }
 
-// Whether places ascend, each once, and lie below an end.
-fn are_ascending(attrs: &[u32], end: usize) -> bool
+/// Whether places ascend, each once, and lie below an end.
+pub(crate) fn are_ascending(attrs: &[u32], end: usize) -> bool
     ensures { IsTrue result → AreAscending attrs.now end }
 {
     are_below(attrs, end) && are_rising(attrs)
@@ -61,9 +61,9 @@ fn are_rising(attrs: &[u32]) -> bool
     true
 }
 
-// The columns at these places, which ascend.
+/// The columns at these places, which ascend.
 #[tactic(auto, using(crate::proofs::RowLaws::moving_none))]
-fn moved_columns(
+pub(crate) fn moved_columns(
     alloc: Global,
     attrs: &[u32],
     vals: Vec<Column>,

@@ -1,11 +1,17 @@
 //! Tables of some rows of columns, and the coordinates of a box as columns.
 #![tactic(auto)]
 
+mod boxes;
 mod chosen;
+mod parts;
 mod rows;
 mod runs;
+mod shared;
 mod sides;
 
+pub use boxes::box_of;
 pub use chosen::nulls;
+pub use parts::part_over;
 pub use rows::table_of;
+pub use shared::shared_part;
 pub use sides::coords_columns;

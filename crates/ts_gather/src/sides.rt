@@ -66,8 +66,8 @@ fn ranked_columns(
     Ok(columns)
 }
 
-// The dimension of a rank, of so many: of rank 0 is the one that changes slowest.
-fn rank_dim(order: Order, count: usize, rank: usize) -> usize
+/// The dimension of a rank, of so many: of rank 0 is the one that changes slowest.
+pub(crate) fn rank_dim(order: Order, count: usize, rank: usize) -> usize
     requires { rank < count }
     ensures value { result ≡ dim_at order count rank }
     ensures within { result < count }
@@ -78,8 +78,8 @@ fn rank_dim(order: Order, count: usize, rank: usize) -> usize
     }
 }
 
-// How many numbers lie between two corners along a dimension.
-fn side_at(low: &[i128], high: &[i128], dim: usize) -> u64
+/// How many numbers lie between two corners along a dimension.
+pub(crate) fn side_at(low: &[i128], high: &[i128], dim: usize) -> u64
     requires valid { IsTrue (are_bounds low.now high.now) }
     requires few { cells_between low.now high.now < 2 ^ 64 }
     requires within { dim < length low.now }
