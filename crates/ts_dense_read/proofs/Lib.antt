@@ -11,3 +11,5 @@ pub mod MeetTiles
 pub mod SlotTakes
 pub mod TileTakes
 mod PieceParts
+pub mod OriginLists
+pub mod BoxTakes

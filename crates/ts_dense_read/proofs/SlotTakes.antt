@@ -83,7 +83,7 @@ module _ (opened : Opened) where
       ∙ taken_join opened.want (versions_of opened.head xs) (versions_of opened.head ys)
 
   -- the version of a slot that has a cell, with the values that are wanted
-  abbrev version_of : StoredCell → Version
+  abbrev pub version_of : StoredCell → Version
   version_of c = cut opened.want (version_in opened.head c)
 
   -- of a slot that version is taken, if it has a cell which is wanted
@@ -104,22 +104,22 @@ module _ (opened : Opened) where
 
   module _ (leaf : SubBox) (s : TileSlots) where
     -- so what is taken of slots are the versions of those that are wanted
-    taken_there : (ks : List ℕ) → taken_of opened (map (slot_at opened leaf s) ks) ≡ map (λ k. version_of (slot_at opened leaf s k)) (filter (is_slot_wanted opened leaf s) ks)
+    taken_there : (ks : List ℕ) → taken_of opened (map (slot_at opened leaf s) ks) ≡ map (λ k. version_of (slot_at opened leaf s k)) (filter (is_slot_wanted opened leaf s.origins) ks)
     taken_there [] = refl
     taken_there (k ∷ ks) =
         let slot = slot_at opened leaf s in
         let F = λ (j : ℕ). version_of (slot_at opened leaf s j) in
         taken_both (slot k ∷ []) (map slot ks) ∙ ap (λ vs. vs ++ taken_of opened (map slot ks)) (taken_one (slot k))
-        ∙ ap (λ vs. cond (is_slot_wanted opened leaf s k) (F k ∷ []) [] ++ vs) (taken_there ks) ∙ go (is_slot_wanted opened leaf s k)
+        ∙ ap (λ vs. cond (is_slot_wanted opened leaf s.origins k) (F k ∷ []) [] ++ vs) (taken_there ks) ∙ go (is_slot_wanted opened leaf s.origins k)
       where
         go : (b : Bool)
-            → cond b (version_of (slot_at opened leaf s k) ∷ []) [] ++ map (λ j. version_of (slot_at opened leaf s j)) (filter (is_slot_wanted opened leaf s) ks)
-            ≡ map (λ j. version_of (slot_at opened leaf s j)) (cond b (k ∷ filter (is_slot_wanted opened leaf s) ks) (filter (is_slot_wanted opened leaf s) ks))
+            → cond b (version_of (slot_at opened leaf s k) ∷ []) [] ++ map (λ j. version_of (slot_at opened leaf s j)) (filter (is_slot_wanted opened leaf s.origins) ks)
+            ≡ map (λ j. version_of (slot_at opened leaf s j)) (cond b (k ∷ filter (is_slot_wanted opened leaf s.origins) ks) (filter (is_slot_wanted opened leaf s.origins) ks))
         go true = refl
         go false = refl
 
     module _ (counted : IsCounted leaf s.count) (whole : AreWhole s) where
-      coords_many : length (coords_in_order (opened.frame).cell leaf) ≡ s.count
+      pub coords_many : length (coords_in_order (opened.frame).cell leaf) ≡ s.count
       coords_many = length-coords_in_order (opened.frame).cell leaf counted.valid ∙ sym counted.cells
 
       -- there are as many slots as the box has cells
@@ -135,6 +135,10 @@ module _ (opened : Opened) where
       -- the slots are those at all places
       slots_are : slots_in opened leaf s ≡ map (slot_at opened leaf s) (range_with_len 0 s.count)
       slots_are = fill_by_all (slot_at opened leaf s) (slots_in opened leaf s) s.count (slot_at opened leaf s 0) slots_many (λ k within. slot_there k (slot_at opened leaf s 0) within)
+
+      -- so what is taken are the versions of those that are wanted of all
+      pub taken_all : taken_of opened (slots_in opened leaf s) ≡ map (λ k. version_of (slot_at opened leaf s k)) (filter (is_slot_wanted opened leaf s.origins) (range_with_len 0 s.count))
+      taken_all = ap (taken_of opened) slots_are ∙ taken_there (range_with_len 0 s.count)
 
       module _ (columns : List (List ℤ)) (are : AreCoords (opened.frame).cell leaf columns) where
         -- the columns of the tile, where there are 1 to 8 dimensions
@@ -163,15 +167,15 @@ module _ (opened : Opened) where
             ∙ ap (λ vs. version_of (slot_at opened leaf s k) ∷ vs) (each_row ks (All-tail B k ks all))
 
         -- the table of the rows that are wanted is what is taken of the slots
-        pub table_taken : (rows : List ℕ) (table : List Version) → rows ≡ rows_wanted opened leaf s → table ≡ map of_row rows → table ≡ taken_of opened (slots_in opened leaf s)
+        pub table_taken : (rows : List ℕ) (table : List Version) → rows ≡ rows_wanted opened leaf s.origins → table ≡ map of_row rows → table ≡ taken_of opened (slots_in opened leaf s)
         table_taken rows table wanted is =
-            is ∙ each_row rows (are_rows (is_slot_wanted opened leaf s) rows s.count wanted).within
-            ∙ ap (map (λ k. version_of (slot_at opened leaf s k))) wanted
-            ∙ sym (taken_there (range_with_len 0 s.count)) ∙ ap (taken_of opened) (sym slots_are)
+            let among : rows ≡ filter (is_slot_wanted opened leaf s.origins) (range_with_len 0 s.count) = wanted ∙ ap (λ n. filter (is_slot_wanted opened leaf s.origins) (range_with_len 0 n)) whole.origins in
+            is ∙ each_row rows (are_rows (is_slot_wanted opened leaf s.origins) rows s.count among).within
+            ∙ ap (map (λ k. version_of (slot_at opened leaf s k))) among ∙ sym taken_all
 
         -- so of the table that is made of them, if there is one
         pub table_wanted : {E : Type 0} (r : Result (List Version) E) (keys : List Key) (attrs : List ℕ) (origins : List ℕ) (vals : List (List Val)) (rows : List ℕ) → keys ≡ (opened.head).origins → attrs ≡ (opened.want).attrs → origins ≡ s.origins → vals ≡ s.vals
-            → rows ≡ rows_wanted opened leaf s → IfOk r (λ table. table ≡ map (version_there keys (opened.head).schema attrs columns origins vals) rows) → IfOk r (λ table. table ≡ taken_of opened (slots_in opened leaf s))
+            → rows ≡ rows_wanted opened leaf s.origins → IfOk r (λ table. table ≡ map (version_there keys (opened.head).schema attrs columns origins vals) rows) → IfOk r (λ table. table ≡ taken_of opened (slots_in opened leaf s))
         table_wanted (Ok table) keys attrs origins vals rows k a o v wanted is =
             table_taken rows table wanted (is ∙ (λ i. map (version_there (k i) (opened.head).schema (a i) columns (o i) (v i)) rows))
         table_wanted (Err e) keys attrs origins vals rows k a o v wanted is = tt

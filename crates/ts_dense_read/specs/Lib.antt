@@ -32,3 +32,4 @@ pub mod TileRanges
 pub mod SpaceLaws
 pub mod FoundPlans
 pub mod SpaceBegins
+pub mod Origins

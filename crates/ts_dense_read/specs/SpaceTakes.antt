@@ -1,5 +1,5 @@
 -- What is laid of the space tiles that a fetch reads, and what is taken of the slots of those that it got.
-use Rattle.std.specs.Prelude.{◌≡◌, ⊤, ℕ, ◌+◌, ◌*◌, ◌-◌, ◌^◌, ◌<◌, ◌≤◌, Bool, not, ◌&&◌, nat_eq, if◌then◌else◌, List, [], ◌∷◌, ◌++◌, length, map, filter, take, get_or, Result, Ok}
+use Rattle.std.specs.Prelude.{◌≡◌, ⊤, ℕ, ◌+◌, ◌*◌, ◌-◌, ◌^◌, ◌<◌, ◌≤◌, Bool, not, ◌&&◌, nat_eq, if◌then◌else◌, List, [], ◌++◌, length, map, filter, take, get_or, Result, Ok}
 use Rattle.std.specs.List.{All, sum, range_with_len}
 use Rattle.ts_base.specs.declared.heads.Version.{Version}
 use Rattle.ts_base.specs.declared.values.Val.{Val}
@@ -9,6 +9,7 @@ use Rattle.ts_domain.specs.declared.boxes.SubBox.{SubBox}
 use Rattle.ts_domain.specs.Boxes.{IsBox, is_in_box, cells_of}
 use Rattle.ts_domain.specs.Rects.{places_meeting}
 use Rattle.ts_order.specs.Orders.{coords_in_order}
+use Rattle.ts_table.specs.declared.origins.Origin.{Origin}
 use Rattle.ts_schema.specs.declared.frames.Frame.{Frame}
 use Rattle.ts_schema.specs.Wants.{taken}
 use Rattle.ts_plain.specs.declared.stored.StoredCell.{StoredCell}
@@ -71,12 +72,16 @@ pub record IsCounted (leaf : SubBox) (count : ℕ) : Type 0 where
 abbrev pub row_there : List (List Val) → ℕ → List Val
 row_there vals k = map (λ column. get_or column k Null) vals
 
+-- so many slots of these origins and values
+abbrev pub slots_of : ℕ → List ℕ → List (List Val) → TileSlots
+slots_of count origins vals = record { count = count; origins = origins; vals = vals }
+
 -- what is read of a tile of so many slots: what is broken first among its values, and then among its origins
 abbrev pub read_of_tile : Opened → ℕ → List Ranged → Result TileSlots Fault
 read_of_tile opened count ranges =
     and_then (vals_of_tile (opened.want).attrs count ranges 0 opened.attrs) (λ vals.
     and_then (slot_origins_if (opened.head).consolidated (length (opened.head).origins) (opened.want).attrs opened.attrs count (rows_in count vals) ranges) (λ origins.
-    Ok (record { count = count; origins = origins; vals = vals })))
+    Ok (slots_of count origins vals)))
 
 -- all columns are of so many values
 pub record AreWhole (s : TileSlots) : Type 0 where
@@ -97,13 +102,17 @@ slot_at opened leaf s k = record { coords = get_or (coords_in_order (opened.fram
 abbrev pub is_origin_wanted : Opened → ℕ → Bool
 is_origin_wanted opened origin = not (nat_eq origin no_origin) && is_within (opened.want).a (opened.want).b (origin_key (opened.head).origins origin)
 
--- the slot at a place has a cell that is wanted
-abbrev pub is_slot_wanted : Opened → SubBox → TileSlots → ℕ → Bool
-is_slot_wanted opened leaf s k = is_origin_wanted opened (get_or s.origins k 0) && is_in_box (opened.want).sub (get_or (coords_in_order (opened.frame).cell leaf) k [])
+-- the write at a place among the origins
+abbrev pub write_of : Opened → ℕ → Origin
+write_of opened origin = record { key = origin_key (opened.head).origins origin; schema = (opened.head).schema }
 
--- the places of the slots that have a cell which is wanted, ascending
-abbrev pub rows_wanted : Opened → SubBox → TileSlots → List ℕ
-rows_wanted opened leaf s = filter (is_slot_wanted opened leaf s) (range_with_len 0 s.count)
+-- the slot at a place, of those with these origins, has a cell that is wanted
+abbrev pub is_slot_wanted : Opened → SubBox → List ℕ → ℕ → Bool
+is_slot_wanted opened leaf origins k = is_origin_wanted opened (get_or origins k 0) && is_in_box (opened.want).sub (get_or (coords_in_order (opened.frame).cell leaf) k [])
+
+-- the places of the slots with these origins that have a cell which is wanted, ascending
+abbrev pub rows_wanted : Opened → SubBox → List ℕ → List ℕ
+rows_wanted opened leaf origins = filter (is_slot_wanted opened leaf origins) (range_with_len 0 (length origins))
 
 -- ---- what is taken
 

@@ -1,5 +1,5 @@
 //! Which write each slot of a space tile is of.
-ghost use Rattle.std.specs.Prelude.{◌≡◌, ◌≤◌, ◌<◌, List, length, replicate, All, IfOk};
+ghost use Rattle.std.specs.Prelude.{◌≡◌, ◌≤◌, ◌<◌, List, length, All, IfOk};
 ghost use Rattle.ts_base.specs.declared.values.Val.{Val as AnyVal};
 ghost use Rattle.ts_wire.specs.Place.{each_at};
 ghost use Rattle.ts_wire.specs.Reading.{Reads, ReadsOr, DecodesOr};
@@ -10,8 +10,9 @@ ghost use Rattle.ts_dense_read.specs.SpaceTakes.{row_there};
 
 use crate::holes::may_be_slot;
 use crate::opened::Opened;
+use crate::slots::SlotOrigins;
 use std::alloc::Global;
-use ts_base::{IndexList, OutOfMemory, Part};
+use ts_base::{IndexList, Part};
 use ts_sparse_read::{CellFault, Ranges};
 use ts_table::Column;
 use ts_wire::{Cursor, Damaged, ReadFault};
@@ -25,14 +26,14 @@ pub(crate) fn read_origins(
     vals: &[Column],
     count: u64,
     ranges: &Ranges,
-) -> Result<IndexList, CellFault>
+) -> Result<SlotOrigins, CellFault>
     requires few { length opened.now.attrs ≤ 64 }
     requires vals { All (λ (column : List AnyVal). length column ≡ count) vals.now }
     ensures decodes { DecodesFault (λ origins. origins) (slot_origins_if opened.now.head.consolidated entries opened.now.want.attrs opened.now.attrs count (rows_in count vals.now) ranges.now) result }
     ensures many { IfOk result (λ origins. length origins ≡ count) }
 {
     if !opened.head.consolidated {
-        return Ok(zeros(alloc, count)?);
+        return Ok(SlotOrigins::one(0, count));
     }
     match decode_origins(
         alloc,
@@ -42,17 +43,10 @@ pub(crate) fn read_origins(
         count,
         ranges.bytes_of(Part::Origin),
     ) {
-        Ok(origins) => Ok(origins),
+        Ok(origins) => Ok(SlotOrigins::of(origins)),
         Err(ReadFault::Damaged(damaged)) => Err(ranges.fault_in(Part::Origin, damaged.at)),
         Err(ReadFault::OutOfMemory) => Err(CellFault::OutOfMemory),
     }
-}
-
-// So many zeros.
-fn zeros(alloc: Global, count: u64) -> Result<IndexList, OutOfMemory>
-    ensures { IfOk result (λ origins. origins ≡ replicate count 0) }
-{
-    Ok(IndexList::from_vec(vec![in alloc; 0; count as usize]?))
 }
 
 // The origins of so many slots with these values.

@@ -3,10 +3,10 @@ ghost use Rattle.std.specs.Prelude.{◌≡◌, ◌<◌, ◌&&◌, ℤ, pos, [], 
 ghost use Rattle.ts_domain.specs.Boxes.{IsBox, is_in_box, cells_of, Covers};
 ghost use Rattle.ts_order.specs.Orders.{coords_in_order};
 ghost use Rattle.ts_gather.specs.Sides.{AreCoords};
-ghost use Rattle.ts_dense_read.specs.SpaceTakes.{IsCounted, AreWhole, is_origin_wanted, is_slot_wanted, rows_wanted};
+ghost use Rattle.ts_dense_read.specs.SpaceTakes.{IsCounted, is_origin_wanted, is_slot_wanted, rows_wanted};
 
 use crate::opened::Opened;
-use crate::slots::{NO_ORIGIN, TileSlots};
+use crate::slots::NO_ORIGIN;
 use std::alloc::Global;
 use ts_base::{IndexList, OutOfMemory};
 use ts_domain::SubBox;
@@ -14,23 +14,22 @@ use ts_sparse_read::origin_key;
 use ts_table::Numbers;
 
 /// The places of the slots of a space tile that have a cell which is wanted, ascending. The slots have
-/// these coordinates, one column for each dimension.
+/// these origins, and these coordinates, one column for each dimension.
 ///
 /// `OutOfMemory` comes too where there are 2^32 slots or more.
 pub(crate) fn wanted_rows(
     alloc: Global,
     opened: &Opened,
     leaf: &SubBox,
-    slots: &TileSlots,
+    origins: &IndexList,
     coords: &[Numbers],
 ) -> Result<IndexList, OutOfMemory>
-    requires counted { IsCounted leaf.now slots.now.count }
-    requires whole { AreWhole slots.now }
+    requires counted { IsCounted leaf.now (length origins.now) }
     requires coords { AreCoords opened.now.frame.cell leaf.now coords.now }
-    ensures { IfOk result (λ rows. rows ≡ rows_wanted opened.now leaf.now slots.now) }
+    ensures { IfOk result (λ rows. rows ≡ rows_wanted opened.now leaf.now origins.now) }
 {
-    match u32::try_from(slots.count) {
-        Ok(count) => rows_below(alloc, opened, leaf, slots, coords, count),
+    match u32::try_from(origins.len()) {
+        Ok(count) => rows_below(alloc, opened, leaf, origins, coords, count),
         Err(_many) => Err(OutOfMemory),
     }
 }
@@ -40,20 +39,19 @@ fn rows_below(
     alloc: Global,
     opened: &Opened,
     leaf: &SubBox,
-    slots: &TileSlots,
+    origins: &IndexList,
     coords: &[Numbers],
     count: u32,
 ) -> Result<IndexList, OutOfMemory>
-    requires many { count ≡ slots.now.count }
-    requires counted { IsCounted leaf.now slots.now.count }
-    requires whole { AreWhole slots.now }
+    requires many { count ≡ length origins.now }
+    requires counted { IsCounted leaf.now (length origins.now) }
     requires coords { AreCoords opened.now.frame.cell leaf.now coords.now }
-    ensures { IfOk result (λ rows. rows ≡ rows_wanted opened.now leaf.now slots.now) }
+    ensures { IfOk result (λ rows. rows ≡ rows_wanted opened.now leaf.now origins.now) }
 {
     let covered = does_cover(&opened.want.sub, leaf);
     let mut rows = IndexList::new(alloc);
     for row in 0..count {
-        push_row(opened, leaf, slots, coords, covered, row, &mut rows)?;
+        push_row(opened, leaf, origins, coords, covered, row, &mut rows)?;
     }
     Ok(rows)
 }
@@ -70,20 +68,19 @@ fn does_cover(outer: &SubBox, inner: &SubBox) -> bool
 fn push_row(
     opened: &Opened,
     leaf: &SubBox,
-    slots: &TileSlots,
+    origins: &IndexList,
     coords: &[Numbers],
     covered: bool,
     row: u32,
     rows: &mut IndexList,
 ) -> Result<(), OutOfMemory>
-    requires counted { IsCounted leaf.now slots.now.count }
-    requires whole { AreWhole slots.now }
+    requires counted { IsCounted leaf.now (length origins.now) }
     requires coords { AreCoords opened.now.frame.cell leaf.now coords.now }
     requires covered { IsTrue covered → Covers opened.now.want.sub leaf.now }
-    requires within { row < slots.now.count }
-    ensures { OnOk result (rows.new ≡ rows.old ++ cond (is_slot_wanted opened.now leaf.now slots.now row) (row ∷ []) []) }
+    requires within { row < length origins.now }
+    ensures { OnOk result (rows.new ≡ rows.old ++ cond (is_slot_wanted opened.now leaf.now origins.now row) (row ∷ []) []) }
 {
-    if !is_slot_wanted(opened, leaf, slots, coords, covered, u64::from(row)) {
+    if !is_slot_wanted(opened, leaf, origins, coords, covered, u64::from(row)) {
         return Ok(());
     }
     rows.push(row)
@@ -94,24 +91,22 @@ fn push_row(
 fn is_slot_wanted(
     opened: &Opened,
     leaf: &SubBox,
-    slots: &TileSlots,
+    origins: &IndexList,
     coords: &[Numbers],
     covered: bool,
     place: u64,
 ) -> bool
-    requires counted { IsCounted leaf.now slots.now.count }
-    requires whole { AreWhole slots.now }
+    requires counted { IsCounted leaf.now (length origins.now) }
     requires coords { AreCoords opened.now.frame.cell leaf.now coords.now }
     requires covered { IsTrue covered → Covers opened.now.want.sub leaf.now }
-    requires within { place < slots.now.count }
-    ensures { result ≡ is_slot_wanted opened.now leaf.now slots.now place }
+    requires within { place < length origins.now }
+    ensures { result ≡ is_slot_wanted opened.now leaf.now origins.now place }
 {
-    let origin = *slots.origins.at(place);
-    is_origin_wanted(opened, origin) && is_inside(opened, leaf, coords, covered, place)
+    is_origin_wanted(opened, *origins.at(place)) && is_inside(opened, leaf, coords, covered, place)
 }
 
-// Whether a slot with this origin has a cell of a write that is stamped in the interval.
-fn is_origin_wanted(opened: &Opened, origin: u32) -> bool
+/// Whether a slot with this origin has a cell of a write that is stamped in the interval.
+pub(crate) fn is_origin_wanted(opened: &Opened, origin: u32) -> bool
     ensures { result ≡ is_origin_wanted opened.now origin }
 {
     let want = &opened.want;
