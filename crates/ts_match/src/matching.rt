@@ -37,17 +37,17 @@ pub fn matches_cell(condition: &Cond, picks: &PickList, cell: &BatchCell) -> boo
     )
 }
 
-// What a condition sees of a cell.
+/// What a condition sees of a cell.
 #[derive(Drop)]
-struct Sight<'a> {
-    picks: &'a [Pick],
-    fields: &'a [CondField],
-    cell: &'a BatchCell<'a>,
+pub(crate) struct Sight<'a> {
+    pub(crate) picks: &'a [Pick],
+    pub(crate) fields: &'a [CondField],
+    pub(crate) cell: &'a BatchCell<'a>,
 }
 
-// Whether a node holds of a cell. The calls nest as high as the node is: see `CondNode`.
+/// Whether a node holds of a cell. The calls nest as high as the node is: see `CondNode`.
 #[cycle(sizes)]
-fn node_holds(node: &CondNode, sight: &Sight) -> bool
+pub(crate) fn node_holds(node: &CondNode, sight: &Sight) -> bool
     ensures { result ≡ holds (value_in sight.now) (test_of node.now) }
 {
     match node {
@@ -123,7 +123,8 @@ fn is_null(seen: &Seen) -> bool
     matches!(seen, Seen::Null)
 }
 
-fn passes(op: CondOp, order: Ordering) -> bool
+/// Whether two values that stand so to each other pass a comparison.
+pub(crate) fn passes(op: CondOp, order: Ordering) -> bool
     ensures { result ≡ passes op order }
 {
     match op {
