@@ -1,5 +1,5 @@
 -- Cells that ascend in a layout as they stand.
-use Rattle.std.proofs.Common.{◌≡◌, zero, suc, ◌+◌, ℤ, Bool, true, false, List, [], ◌∷◌, map, length, get_or, sym, ap, ◌∙◌, refl, subst, arith}
+use Rattle.std.proofs.Common.{◌≡◌, zero, suc, ◌+◌, ℤ, Bool, true, false, Option, None, List, [], ◌∷◌, map, length, get_or, sym, ap, ◌∙◌, refl, subst, arith}
 use Rattle.std.specs.Prelude.{cond, filter}
 use Rattle.std.specs.declared.cmp.Ordering.{Ordering}
 use Rattle.std.specs.declared.cmp.Ordering.TheVariants.{Less}
@@ -13,6 +13,7 @@ use Rattle.std.proofs.lemmas.List.Kept.{IsStrictlySortedBy-filter}
 use Rattle.ts_base.specs.declared.heads.Version.{Version}
 use Rattle.ts_base.specs.declared.values.Val.{Val}
 use Rattle.ts_domain.specs.declared.orders.Layout.{Layout}
+use Rattle.ts_cond.specs.Tests.{Condition}
 use Rattle.ts_schema.specs.declared.attrs.Attr.{Attr}
 use Rattle.ts_schema.specs.declared.frames.Frame.{Frame}
 use Rattle.ts_store.proofs.Trees.{entries-tree}
@@ -22,7 +23,7 @@ use Rattle.ts_model.specs.Selections.{picks_in, passes_by}
 use Rattle.ts_model.proofs.Selected.{layout_total, passes-picked}
 use Rattle.ts_select.specs.Cells.{cell_of, cell_at}
 use Rattle.ts_select.specs.Places.{passes_at}
-use Rattle.ts_select.proofs.Ranges.{all_cells}
+use Rattle.ts_select.proofs.Ranges.{all_cells, passing_all}
 
 -- versions by their coordinates stand to one another in a total order
 pub versions_total : (frame : Frame) (l : Layout) → IsTotalOrder (λ (a b : Version). layout_cmp frame l a.coords b.coords)
@@ -80,3 +81,11 @@ cells_passing frame attrs ready versions sorted =
     let passing = λ (e : List ℤ × List Val). passes ready.filter attrs e.0 e.1 in
     let left = IsStrictlySortedBy-filter by_place passing (map cell_of versions) (sorted_images cell_of by_place versions sorted) in
     passing_cells attrs ready versions ∙ sym (in_layout_same frame ready.layout (filter passing (map cell_of versions)) left)
+
+-- without a filter all of them are selected
+pub cells_all : (frame : Frame) (attrs : List Attr) (ready : Ready) (versions : List Version) → ready.filter ≡ None → IsStrictlySortedBy (λ (a b : Version). layout_cmp frame ready.layout a.coords b.coords) versions
+    → map (cell_at versions) (range_with_len 0 (length versions)) ≡ in_layout frame ready.layout (filter (λ e. passes ready.filter attrs e.0 e.1) (map cell_of versions))
+cells_all frame attrs ready versions none sorted =
+    let range = range_with_len 0 (length versions) in
+    let all = subst (λ (f : Option Condition). range ≡ filter (passes_at (picks_in attrs f) f versions) range) (sym none) (passing_all [] versions range refl) in
+    ap (map (cell_at versions)) all ∙ cells_passing frame attrs ready versions sorted

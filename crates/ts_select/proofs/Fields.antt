@@ -4,13 +4,14 @@ use Rattle.std.specs.Prelude.{All, ℤ, pos, None}
 use Rattle.std.specs.List.{slice_get}
 use Rattle.std.specs.Option.{option_map}
 use Rattle.std.proofs.lemmas.List.{length-map}
+use Rattle.std.proofs.lemmas.List.Elements.{All-head, All-tail}
 use Rattle.std.proofs.lemmas.Option.{slice_get-map}
 use Rattle.ts_base.specs.declared.heads.Version.{Version}
 use Rattle.ts_base.specs.declared.values.Val.{Val}
 use Rattle.ts_base.specs.declared.values.Val.TheVariants.{Null, Int}
-use Rattle.ts_table.specs.Tables.{no_version, version_or}
+use Rattle.ts_table.specs.Tables.{no_version, version_or, HasVals}
 use Rattle.ts_select.specs.Cells.{fields_at}
-use Rattle.ts_select.specs.Columns.{or_null}
+use Rattle.ts_select.specs.Columns.{column_at, or_null, HasField}
 
 -- an item of the first of two lists
 get_left : {A : Type 0} (xs ys : List A) (i : ℕ) → i < length xs → slice_get (xs ++ ys) i ≡ slice_get xs i
@@ -66,3 +67,20 @@ fields_long versions dims attrs place long wide within =
     let first : length v.coords ≡ dims = long place no_version within in
     let second : length v.row ≡ attrs = wide place no_version within in
     length-append (map Int v.coords) v.row ∙ omega (arith, length-map v.coords Int, first, second)
+
+-- a column of an attribute has the values of a field
+pub vals_field : (versions : List Version) (dims field : ℕ) (column : List Val) → All (λ (v : Version). length v.coords ≡ dims) versions → dims ≤ field → HasVals versions (field - dims) column → HasField versions field column
+vals_field versions dims field column long past has = record {
+  long = has.long;
+  there = λ place within.
+      sym (null_if_none (fields_at versions place) field) ∙ ap or_null (sym (value_found versions dims place field long within past) ∙ has.there place within) ∙ null_if_none column place;
+}
+
+-- at some places
+pub part_is : (versions : List Version) (field : ℕ) (column : List Val) (places : List ℕ) → HasField versions field column → All (λ place. place < length versions) places
+    → map (λ place. get_or column place Null) places ≡ column_at versions places field
+part_is versions field column [] has within = refl
+part_is versions field column (place ∷ places) has within = λ i.
+    sym (has.there place (All-head (λ place. place < length versions) place places within)) i ∷ part_is versions field column places has (All-tail (λ place. place < length versions) place places within) i
+
+pub ruleset columns = (vals_field)

@@ -1,12 +1,13 @@
 //! Fields of cells of a batch, as columns.
-ghost use Rattle.std.specs.Prelude.{◌≡◌, ◌+◌, ◌<◌, length, nat_lt, option_map, slice_get, slice_index_or, IfOk, All};
+ghost use Rattle.std.specs.Prelude.{◌≡◌, ◌+◌, ◌<◌, length, nat_lt, option_map, slice_get, slice_index_or, IfOk, IfSome, All};
 ghost use Rattle.ts_base.specs.declared.heads.Version.{Version as AnyVersion};
 ghost use Rattle.ts_base.specs.declared.values.Val.TheVariants as val;
 ghost use Rattle.ts_table.specs.Columns.{val_seen};
 ghost use Rattle.ts_table.specs.Tables.{version_or};
 ghost use Rattle.ts_select.specs.Cells.{fields_at};
-ghost use Rattle.ts_select.specs.Columns.{column_at, columns_at, or_null};
+ghost use Rattle.ts_select.specs.Columns.{column_at, columns_at, or_null, HasField};
 
+use crate::runs::gathered_runs;
 use std::alloc::Global;
 use ts_base::OutOfMemory;
 use ts_batch::Batch;
@@ -45,6 +46,38 @@ fn is_field(field: u32, dims: u8, attrs: u64) -> bool
 
 // The column of a field, at these places.
 fn column_of(
+    alloc: Global,
+    dims: u8,
+    field: u32,
+    cells: &Batch,
+    places: &[u32],
+) -> Result<Column, OutOfMemory>
+    requires dims { All (λ (v : AnyVersion). length v.coords ≡ dims) cells.now }
+    requires places { All (λ place. place < length cells.now) places.now }
+    ensures { IfOk result (λ column. column ≡ column_at cells.now places.now field) }
+{
+    match vals_of(cells, dims, field) {
+        Some(vals) => gathered_runs(alloc, vals, places),
+        None => seen_column(alloc, dims, field, cells, places),
+    }
+}
+
+// The column of a field of all cells, if it is an attribute that has one.
+#[tactic(auto, using(crate::proofs::Fields::columns))]
+fn vals_of(cells: &Batch, dims: u8, field: u32) -> Option<&Column>
+    requires { All (λ (v : AnyVersion). length v.coords ≡ dims) cells.now }
+    ensures { IfSome result (λ column. HasField cells.now field column.now) }
+{
+    let count = dims as u32;
+    if field < count {
+        None
+    } else {
+        cells.vals((field - count) as u64)
+    }
+}
+
+// The column of a field, at these places, value by value.
+fn seen_column(
     alloc: Global,
     dims: u8,
     field: u32,

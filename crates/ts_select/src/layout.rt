@@ -1,5 +1,5 @@
 //! The order of the cells of a batch in a layout.
-ghost use Rattle.std.specs.Prelude.{◌≡◌, ◌<◌, ◌↔◌, pos, length, slice_index_or, IsTrue, All};
+ghost use Rattle.std.specs.Prelude.{◌≡◌, ◌<◌, ◌↔◌, ℤ, List, pos, length, slice_index_or, IsTrue, All};
 ghost use Rattle.std.specs.List.{AllAdjacentBelow};
 ghost use Rattle.std.specs.List.Sorted.{IsStrictlySortedBy};
 ghost use Rattle.std.specs.Ordering.{int_cmp};
@@ -8,6 +8,7 @@ ghost use Rattle.ts_base.specs.declared.heads.Version.{Version as AnyVersion};
 ghost use Rattle.ts_domain.specs.Domains.{is_in_domain};
 ghost use Rattle.ts_domain.specs.declared.orders.Order.TheVariants as order;
 ghost use Rattle.ts_order.specs.Orders.{order_cmp};
+ghost use Rattle.ts_schema.specs.declared.frames.Frame.{Frame as AnyFrame};
 ghost use Rattle.ts_table.specs.Tables.{version_or};
 ghost use Rattle.ts_model.specs.Queries.{layout_cmp};
 
@@ -16,13 +17,43 @@ use ts_batch::Batch;
 use ts_domain::{Layout, Order};
 use ts_order::{cmp_global, cmp_plain};
 use ts_schema::Frame;
+use ts_table::BoxTable;
 
-/// Whether the cells ascend in a layout as they stand, each cell once.
+/// Whether the cells ascend in a layout as they stand, each cell once. Those of a box in the order of
+/// the layout are not compared.
 pub(crate) fn is_in_layout(frame: &Frame, layout: Layout, cells: &Batch) -> bool
     requires { All (λ (v : AnyVersion). IsTrue (is_in_domain frame.now.domain v.coords)) cells.now }
     ensures { IsTrue result ↔ IsStrictlySortedBy (λ (a b : AnyVersion). layout_cmp frame.now layout a.coords b.coords) cells.now }
 {
-    do_neighbours_ascend(frame, layout, cells)
+    is_box_in(layout, cells) || do_neighbours_ascend(frame, layout, cells)
+}
+
+// Whether the cells are those of a box, in the order of the layout.
+fn is_box_in(layout: Layout, cells: &Batch) -> bool
+    ensures { IsTrue result → (frame : AnyFrame) → AllAdjacentBelow (λ (a b : AnyVersion). layout_cmp frame layout a.coords b.coords ≡ Less) cells.now (length cells.now) }
+{
+    match cells.as_box() {
+        Some(table) => is_ordered(layout, table),
+        None => false,
+    }
+}
+
+// Whether the cells of a box stand in the order of the layout.
+fn is_ordered(layout: Layout, table: &BoxTable) -> bool
+    ensures { IsTrue result → (frame : AnyFrame) → AllAdjacentBelow (λ (a b : AnyVersion). layout_cmp frame layout a.coords b.coords ≡ Less) table.now (length table.now) }
+{
+    is_order_of(layout, table.parts().order)
+}
+
+// Whether an order is that of the layout.
+fn is_order_of(layout: Layout, order: Order) -> bool
+    ensures { IsTrue result → (frame : AnyFrame) → (a b : List ℤ) → layout_cmp frame layout a b ≡ order_cmp order a b }
+{
+    match (layout, order) {
+        (Layout::Row, Order::Row) => true,
+        (Layout::Col, Order::Col) => true,
+        _ => false,
+    }
 }
 
 // Whether each cell comes before the next.

@@ -2,10 +2,14 @@
 #![tactic(auto)]
 
 mod columns;
+mod coordinates;
 mod layout;
 mod places;
+mod runs;
 mod selecting;
 mod sites;
 mod sorted;
+mod taking;
+mod whole;
 
 pub use selecting::rows_of;

@@ -1,45 +1,48 @@
 //! The places of the cells that a query selects.
-ghost use Rattle.std.specs.Prelude.{◌≡◌, ◌<◌, ◌^◌, filter, length, map, IfOk, OnOk, IsTrue, All};
+ghost use Rattle.std.specs.Prelude.{◌≡◌, ◌<◌, ◌^◌, false, get_or, filter, length, map, IfOk, OnOk, IsTrue, All};
 ghost use Rattle.std.specs.List.{range_with_len};
+ghost use Rattle.std.specs.List.Sorted.{IsStrictlySortedBy};
 ghost use Rattle.ts_base.specs.declared.heads.Version.{Version as AnyVersion};
 ghost use Rattle.ts_domain.specs.Domains.{is_in_domain};
 ghost use Rattle.ts_schema.specs.SchemaTexts.{AreAttrs};
-ghost use Rattle.ts_model.specs.Queries.{in_layout, passes};
+ghost use Rattle.ts_model.specs.Queries.{in_layout, layout_cmp, passes};
 ghost use Rattle.ts_model.specs.Selections.{picks_in, passes_by};
 ghost use Rattle.ts_select.specs.Cells.{cell_at};
 ghost use Rattle.ts_select.specs.Places.{passes_at, placed_behind, with_place};
 
-use crate::layout::is_in_layout;
 use crate::sorted::sorted_places;
 use std::alloc::Global;
 use std::collections::BTreeMap;
 use ts_base::{IndexList, OutOfMemory};
 use ts_batch::{Batch, BatchCell};
 use ts_cond::{Cond, PickList};
-use ts_match::matches_cell;
+use ts_match::{matches_all, matches_cell};
 use ts_model::{GlobalPlace, Ready, attr_fields, place_in};
 use ts_schema::{Frame, Schema};
 
 /// The places of the cells that a query's filter matches, in its layout.
 ///
-/// Cells that ascend in the layout stay as they stand, and others are sorted. Only where two of them
-/// have one place in the layout, those that match are put in a tree, which keeps the first.
+/// Cells that ascend in the layout stay as they stand, which `stands` tells, and others are sorted.
+/// Only where two of them have one place in the layout, those that match are put in a tree, which keeps
+/// the first.
 pub(crate) fn places_of(
     alloc: Global,
     frame: &Frame,
     schema: &Schema,
     ready: &Ready,
+    stands: bool,
     cells: &Batch,
 ) -> Result<IndexList, OutOfMemory>
     requires few { length cells.now < 2 ^ 32 }
     requires attrs { AreAttrs schema.now.attrs }
+    requires stands { IsTrue stands → IsStrictlySortedBy (λ (a b : AnyVersion). layout_cmp frame.now ready.now.layout a.coords b.coords) cells.now }
     requires inside { All (λ (v : AnyVersion). IsTrue (is_in_domain frame.now.domain v.coords)) cells.now }
     ensures within { IfOk result (All (λ place. place < length cells.now)) }
     ensures cells { IfOk result (λ places. map (cell_at cells.now) places ≡ in_layout frame.now ready.now.layout (filter (λ e. passes ready.now.filter schema.now.attrs e.0 e.1) (map (λ (v : AnyVersion). (v.coords, v.row)) cells.now))) }
 {
     let picks = picks_in(alloc, schema, &ready.filter)?;
     let passing = passing(alloc, ready, &picks, cells)?;
-    if is_in_layout(frame, ready.layout, cells) {
+    if stands {
         return Ok(passing);
     }
     if let Some(places) = sorted_places(alloc, frame, ready.layout, cells, passing.as_slice())? {
@@ -61,7 +64,7 @@ fn picks_in(alloc: Global, schema: &Schema, filter: &Option<Cond>) -> Result<Pic
 }
 
 // The places of the cells that pass the filter, in the order of the cells.
-#[tactic(auto, using(crate::proofs::Ranges::steps))]
+#[tactic(auto, using(crate::proofs::Ranges::passings))]
 fn passing(
     alloc: Global,
     ready: &Ready,
@@ -71,9 +74,37 @@ fn passing(
     requires { length cells.now < 2 ^ 32 }
     ensures { IfOk result (λ places. places ≡ filter (passes_at picks.now ready.now.filter cells.now) (range_with_len 0 (length cells.now))) }
 {
-    let mut places = IndexList::from_vec(Vec::with_capacity(alloc, cells.len() as usize)?);
-    for place in 0..cells.len() {
-        if passes_at(picks, &ready.filter, cells, place) {
+    match &ready.filter {
+        None => all_places(alloc, cells.len()),
+        Some(condition) => {
+            let found = matches_all(alloc, condition, picks, cells)?;
+            found_places(alloc, found.as_slice())
+        }
+    }
+}
+
+/// All places below a number.
+#[tactic(auto, using(crate::proofs::Ranges::ranges))]
+pub(crate) fn all_places(alloc: Global, count: u64) -> Result<IndexList, OutOfMemory>
+    requires { count < 2 ^ 32 }
+    ensures { IfOk result (λ places. places ≡ range_with_len 0 count) }
+{
+    let mut places = IndexList::from_vec(Vec::with_capacity(alloc, count as usize)?);
+    for place in 0..count {
+        places.push(place as u32)?;
+    }
+    Ok(places)
+}
+
+// The places that are found.
+#[tactic(auto, using(crate::proofs::Ranges::steps))]
+fn found_places(alloc: Global, found: &[bool]) -> Result<IndexList, OutOfMemory>
+    requires { length found.now < 2 ^ 32 }
+    ensures { IfOk result (λ places. places ≡ filter (λ place. get_or found.now place false) (range_with_len 0 (length found.now))) }
+{
+    let mut places = IndexList::new(alloc);
+    for place in 0..found.len() {
+        if found[place] {
             places.push(place as u32)?;
         }
     }

@@ -8,7 +8,9 @@ ghost use Rattle.ts_model.specs.Queries.{selected, items_at};
 ghost use Rattle.ts_select.specs.Cells.{fields_at};
 
 use crate::columns::columns_of;
+use crate::layout::is_in_layout;
 use crate::places::places_of;
+use crate::whole::whole_rows;
 use std::alloc::Global;
 use ts_base::OutOfMemory;
 use ts_batch::{Batch, RowBatch};
@@ -19,34 +21,33 @@ use ts_schema::{Frame, Schema};
 /// cut to the fields that are shown. The rows of the cells follow the attributes of the schema.
 ///
 /// Each field is gathered into a column of its own. Cells that ascend in the layout as they stand are
-/// taken as they stand, and others are sorted. More than 2^32 - 1 cells count as want of memory.
+/// taken as they stand, and others are sorted. Where all of them are taken so, columns of values are
+/// moved. More than 2^32 - 1 cells count as want of memory.
 pub fn rows_of(
     alloc: Global,
     frame: &Frame,
     schema: &Schema,
     ready: &Ready,
-    cells: &Batch,
+    cells: Batch,
 ) -> Result<RowBatch, OutOfMemory>
     requires frame { IsFrame frame.now }
     requires attrs { AreAttrs schema.now.attrs }
-    requires inside { All (λ (v : AnyVersion). IsTrue (is_in_domain frame.now.domain v.coords)) cells.now }
-    requires wide { All (λ (v : AnyVersion). length v.row ≡ length schema.now.attrs) cells.now }
-    ensures { IfOk result (λ rows. rows ≡ selected frame.now schema.now.attrs ready.now (map (λ (v : AnyVersion). (v.coords, v.row)) cells.now)) }
+    requires inside { All (λ (v : AnyVersion). IsTrue (is_in_domain frame.now.domain v.coords)) cells }
+    requires wide { All (λ (v : AnyVersion). length v.row ≡ length schema.now.attrs) cells }
+    ensures { IfOk result (λ rows. rows ≡ selected frame.now schema.now.attrs ready.now (map (λ (v : AnyVersion). (v.coords, v.row)) cells)) }
 {
     if cells.len() > u32::MAX as u64 {
         return Err(OutOfMemory);
     }
-    let places = places_of(alloc, frame, schema, ready, cells)?;
+    let stands = is_in_layout(frame, ready.layout, &cells);
     let dims = frame.domain.count();
     let attrs = schema.attrs.len();
-    rows_at(
-        alloc,
-        dims,
-        attrs,
-        ready.fields.as_slice(),
-        cells,
-        places.as_slice(),
-    )
+    let fields = ready.fields.as_slice();
+    if stands && ready.filter.is_none() && cells.len() > 0 {
+        return whole_rows(alloc, dims, attrs, fields, cells);
+    }
+    let places = places_of(alloc, frame, schema, ready, stands, &cells)?;
+    rows_at(alloc, dims, attrs, fields, &cells, places.as_slice())
 }
 
 // The rows of the cells at these places, each cut to the fields that are shown.

@@ -15,12 +15,12 @@ use Rattle.ts_select.proofs.Placed.{cells_placed, places_within}
 use Rattle.ts_select.proofs.Ranges.{passing_few, passing_within}
 use Rattle.ts_select.proofs.places.places_of.Goals as goal
 
-pub returns-then-is_in_layout : goal.returns-then-is_in_layout
-returns-then-is_in_layout c =
+pub returns-then-stands : goal.returns-then-stands
+returns-then-stands c =
     let ready = c.args.ready.now in
     let versions = c.args.cells.now in
     let range = range_with_len 0 (length versions) in
-    let sorted = c.is_in_layout.ensures.0 c.if-is_in_layout.true in record {
+    let sorted = c.requires.stands c.if-stands.true in record {
       within = subst (All (λ place. place < length versions)) (sym c.in_ok-passing.ensures) (passing_within _ (length versions));
       cells =
           ap (map (cell_at versions)) (c.in_ok-passing.ensures ∙ ap (λ picks. filter (passes_at picks ready.filter versions) range) c.in_ok-picks.ensures)
