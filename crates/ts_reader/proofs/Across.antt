@@ -1,6 +1,6 @@
 -- Cells in columns: what stands across them, and that the cells which a read shows do.
-use Rattle.std.proofs.Common.{◌≡◌, ℕ, zero, suc, ◌+◌, ◌<◌, ◌≤◌, ℤ, pos, Bool, true, false, not, cond, List, [], ◌∷◌, length, map, get_or, replicate, Option, Some, None, refl, sym, ap, subst, ◌∙◌, arith}
-use Rattle.std.specs.Prelude.{filter, option_and_then}
+use Rattle.std.proofs.Common.{◌≡◌, ℕ, ◌<◌, ◌≤◌, ℤ, pos, Bool, true, false, not, cond, List, [], ◌∷◌, length, map, get_or, replicate, Option, Some, None, refl, sym, ap, subst, ◌∙◌, arith}
+use Rattle.std.specs.Prelude.{slice_get}
 use Rattle.std.specs.FinMap as finite
 use Rattle.std.specs.List.{All, range_with_len}
 use Rattle.std.specs.Option.{option_map_or}
@@ -13,22 +13,24 @@ use Rattle.ts_base.specs.declared.values.Val.{Val}
 use Rattle.ts_base.specs.declared.values.Val.TheVariants.{Null}
 use Rattle.ts_domain.specs.declared.boxes.SubBox.{SubBox}
 use Rattle.ts_domain.specs.declared.orders.Order.TheVariants.{Row}
-use Rattle.ts_domain.specs.Boxes.{cells_of, coords_of_box}
+use Rattle.ts_domain.specs.Boxes.{IsBox, cells_of, coords_of_box}
+use Rattle.ts_order.specs.Orders.{coords_in_order}
+use Rattle.ts_table.specs.BoxTables.{versions_over}
+use Rattle.ts_table.proofs.BoxTables.{coords_are, count_is, version_over}
 use Rattle.ts_domain.proofs.Between.{length-coords_between}
-use Rattle.ts_gather.specs.Sides.{AreCoords}
 use Rattle.ts_gather.proofs.RowLaws.{whole_column}
 use Rattle.ts_schema.specs.declared.attrs.Attr.{Attr}
 use Rattle.ts_schema.specs.declared.schemas.Schema.{Schema}
 use Rattle.ts_model.specs.declared.states.Reading.{Reading}
 use Rattle.ts_model.specs.Answers.{fills_of}
-use Rattle.ts_model.specs.Pieces.{Newest, newest_of}
+use Rattle.ts_model.specs.Pieces.{newest_of}
 use Rattle.ts_model.specs.States.{cell_shown, cells_filled, is_erased_by, row_or_fill}
 use Rattle.ts_table.specs.declared.origins.Origin.{Origin}
 use Rattle.ts_table.specs.Tables.{across, column_of, no_version, versions_from, IsTable}
 use Rattle.ts_table.proofs.Tables.{versions-length, version_is, across_first}
 use Rattle.ts_reader.specs.Left.{slot_left}
 use Rattle.ts_reader.specs.Newest.{slots_in}
-use Rattle.ts_reader.specs.Shown.{AreShown, HaveCoords, cell_across, cells_across, pair_of, slot_val, slot_vals, version_val, version_vals}
+use Rattle.ts_reader.specs.Shown.{AreShown, HaveCoords, cell_across, cells_across, cells_over, pair_of, slot_val, slot_vals, vals_filled, version_val, version_vals}
 use Rattle.ts_reader.proofs.BoxSlots.{in_row_order}
 
 -- ---- the table of columns
@@ -145,17 +147,6 @@ module _ (versions : List Version) where
             ∙ sym (get_or-map (λ (v : Version). v.coords) versions k no_version [] here);
       }
 
--- columns of the coordinates of a box have them
-pub box_have : (sub : SubBox) (dims : List (List ℤ)) → 1 ≤ length sub.low → length sub.low ≤ 8 → AreCoords Row sub dims → HaveCoords (coords_of_box sub) dims
-box_have sub dims some few are =
-    let many : length (coords_of_box sub) ≡ cells_of sub = length-coords_between sub.low sub.high in
-    record {
-      some = omega (arith, are.many, some);
-      few = omega (arith, are.many, few);
-      long = λ i d within. are.long i d within ∙ sym many;
-      there = λ k within. are.there k (omega (arith, within, many)) ∙ ap (λ (cs : List (List ℤ)). get_or cs k []) (in_row_order sub);
-    }
-
 -- ---- the cells of versions
 
 module _ (r : Reading) (schemas : List Schema) where
@@ -181,20 +172,50 @@ module _ (r : Reading) (schemas : List Schema) where
       by_test true = refl
       by_test false = refl
 
-  -- the columns of slots have the cells of the box
-  pub slots_cells : (got : List Version) (slots : List (Option Version)) (dims : List (List ℤ)) (vals : List (List Val)) → HaveCoords (coords_of_box (r.ready).sub) dims
-      → slots ≡ map (slot_left r schemas) (slots_in (r.ready).sub (newest_of got)) → vals ≡ map (slot_vals r schemas slots) attrs → cells_across dims vals (length slots) ≡ cells_filled r schemas got
-  slots_cells got slots dims vals have left is =
+  -- the columns of slots have the values of the cells of the box
+  pub slots_over : (got : List Version) (slots : List (Option Version)) (vals : List (List Val))
+      → slots ≡ map (slot_left r schemas) (slots_in (r.ready).sub (newest_of got)) → vals ≡ map (slot_vals r schemas slots) attrs → cells_over (coords_of_box (r.ready).sub) vals ≡ cells_filled r schemas got
+  slots_over got slots vals left is =
       let cs = coords_of_box (r.ready).sub in
       let newest : List ℤ → Option Version = λ c. finite.get (newest_of got) c in
       let cell : List ℤ → List ℤ × List Val = λ c. (c, row_or_fill r schemas (newest c)) in
       let stands = slots_in (r.ready).sub (newest_of got) in
       let count : length stands ≡ length cs = length-map cs newest in
       let many : length slots ≡ length cs = ap length left ∙ length-map stands (slot_left r schemas) ∙ count in
-      cells_are (slot_val r schemas) slots cs dims attrs vals (cells_filled r schemas got) (cell []) None have (sym many) is (length-map cs cell ∙ sym many)
-      (λ k within.
-      let here : k < length cs = omega (arith, within, many) in
+      let F : ℕ → List ℤ × List Val = λ k. (get_or cs k [], map (λ (column : List Val). get_or column k Null) vals) in
+      same_lists (cells_over cs vals) (cells_filled r schemas got) (length-map-range_with_len F 0 (length cs) ∙ sym (length-map cs cell))
+      (λ k g within.
+      let here : k < length cs = omega (arith, within, length-map-range_with_len F 0 (length cs)) in
       let slot : get_or slots k None ≡ slot_left r schemas (newest (get_or cs k [])) =
       ap (λ (os : List (Option Version)). get_or os k None) left ∙ get_or-map (slot_left r schemas) stands k None None (omega (arith, here, count)) ∙ ap (slot_left r schemas) (get_or-map newest cs k [] None here) in
-      get_or-map cell cs k [] (cell []) here
-      ∙ ap (λ (row : List Val). (get_or cs k [], row)) (sym (slot_row (newest (get_or cs k []))) ∙ ap (λ (o : Option Version). map (λ a. slot_val r schemas a o) attrs) (sym slot)))
+      let row : map (λ (column : List Val). get_or column k Null) vals ≡ row_or_fill r schemas (newest (get_or cs k [])) =
+      ap (map (λ (column : List Val). get_or column k Null)) is ∙ vals_there (slot_val r schemas) slots k None attrs (omega (arith, here, many))
+      ∙ ap (λ (o : Option Version). map (λ a. slot_val r schemas a o) attrs) slot ∙ slot_row (newest (get_or cs k [])) in
+      get_or-map-range_with_len F 0 (length cs) k k g here (omega arith) ∙ ap (λ (vs : List Val). (get_or cs k [], vs)) row ∙ sym (get_or-map cell cs k [] g here))
+
+  -- they are as long as the box has cells
+  pub filled_long : (got : List Version) → All (λ (column : List Val). length column ≡ cells_of (r.ready).sub) (vals_filled r schemas got)
+  filled_long got =
+      let cs = coords_of_box (r.ready).sub in
+      let stands = slots_in (r.ready).sub (newest_of got) in
+      let many : length (map (slot_left r schemas) stands) ≡ cells_of (r.ready).sub =
+      length-map stands (slot_left r schemas) ∙ length-map cs (λ (c : List ℤ). finite.get (newest_of got) c) ∙ length-coords_between ((r.ready).sub).low ((r.ready).sub).high in
+      subst (λ (n : ℕ). All (λ (column : List Val). length column ≡ n) (vals_filled r schemas got)) many (vals_long (slot_val r schemas) (map (slot_left r schemas) stands) attrs)
+
+-- the cells of a table over a box
+pub box_pairs : (o : Origin) (vals : List (List Val)) (sub : SubBox) → IsBox sub → All (λ (column : List Val). length column ≡ cells_of sub) vals
+    → map pair_of (versions_over o vals 0 (coords_in_order Row sub)) ≡ cells_over (coords_of_box sub) vals
+box_pairs o vals sub valid long =
+    let made = versions_over o vals 0 (coords_in_order Row sub) in
+    let cs = coords_of_box sub in
+    let F : ℕ → List ℤ × List Val = λ k. (get_or cs k [], map (λ (column : List Val). get_or column k Null) vals) in
+    let count : length made ≡ cells_of sub = count_is o vals Row sub valid in
+    let many : length cs ≡ cells_of sub = length-coords_between sub.low sub.high in
+    same_lists (map pair_of made) (cells_over cs vals) (length-map made pair_of ∙ count ∙ sym many ∙ sym (length-map-range_with_len F 0 (length cs)))
+    (λ k d within.
+    let here : k < length made = omega (arith, within, length-map made pair_of) in
+    let inside : k < length cs = omega (arith, here, count, many) in
+    let there : slice_get (coords_in_order Row sub) k ≡ Some (get_or cs k []) = ap (λ (es : List (List ℤ)). slice_get es k) (in_row_order sub) ∙ slice_get-get_or cs k [] inside in
+    let coords = coords_are o vals Row sub k (get_or cs k []) here there in
+    let row = (version_over o vals Row sub k here).2 ∙ items_across Null k vals (longer (cells_of sub) k vals (omega (arith, here, count)) long) in
+    get_or-map pair_of made k no_version d here ∙ (λ i. (sym coords i, row i)) ∙ sym (get_or-map-range_with_len F 0 (length cs) k k d inside (omega arith)))

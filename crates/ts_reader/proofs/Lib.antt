@@ -4,6 +4,8 @@ pub mod BoxSlots
 pub mod Erased
 pub mod Inside
 pub mod Kept
+pub mod LaidSlots
+pub mod LaidVals
 pub mod Leads
 pub mod Newer
 pub mod Ordered
@@ -11,4 +13,5 @@ pub mod Places
 pub mod QueryLaws
 pub mod RowOrder
 pub mod ShownCells
+pub mod StripSlots
 pub mod UsedNames

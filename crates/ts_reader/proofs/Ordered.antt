@@ -1,5 +1,5 @@
 -- Versions in row order: to bring them there leaves their newest ones as they are, and those that ascend are their own newest ones.
-use Rattle.std.proofs.Common.{◌≡◌, ℕ, zero, suc, ◌+◌, ◌<◌, ℤ, Bool, true, false, not, ◌&&◌, cond, List, [], ◌∷◌, ◌++◌, length, get_or, take, Option, Some, map, int_cmp, refl, sym, ap, subst, ◌∙◌, arith, Ordering, Less, Equal, Greater}
+use Rattle.std.proofs.Common.{◌≡◌, ℕ, suc, ℤ, Bool, true, false, not, ◌&&◌, cond, List, [], ◌∷◌, Some, map, int_cmp, refl, sym, ap, subst, ◌∙◌, arith, Ordering, Less, Equal, Greater}
 use Rattle.std.specs.Prelude.{filter, slice_get}
 use Rattle.std.specs.Cmp.Lexicographic.{slice_cmp}
 use Rattle.std.specs.FinMap as finite
@@ -8,19 +8,14 @@ use Rattle.std.specs.List.Sorted.{IsStableByKey, IsStrictlySortedBy, ties}
 use Rattle.std.specs.Map.{keys_of}
 use Rattle.std.specs.Ordering.{eq_by_cmp, is_eq, is_lt, ordering_reverse}
 use Rattle.ts_base.specs.declared.heads.Version.{Version}
-use Rattle.ts_base.specs.declared.values.Val.{Val}
 use Rattle.ts_base.specs.Coords.{coords_eq}
 use Rattle.ts_base.specs.Keys.{greatest}
-use Rattle.std.proofs.lemmas.Cmp.{tied_itself}
-use Rattle.std.proofs.lemmas.List.{map-append, take_more}
 use Rattle.ts_domain.specs.declared.orders.Order.TheVariants.{Row}
+use Rattle.ts_domain.specs.declared.boxes.SubBox.{SubBox}
 use Rattle.ts_domain.specs.Boxes.{IsBox, coords_of_box}
 use Rattle.ts_order.specs.Orders.{Ascends}
 use Rattle.ts_order.proofs.OrderedCoords.{Ascends-coords_in_order}
-use Rattle.ts_schema.specs.declared.schemas.Schema.{Schema}
 use Rattle.ts_store.proofs.Trees.{entries-tree}
-use Rattle.ts_model.specs.declared.states.Reading.{Reading}
-use Rattle.ts_model.specs.States.{cells_filled, row_or_fill}
 use Rattle.ts_model.specs.Pieces.{newest_of}
 use Rattle.ts_reader.proofs.BoxSlots.{in_row_order}
 use Rattle.ts_model.proofs.Newest.{coords_total, coords_exact, coords_same, coords_tie, get_newest_of}
@@ -55,7 +50,7 @@ abbrev entry : Version → List ℤ × Version
 entry v = (v.coords, v)
 
 -- no version of a cell stands behind one whose coordinates are below those of all behind it
-none_behind : (v : Version) (c : List ℤ) → v.coords ≡ c → (vs : List Version) → AllByRecursion (λ (w : Version). slice_cmp int_cmp v.coords w.coords ≡ Less) vs → filter (λ w. coords_eq w.coords c) vs ≡ []
+pub none_behind : (v : Version) (c : List ℤ) → v.coords ≡ c → (vs : List Version) → AllByRecursion (λ (w : Version). slice_cmp int_cmp v.coords w.coords ≡ Less) vs → filter (λ w. coords_eq w.coords c) vs ≡ []
 none_behind v c same [] below = refl
 none_behind v c same (w ∷ vs) below =
     let other : coords_eq w.coords c ≡ false = sym (coords_tie c w.coords) ∙ ap (λ d. is_eq (slice_cmp int_cmp d w.coords)) (sym same) ∙ ap is_eq below.0 in
@@ -91,45 +86,7 @@ newest_of_ascending vs sorted =
     ap finite.values (finite.same_map coords_total coords_exact (newest_of vs) (finite.from_entries (map entry vs)) (λ c. get_newest_of vs c ∙ one_there vs sorted c ∙ sym (finite.get-from_entries coords_total (map entry vs) c)))
     ∙ ap (map (λ e. e.1)) (entries-tree coords_total (map entry vs) (keys_ascend vs sorted)) ∙ versions_back vs
 
--- ---- one for each place of a box
-
-all_weaker : (P Q : Version → Type 0) → ((v : Version) → P v → Q v) → (vs : List Version) → AllByRecursion P vs → AllByRecursion Q vs
-all_weaker P Q on [] all = tt
-all_weaker P Q on (v ∷ vs) all = (on v all.0, all_weaker P Q on vs all.1)
-
--- what is found behind one with lower coordinates
-found_behind : (v : Version) (es : List (List ℤ × Version)) (ws : List Version) → AllByRecursion (λ (w : Version). slice_cmp int_cmp v.coords w.coords ≡ Less) ws → AllByRecursion (λ (w : Version). finite.find (slice_cmp int_cmp) w.coords es ≡ Some w) ws
-    → AllByRecursion (λ (w : Version). finite.find (slice_cmp int_cmp) w.coords (entry v ∷ es) ≡ Some w) ws
-found_behind v es [] below found = tt
-found_behind v es (w ∷ ws) below found = (
-  ap (λ o. cond (is_eq o) (Some v) (finite.find (slice_cmp int_cmp) w.coords es)) (coords_total.antisymm w.coords v.coords ∙ ap ordering_reverse below.0) ∙ found.0,
-  found_behind v es ws below.1 found.1,
-)
-
-each_found : (vs : List Version) → IsStrictlySortedBy (λ (a b : Version). slice_cmp int_cmp a.coords b.coords) vs → AllByRecursion (λ (v : Version). finite.find (slice_cmp int_cmp) v.coords (map entry vs) ≡ Some v) vs
-unfolding IsStrictlySortedBy
-each_found [] sorted = tt
-each_found (v ∷ vs) sorted = (
-  ap (λ o. cond (is_eq o) (Some v) (finite.find (slice_cmp int_cmp) v.coords (map entry vs))) (tied_itself coords_total v.coords),
-  found_behind v (map entry vs) vs sorted.0 (each_found vs sorted.1),
-)
-
--- what is looked up at the coordinates of each version
-each_looked_up : {Y : Type 0} (g : Option Version → Y) (look : List ℤ → Option Version) (vs : List Version) → AllByRecursion (λ (v : Version). look v.coords ≡ Some v) vs
-    → map {B = List ℤ × Y} (λ (c : List ℤ). (c, g (look c))) (map (λ (v : Version). v.coords) vs) ≡ map (λ (v : Version). (v.coords, g (Some v))) vs
-each_looked_up g look [] all = refl
-each_looked_up {Y} g look (v ∷ vs) all =
-    ap (λ o. (v.coords, g o) ∷ map {B = List ℤ × Y} (λ (c : List ℤ). (c, g (look c))) (map (λ (w : Version). w.coords) vs)) all.0 ∙ ap (λ es. (v.coords, g (Some v)) ∷ es) (each_looked_up g look vs all.1)
-
-keys_so : (P : List ℤ → Type 0) (vs : List Version) → AllByRecursion P (map (λ (v : Version). v.coords) vs) → AllByRecursion (λ (v : Version). P v.coords) vs
-keys_so P [] all = tt
-keys_so P (v ∷ vs) all = (all.0, keys_so P vs all.1)
-
--- versions whose coordinates ascend
-versions_ascend : (vs : List Version) → IsStrictlySortedBy (slice_cmp int_cmp) (map (λ (v : Version). v.coords) vs) → IsStrictlySortedBy (λ (a b : Version). slice_cmp int_cmp a.coords b.coords) vs
-unfolding IsStrictlySortedBy
-versions_ascend [] sorted = tt
-versions_ascend (v ∷ vs) sorted = (keys_so (λ c. slice_cmp int_cmp v.coords c ≡ Less) vs sorted.0, versions_ascend vs sorted.1)
+-- ---- of a box
 
 all_at : (P : List ℤ → Type 0) (cs : List (List ℤ)) → ((place : ℕ) (c : List ℤ) → slice_get cs place ≡ Some c → P c) → AllByRecursion P cs
 all_at P [] each = tt
@@ -143,26 +100,6 @@ sorted_from_ascends (c ∷ cs) ascends = (
   sorted_from_ascends cs (λ i j d e later at_i at_j. ascends (suc i) (suc j) d e (omega arith) at_i at_j),
 )
 
--- where one version stands at each place of a box, in row order, the cells of a dense array are these
-pub whole_filled : (r : Reading) (schemas : List Schema) (got : List Version) → IsBox (r.ready).sub → map (λ (v : Version). v.coords) got ≡ coords_of_box (r.ready).sub
-    → map {B = List ℤ × List Val} (λ (v : Version). (v.coords, row_or_fill r schemas (Some v))) got ≡ cells_filled r schemas got
-whole_filled r schemas got valid are =
-    let sub = (r.ready).sub in
-    let rises = subst (Ascends (slice_cmp int_cmp)) (in_row_order sub) (Ascends-coords_in_order Row sub valid) in
-    let sorted = versions_ascend got (subst (IsStrictlySortedBy (slice_cmp int_cmp)) (sym are) (sorted_from_ascends (coords_of_box sub) rises)) in
-    let look : List ℤ → Option Version = λ c. finite.get (newest_of got) c in
-    let found = all_weaker (λ v. finite.find (slice_cmp int_cmp) v.coords (map entry got) ≡ Some v) (λ v. look v.coords ≡ Some v) (λ v at. get_newest_of got v.coords ∙ one_there got sorted v.coords ∙ at) got (each_found got sorted) in
-    sym (each_looked_up (row_or_fill r schemas) look got found) ∙ ap (map {B = List ℤ × List Val} (λ (c : List ℤ). (c, row_or_fill r schemas (look c)))) are
-
--- what stands at the next place
-take_at : {A : Type 0} (xs : List A) (i : ℕ) (x : A) → slice_get xs i ≡ Some x → take (i + 1) xs ≡ take i xs ++ x ∷ []
-take_at [] i x at = absurd (cc)
-take_at (y ∷ xs) zero x at = let one : y ≡ x = cc in ap (λ z. z ∷ []) one
-take_at (y ∷ xs) (suc i) x at = let next : suc i + 1 ≡ suc (i + 1) = omega arith in rw next (ap (λ ys. y ∷ ys) (take_at xs i x at))
-
--- one version more stands at its place
-pub next_stands : (vs : List Version) (cs : List (List ℤ)) (place : ℕ) (v : Version) → place < length vs → v ≡ get_or vs place v → slice_get cs place ≡ Some v.coords → map (λ (w : Version). w.coords) (take place vs) ≡ take place cs
-    → map (λ (w : Version). w.coords) (take (place + 1) vs) ≡ take (place + 1) cs
-next_stands vs cs place v within is at was =
-    ap (map (λ (w : Version). w.coords)) (take_more vs place v within ∙ ap (λ x. take place vs ++ x ∷ []) (sym is))
-    ∙ map-append (λ (w : Version). w.coords) (take place vs) (v ∷ []) ∙ ap (λ ds. ds ++ v.coords ∷ []) was ∙ sym (take_at cs place v.coords at)
+-- the coordinates of a box ascend
+pub box_rises : (sub : SubBox) → IsBox sub → IsStrictlySortedBy (slice_cmp int_cmp) (coords_of_box sub)
+box_rises sub valid = sorted_from_ascends (coords_of_box sub) (subst (Ascends (slice_cmp int_cmp)) (in_row_order sub) (Ascends-coords_in_order Row sub valid))

@@ -1,6 +1,6 @@
 -- The cells that a read shows: where they lie, how many values they have, and how those of a whole box show.
-use Rattle.std.proofs.Common.{◌≡◌, ℕ, ◌<◌, ◌≤◌, ℤ, Bool, true, false, not, cond, List, [], ◌∷◌, length, map, get_or, Option, Some, None, refl, sym, ap, subst, ◌∙◌, arith}
-use Rattle.std.specs.Prelude.{IsTrue, filter, option_and_then}
+use Rattle.std.proofs.Common.{◌≡◌, ℤ, Bool, true, false, not, cond, List, [], ◌∷◌, length, map, Option, Some, None, sym, subst, ◌∙◌}
+use Rattle.std.specs.Prelude.{IsTrue}
 use Rattle.std.specs.FinMap as finite
 use Rattle.std.specs.List.{All, AllByRecursion}
 use Rattle.std.specs.Option.{option_map_or}
@@ -11,7 +11,6 @@ use Rattle.ts_base.specs.declared.values.Val.{Val}
 use Rattle.ts_domain.specs.Boxes.{coords_of_box, is_in_box}
 use Rattle.ts_domain.specs.Domains.{is_in_domain, whole_domain}
 use Rattle.ts_domain.proofs.Between.{length-is_between, is_between-low}
-use Rattle.ts_domain.proofs.DomainLemmas.{length-IsDomain}
 use Rattle.ts_actor.specs.PieceLaws.{AreInBox}
 use Rattle.ts_schema.specs.declared.attrs.Attr.{Attr}
 use Rattle.ts_schema.specs.declared.schemas.Schema.{Schema}
@@ -23,11 +22,8 @@ use Rattle.ts_model.specs.States.{attrs_got, cell_shown, cells_filled, cells_lef
 use Rattle.ts_reader.specs.Left.{versions_left}
 use Rattle.ts_reader.specs.Reading.{IsReading}
 use Rattle.ts_reader.specs.Shown.{pair_of}
-use Rattle.ts_reader.proofs.Erased.{filled_row}
 use Rattle.ts_reader.proofs.Inside.{shown_lie}
-use Rattle.ts_reader.proofs.Kept.{none_erased}
 use Rattle.ts_reader.proofs.Newer.{newest_so}
-use Rattle.ts_reader.proofs.Ordered.{whole_filled}
 
 -- ---- cells as pairs
 
@@ -73,22 +69,7 @@ module _ (r : Reading) (schemas : List Schema) where
       by_kind : (dense : Bool) → AllWide (cond dense (cells_filled r schemas got) (cells_left r schemas got))
       by_kind true = wide_filled (λ c. finite.get (newest_of got) c) (coords_of_box (r.ready).sub)
       by_kind false = wide_left (versions_left r schemas (finite.values (newest_of got)))
-
-  -- ---- a whole box without deletes
-
-  whole_row : (v : Version) → r.deletions ≡ [] → cell_shown r schemas v ≡ (v.coords, row_or_fill r schemas (Some v))
-  whole_row v none = ap (λ (row : List Val). (v.coords, row)) (sym (filled_row r schemas v false (none_erased r schemas v none)))
-
-  whole_rows : (versions : List Version) → r.deletions ≡ [] → map (cell_shown r schemas) versions ≡ map (λ (v : Version). (v.coords, row_or_fill r schemas (Some v))) versions
-  whole_rows [] none = refl
-  whole_rows (v ∷ versions) none =
-      ap (λ e. e ∷ map (cell_shown r schemas) versions) (whole_row v none) ∙ ap (λ es. (v.coords, row_or_fill r schemas (Some v)) ∷ es) (whole_rows versions none)
-
--- where one version stands at each place of a box, in row order, and nothing is deleted, the cells are these as they show
-pub whole_shown : (r : Reading) (schemas : List Schema) (got : List Version) → IsReading r → r.deletions ≡ [] → map (λ (v : Version). v.coords) got ≡ coords_of_box (r.ready).sub → map (cell_shown r schemas) got ≡ cells_filled r schemas got
-whole_shown r schemas got reading none are = whole_rows r schemas got none ∙ whole_filled r schemas got reading.valid are
-
--- ---- where they lie
+      -- ---- where they lie
 
 module _ (r : Reading) (reading : IsReading r) where
   -- coordinates in the box have a number for each dimension
@@ -99,12 +80,6 @@ module _ (r : Reading) (reading : IsReading r) where
 
   low_wide : length ((r.ready).sub).low ≡ length (r.frame).domain
   low_wide = coords_wide ((r.ready).sub).low (is_between-low ((r.ready).sub).low ((r.ready).sub).high reading.valid)
-
-  pub box_some : 1 ≤ length ((r.ready).sub).low
-  box_some = omega (arith, low_wide, reading.is_frame.domain.some)
-
-  pub box_few : length ((r.ready).sub).low ≤ 8
-  box_few = omega (arith, low_wide, length-IsDomain (r.frame).domain reading.is_frame.domain)
 
   -- so do those of what is left of versions in the box
   pub left_wide : (schemas : List Schema) (got : List Version) → AreInBox (r.ready).sub got → All (λ (v : Version). length v.coords ≡ length (r.frame).domain) (versions_left r schemas (finite.values (newest_of got)))

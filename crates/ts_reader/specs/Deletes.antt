@@ -1,6 +1,5 @@
 -- Deletes over the rows of known schemas: where each finds its fields, and what is left.
 use Rattle.std.specs.Prelude.{ℤ, Bool, ◌&&◌, not, List, [], filter, map as list_map}
-use Rattle.std.specs.List.{list_any}
 use Rattle.ts_base.specs.declared.heads.Version.{Version}
 use Rattle.ts_base.specs.declared.values.Val.{Val}
 use Rattle.ts_base.specs.Keys.{key_lt}

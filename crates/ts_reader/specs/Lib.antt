@@ -1,5 +1,6 @@
 pub mod Deletes
 pub mod Fetching
+pub mod Laid
 pub mod Left
 pub mod Newest
 pub mod Readers

@@ -9,7 +9,10 @@ use Rattle.ts_schema.specs.declared.attrs.Attr.{Attr}
 use Rattle.ts_schema.specs.declared.schemas.Schema.{Schema}
 use Rattle.ts_schema.specs.Attrs.{shown_val}
 use Rattle.ts_model.specs.declared.states.Reading.{Reading}
+use Rattle.ts_model.specs.Pieces.{newest_of}
 use Rattle.ts_model.specs.States.{attrs_got}
+use Rattle.ts_reader.specs.Left.{slot_left}
+use Rattle.ts_reader.specs.Newest.{slots_in}
 
 -- what a version shows of an attribute of the schema that holds
 abbrev pub version_val : Reading → List Schema → Attr → Version → Val
@@ -52,3 +55,11 @@ cell_across dims vals k = (list_map (λ (column : List ℤ). slice_index_or colu
 -- so many cells of columns
 abbrev pub cells_across : List (List ℤ) → List (List Val) → ℕ → List (List ℤ × List Val)
 cells_across dims vals count = list_map (cell_across dims vals) (range_with_len 0 count)
+
+-- the values of the cells of the box of a read that got these versions, as they show: of each attribute a column
+abbrev pub vals_filled : Reading → List Schema → List Version → List (List Val)
+vals_filled r schemas got = list_map (slot_vals r schemas (list_map (slot_left r schemas) (slots_in (r.ready).sub (newest_of got)))) (r.current).attrs
+
+-- the cells of these coordinates, with the values that stand at their places in columns
+abbrev pub cells_over : List (List ℤ) → List (List Val) → List (List ℤ × List Val)
+cells_over coords vals = list_map (λ k. (slice_index_or coords k [], list_map (λ (column : List Val). slice_index_or column k Null) vals)) (range_with_len 0 (length coords))

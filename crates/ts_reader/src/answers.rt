@@ -34,7 +34,7 @@ pub(crate) fn answer_of(
     } = reading;
     Ok(Answer {
         types: types_shown(alloc, frame, current, ready)?,
-        rows: rows_of(alloc, frame, current, ready, &cells)?,
+        rows: rows_of(alloc, frame, current, ready, cells)?,
         clipped: reading.clipped.copy(alloc)?,
     })
 }

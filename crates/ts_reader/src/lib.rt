@@ -8,6 +8,7 @@ mod fetching;
 mod getting_deletes;
 mod getting_vacs;
 mod known;
+mod laid;
 mod left;
 mod listing;
 mod loading;

@@ -2,16 +2,12 @@
 ghost use Rattle.std.specs.Prelude.{◌≡◌, ◌≤◌, ◌<◌, ◌∷◌, [], ◌++◌, pos, All, length, map, slice_index_or, IfOk, OnOk};
 ghost use Rattle.std.specs.List.{range_with_len};
 ghost use Rattle.ts_base.specs.declared.heads.Version.{Version as AnyVersion};
-ghost use Rattle.ts_domain.specs.Boxes.{IsBox, cells_of, coords_of_box};
-ghost use Rattle.ts_model.specs.Queries.{most_cells};
 ghost use Rattle.ts_table.specs.Tables.{column_of};
 ghost use Rattle.ts_reader.specs.Shown.{HaveCoords};
 
 use std::alloc::Global;
 use ts_base::OutOfMemory;
 use ts_batch::BatchCell;
-use ts_domain::{Order, SubBox};
-use ts_gather::coords_columns;
 use ts_table::Numbers;
 
 /// The coordinates of versions, each of which has so many.
@@ -58,15 +54,4 @@ fn push_coord(column: &mut Numbers, version: &BatchCell, dim: u8) -> Result<(), 
         Some(number) => column.push(number),
         None => column.push(0),
     }
-}
-
-/// The coordinates of the cells of a box, in row order.
-pub(crate) fn box_coords(alloc: Global, sub: &SubBox) -> Result<Vec<Numbers>, OutOfMemory>
-    requires valid { IsBox sub.now }
-    requires some { 1 ≤ length sub.now.low }
-    requires few { length sub.now.low ≤ 8 }
-    requires few_cells { cells_of sub.now ≤ most_cells }
-    ensures { IfOk result (λ dims. HaveCoords (coords_of_box sub.now) dims.items) }
-{
-    coords_columns(alloc, sub, Order::Row)
 }

@@ -115,8 +115,8 @@ fn push_slot(
     }
 }
 
-// The value of one version more.
-fn push_version(
+/// The value of one version more.
+pub(crate) fn push_version(
     column: &mut Column,
     reading: &Reading,
     schemas: &SchemaList,

@@ -1,7 +1,6 @@
 -- Versions that ascend are the newest ones, and else these are found among them once they are in order.
-use Rattle.std.proofs.Common.{int_cmp, sym, ap, ◌∙◌, subst}
+use Rattle.std.proofs.Common.{int_cmp, sym, subst}
 use Rattle.std.specs.Cmp.Lexicographic.{slice_cmp}
-use Rattle.std.specs.FinMap as finite
 use Rattle.std.specs.List.Sorted.{IsStrictlySortedBy}
 use Rattle.ts_base.specs.declared.heads.Version.{Version}
 use Rattle.ts_reader.proofs.Ordered.{newest_of_ascending}

@@ -1,11 +1,9 @@
 -- The columns are those of what is left of the newest versions.
 use Rattle.std.proofs.Common.{◌≡◌, ℕ, List, length, map, sym, ap, subst, ◌∙◌, refl}
-use Rattle.std.specs.FinMap as finite
 use Rattle.std.specs.List.{All}
 use Rattle.std.proofs.lemmas.List.{length-map}
 use Rattle.std.proofs.lemmas.Result.{IfOk-weaker}
 use Rattle.ts_base.specs.declared.heads.Version.{Version}
-use Rattle.ts_model.specs.Pieces.{newest_of}
 use Rattle.ts_model.specs.States.{cell_shown}
 use Rattle.ts_reader.specs.Left.{versions_left}
 use Rattle.ts_reader.specs.Shown.{AreShown, cells_across, version_val}
