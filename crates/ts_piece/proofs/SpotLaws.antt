@@ -1,5 +1,6 @@
 -- Spots of versions in batches.
 use Rattle.std.proofs.Common.{◌≡◌, ℕ, ◌<◌, List, [], ◌∷◌, map, length, All}
+use Rattle.std.proofs.lemmas.List.{length-map}
 use Rattle.std.proofs.lemmas.Simd.{map-map}
 use Rattle.std.proofs.lemmas.List.Elements.{All-map}
 use Rattle.ts_base.specs.declared.heads.Version.{Version}
@@ -18,3 +19,9 @@ pub are_spots : (batches : List (List Version)) (spots : List Spot) (table : Lis
 are_spots batches spots table places one firsts within = rw (one, firsts) (All-map (IsSpot (table ∷ [])) in_first places within)
 
 pub ruleset tables = (are_picked, are_spots)
+
+-- there are as many versions as spots
+pub as_many : (batches : List (List Version)) (spots : List Spot) → length (spotted batches spots) ≡ length spots
+as_many batches spots = length-map spots (version_in batches)
+
+pub ruleset counts = (as_many)

@@ -6,13 +6,10 @@ use ts_base::OutOfMemory;
 use ts_table::Column;
 
 /// The values of a column once more.
-#[tactic(auto, using(crate::proofs::Values::nexts))]
 pub fn copied(alloc: Global, column: &Column) -> Result<Column, OutOfMemory>
     ensures { IfOk result (λ twin. twin ≡ column.now) }
 {
     let mut twin = Column::new(alloc);
-    for place in 0..column.len() {
-        twin.push_from(column, place)?;
-    }
+    twin.append_part(column, 0, column.len())?;
     Ok(twin)
 }

@@ -6,5 +6,5 @@ mod pieces;
 mod spots;
 
 pub use columns::copied;
-pub use pieces::{BatchPiece, PieceCells};
-pub use spots::{Spot, all_spots, cell_at, cells_at};
+pub use pieces::{BatchPiece, PieceCells, PieceParts};
+pub use spots::{Spot, all_spots, cell_at};

@@ -3,11 +3,11 @@ ghost use Rattle.std.specs.Prelude.{◌≡◌, ◌<◌, length, All, IfOk};
 ghost use Rattle.ts_table.specs.Picks.{picked};
 ghost use Rattle.ts_piece.specs.Spots.{spotted, IsSpot};
 
-use crate::spots::{Spot, all_spots, cells_at, first_spots};
+use crate::spots::{Spot, cells_at, first_spots};
 use std::alloc::Global;
 use std::marker::Model;
 use ts_base::{Duplicate, Head, IndexList, OutOfMemory, Piece, VersionList};
-use ts_batch::{Batch, BatchCell, BatchCellList};
+use ts_batch::{Batch, BatchCellList};
 use ts_table::Table;
 
 /// A fragment as its readers see it, whose versions stand in batches. Contracts see the piece.
@@ -16,6 +16,15 @@ pub struct BatchPiece {
     head: Head,
     batches: Vec<Batch>,
     spots: Vec<Spot>,
+}
+
+/// Where the versions of a piece stand.
+#[derive(Drop)]
+pub struct PieceParts<'a> {
+    /// The batches.
+    pub batches: &'a [Batch],
+    /// The spots of the versions, in their order.
+    pub spots: &'a [Spot],
 }
 
 /// The head of a piece, and its versions in their places. Contracts see the piece.
@@ -75,18 +84,6 @@ impl BatchPiece {
         Ok(BatchPiece::of(head, batches, spots))
     }
 
-    /// The piece of these rows.
-    ///
-    /// `OutOfMemory` also where there are 2^32 of them.
-    pub fn of_rows(alloc: Global, piece: Piece) -> Result<BatchPiece, OutOfMemory>
-        ensures { IfOk result (λ same. same ≡ piece) }
-    {
-        let Piece { head, versions } = piece;
-        let batches = vec![in alloc; Batch::of_rows(versions)]?;
-        let spots = all_spots(alloc, batches.as_slice())?;
-        Ok(BatchPiece::of(head, batches, spots))
-    }
-
     /// The head and the versions, of which none is copied.
     pub fn cells(&self, alloc: Global) -> Result<PieceCells<'_>, OutOfMemory>
         ensures { IfOk result (λ piece. piece ≡ self.now) }
@@ -104,24 +101,28 @@ impl BatchPiece {
     {
         &self.head
     }
+
+    /// Where the versions stand. It takes no memory.
+    pub fn parts(&self) -> PieceParts<'_>
+        ensures versions { spotted result.batches.now result.spots.now ≡ self.now.versions }
+        ensures there { All (IsSpot result.batches.now) result.spots.now }
+    {
+        PieceParts {
+            batches: self.batches.as_slice(),
+            spots: self.spots.as_slice(),
+        }
+    }
+
+    /// The number of versions.
+    #[tactic(auto, using(crate::proofs::SpotLaws::counts))]
+    pub fn len(&self) -> u64
+        ensures { result ≡ length self.now.versions }
+    {
+        self.spots.len() as u64
+    }
 }
 
-impl<'a> PieceCells<'a> {
-    /// The head.
-    pub fn head(&self) -> &Head
-        ensures { result.now ≡ self.now.head }
-    {
-        let head: &Head = self.head;
-        head
-    }
-
-    /// The versions, each in its place.
-    pub fn versions(&self) -> &[BatchCell<'a>]
-        ensures { result.now ≡ self.now.versions }
-    {
-        self.versions.as_slice()
-    }
-
+impl PieceCells<'_> {
     /// The same piece, each of whose versions has a row of its own.
     pub fn to_rows(&self, alloc: Global) -> Result<Piece, OutOfMemory>
         ensures { IfOk result (λ piece. piece ≡ self.now) }

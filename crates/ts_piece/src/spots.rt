@@ -25,7 +25,7 @@ pub fn cell_at(batches: &[Batch], spot: Spot) -> BatchCell<'_>
 }
 
 /// The versions at some spots. None is copied.
-pub fn cells_at<'a>(
+pub(crate) fn cells_at<'a>(
     alloc: Global,
     batches: &'a [Batch],
     spots: &[Spot],
@@ -42,7 +42,7 @@ pub fn cells_at<'a>(
 
 /// The spots of all versions of batches, in their order.
 ///
-/// `OutOfMemory` also where there are 2^32 batches, or as many versions in one of them.
+/// `OutOfMemory` also where there are more than 2^32 batches, or 2^32 versions or more in one of them.
 pub fn all_spots(alloc: Global, batches: &[Batch]) -> Result<Vec<Spot>, OutOfMemory>
     ensures there { IfOk result (λ spots. All (IsSpot batches.now) spots.items) }
     ensures all { IfOk result (λ spots. spotted batches.now spots.items ≡ versions_of batches.now) }

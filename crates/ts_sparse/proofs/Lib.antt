@@ -23,3 +23,4 @@ pub mod CountLaws
 pub mod TileBoxes
 pub mod ToldLaws
 pub mod SeenValues
+pub mod IntegerLaws

@@ -3,3 +3,4 @@ pub mod Sparse
 pub mod Cuts
 pub mod Laying
 pub mod Told
+pub mod Integers

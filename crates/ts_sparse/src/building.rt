@@ -17,7 +17,7 @@ use crate::starts::{starts_object, tile_starts};
 use std::alloc::Global;
 use ts_base::{LengthList, OutOfMemory, Part, PartBytes, PartList};
 use ts_domain::Dim;
-use ts_piece::{BatchPiece, PieceCells};
+use ts_piece::BatchPiece;
 use ts_schema::{Attr, Frame, Schema};
 use ts_wire::{Kind, wrap};
 
@@ -46,11 +46,10 @@ pub fn build(
     ensures parts { IfOk result (λ parts. parts ≡ parts_of frame.now schema.now.attrs (stored_for piece.now)) }
     ensures spelled { CountsCells piece.now → All (λ (v : AnyVersion). v.schema ≡ piece.now.head.schema) piece.now.versions → IfOk result (λ parts. IsSparse frame.now schema.now piece.now (look_in parts)) }
 {
-    let cells = piece.cells(alloc)?;
-    let laid = lay_columns(alloc, frame, schema, &cells)?;
+    let laid = lay_columns(alloc, frame, schema, piece)?;
     let Laid { mut parts, sizes } = laid;
     are_lengths(sizes.as_slice());
-    let bytes = meta_object(alloc, frame, schema, &cells, sizes.as_slice())?;
+    let bytes = meta_object(alloc, frame, schema, piece, sizes.as_slice())?;
     // No object has 2^64 bytes.
     let _size = bytes.len();
     parts.push(PartBytes {
@@ -70,7 +69,7 @@ fn lay_columns(
     alloc: Global,
     frame: &Frame,
     schema: &Schema,
-    piece: &PieceCells<'_>,
+    piece: &BatchPiece,
 ) -> Result<Laid, OutOfMemory>
     requires names { NamesWrites piece.now }
     requires fits { FitsSparse frame.now schema.now.attrs piece.now.head.frag (stored_for piece.now) }
@@ -100,7 +99,7 @@ fn lay_dims(
     alloc: Global,
     laid: &mut Laid,
     dims: &[Dim],
-    piece: &PieceCells<'_>,
+    piece: &BatchPiece,
 ) -> Result<(), OutOfMemory>
     requires few { length dims.now ≤ 8 }
     requires integers { All (λ (d : AnyDim). is_integer d.ty ≡ true) dims.now }
@@ -109,7 +108,7 @@ fn lay_dims(
 {
     for dim in 0..dims.len() {
         let place = dim as u8;
-        let bytes = coords_object(alloc, dims[dim].ty, place, piece.versions())?;
+        let bytes = coords_object(alloc, dims[dim].ty, place, piece)?;
         let part = Part::Dim(place);
         laid.lay(PartBytes { part, bytes }, &[])?;
     }
@@ -123,7 +122,7 @@ fn lay_attrs(
     laid: &mut Laid,
     tile: u32,
     attrs: &[Attr],
-    piece: &PieceCells<'_>,
+    piece: &BatchPiece,
 ) -> Result<(), OutOfMemory>
     requires tile { 1 ≤ tile }
     requires few { length attrs.now ≤ 64 }
@@ -143,7 +142,7 @@ fn lay_attr(
     tile: u32,
     place: u8,
     attr: &Attr,
-    piece: &PieceCells<'_>,
+    piece: &BatchPiece,
 ) -> Result<(), OutOfMemory>
     requires tile { 1 ≤ tile }
     requires fits { All (λ (v : AnyVersion). FitsValue attr.now (get_or v.row place val.Null)) piece.now.versions }
@@ -164,13 +163,13 @@ fn lay_numbers(
     laid: &mut Laid,
     place: u8,
     attr: &Attr,
-    piece: &PieceCells<'_>,
+    piece: &BatchPiece,
 ) -> Result<(), OutOfMemory>
     requires integer { is_integer attr.now.ty ≡ true }
     requires fits { All (λ (v : AnyVersion). FitsValue attr.now (get_or v.row place val.Null)) piece.now.versions }
     ensures { OnOk result (laid.new ≡ with_objects laid.old (numbers_object place attr.now.ty (value_column place (cells_of piece.now)) ∷ [])) }
 {
-    let bytes = numbers_object(alloc, attr.ty, place, piece.versions())?;
+    let bytes = numbers_object(alloc, attr.ty, place, piece)?;
     let part = Part::Attr(place);
     laid.lay(PartBytes { part, bytes }, &[])
 }
@@ -182,12 +181,12 @@ fn lay_texts(
     laid: &mut Laid,
     tile: u32,
     place: u8,
-    piece: &PieceCells<'_>,
+    piece: &BatchPiece,
 ) -> Result<(), OutOfMemory>
     requires tile { 1 ≤ tile }
     ensures { OnOk result (laid.new ≡ with_objects laid.old (starts_object tile place (value_column place (cells_of piece.now)) ∷ bytes_object tile place (value_column place (cells_of piece.now)) ∷ [])) }
 {
-    let texts = texts_of(alloc, place, piece.versions())?;
+    let texts = texts_of(alloc, place, piece)?;
     let bytes = starts_object(alloc, tile, &texts)?;
     let part = Part::Attr(place);
     laid.lay(PartBytes { part, bytes }, &[])?;
@@ -206,28 +205,28 @@ fn lay_validity(
     laid: &mut Laid,
     place: u8,
     nullable: bool,
-    piece: &PieceCells<'_>,
+    piece: &BatchPiece,
 ) -> Result<(), OutOfMemory>
     ensures { OnOk result (laid.new ≡ with_objects laid.old (validity_objects nullable place (value_column place (cells_of piece.now)))) }
 {
     if !nullable {
         return Ok(());
     }
-    let bytes = validity_object(alloc, place, piece.versions())?;
+    let bytes = validity_object(alloc, place, piece)?;
     let part = Part::Validity(place);
     laid.lay(PartBytes { part, bytes }, &[])
 }
 
 // Lays which write each cell is of, where the fragment is a consolidated one.
 #[tactic(auto, using(crate::proofs::LayLaws::origins_laid))]
-fn lay_origins(alloc: Global, laid: &mut Laid, piece: &PieceCells<'_>) -> Result<(), OutOfMemory>
+fn lay_origins(alloc: Global, laid: &mut Laid, piece: &BatchPiece) -> Result<(), OutOfMemory>
     requires { NamesWrites piece.now }
     ensures { OnOk result (laid.new ≡ with_objects laid.old (origin_objects piece.now.head.consolidated (cells_of piece.now))) }
 {
     if !piece.head().consolidated {
         return Ok(());
     }
-    let bytes = origins_object(alloc, &piece.head().origins, piece.versions())?;
+    let bytes = origins_object(alloc, &piece.head().origins, piece)?;
     let part = Part::Origin;
     laid.lay(PartBytes { part, bytes }, &[])
 }

@@ -16,21 +16,22 @@ ghost use Rattle.ts_column.specs.Tiles.{is_signed, is_there};
 ghost use Rattle.ts_plain.specs.Writes.{place_of, HasPlace};
 ghost use Rattle.ts_sparse.specs.Laying.{coords_along, values_along};
 
+use crate::integers::{integer_at, slices_of};
 use std::alloc::Global;
 use ts_base::{ByteList, KeyList, OutOfMemory, ValType};
 use ts_batch::BatchCell;
 use ts_column::is_signed;
+use ts_piece::{BatchPiece, PieceParts, cell_at};
 use ts_plain::place_of;
 use ts_table::{Seen, Texts};
 use ts_wire::{Kind, Scribe};
 
 // A scribe with room for so many bytes for each cell.
-fn room_for(alloc: Global, versions: &[BatchCell<'_>], width: u8) -> Result<Scribe, OutOfMemory>
+fn room_for(alloc: Global, piece: &BatchPiece, width: u8) -> Result<Scribe, OutOfMemory>
     ensures { IfOk result (λ scribe. scribe ≡ []) }
 {
     let mut scribe = Scribe::new(alloc);
-    let cells = versions.len() as u64;
-    scribe.reserve(cells.saturating_mul(u64::from(width)))?;
+    scribe.reserve(piece.len().saturating_mul(u64::from(width)))?;
     Ok(scribe)
 }
 
@@ -51,15 +52,17 @@ pub(crate) fn coords_object(
     alloc: Global,
     ty: ValType,
     dim: u8,
-    versions: &[BatchCell<'_>],
+    piece: &BatchPiece,
 ) -> Result<ByteList, OutOfMemory>
     requires integer { is_integer ty ≡ true }
-    requires fits { All (λ (v : AnyVersion). FitsInt (width_of ty) (is_signed ty) (get_or v.coords dim (pos 0))) versions.now }
-    ensures { IfOk result (λ bytes. bytes ≡ wrapped kind.Column (flat_map (int_bytes (width_of ty)) (coords_along dim versions.now))) }
+    requires fits { All (λ (v : AnyVersion). FitsInt (width_of ty) (is_signed ty) (get_or v.coords dim (pos 0))) piece.now.versions }
+    ensures { IfOk result (λ bytes. bytes ≡ wrapped kind.Column (flat_map (int_bytes (width_of ty)) (coords_along dim piece.now.versions))) }
 {
-    let mut scribe = room_for(alloc, versions, ty.width())?;
-    for version in versions {
-        scribe.int(ty.width(), is_signed(ty), coord_of(version, dim))?;
+    let mut scribe = room_for(alloc, piece, ty.width())?;
+    let PieceParts { batches, spots } = piece.parts();
+    for spot in spots {
+        let version = cell_at(batches, *spot);
+        scribe.int(ty.width(), is_signed(ty), coord_of(&version, dim))?;
     }
     scribe.into_object(Kind::Column)
 }
@@ -86,19 +89,22 @@ pub fn number_of(version: &BatchCell<'_>, attr: u8) -> i128
 
 /// The object of the values of an attribute that are integers, of which each takes the width of the type.
 #[tactic(auto, using(crate::proofs::Widths::width_is))]
-pub(crate) fn numbers_object(
+pub fn numbers_object(
     alloc: Global,
     ty: ValType,
     attr: u8,
-    versions: &[BatchCell<'_>],
+    piece: &BatchPiece,
 ) -> Result<ByteList, OutOfMemory>
     requires integer { is_integer ty ≡ true }
-    requires fits { All (λ (v : AnyVersion). FitsInt (width_of ty) (is_signed ty) (number_of (get_or v.row attr val.Null))) versions.now }
-    ensures { IfOk result (λ bytes. bytes ≡ wrapped kind.Column (flat_map (int_bytes (width_of ty)) (map number_of (values_along attr versions.now)))) }
+    requires fits { All (λ (v : AnyVersion). FitsInt (width_of ty) (is_signed ty) (number_of (get_or v.row attr val.Null))) piece.now.versions }
+    ensures { IfOk result (λ bytes. bytes ≡ wrapped kind.Column (flat_map (int_bytes (width_of ty)) (map number_of (values_along attr piece.now.versions)))) }
 {
-    let mut scribe = room_for(alloc, versions, ty.width())?;
-    for version in versions {
-        scribe.int(ty.width(), is_signed(ty), number_of(version, attr))?;
+    let mut scribe = room_for(alloc, piece, ty.width())?;
+    let PieceParts { batches, spots } = piece.parts();
+    let slices = slices_of(alloc, batches, attr)?;
+    for spot in spots {
+        let number = integer_at(batches, slices.as_slice(), attr, *spot);
+        scribe.int(ty.width(), is_signed(ty), number)?;
     }
     scribe.into_object(Kind::Column)
 }
@@ -114,16 +120,13 @@ pub fn is_there(version: &BatchCell<'_>, attr: u8) -> bool
 }
 
 /// The object that tells of each cell whether its value of an attribute is there: one byte each.
-pub(crate) fn validity_object(
-    alloc: Global,
-    attr: u8,
-    versions: &[BatchCell<'_>],
-) -> Result<ByteList, OutOfMemory>
-    ensures { IfOk result (λ bytes. bytes ≡ wrapped kind.Column (flat_map bool_bytes (map is_there (values_along attr versions.now)))) }
+pub fn validity_object(alloc: Global, attr: u8, piece: &BatchPiece) -> Result<ByteList, OutOfMemory>
+    ensures { IfOk result (λ bytes. bytes ≡ wrapped kind.Column (flat_map bool_bytes (map is_there (values_along attr piece.now.versions)))) }
 {
-    let mut scribe = room_for(alloc, versions, 1)?;
-    for version in versions {
-        scribe.bool(is_there(version, attr))?;
+    let mut scribe = room_for(alloc, piece, 1)?;
+    let PieceParts { batches, spots } = piece.parts();
+    for spot in spots {
+        scribe.bool(is_there(&cell_at(batches, *spot), attr))?;
     }
     scribe.into_object(Kind::Column)
 }
@@ -139,34 +142,32 @@ pub fn text_of<'a>(version: &BatchCell<'a>, attr: u8) -> &'a [u8]
 }
 
 /// The values of an attribute that are byte lists, a null as the empty one.
-pub(crate) fn texts_of(
-    alloc: Global,
-    attr: u8,
-    versions: &[BatchCell<'_>],
-) -> Result<Texts, OutOfMemory>
-    ensures { IfOk result (λ texts. texts ≡ map text_of (values_along attr versions.now)) }
+pub fn texts_of(alloc: Global, attr: u8, piece: &BatchPiece) -> Result<Texts, OutOfMemory>
+    ensures { IfOk result (λ texts. texts ≡ map text_of (values_along attr piece.now.versions)) }
 {
     let mut texts = Texts::new(alloc);
-    for version in versions {
-        texts.push(text_of(version, attr))?;
+    let PieceParts { batches, spots } = piece.parts();
+    for spot in spots {
+        texts.push(text_of(&cell_at(batches, *spot), attr))?;
     }
     Ok(texts)
 }
 
 /// The object that tells of each cell which write laid it: its place among the origins in four bytes.
-pub(crate) fn origins_object(
+pub fn origins_object(
     alloc: Global,
     origins: &KeyList,
-    versions: &[BatchCell<'_>],
+    piece: &BatchPiece,
 ) -> Result<ByteList, OutOfMemory>
     requires few { length origins.now < 2 ^ 32 }
     requires ascend { IsStrictlySortedBy key_cmp origins.now }
-    requires known { All (λ (v : AnyVersion). HasPlace origins.now v.key) versions.now }
-    ensures { IfOk result (λ bytes. bytes ≡ wrapped kind.Column (flat_map (number_bytes 4) (map (λ (v : AnyVersion). place_of origins.now v.key) versions.now))) }
+    requires known { All (λ (v : AnyVersion). HasPlace origins.now v.key) piece.now.versions }
+    ensures { IfOk result (λ bytes. bytes ≡ wrapped kind.Column (flat_map (number_bytes 4) (map (λ (v : AnyVersion). place_of origins.now v.key) piece.now.versions))) }
 {
-    let mut scribe = room_for(alloc, versions, 4)?;
-    for version in versions {
-        scribe.u32(place_of(origins, version.key()))?;
+    let mut scribe = room_for(alloc, piece, 4)?;
+    let PieceParts { batches, spots } = piece.parts();
+    for spot in spots {
+        scribe.u32(place_of(origins, cell_at(batches, *spot).key()))?;
     }
     scribe.into_object(Kind::Column)
 }

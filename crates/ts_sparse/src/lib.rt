@@ -4,13 +4,16 @@
 
 mod building;
 mod columns;
+mod integers;
 mod laws;
 mod laying;
 mod metadata;
 mod starts;
 
 pub use building::build;
-pub use columns::{is_there, number_of, text_of};
+pub use columns::{
+    is_there, number_of, numbers_object, origins_object, text_of, texts_of, validity_object,
+};
 pub use laws::{
     a_leaf_is_the_hull_of_its_cells, metadata_is_read_back, parts_spell_their_piece,
     parts_store_one_piece, pieces_have_one_form, the_last_box_is_the_hull, tiles_are_ranges,

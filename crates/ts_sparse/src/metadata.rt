@@ -1,11 +1,12 @@
 //! The metadata of a sparse fragment.
-ghost use Rattle.std.specs.Prelude.{◌≡◌, ◌++◌, ◌≤◌, ◌<◌, ◌^◌, length, IfOk, OnOk};
+ghost use Rattle.std.specs.Prelude.{◌≡◌, ◌++◌, ◌≤◌, ◌<◌, ◌^◌, length, All, IfOk, OnOk};
 ghost use Rattle.std.specs.List.{flat_map};
 ghost use Rattle.ts_domain.specs.Rects.{AllLike};
 ghost use Rattle.ts_rtree.specs.Trees.{hulls_of};
 ghost use Rattle.ts_wire.specs.declared.kinds.Kind.TheVariants as kind;
 ghost use Rattle.ts_wire.specs.Envelope.{wrapped};
 ghost use Rattle.ts_wire.specs.Numbers.{number_bytes};
+ghost use Rattle.ts_piece.specs.Spots.{spotted, IsSpot};
 ghost use Rattle.ts_plain.specs.Plain.{head_bytes};
 ghost use Rattle.ts_plain.specs.Writes.{plain_head_for, stored_for, NamesWrites};
 ghost use Rattle.ts_sparse.specs.Sparse.{leaves_of, FitsSparse};
@@ -13,9 +14,9 @@ ghost use Rattle.ts_sparse.specs.Laying.{box_of_version, boxes_of, cells_of, met
 
 use std::alloc::Global;
 use ts_base::{ByteList, Duplicate, OutOfMemory};
-use ts_batch::BatchCell;
+use ts_batch::{Batch, BatchCell};
 use ts_domain::{BoxList, SubBox};
-use ts_piece::PieceCells;
+use ts_piece::{BatchPiece, PieceParts, Spot, cell_at};
 use ts_plain::write_head;
 use ts_rtree::Tree;
 use ts_schema::{Frame, Schema};
@@ -27,7 +28,7 @@ pub(crate) fn meta_object(
     alloc: Global,
     frame: &Frame,
     schema: &Schema,
-    piece: &PieceCells<'_>,
+    piece: &BatchPiece,
     sizes: &[u64],
 ) -> Result<ByteList, OutOfMemory>
     requires names { NamesWrites piece.now }
@@ -48,14 +49,14 @@ pub(crate) fn meta_object(
 fn write_piece_head(
     alloc: Global,
     scribe: &mut Scribe,
-    piece: &PieceCells<'_>,
+    piece: &BatchPiece,
 ) -> Result<(), OutOfMemory>
     requires corners { length piece.now.head.high ≡ length piece.now.head.low }
     requires few { length piece.now.head.origins < 2 ^ 32 }
     ensures { OnOk result (scribe.new ≡ scribe.old ++ head_bytes (plain_head_for piece.now)) }
 {
     let mut head = piece.head().copy(alloc)?;
-    head.cells = piece.versions().len() as u64;
+    head.cells = piece.len();
     write_head(scribe, &head)
 }
 
@@ -74,28 +75,35 @@ fn leaves_of(
     alloc: Global,
     frame: &Frame,
     schema: &Schema,
-    piece: &PieceCells<'_>,
+    piece: &BatchPiece,
 ) -> Result<BoxList, OutOfMemory>
     requires { FitsSparse frame.now schema.now.attrs piece.now.head.frag (stored_for piece.now) }
     ensures leaves { IfOk result (λ leaves. leaves ≡ leaves_of frame.now.capacity (cells_of piece.now)) }
     ensures alike { IfOk result AllLike }
     ensures some { IfOk result (λ leaves. 1 ≤ length leaves) }
 {
-    tile_boxes(alloc, frame.capacity, piece.versions())
+    let PieceParts { batches, spots } = piece.parts();
+    tile_boxes(alloc, frame.capacity, batches, spots)
 }
 
 // The boxes of the tiles of so many cells each. It makes no list of the boxes of the cells.
-fn tile_boxes(alloc: Global, tile: u32, versions: &[BatchCell<'_>]) -> Result<BoxList, OutOfMemory>
+fn tile_boxes(
+    alloc: Global,
+    tile: u32,
+    batches: &[Batch],
+    spots: &[Spot],
+) -> Result<BoxList, OutOfMemory>
     requires tile { 1 ≤ tile }
-    requires some { 1 ≤ length versions.now }
-    requires alike { AllLike (boxes_of versions.now) }
-    ensures { IfOk result (λ leaves. leaves ≡ hulls_of tile (boxes_of versions.now)) }
+    requires some { 1 ≤ length spots.now }
+    requires there { All (IsSpot batches.now) spots.now }
+    requires alike { AllLike (boxes_of (spotted batches.now spots.now)) }
+    ensures { IfOk result (λ leaves. leaves ≡ hulls_of tile (boxes_of (spotted batches.now spots.now))) }
 {
     let mut leaves = BoxList::new(alloc);
-    let mut hull = cell_box(&versions[0]);
+    let mut hull = cell_box(&cell_at(batches, spots[0]));
     let mut left = tile - 1;
-    for place in 1..versions.len() {
-        let next = cell_box(&versions[place]);
+    for place in 1..spots.len() {
+        let next = cell_box(&cell_at(batches, spots[place]));
         if left == 0 {
             leaves.push(hull)?;
             hull = next;
