@@ -1,10 +1,9 @@
 -- The steps of the loops that fill slots.
-use Rattle.std.proofs.Common.{◌≡◌, ℕ, ◌+◌, ◌<◌, ◌≤◌, ℤ, Bool, true, false, List, [], ◌∷◌, ◌++◌, length, map, take, drop, get_or, Option, Some, None, refl, sym, ap, ◌∙◌, subst, arith, append_assoc, inl, inr}
+use Rattle.std.proofs.Common.{◌≡◌, ℕ, ◌+◌, ◌<◌, ◌≤◌, ℤ, Bool, true, false, List, [], ◌∷◌, ◌++◌, length, drop, get_or, Option, Some, None, refl, sym, ap, ◌∙◌, subst, arith, append_assoc, inl, inr}
 use Rattle.std.specs.Prelude.{if◌then◌else◌, slice_get}
-use Rattle.std.specs.Borrow.{Bor}
 use Rattle.std.specs.List.{flat_map, All}
-use Rattle.std.specs.Option.{is_some, option_copied}
-use Rattle.std.proofs.lemmas.List.{drop_more, drop_all, take_more, take_all, append-nil, map-append}
+use Rattle.std.specs.Option.{is_some}
+use Rattle.std.proofs.lemmas.List.{drop_more, drop_all, append-nil}
 use Rattle.std.proofs.lemmas.Bool.{true≢false}
 use Rattle.std.proofs.lemmas.Option.{get_or_from_slice_get, slice_get_cases, slice_get_within, slice_get-get_or}
 use Rattle.ts_base.specs.declared.heads.Version.{Version}
@@ -14,7 +13,7 @@ use Rattle.ts_base.specs.Coords.{coords_eq}
 use Rattle.ts_domain.specs.declared.orders.Order.{Order}
 use Rattle.ts_domain.specs.declared.boxes.SubBox.{SubBox}
 use Rattle.ts_domain.specs.declared.dims.Dim.{Dim}
-use Rattle.ts_domain.specs.Boxes.{IsBox, cells_of}
+use Rattle.ts_domain.specs.Boxes.{IsBox}
 use Rattle.ts_domain.specs.Domains.{LiesInDomain}
 use Rattle.ts_order.specs.Tiles.{AreTiles}
 use Rattle.ts_schema.specs.declared.attrs.Attr.{Attr}
@@ -24,9 +23,7 @@ use Rattle.ts_order.specs.Orders.{coords_in_order}
 use Rattle.ts_schema.specs.declared.frames.Frame.{Frame}
 use Rattle.ts_dense.specs.Dense.{FitsDense}
 use Rattle.ts_dense.proofs.HullOrder.{hull_box}
-use Rattle.ts_dense.specs.declared.slots.Slots.{Slots}
-use Rattle.ts_dense.specs.Slots.{tiles_over, coords_over}
-use Rattle.ts_dense.specs.Laying.{held, taken_at, versions_at, hull_of_head, IsSlots}
+use Rattle.ts_dense.specs.Laying.{taken_at, versions_at, hull_of_head}
 
 -- how many versions a slot takes
 abbrev pub taken : Option Version → ℕ
@@ -57,69 +54,61 @@ next_slot at coords versions next = elim (slice_get_cases versions next).1 [
       ∙ ap (λ o. taken_at at o ∷ versions_at coords (drop (next + taken (taken_at at o)) versions)) (sym none.1)
 ]
 
-pub taken_one : (s : Option (Bor Version)) (b : Bool) → b ≡ is_some s → b ≡ true → taken (option_copied s) ≡ 1
+pub taken_one : (s : Option Version) (b : Bool) → b ≡ is_some s → b ≡ true → taken s ≡ 1
 taken_one None b is some = absurd (true≢false (sym some ∙ is))
 taken_one (Some v) b is some = refl
 
-pub taken_none : (s : Option (Bor Version)) (b : Bool) → b ≡ is_some s → b ≡ false → taken (option_copied s) ≡ 0
+pub taken_none : (s : Option Version) (b : Bool) → b ≡ is_some s → b ≡ false → taken s ≡ 0
 taken_none None b is none = refl
 taken_none (Some v) b is none = absurd (true≢false (sym is ∙ none))
 
 -- ---- one tile
 
 -- the slots so far, and those of the coordinates that are left
-abbrev pub Filling : List (Option (Bor Version)) → List (List ℤ) → List Version → ℕ → List (Option (Bor Version)) → ℕ → ℕ → Type 0
+abbrev pub Filling : List (Option Version) → List (List ℤ) → List Version → ℕ → List (Option Version) → ℕ → ℕ → Type 0
 Filling old coords versions first slots place next =
-    (more : List (List ℤ)) → held old ++ versions_at (coords ++ more) (drop first versions) ≡ held slots ++ versions_at (drop place coords ++ more) (drop next versions)
+    (more : List (List ℤ)) → old ++ versions_at (coords ++ more) (drop first versions) ≡ slots ++ versions_at (drop place coords ++ more) (drop next versions)
 
-pub filling_more : (old slots pushed : List (Option (Bor Version))) (coords : List (List ℤ)) (versions : List Version) (first place next after : ℕ) (at : List ℤ) (s : Option (Bor Version)) → Filling old coords versions first slots place next
-    → slice_get coords place ≡ Some at → option_copied s ≡ taken_at at (slice_get versions next) → pushed ≡ slots ++ s ∷ [] → after ≡ next + taken (option_copied s) → Filling old coords versions first pushed (place + 1) after
+pub filling_more : (old slots pushed : List (Option Version)) (coords : List (List ℤ)) (versions : List Version) (first place next after : ℕ) (at : List ℤ) (s : Option Version) → Filling old coords versions first slots place next
+    → slice_get coords place ≡ Some at → s ≡ taken_at at (slice_get versions next) → pushed ≡ slots ++ s ∷ [] → after ≡ next + taken s → Filling old coords versions first pushed (place + 1) after
 filling_more old slots pushed coords versions first place next after at s filled here is push grown more =
     let slot = taken_at at (slice_get versions next) in
     let others = drop (place + 1) coords ++ more in
     let rest : drop place coords ≡ at ∷ drop (place + 1) coords =
     drop_more coords place at (slice_get_within coords place at here) ∙ ap (λ x. x ∷ drop (place + 1) coords) (get_or_from_slice_get coords place at at here) in
-    filled more ∙ ap (λ cs. held slots ++ versions_at (cs ++ more) (drop next versions)) rest
-    ∙ ap (λ os. held slots ++ os) (next_slot at others versions next)
-    ∙ ap (λ o. held slots ++ (o ∷ versions_at others (drop (next + taken o) versions))) (sym is)
-    ∙ sym (append_assoc (held slots) (option_copied s ∷ []) (versions_at others (drop (next + taken (option_copied s)) versions)))
-    ∙ ap (λ os. os ++ versions_at others (drop (next + taken (option_copied s)) versions)) (sym (map-append option_copied slots (s ∷ [])))
-    ∙ ap (λ os. held os ++ versions_at others (drop (next + taken (option_copied s)) versions)) (sym push)
-    ∙ ap (λ n. held pushed ++ versions_at others (drop n versions)) (sym grown)
+    filled more ∙ ap (λ cs. slots ++ versions_at (cs ++ more) (drop next versions)) rest
+    ∙ ap (λ os. slots ++ os) (next_slot at others versions next)
+    ∙ ap (λ o. slots ++ (o ∷ versions_at others (drop (next + taken o) versions))) (sym is)
+    ∙ sym (append_assoc slots (s ∷ []) (versions_at others (drop (next + taken s) versions)))
+    ∙ ap (λ os. os ++ versions_at others (drop (next + taken s) versions)) (sym push)
+    ∙ ap (λ n. pushed ++ versions_at others (drop n versions)) (sym grown)
 
-pub filled_all : (old slots : List (Option (Bor Version))) (coords : List (List ℤ)) (versions : List Version) (first place next : ℕ) → Filling old coords versions first slots place next → length coords ≤ place
-    → (more : List (List ℤ)) → held old ++ versions_at (coords ++ more) (drop first versions) ≡ held slots ++ versions_at more (drop next versions)
-filled_all old slots coords versions first place next filled over more = filled more ∙ ap (λ cs. held slots ++ versions_at (cs ++ more) (drop next versions)) (drop_all place coords over)
+pub filled_all : (old slots : List (Option Version)) (coords : List (List ℤ)) (versions : List Version) (first place next : ℕ) → Filling old coords versions first slots place next → length coords ≤ place
+    → (more : List (List ℤ)) → old ++ versions_at (coords ++ more) (drop first versions) ≡ slots ++ versions_at more (drop next versions)
+filled_all old slots coords versions first place next filled over more = filled more ∙ ap (λ cs. slots ++ versions_at (cs ++ more) (drop next versions)) (drop_all place coords over)
 
 -- ---- tile by tile
 
--- the tiles so far, and the slots of those that are left
-pub record Placing (order : Order) (tiles : List SubBox) (versions : List Version) (counts : List ℕ) (slots : List (Option (Bor Version))) (next i : ℕ) : Type 0 where
-  pub counted : counts ≡ map cells_of (take i tiles)
-  pub filled : held slots ++ versions_at (flat_map (coords_in_order order) (drop i tiles)) (drop next versions) ≡ versions_at (flat_map (coords_in_order order) tiles) versions
+-- the slots so far, and those of the tiles that are left
+abbrev pub Placing : Order → List SubBox → List Version → List (Option Version) → ℕ → ℕ → Type 0
+Placing order tiles versions slots next i =
+    slots ++ versions_at (flat_map (coords_in_order order) (drop i tiles)) (drop next versions) ≡ versions_at (flat_map (coords_in_order order) tiles) versions
 
-pub placing_none : (order : Order) (tiles : List SubBox) (versions : List Version) (counts : List ℕ) (slots : List (Option (Bor Version))) → counts ≡ [] → slots ≡ [] → Placing order tiles versions counts slots 0 0
-placing_none order tiles versions counts slots none empty =
-    record { counted = none; filled = ap (λ os. held os ++ versions_at (flat_map (coords_in_order order) tiles) versions) empty }
+pub placing_none : (order : Order) (tiles : List SubBox) (versions : List Version) (slots : List (Option Version)) → slots ≡ [] → Placing order tiles versions slots 0 0
+placing_none order tiles versions slots empty = ap (λ os. os ++ versions_at (flat_map (coords_in_order order) tiles) versions) empty
 
-pub placing_more : (order : Order) (tiles : List SubBox) (versions : List Version) (counts longer : List ℕ) (slots fuller : List (Option (Bor Version))) (next after i cells : ℕ) (tile : SubBox) → Placing order tiles versions counts slots next i
-    → i < length tiles → tile ≡ get_or tiles i tile → longer ≡ counts ++ cells ∷ [] → cells ≡ cells_of tile
-    → ((more : List (List ℤ)) → held slots ++ versions_at (coords_in_order order tile ++ more) (drop next versions) ≡ held fuller ++ versions_at more (drop after versions)) → Placing order tiles versions longer fuller after (i + 1)
-placing_more order tiles versions counts longer slots fuller next after i cells tile placed within is push size fills =
+pub placing_more : (order : Order) (tiles : List SubBox) (versions : List Version) (slots fuller : List (Option Version)) (next after i : ℕ) (tile : SubBox) → Placing order tiles versions slots next i
+    → i < length tiles → tile ≡ get_or tiles i tile
+    → ((more : List (List ℤ)) → slots ++ versions_at (coords_in_order order tile ++ more) (drop next versions) ≡ fuller ++ versions_at more (drop after versions)) → Placing order tiles versions fuller after (i + 1)
+placing_more order tiles versions slots fuller next after i tile placed within is fills =
     let others = drop (i + 1) tiles in
     let rest : drop i tiles ≡ tile ∷ others = drop_more tiles i tile within ∙ ap (λ t. t ∷ others) (sym is) in
-    let front : take (i + 1) tiles ≡ take i tiles ++ tile ∷ [] = take_more tiles i tile within ∙ ap (λ t. take i tiles ++ t ∷ []) (sym is) in
-    record {
-      counted = push ∙ ap (λ n. counts ++ n ∷ []) size ∙ ap (λ ns. ns ++ cells_of tile ∷ []) placed.counted ∙ sym (map-append cells_of (take i tiles) (tile ∷ [])) ∙ ap (map cells_of) (sym front);
-      filled = sym (fills (flat_map (coords_in_order order) others)) ∙ ap (λ ts. held slots ++ versions_at (flat_map (coords_in_order order) ts) (drop next versions)) (sym rest) ∙ placed.filled;
-    }
+    sym (fills (flat_map (coords_in_order order) others)) ∙ ap (λ ts. slots ++ versions_at (flat_map (coords_in_order order) ts) (drop next versions)) (sym rest) ∙ placed
 
-pub placed_all : (order : Order) (tiles : List SubBox) (versions : List Version) (counts : List ℕ) (slots : List (Option (Bor Version))) (next i : ℕ) → Placing order tiles versions counts slots next i → length tiles ≤ i
-    → (counts ≡ map cells_of tiles) × (held slots ≡ versions_at (flat_map (coords_in_order order) tiles) versions)
-placed_all order tiles versions counts slots next i placed over = (
-  placed.counted ∙ ap (map cells_of) (take_all i tiles over),
-  sym (append-nil (held slots)) ∙ ap (λ ts. held slots ++ versions_at (flat_map (coords_in_order order) ts) (drop next versions)) (sym (drop_all i tiles over)) ∙ placed.filled,
-)
+pub placed_all : (order : Order) (tiles : List SubBox) (versions : List Version) (slots : List (Option Version)) (next i : ℕ) → Placing order tiles versions slots next i → length tiles ≤ i
+    → slots ≡ versions_at (flat_map (coords_in_order order) tiles) versions
+placed_all order tiles versions slots next i placed over =
+    sym (append-nil slots) ∙ ap (λ ts. slots ++ versions_at (flat_map (coords_in_order order) ts) (drop next versions)) (sym (drop_all i tiles over)) ∙ placed
 
 -- ---- the tiles of a hull
 
@@ -138,15 +127,3 @@ module _ (frame : Frame) (attrs : List Attr) (piece : Piece) (names : NamesWrite
 
 pub each_is_box : (dims : List Dim) (tile : Order) (sub : SubBox) (tiles : List SubBox) → AreTiles dims tile sub tiles → All IsBox tiles
 each_is_box dims tile sub tiles are i d within = are.valid i (get_or tiles i d) (slice_get-get_or tiles i d within)
-
--- the slots of a piece
-pub slots_are : (frame : Frame) (piece : Piece) (tiles : List SubBox) (versions : List Version) (slots : Slots) (next i : ℕ) → tiles ≡ tiles_over frame (hull_of_head piece.head) → versions ≡ piece.versions
-    → slots.origins.now ≡ piece.head.origins → Placing frame.cell tiles versions slots.counts slots.versions.items next i → length tiles ≤ i → IsSlots frame piece slots
-unfolding coords_over
-slots_are frame piece tiles versions slots next i are all origins placed over =
-    let whole = placed_all frame.cell tiles versions slots.counts slots.versions.items next i placed over in
-    record {
-      origins = origins;
-      counts = whole.0 ∙ ap (map cells_of) are;
-      versions = whole.1 ∙ ap (λ ts. versions_at (flat_map (coords_in_order frame.cell) ts) versions) are ∙ ap (versions_at (flat_map (coords_in_order frame.cell) (tiles_over frame (hull_of_head piece.head)))) all;
-    }

@@ -16,3 +16,4 @@ pub mod FormLaws
 pub mod OnceLaws
 pub mod WorkedSizes
 pub mod WorkedFits
+pub mod FullSlots

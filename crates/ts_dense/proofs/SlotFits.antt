@@ -1,8 +1,7 @@
 -- What a stored piece that fits says of the versions in its slots.
 use Rattle.std.proofs.Common.{◌≡◌, ℕ, ◌<◌, ℤ, Bool, true, false, List, [], ◌∷◌, length, get_or, refl, sym, subst}
 use Rattle.std.specs.Prelude.{Option, Some, None, if◌then◌else◌}
-use Rattle.std.specs.Borrow.{Bor}
-use Rattle.std.specs.Option.{option_copied, IfSome}
+use Rattle.std.specs.Option.{IfSome}
 use Rattle.std.specs.List.{All}
 use Rattle.std.proofs.lemmas.List.Elements.{All-head, All-tail, All-nil, All-cons, All-weaker}
 use Rattle.ts_base.specs.declared.heads.Piece.{Piece}
@@ -43,29 +42,24 @@ module _ (P : Version → Type 0) where
       step true found others = All-cons InSlot (Some v) (versions_at coords versions) (All-head P v versions all) found
       step false found others = All-cons InSlot None (versions_at coords (v ∷ versions)) tt others
 
-  under : (slots : List (Option (Bor Version))) → All InSlot (held slots) → All (λ (slot : Option (Bor Version)). IfSome (option_copied slot) P) slots
-  under [] all = All-nil (λ (slot : Option (Bor Version)). IfSome (option_copied slot) P)
-  under (s ∷ slots) all =
-      All-cons (λ (slot : Option (Bor Version)). IfSome (option_copied slot) P) s slots (All-head InSlot (option_copied s) (held slots) all) (under slots (All-tail InSlot (option_copied s) (held slots) all))
-
   -- so of the slots of a piece
-  of_slots : (frame : Frame) (piece : Piece) (slots : Slots) → IsSlots frame piece slots → All P piece.versions → All (λ (slot : Option (Bor Version)). IfSome (option_copied slot) P) slots.versions.items
-  of_slots frame piece slots are all = under slots.versions.items (subst (All InSlot) (sym are.versions) (in_slots _ piece.versions all))
+  of_slots : (frame : Frame) (piece : Piece) (slots : Slots) → IsSlots frame piece slots → All P piece.versions → All InSlot (held slots)
+  of_slots frame piece slots are all = subst (All InSlot) (sym are.versions) (in_slots _ piece.versions all)
 
 module _ (frame : Frame) (attrs : List Attr) (piece : Piece) (slots : Slots) (are : IsSlots frame piece slots) where
-  pub slots_named : NamesWrites piece → NamedIn slots.origins.now slots.versions.items
+  pub slots_named : NamesWrites piece → NamedIn slots.origins.now (held slots)
   slots_named names =
       let P : Version → Type 0 = λ (v : Version). HasPlace piece.head.origins v.key in
-      subst (λ (origins : List Key). NamedIn origins slots.versions.items) (sym are.origins) (of_slots P frame piece slots are names.known)
+      subst (λ (origins : List Key). NamedIn origins (held slots)) (sym are.origins) (of_slots P frame piece slots are names.known)
 
-  pub slots_fit : FitsDense frame attrs piece.head.frag (hulled_for piece) → ValuesFit attrs slots.versions.items
+  pub slots_fit : FitsDense frame attrs piece.head.frag (hulled_for piece) → ValuesFit attrs (held slots)
   slots_fit fits k a within =
       let rows = in_turn_all (FitsCell frame attrs (hulled_for piece).head) (λ (c : StoredCell). EachFits FitsValue attrs c.row) (λ front c f. f.row) [] (hulled_for piece).cells fits.cells in
       let all = of_versions (λ (c : StoredCell). EachFits FitsValue attrs c.row) piece.head.origins piece.versions rows in
       of_slots (λ (v : Version). FitsValue (get_or attrs k a) (get_or v.row k Null)) frame piece slots are
       (All-weaker (λ (v : Version). EachFits FitsValue attrs v.row) (λ (v : Version). FitsValue (get_or attrs k a) (get_or v.row k Null)) (λ v each. each_at FitsValue attrs v.row k a Null each within) piece.versions all)
 
-pub values_at : (attrs : List Attr) (slots : List (Option (Bor Version))) (k : ℕ) (a : Attr) → ValuesFit attrs slots → k < length attrs → a ≡ get_or attrs k a → ValuesFitOne a k slots
+pub values_at : (attrs : List Attr) (slots : List (Option Version)) (k : ℕ) (a : Attr) → ValuesFit attrs slots → k < length attrs → a ≡ get_or attrs k a → ValuesFitOne a k slots
 values_at attrs slots k a fit within is = subst (λ (x : Attr). ValuesFitOne x k slots) (sym is) (fit k a within)
 
 -- ---- integers have room
@@ -74,7 +68,7 @@ number_fits : (a : Attr) (k : ℕ) (slot : Option Version) → is_integer a.ty �
 number_fits a k None is fits = number_in a.ty true Null is refl
 number_fits a k (Some v) is fits = number_in a.ty a.nullable (get_or v.row k Null) is fits.1
 
-pub numbers_fit : (a : Attr) (slots : List (Option (Bor Version))) (k : ℕ) → is_integer a.ty ≡ true → ValuesFitOne a k slots → NumbersFit a.ty k slots
+pub numbers_fit : (a : Attr) (slots : List (Option Version)) (k : ℕ) → is_integer a.ty ≡ true → ValuesFitOne a k slots → NumbersFit a.ty k slots
 numbers_fit a slots k is fit =
-    All-weaker (λ (slot : Option (Bor Version)). IfSome (option_copied slot) (λ (v : Version). FitsValue a (get_or v.row k Null))) (λ (slot : Option (Bor Version)). FitsInt (width_of a.ty) (is_signed a.ty) (number_of (value_in k (option_copied slot))))
-    (λ slot f. number_fits a k (option_copied slot) is f) slots fit
+    All-weaker (λ (slot : Option Version). IfSome slot (λ (v : Version). FitsValue a (get_or v.row k Null))) (λ (slot : Option Version). FitsInt (width_of a.ty) (is_signed a.ty) (number_of (value_in k slot)))
+    (λ slot f. number_fits a k slot is f) slots fit

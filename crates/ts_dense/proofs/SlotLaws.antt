@@ -233,11 +233,15 @@ unfolding slots_of
 slots_of_many frame attrs frag s fits =
     slots_many (coords_over frame (box_of s.head.hull)) s.cells ∙ coords_many frame s.head.hull (All-IsDomain frame.domain (fits.sound).domain) (fits.head).hull
 
+-- where there are as many cells as the hull has, there is no hole
+pub slots_covered : (frame : Frame) (attrs : List Attr) (frag : FragKey) (s : StoredPiece) → FitsDense frame attrs frag s → length s.cells ≡ s.head.cells → All (λ slot. is_hole slot ≡ false) (slots_of frame s)
+slots_covered frame attrs frag s fits many =
+    let count = ap length (cells_back frame attrs frag s fits) in
+    no_holes (slots_of frame s) (all_pass (λ (slot : StoredCell). not (is_hole slot)) (slots_of frame s) (count ∙ many ∙ fits.counts_hull ∙ sym (slots_of_many frame attrs frag s fits)))
+
 -- what no consolidation made has no hole
 pub slots_full : (frame : Frame) (attrs : List Attr) (frag : FragKey) (s : StoredPiece) → FitsDense frame attrs frag s → s.head.consolidated ≡ false → All (λ slot. is_hole slot ≡ false) (slots_of frame s)
-slots_full frame attrs frag s fits plain =
-    let count = ap length (cells_back frame attrs frag s fits) in
-    no_holes (slots_of frame s) (all_pass (λ (slot : StoredCell). not (is_hole slot)) (slots_of frame s) (count ∙ fits.no_hole plain ∙ fits.counts_hull ∙ sym (slots_of_many frame attrs frag s fits)))
+slots_full frame attrs frag s fits plain = slots_covered frame attrs frag s fits (fits.no_hole plain)
 
 -- slots that all have cells are these cells
 all_cells : (slots : List StoredCell) → All (λ slot. is_hole slot ≡ false) slots → cells_in slots ≡ slots
@@ -246,8 +250,11 @@ all_cells (slot ∷ slots) full =
     kept slot slots (All-head (λ slot. is_hole slot ≡ false) slot slots full) ∙ ap (λ more. slot ∷ more) (all_cells slots (All-tail (λ slot. is_hole slot ≡ false) slot slots full))
 
 -- so its slots are its cells
+pub covered_cells : (frame : Frame) (attrs : List Attr) (frag : FragKey) (s : StoredPiece) → FitsDense frame attrs frag s → length s.cells ≡ s.head.cells → slots_of frame s ≡ s.cells
+covered_cells frame attrs frag s fits many = sym (all_cells (slots_of frame s) (slots_covered frame attrs frag s fits many)) ∙ cells_back frame attrs frag s fits
+
 pub slots_are_cells : (frame : Frame) (attrs : List Attr) (frag : FragKey) (s : StoredPiece) → FitsDense frame attrs frag s → s.head.consolidated ≡ false → slots_of frame s ≡ s.cells
-slots_are_cells frame attrs frag s fits plain = sym (all_cells (slots_of frame s) (slots_full frame attrs frag s fits plain)) ∙ cells_back frame attrs frag s fits
+slots_are_cells frame attrs frag s fits plain = covered_cells frame attrs frag s fits (fits.no_hole plain)
 
 -- ---- slots from their cells
 

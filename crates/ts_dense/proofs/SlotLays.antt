@@ -1,7 +1,6 @@
 -- The steps of the loop that lays the objects of slots.
 use Rattle.std.proofs.Common.{◌≡◌, ℕ, suc, ◌+◌, ◌<◌, ◌≤◌, Bool, true, List, [], ◌∷◌, ◌++◌, length, get_or, map, drop, refl, sym, ap, ◌∙◌, arith}
 use Rattle.std.specs.List.{flat_map}
-use Rattle.std.specs.Borrow.{Bor}
 use Rattle.std.specs.Prelude.{Option, Some, None}
 use Rattle.std.proofs.lemmas.List.{drop_more, drop_all}
 use Rattle.ts_base.specs.declared.heads.Version.{Version}
@@ -37,8 +36,8 @@ value_same origins k None = get_or-none k
     get_or-none i = search arith
 value_same origins k (Some v) = refl
 
-values_same : (k : ℕ) (slots : Slots) → value_column k (slot_cells slots) ≡ values_along k (held slots.versions.items)
-values_same k slots = each (held slots.versions.items)
+values_same : (k : ℕ) (slots : Slots) → value_column k (slot_cells slots) ≡ values_along k (held slots)
+values_same k slots = each (held slots)
   where
     each : (os : List (Option Version)) → value_column k (map (cell_in slots.origins.now) os) ≡ values_along k os
     each [] = refl
@@ -48,8 +47,8 @@ origin_same : (origins : List Key) (slot : Option Version) → (cell_in origins 
 origin_same origins None = refl
 origin_same origins (Some v) = refl
 
-origins_same : (slots : Slots) → map (λ (c : StoredCell). c.origin) (slot_cells slots) ≡ origins_along slots.origins.now (held slots.versions.items)
-origins_same slots = each (held slots.versions.items)
+origins_same : (slots : Slots) → map (λ (c : StoredCell). c.origin) (slot_cells slots) ≡ origins_along slots.origins.now (held slots)
+origins_same slots = each (held slots)
   where
     each : (os : List (Option Version)) → map (λ (c : StoredCell). c.origin) (map (cell_in slots.origins.now) os) ≡ origins_along slots.origins.now os
     each [] = refl
@@ -82,41 +81,37 @@ attrs_all slots old attrs new k laid over = ap (λ l. with_objects new (attr_obj
 
 -- ---- the objects of an attribute
 
-pub numbers_laid : (old new : Laid) (k : ℕ) (a : Attr) (slots : Slots) (vs : List (Option (Bor Version))) (bytes : List ℕ) → vs ≡ slots.versions.items → bytes ≡ wrapped kind.Column (flat_map (int_bytes (width_of a.ty)) (map number_of (values_along k (held vs))))
+pub numbers_laid : (old new : Laid) (k : ℕ) (a : Attr) (slots : Slots) (bytes : List ℕ) → bytes ≡ wrapped kind.Column (flat_map (int_bytes (width_of a.ty)) (map number_of (values_along k (held slots))))
     → new ≡ with_part old (record { part = part.Attr k; bytes = bytes }) [] → new ≡ with_objects old (numbers_object k a.ty (value_column k (slot_cells slots)) ∷ [])
-numbers_laid old new k a slots vs bytes are spelled push =
+numbers_laid old new k a slots bytes spelled push =
     push ∙ ap (λ b. with_part old (record { part = part.Attr k; bytes = b }) []) spelled
-    ∙ ap (λ os. with_objects old (numbers_object k a.ty (values_along k (held os)) ∷ [])) are
     ∙ ap (λ vals. with_objects old (numbers_object k a.ty vals ∷ [])) (sym (values_same k slots))
 
-pub texts_laid : (old mid new : Laid) (k : ℕ) (slots : Slots) (counts : List ℕ) (vs : List (Option (Bor Version))) (texts : List (List ℕ)) (inner outer starts : List ℕ) → counts ≡ slots.counts → vs ≡ slots.versions.items → texts ≡ map text_of (values_along k (held vs))
+pub texts_laid : (old mid new : Laid) (k : ℕ) (slots : Slots) (counts : List ℕ) (texts : List (List ℕ)) (inner outer starts : List ℕ) → counts ≡ slots.counts → texts ≡ map text_of (values_along k (held slots))
     → inner ≡ wrapped kind.Column (flat_map (number_bytes 8) (starts_in (tiles_by counts texts))) → mid ≡ with_part old (record { part = part.Attr k; bytes = inner }) []
     → outer ≡ wrapped kind.Column (joined texts) → starts ≡ tile_starts 14 (tiles_by counts texts) → new ≡ with_part mid (record { part = part.Var k; bytes = outer }) starts
     → new ≡ with_objects old (starts_object slots.counts k (value_column k (slot_cells slots)) ∷ bytes_object slots.counts k (value_column k (slot_cells slots)) ∷ [])
-texts_laid old mid new k slots counts vs texts inner outer starts sizes those are first push all begun more =
+texts_laid old mid new k slots counts texts inner outer starts sizes are first push all begun more =
     more
     ∙ ap (λ b. with_part mid (record { part = part.Var k; bytes = b }) starts) all
     ∙ ap (λ s. with_part mid (record { part = part.Var k; bytes = wrapped kind.Column (joined texts) }) s) begun
     ∙ ap (λ l. with_part l (record { part = part.Var k; bytes = wrapped kind.Column (joined texts) }) (tile_starts 14 (tiles_by counts texts))) (push ∙ ap (λ b. with_part old (record { part = part.Attr k; bytes = b }) []) first)
     ∙ ap (λ ts. with_part (with_part old (record { part = part.Attr k; bytes = wrapped kind.Column (flat_map (number_bytes 8) (starts_in (tiles_by counts ts))) }) []) (record { part = part.Var k; bytes = wrapped kind.Column (joined ts) }) (tile_starts 14 (tiles_by counts ts))) are
-    ∙ ap (λ ns. with_objects old (starts_object ns k (values_along k (held vs)) ∷ bytes_object ns k (values_along k (held vs)) ∷ [])) sizes
-    ∙ ap (λ os. with_objects old (starts_object slots.counts k (values_along k (held os)) ∷ bytes_object slots.counts k (values_along k (held os)) ∷ [])) those
+    ∙ ap (λ ns. with_objects old (starts_object ns k (values_along k (held slots)) ∷ bytes_object ns k (values_along k (held slots)) ∷ [])) sizes
     ∙ ap (λ vals. with_objects old (starts_object slots.counts k vals ∷ bytes_object slots.counts k vals ∷ [])) (sym (values_same k slots))
 
-pub validity_laid : (old new : Laid) (k : ℕ) (nullable : Bool) (slots : Slots) (vs : List (Option (Bor Version))) (bytes : List ℕ) → nullable ≡ true → vs ≡ slots.versions.items → bytes ≡ wrapped kind.Column (flat_map bool_bytes (map is_there (values_along k (held vs))))
+pub validity_laid : (old new : Laid) (k : ℕ) (nullable : Bool) (slots : Slots) (bytes : List ℕ) → nullable ≡ true → bytes ≡ wrapped kind.Column (flat_map bool_bytes (map is_there (values_along k (held slots))))
     → new ≡ with_part old (record { part = part.Validity k; bytes = bytes }) [] → new ≡ with_objects old (validity_objects nullable k (value_column k (slot_cells slots)))
-validity_laid old new k nullable slots vs bytes may are spelled push =
+validity_laid old new k nullable slots bytes may spelled push =
     push ∙ ap (λ b. with_part old (record { part = part.Validity k; bytes = b }) []) spelled
-    ∙ ap (λ os. with_objects old (validity_objects true k (values_along k (held os)))) are
     ∙ ap (λ vals. with_objects old (validity_objects true k vals)) (sym (values_same k slots))
     ∙ ap (λ b. with_objects old (validity_objects b k (value_column k (slot_cells slots)))) (sym may)
 
 -- ---- origins
 
-pub origins_laid : (old new : Laid) (consolidated : Bool) (slots : Slots) (vs : List (Option (Bor Version))) (bytes : List ℕ) → consolidated ≡ true → vs ≡ slots.versions.items → bytes ≡ wrapped kind.Column (flat_map (number_bytes 4) (origins_along slots.origins.now (held vs)))
+pub origins_laid : (old new : Laid) (consolidated : Bool) (slots : Slots) (bytes : List ℕ) → consolidated ≡ true → bytes ≡ wrapped kind.Column (flat_map (number_bytes 4) (origins_along slots.origins.now (held slots)))
     → new ≡ with_part old (record { part = part.Origin; bytes = bytes }) [] → new ≡ with_objects old (origin_objects consolidated (slot_cells slots))
-origins_laid old new consolidated slots vs bytes merged are spelled push =
+origins_laid old new consolidated slots bytes merged spelled push =
     push ∙ ap (λ b. with_part old (record { part = part.Origin; bytes = b }) []) spelled
-    ∙ ap (λ os. with_part old (record { part = part.Origin; bytes = wrapped kind.Column (flat_map (number_bytes 4) (origins_along slots.origins.now (held os))) }) []) are
     ∙ ap (λ is. with_part old (record { part = part.Origin; bytes = wrapped kind.Column (flat_map (number_bytes 4) is) }) []) (sym (origins_same slots))
     ∙ ap (λ b. with_objects old (origin_objects b (slot_cells slots))) (sym merged)

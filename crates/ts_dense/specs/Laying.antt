@@ -1,8 +1,7 @@
 -- What is laid of a piece: the versions that its slots have, and their columns.
 use Rattle.std.specs.Prelude.{◌≡◌, ℕ, ◌<◌, ℤ, Bool, if◌then◌else◌, List, [], ◌∷◌, ◌++◌, length, map, get_or, Option, Some, None}
-use Rattle.std.specs.Borrow.{Bor}
 use Rattle.std.specs.List.{All, flat_map}
-use Rattle.std.specs.Option.{option_copied, IfSome}
+use Rattle.std.specs.Option.{IfSome}
 use Rattle.ts_base.specs.declared.keys.Key.{Key}
 use Rattle.ts_base.specs.declared.heads.Head.{Head}
 use Rattle.ts_base.specs.declared.heads.Piece.{Piece}
@@ -22,15 +21,22 @@ use Rattle.ts_plain.specs.Writes.{place_of, HasPlace, box_of, stored_head, store
 use Rattle.ts_column.specs.Spelled.{number_of}
 use Rattle.ts_column.specs.Tiles.{is_signed}
 use Rattle.ts_sparse.specs.Sparse.{Object, origin_objects}
+use Rattle.ts_dense.specs.declared.slots.SlotCells.{SlotCells}
+use Rattle.ts_dense.specs.declared.slots.SlotCells.TheVariants.{Full, Holed}
 use Rattle.ts_dense.specs.declared.slots.Slots.{Slots}
 use Rattle.ts_dense.specs.Dense.{attr_objects}
 use Rattle.ts_dense.specs.Slots.{counts_over, coords_over, no_origin, hole}
 
 -- ---- slots
 
--- the versions behind references
-abbrev pub held : List (Option (Bor Version)) → List (Option Version)
-held slots = map option_copied slots
+-- the versions of slots: the next one of the piece for each, or these
+abbrev pub held_in : Piece → SlotCells → List (Option Version)
+held_in piece Full = map Some piece.versions
+held_in piece (Holed versions) = versions.items
+
+-- the version of each slot, or none in a hole
+abbrev pub held : Slots → List (Option Version)
+held slots = held_in slots.piece.now slots.cells
 
 -- the versions at these coordinates, which stand in the same order, and none where there is no version
 abbrev pub versions_at : List (List ℤ) → List Version → List (Option Version)
@@ -51,7 +57,7 @@ hull_of_head head = box_of (stored_head head).hull
 pub record IsSlots (frame : Frame) (piece : Piece) (slots : Slots) : Type 0 where
   pub origins : slots.origins.now ≡ piece.head.origins
   pub counts : slots.counts ≡ counts_over frame (hull_of_head piece.head)
-  pub versions : held slots.versions.items ≡ versions_at (coords_over frame (hull_of_head piece.head)) piece.versions
+  pub versions : held slots ≡ versions_at (coords_over frame (hull_of_head piece.head)) piece.versions
 
 -- the cell of a slot, but for the coordinates of a hole, which no column has
 abbrev pub cell_in : List Key → Option Version → StoredCell
@@ -60,7 +66,7 @@ cell_in origins (Some v) = stored_cell origins v
 
 -- the cells of slots
 abbrev pub slot_cells : Slots → List StoredCell
-slot_cells slots = map (cell_in slots.origins.now) (held slots.versions.items)
+slot_cells slots = map (cell_in slots.origins.now) (held slots)
 
 -- ---- columns
 
@@ -83,19 +89,19 @@ abbrev pub origins_along : List Key → List (Option Version) → List ℕ
 origins_along origins slots = map (origin_in origins) slots
 
 -- the versions in slots name their writes
-abbrev pub NamedIn : List Key → List (Option (Bor Version)) → Type 0
-NamedIn origins slots = All (λ (slot : Option (Bor Version)). IfSome (option_copied slot) (λ (v : Version). HasPlace origins v.key)) slots
+abbrev pub NamedIn : List Key → List (Option Version) → Type 0
+NamedIn origins slots = All (λ (slot : Option Version). IfSome slot (λ (v : Version). HasPlace origins v.key)) slots
 
 -- the integers that are stored for the values of an attribute have room in the width of the type
-abbrev pub NumbersFit : ValType → ℕ → List (Option (Bor Version)) → Type 0
-NumbersFit ty k slots = All (λ (slot : Option (Bor Version)). FitsInt (width_of ty) (is_signed ty) (number_of (value_in k (option_copied slot)))) slots
+abbrev pub NumbersFit : ValType → ℕ → List (Option Version) → Type 0
+NumbersFit ty k slots = All (λ (slot : Option Version). FitsInt (width_of ty) (is_signed ty) (number_of (value_in k slot))) slots
 
 -- the values that slots have of the attribute at a place fit it
-abbrev pub ValuesFitOne : Attr → ℕ → List (Option (Bor Version)) → Type 0
-ValuesFitOne a k slots = All (λ (slot : Option (Bor Version)). IfSome (option_copied slot) (λ (v : Version). FitsValue a (get_or v.row k Null))) slots
+abbrev pub ValuesFitOne : Attr → ℕ → List (Option Version) → Type 0
+ValuesFitOne a k slots = All (λ (slot : Option Version). IfSome slot (λ (v : Version). FitsValue a (get_or v.row k Null))) slots
 
 -- the values of slots fit their attributes
-abbrev pub ValuesFit : List Attr → List (Option (Bor Version)) → Type 0
+abbrev pub ValuesFit : List Attr → List (Option Version) → Type 0
 ValuesFit attrs slots = (k : ℕ) (a : Attr) → k < length attrs → ValuesFitOne (get_or attrs k a) k slots
 
 -- all objects of columns of slots

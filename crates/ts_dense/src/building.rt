@@ -9,7 +9,7 @@ ghost use Rattle.ts_plain.specs.Writes.{hulled_for, NamesWrites};
 ghost use Rattle.ts_sparse.specs.Laying.{with_objects, none_laid};
 ghost use Rattle.ts_sparse.specs.Sparse.{value_column, numbers_object, validity_objects, origin_objects};
 ghost use Rattle.ts_dense.specs.Dense.{starts_object, bytes_object, fixed_objects, attr_objects, parts_of, FitsDense, IsDense};
-ghost use Rattle.ts_dense.specs.Laying.{slot_cells, slot_objects, NamedIn, ValuesFit, ValuesFitOne};
+ghost use Rattle.ts_dense.specs.Laying.{held, slot_cells, slot_objects, NamedIn, ValuesFit, ValuesFitOne};
 
 use crate::columns::{numbers_object, origins_object, texts_of, validity_object};
 use crate::metadata::meta_object;
@@ -22,8 +22,8 @@ use ts_schema::{Attr, Frame, Schema};
 use ts_sparse::Laid;
 use ts_wire::{Kind, wrap};
 
-/// The parts of a dense fragment, in the order in which they are put. See the TileDB format
-/// specification, "Fragment".
+/// The parts of a dense fragment, in the order in which they are put and in the layout of FORMATS.md,
+/// "The dense fragment in tiles". See the TileDB format specification, "Fragment".
 ///
 /// First come of each attribute its values, and where they may be null which of them are there, and then
 /// the writes of a consolidated fragment's cells. The metadata is last. Coordinates are not stored.
@@ -34,6 +34,8 @@ use ts_wire::{Kind, wrap};
 ///
 /// The versions have to name their writes, as [`ts_plain::write_plain`] asks too, and the piece has to be
 /// one that a dense fragment of the array can store. There is no error but want of memory.
+///
+/// The parts spell the piece where its versions are all in the schema of its head (`spelled`).
 #[tactic(auto, using(crate::proofs::PartLaws::all_parts_built, crate::proofs::PartLaws::built_spells))]
 pub fn build(
     alloc: Global,
@@ -46,9 +48,8 @@ pub fn build(
     ensures parts { IfOk result (λ parts. parts ≡ parts_of frame.now schema.now.attrs (hulled_for piece.now)) }
     ensures spelled { All (λ (v : AnyVersion). v.schema ≡ piece.now.head.schema) piece.now.versions → IfOk result (λ parts. IsDense frame.now schema.now piece.now (look_in parts)) }
 {
-    let cells = piece.cells(alloc)?;
-    let head = cells.head();
-    let slots = slots_of(alloc, frame, schema, &cells)?;
+    let head = piece.head();
+    let slots = slots_of(alloc, frame, schema, piece)?;
     let tiles = slots.counts.len() as u32;
     let laid = lay_columns(alloc, schema, head.consolidated, &slots)?;
     let Laid { mut parts, sizes } = laid;
@@ -67,13 +68,13 @@ fn lay_columns(
     alloc: Global,
     schema: &Schema,
     consolidated: bool,
-    slots: &Slots<'_, '_>,
+    slots: &Slots<'_>,
 ) -> Result<Laid, OutOfMemory>
     requires few_attrs { length schema.now.attrs ≤ 64 }
-    requires fits { ValuesFit schema.now.attrs slots.now.versions.items }
+    requires fits { ValuesFit schema.now.attrs (held slots.now) }
     requires few { length slots.now.origins.now < 2 ^ 32 }
     requires ascend { IsStrictlySortedBy key_cmp slots.now.origins.now }
-    requires known { NamedIn slots.now.origins.now slots.now.versions.items }
+    requires known { NamedIn slots.now.origins.now (held slots.now) }
     ensures { IfOk result (λ laid. laid ≡ with_objects none_laid (slot_objects schema.now.attrs consolidated slots.now)) }
 {
     let mut laid = Laid {
@@ -90,10 +91,10 @@ fn lay_attrs(
     alloc: Global,
     laid: &mut Laid,
     attrs: &[Attr],
-    slots: &Slots<'_, '_>,
+    slots: &Slots<'_>,
 ) -> Result<(), OutOfMemory>
     requires few { length attrs.now ≤ 64 }
-    requires fits { ValuesFit attrs.now slots.now.versions.items }
+    requires fits { ValuesFit attrs.now (held slots.now) }
     ensures { OnOk result (laid.new ≡ with_objects laid.old (attr_objects slots.now.counts 0 attrs.now (slot_cells slots.now))) }
 {
     for place in 0..attrs.len() {
@@ -108,9 +109,9 @@ fn lay_attr(
     laid: &mut Laid,
     place: u8,
     attr: &Attr,
-    slots: &Slots<'_, '_>,
+    slots: &Slots<'_>,
 ) -> Result<(), OutOfMemory>
-    requires { ValuesFitOne attr.now place slots.now.versions.items }
+    requires { ValuesFitOne attr.now place (held slots.now) }
     ensures { OnOk result (laid.new ≡ with_objects (with_objects laid.old (fixed_objects (is_integer attr.now.ty) slots.now.counts place attr.now.ty (value_column place (slot_cells slots.now)))) (validity_objects attr.now.nullable place (value_column place (slot_cells slots.now)))) }
 {
     if attr.ty.is_integer() {
@@ -128,13 +129,13 @@ fn lay_numbers(
     laid: &mut Laid,
     place: u8,
     attr: &Attr,
-    slots: &Slots<'_, '_>,
+    slots: &Slots<'_>,
 ) -> Result<(), OutOfMemory>
     requires integer { is_integer attr.now.ty ≡ true }
-    requires fits { ValuesFitOne attr.now place slots.now.versions.items }
+    requires fits { ValuesFitOne attr.now place (held slots.now) }
     ensures { OnOk result (laid.new ≡ with_objects laid.old (numbers_object place attr.now.ty (value_column place (slot_cells slots.now)) ∷ [])) }
 {
-    let bytes = numbers_object(alloc, attr.ty, place, slots.versions.as_slice())?;
+    let bytes = numbers_object(alloc, attr.ty, place, slots)?;
     let part = Part::Attr(place);
     laid.lay(PartBytes { part, bytes }, &[])
 }
@@ -145,12 +146,12 @@ fn lay_texts(
     alloc: Global,
     laid: &mut Laid,
     place: u8,
-    slots: &Slots<'_, '_>,
+    slots: &Slots<'_>,
 ) -> Result<(), OutOfMemory>
     ensures { OnOk result (laid.new ≡ with_objects laid.old (starts_object slots.now.counts place (value_column place (slot_cells slots.now)) ∷ bytes_object slots.now.counts place (value_column place (slot_cells slots.now)) ∷ [])) }
 {
     let counts = slots.counts.as_slice();
-    let texts = texts_of(alloc, place, slots.versions.as_slice())?;
+    let texts = texts_of(alloc, place, slots)?;
     let bytes = starts_object(alloc, counts, &texts)?;
     let part = Part::Attr(place);
     laid.lay(PartBytes { part, bytes }, &[])?;
@@ -168,14 +169,14 @@ fn lay_validity(
     laid: &mut Laid,
     place: u8,
     nullable: bool,
-    slots: &Slots<'_, '_>,
+    slots: &Slots<'_>,
 ) -> Result<(), OutOfMemory>
     ensures { OnOk result (laid.new ≡ with_objects laid.old (validity_objects nullable place (value_column place (slot_cells slots.now)))) }
 {
     if !nullable {
         return Ok(());
     }
-    let bytes = validity_object(alloc, place, slots.versions.as_slice())?;
+    let bytes = validity_object(alloc, place, slots)?;
     let part = Part::Validity(place);
     laid.lay(PartBytes { part, bytes }, &[])
 }
@@ -185,17 +186,17 @@ fn lay_origins(
     alloc: Global,
     laid: &mut Laid,
     consolidated: bool,
-    slots: &Slots<'_, '_>,
+    slots: &Slots<'_>,
 ) -> Result<(), OutOfMemory>
     requires few { length slots.now.origins.now < 2 ^ 32 }
     requires ascend { IsStrictlySortedBy key_cmp slots.now.origins.now }
-    requires known { NamedIn slots.now.origins.now slots.now.versions.items }
+    requires known { NamedIn slots.now.origins.now (held slots.now) }
     ensures { OnOk result (laid.new ≡ with_objects laid.old (origin_objects consolidated (slot_cells slots.now))) }
 {
     if !consolidated {
         return Ok(());
     }
-    let bytes = origins_object(alloc, slots.origins, slots.versions.as_slice())?;
+    let bytes = origins_object(alloc, slots)?;
     let part = Part::Origin;
     laid.lay(PartBytes { part, bytes }, &[])
 }

@@ -5,5 +5,5 @@ use Rattle.ts_dense.proofs.building.lay_numbers.Goals as goal
 
 pub returns : goal.returns
 returns c =
-    on_ok_weaker c.lay.result (λ push. numbers_laid c.args.laid.now c.lay.new.self c.args.place c.args.attr.now c.args.slots.now c.as_slice.result.now c.in_ok-bytes.bytes c.as_slice.ensures.value c.in_ok-bytes.ensures push)
+    on_ok_weaker c.lay.result (λ push. numbers_laid c.args.laid.now c.lay.new.self c.args.place c.args.attr.now c.args.slots.now c.in_ok-bytes.bytes c.in_ok-bytes.ensures push)
     c.lay.ensures

@@ -9,5 +9,5 @@ use Rattle.ts_dense.proofs.building.lay_texts.Goals as goal
 pub returns : goal.returns
 returns c =
     on_ok_weaker c.lay-2.result
-    (λ push. texts_laid c.args.laid.now c.lay.new.self c.lay-2.new.self c.args.place c.args.slots.now c.as_slice-counts.result.now c.as_slice.result.now c.in_ok-texts.texts c.in_ok-bytes.bytes c.in_ok-bytes-2.bytes c.as_slice-2.result.now
-    c.as_slice-counts.ensures c.as_slice.ensures.value c.in_ok-texts.ensures c.in_ok-bytes.ensures c.in_ok-lay.ensures (c.in_ok-bytes-2.ensures ∙ ap (wrapped kind.Column) c.bytes.ensures) (c.as_slice-2.ensures ∙ c.in_ok-starts.ensures) push) c.lay-2.ensures
+    (λ push. texts_laid c.args.laid.now c.lay.new.self c.lay-2.new.self c.args.place c.args.slots.now c.as_slice-counts.result.now c.in_ok-texts.texts c.in_ok-bytes.bytes c.in_ok-bytes-2.bytes c.as_slice.result.now
+    c.as_slice-counts.ensures c.in_ok-texts.ensures c.in_ok-bytes.ensures c.in_ok-lay.ensures (c.in_ok-bytes-2.ensures ∙ ap (wrapped kind.Column) c.bytes.ensures) (c.as_slice.ensures ∙ c.in_ok-starts.ensures) push) c.lay-2.ensures

@@ -6,4 +6,4 @@ use Rattle.ts_dense.proofs.building.lay_validity.Goals as goal
 pub returns : goal.returns
 returns c =
     on_ok_weaker c.lay.result
-    (λ push. validity_laid c.args.laid.now c.lay.new.self c.args.place c.args.nullable c.args.slots.now c.as_slice.result.now c.in_ok-bytes.bytes c.if-not-nullable.false c.as_slice.ensures.value c.in_ok-bytes.ensures push) c.lay.ensures
+    (λ push. validity_laid c.args.laid.now c.lay.new.self c.args.place c.args.nullable c.args.slots.now c.in_ok-bytes.bytes c.if-not-nullable.false c.in_ok-bytes.ensures push) c.lay.ensures

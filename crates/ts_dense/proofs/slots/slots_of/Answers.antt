@@ -1,21 +1,16 @@
--- The tiles one after another, and the slots of all.
-use Rattle.std.proofs.Common.{ap, ◌∙◌}
+-- The slots are those of the tiles.
+use Rattle.std.proofs.Common.{map, ap, ◌∙◌}
+use Rattle.std.specs.List.{flat_map}
 use Rattle.ts_base.specs.declared.heads.Head.{Head}
-use Rattle.ts_dense.proofs.FillLaws.{placing_none, placing_more, slots_are}
+use Rattle.ts_domain.specs.Boxes.{cells_of}
+use Rattle.ts_order.specs.Orders.{coords_in_order}
+use Rattle.ts_dense.specs.Laying.{versions_at}
+use Rattle.ts_dense.proofs.FullSlots.{slots_are}
 use Rattle.ts_dense.proofs.slots.slots_of.Goals as goal
-
-pub loop-tile-init : goal.loop-tile-init
-loop-tile-init c =
-    placing_none c.args.frame.now.cell c.as_slice-tile-items.result.now c.versions-found.result.now c.new-counts.result c.new-versions.result.items c.new-counts.ensures c.new-versions.ensures.items
-
-pub loop-tile-preserved : goal.loop-tile-preserved
-loop-tile-preserved c =
-    let l = c.loop-tile in
-    placing_more c.args.frame.now.cell c.as_slice-tile-items.result.now c.versions-found.result.now l.counts c.push.new.self l.versions.items c.fill.new.slots.items l.next c.in_ok-next.next l.tile-index c.in_ok-cells.cells
-    c.tile-item.result l.invariant c.loop-tile-test.true c.tile-item.is c.in_ok-push.ensures.ok c.in_ok-cells.ensures.cells c.in_ok-next.ensures
 
 pub returns : goal.returns
 returns c =
-    let l = c.loop-tile in
-    slots_are c.args.frame.now c.args.piece.now c.as_slice-tile-items.result.now c.versions-found.result.now _ l.next l.tile-index (c.as_slice-tile-items.ensures ∙ c.in_ok-tiles.ensures.tiles) c.versions-found.ensures
-    (ap (λ (head : Head). head.origins) c.head.ensures) l.invariant c.loop-tile-test.false
+    let frame = c.args.frame.now in
+    let piece = c.args.piece.now in
+    slots_are frame piece c.in_ok-tiles.tiles _ c.in_ok-tiles.ensures.tiles (ap (λ (head : Head). head.origins) c.head.ensures) (c.in_ok-counts.ensures ∙ ap (map cells_of) c.as_slice.ensures)
+    (c.in_ok-cells.ensures ∙ ap (λ ts. versions_at (flat_map (coords_in_order frame.cell) ts) piece.versions) c.as_slice-2.ensures)

@@ -1,9 +1,0 @@
--- The places so far.
-use Rattle.std.proofs.Common.{◌≡◌, take}
-use Rattle.std.specs.List.{flat_map}
-use Rattle.ts_wire.specs.Numbers.{number_bytes}
-use Rattle.ts_dense.specs.Laying.{held, origins_along}
-use Rattle.ts_dense.proofs.columns.origins_object.Given as goal
-
-abbrev pub invariant-loop-slot : goal.invariant-loop-slot
-invariant-loop-slot l = l.scribe ≡ flat_map (number_bytes 4) (origins_along l.origins (held (take l.slot-index l.slots)))
