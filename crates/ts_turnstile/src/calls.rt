@@ -287,7 +287,11 @@ impl<S: Store> Turnstile<S> {
         ensures served { seat.new.me ≡ (with_ticket seat.old.me.0 None, []) }
     {
         let shared = &self.table.shared;
-        shared.fetch_add::<Serve>(seat, SERVED, 1);
-        shared.wake_all(SERVED);
+        let served = shared.fetch_add::<Serve>(seat, SERVED, 1);
+        // Who waits has drawn a later ticket. Who draws one after this look finds the word changed.
+        let drawn = shared.peek(DRAWN);
+        if drawn.saturating_sub(served) > 1 {
+            shared.wake_all(SERVED);
+        }
     }
 }

@@ -5,8 +5,8 @@ use Rattle.ts_turnstile.specs.Rule.{Stands}
 use Rattle.ts_turnstile.proofs.Seats.{in_three, serves_from}
 use Rattle.ts_turnstile.proofs.turnstile.Turnstile.serve.Goals as goal
 
-pub fetch_add-requires : goal.fetch_add-requires
-fetch_add-requires g c =
+pub fetch_add-served-requires : goal.fetch_add-served-requires
+fetch_add-served-requires g c =
     let full = c.requires.full in (
       c.requires.own,
       in_three c.args.self.now.table.shared.table_id.words 2 c.args.self.now.sized.0 (lit< tt),
