@@ -2,6 +2,10 @@ pub mod Cuts
 pub mod Texts
 pub mod Whole
 pub mod Typed
+pub mod ReadSteps
+pub mod TreeLemmas
+pub mod NumberLemmas
+pub mod ListLemmas
 pub mod Meanings
 pub mod Asking
 pub mod Generating

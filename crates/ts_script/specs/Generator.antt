@@ -1,5 +1,5 @@
 -- The generator: the script that writes so many cells, and looks after them.
-use Rattle.std.specs.Prelude.{ℕ, zero, suc, ◌+◌, ◌-◌, ◌*◌, ◌/◌, ◌%◌, ◌≤◌, ℤ, pos, List, [], ◌∷◌, ◌++◌, codes, decimal, map, Bool, true, false, Some, None, min}
+use Rattle.std.specs.Prelude.{ℕ, zero, suc, ◌+◌, ◌-◌, ◌*◌, ◌/◌, ◌%◌, ◌≤◌, pos, List, [], ◌∷◌, ◌++◌, codes, decimal, map, true, false, Some, None, min}
 use Rattle.std.specs.List.{range_with_len}
 use Rattle.ts_base.specs.declared.values.Val.{Val}
 use Rattle.ts_base.specs.declared.values.Val.TheVariants.{Int}

@@ -1,6 +1,8 @@
 pub mod Shapes
 pub mod Values
 pub mod Typed
+pub mod Trees
+pub mod Readings
 pub mod Lines
 pub mod Parts
 pub mod Script

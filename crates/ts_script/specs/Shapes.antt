@@ -4,8 +4,8 @@ use Rattle.std.specs.Option.{option_map_or}
 use Rattle.std.specs.Str.{bytes_eq}
 use Rattle.serde_json.specs.Data.{Data, object, Items, no_items, item, Members, no_members, member}
 use Rattle.serde_json.specs.Find.{get, as_array, as_integer, as_number, as_u64}
-use Rattle.ts_script.specs.declared.json.FormFault.{FormFault}
-use Rattle.ts_script.specs.declared.json.FormFault.TheVariants as fault
+use Rattle.ts_script.specs.declared.forms.FormFault.{FormFault}
+use Rattle.ts_script.specs.declared.forms.FormFault.TheVariants as fault
 
 -- the first answer, and then what follows from it
 infixl 10 ◌>>=◌

@@ -1,16 +1,16 @@
 //! The commands that a script may have, as JSON objects.
-ghost use Rattle.std.specs.Prelude.{◌≡◌, ◌&&◌, true, IfOk, IsTrue, map, option_map};
-ghost use Rattle.serde_json.specs.View.{view};
+ghost use Rattle.std.specs.Prelude.{◌≡◌, ◌&&◌, true, IfOk, IsTrue, map, option_and_then, option_map};
+ghost use Rattle.ts_script.specs.Trees.{view};
 ghost use Rattle.ts_model.specs.Jobs.{IsFitLine};
 ghost use Rattle.ts_script.specs.Shapes.{Gives};
 ghost use Rattle.ts_script.specs.Typed.{is_typed, is_typed_query};
 ghost use Rattle.ts_script.specs.Lines.{name_of, kind_named, create_of, evolve_of, write_of, query_of, read_of, delete_of, consolidate_of, vacuum_of, unlock_of, fragments_of, command_of, form_of, has_interval, is_to_stamp, line_of};
 
 use crate::fitting::{as_text, fits};
-use crate::json::{FormFault, FromJson, has_only, if_there, optional, required, text_under};
+use crate::forms::{FormFault, has_only, if_there, optional, required, text_under};
+use crate::tree::Json;
 use crate::values::{read_box, read_columns, read_filter};
 use crate::words::ObjectForm;
-use serde_json::Value;
 use std::alloc::Global;
 use ts_base::{ByteList, LabelList, Stop};
 use ts_commit::Limits;
@@ -34,40 +34,35 @@ pub(crate) const MAX: u32 = 64;
 /// The number of cells in a data tile where a create does not say it.
 pub(crate) const CAPACITY: u32 = 10_000;
 
-/// Reads a line: a command in its lane, with its stamp and its stop where it has them.
-impl FromJson for Line {
-    ghost form = { line_of };
-
-    ghost typed = { λ _. true };
-
-    #[tactic(auto, unfolding(crate::specs::Lines::line_of))]
-    fn from_json(alloc: Global, value: &Value) -> Result<Line, FormFault>
-        ensures gives { Gives result (line_of (view value.now)) }
-        ensures fit { IfOk result IsFitLine }
-    {
-        let Some(name) = name_of(value) else {
-            return Err(FormFault::Form);
-        };
-        let lane = optional(alloc, value, "lane", 0)?;
-        let at = if_there(alloc, value, "at")?;
-        let stop = optional(alloc, value, "stop", Stop::Never)?;
-        let command = read_command(alloc, lane, name, value)?;
-        let to_stamp = is_to_stamp(name, value);
-        if lane >= LANES || !fits(&command) {
-            return Err(FormFault::Form);
-        }
-        Ok(Line {
-            lane,
-            command,
-            at,
-            to_stamp,
-            stop,
-        })
+/// Reads a line: a command in its lane, with its stamp and its stop where it has them. The columns
+/// of a write are taken out of the value.
+#[tactic(auto, unfolding(crate::specs::Lines::line_of))]
+pub(crate) fn read_line_form(alloc: Global, value: &mut Json) -> Result<Line, FormFault>
+    ensures gives { Gives result (line_of (view value.old)) }
+    ensures fit { IfOk result IsFitLine }
+{
+    let Some(name) = name_of(value) else {
+        return Err(FormFault::Form);
+    };
+    let lane = optional(alloc, value, "lane", 0)?;
+    let at = if_there(alloc, value, "at")?;
+    let stop = optional(alloc, value, "stop", Stop::Never)?;
+    let to_stamp = is_to_stamp(name, value);
+    let command = read_command(alloc, lane, value)?;
+    if lane >= LANES || !fits(&command) {
+        return Err(FormFault::Form);
     }
+    Ok(Line {
+        lane,
+        command,
+        at,
+        to_stamp,
+        stop,
+    })
 }
 
 /// The command's name, where a text stands under `cmd`.
-fn name_of(value: &Value) -> Option<&str>
+fn name_of(value: &Json) -> Option<&str>
     ensures { option_map (λ name. name.now) result ≡ name_of (view value.now) }
 {
     text_under(value, "cmd")
@@ -81,18 +76,21 @@ fn has_interval(name: &str) -> bool
 }
 
 /// Whether a command of this name has an interval that ends at its own stamp.
-fn is_to_stamp(name: &str, value: &Value) -> bool
+fn is_to_stamp(name: &str, value: &Json) -> bool
     ensures { result ≡ is_to_stamp name.now (view value.now) }
 {
     has_interval(name) && value.get("to").is_none()
 }
 
-/// Reads the command of this name, in this lane.
+/// Reads the command of the value's name, in this lane.
 #[tactic(auto, unfolding(crate::specs::Lines::command_of))]
-fn read_command(alloc: Global, lane: u32, name: &str, value: &Value) -> Result<Command, FormFault>
-    ensures gives { Gives result (command_of lane name.now (view value.now)) }
+fn read_command(alloc: Global, lane: u32, value: &mut Json) -> Result<Command, FormFault>
+    ensures gives { Gives result (option_and_then (λ name. command_of lane name (view value.old)) (name_of (view value.old))) }
     ensures typed { IfOk result (λ command. IsTrue (is_typed command)) }
 {
+    let Some(name) = name_of(value) else {
+        return Err(FormFault::Form);
+    };
     if name == "create" {
         read_create(alloc, &COMMON, value)
     } else if name == "evolve" {
@@ -120,9 +118,9 @@ fn read_command(alloc: Global, lane: u32, name: &str, value: &Value) -> Result<C
 pub(crate) fn read_form(
     alloc: Global,
     form: ObjectForm,
-    value: &Value,
+    value: &mut Json,
 ) -> Result<Command, FormFault>
-    ensures gives { Gives result (form_of form (view value.now)) }
+    ensures gives { Gives result (form_of form (view value.old)) }
     ensures typed { IfOk result (λ command. IsTrue (is_typed command)) }
 {
     match form {
@@ -134,7 +132,7 @@ pub(crate) fn read_form(
 
 /// Reads a create.
 #[tactic(auto, unfolding(crate::specs::Lines::create_of))]
-fn read_create(alloc: Global, common: &[&str], value: &Value) -> Result<Command, FormFault>
+fn read_create(alloc: Global, common: &[&str], value: &Json) -> Result<Command, FormFault>
     ensures gives { Gives result (create_of (map (λ key. key.now) common.entry.now) (view value.now)) }
     ensures typed { IfOk result (λ command. IsTrue (is_typed command)) }
 {
@@ -183,7 +181,7 @@ fn is_dense(kind: &str) -> Option<bool>
 
 /// Reads an evolve, which adds attributes or drops some, or both.
 #[tactic(auto, unfolding(crate::specs::Lines::evolve_of))]
-fn read_evolve(alloc: Global, common: &[&str], value: &Value) -> Result<Command, FormFault>
+fn read_evolve(alloc: Global, common: &[&str], value: &Json) -> Result<Command, FormFault>
     ensures gives { Gives result (evolve_of (map (λ key. key.now) common.entry.now) (view value.now)) }
     ensures typed { IfOk result (λ command. IsTrue (is_typed command)) }
 {
@@ -196,19 +194,23 @@ fn read_evolve(alloc: Global, common: &[&str], value: &Value) -> Result<Command,
     Ok(Command::Evolve(Evolution { add, less }))
 }
 
-/// Reads a write: its columns, and to a dense array its box and the order of the cells in it.
+/// Reads a write: its columns, and to a dense array its box and the order of the cells in it. The
+/// columns are taken out of the value, and all else is read before.
 #[tactic(auto, unfolding(crate::specs::Lines::write_of))]
-fn read_write(alloc: Global, common: &[&str], value: &Value) -> Result<Command, FormFault>
-    ensures gives { Gives result (write_of (map (λ key. key.now) common.entry.now) (view value.now)) }
+fn read_write(alloc: Global, common: &[&str], value: &mut Json) -> Result<Command, FormFault>
+    ensures gives { Gives result (write_of (map (λ key. key.now) common.entry.now) (view value.old)) }
     ensures typed { IfOk result (λ command. IsTrue (is_typed command)) }
 {
-    let Some(found) = value.get("cols") else {
+    let sub = read_box(alloc, value.get("box"));
+    let layout = optional(alloc, value, "layout", Order::Row);
+    let has_only = has_only(value, common, &["cols", "box", "layout"]);
+    let Some(found) = value.take("cols") else {
         return Err(FormFault::Form);
     };
     let cols = read_columns(alloc, found)?;
-    let sub = read_box(alloc, value.get("box"))?;
-    let layout = optional(alloc, value, "layout", Order::Row)?;
-    if !has_only(value, common, &["cols", "box", "layout"]) {
+    let sub = sub?;
+    let layout = layout?;
+    if !has_only {
         return Err(FormFault::Form);
     }
     Ok(Command::Write(WriteIn { cols, sub, layout }))
@@ -216,7 +218,7 @@ fn read_write(alloc: Global, common: &[&str], value: &Value) -> Result<Command, 
 
 /// Reads a read: its interval begins and ends at 0 where it does not say else.
 #[tactic(auto, unfolding(crate::specs::Lines::read_of))]
-fn read_read(alloc: Global, common: &[&str], value: &Value) -> Result<Command, FormFault>
+fn read_read(alloc: Global, common: &[&str], value: &Json) -> Result<Command, FormFault>
     ensures gives { Gives result (read_of (map (λ key. key.now) common.entry.now) (view value.now)) }
     ensures typed { IfOk result (λ command. IsTrue (is_typed command)) }
 {
@@ -232,7 +234,7 @@ fn read_read(alloc: Global, common: &[&str], value: &Value) -> Result<Command, F
 
 /// Reads what a read asks for: its box, its fields, its filter and its layout.
 #[tactic(auto, unfolding(crate::specs::Lines::query_of))]
-fn read_query(alloc: Global, value: &Value) -> Result<Query, FormFault>
+fn read_query(alloc: Global, value: &Json) -> Result<Query, FormFault>
     ensures gives { Gives result (query_of (view value.now)) }
     ensures typed { IfOk result (λ query. IsTrue (is_typed_query query)) }
 {
@@ -253,7 +255,7 @@ fn read_query(alloc: Global, value: &Value) -> Result<Query, FormFault>
 
 /// Reads a delete: its condition.
 #[tactic(auto, unfolding(crate::specs::Lines::delete_of))]
-fn read_delete(alloc: Global, common: &[&str], value: &Value) -> Result<Command, FormFault>
+fn read_delete(alloc: Global, common: &[&str], value: &Json) -> Result<Command, FormFault>
     ensures gives { Gives result (delete_of (map (λ key. key.now) common.entry.now) (view value.now)) }
     ensures typed { IfOk result (λ command. IsTrue (is_typed command)) }
 {
@@ -269,7 +271,7 @@ fn read_delete(alloc: Global, common: &[&str], value: &Value) -> Result<Command,
 
 /// Reads a consolidation: its interval, and how many fragments it takes.
 #[tactic(auto, unfolding(crate::specs::Lines::consolidate_of))]
-fn read_consolidate(alloc: Global, common: &[&str], value: &Value) -> Result<Command, FormFault>
+fn read_consolidate(alloc: Global, common: &[&str], value: &Json) -> Result<Command, FormFault>
     ensures gives { Gives result (consolidate_of (map (λ key. key.now) common.entry.now) (view value.now)) }
     ensures typed { IfOk result (λ command. IsTrue (is_typed command)) }
 {
@@ -286,7 +288,7 @@ fn read_consolidate(alloc: Global, common: &[&str], value: &Value) -> Result<Com
 
 /// Reads a vacuum.
 #[tactic(auto, unfolding(crate::specs::Lines::vacuum_of))]
-fn read_vacuum(common: &[&str], value: &Value) -> Result<Command, FormFault>
+fn read_vacuum(common: &[&str], value: &Json) -> Result<Command, FormFault>
     ensures gives { Gives result (vacuum_of (map (λ key. key.now) common.entry.now) (view value.now)) }
     ensures typed { IfOk result (λ command. IsTrue (is_typed command)) }
 {
@@ -298,7 +300,7 @@ fn read_vacuum(common: &[&str], value: &Value) -> Result<Command, FormFault>
 
 /// Reads an unlock in this lane. The seed of the run is set when it is done.
 #[tactic(auto, unfolding(crate::specs::Lines::unlock_of))]
-fn read_unlock(common: &[&str], lane: u32, value: &Value) -> Result<Command, FormFault>
+fn read_unlock(common: &[&str], lane: u32, value: &Json) -> Result<Command, FormFault>
     ensures gives { Gives result (unlock_of (map (λ key. key.now) common.entry.now) lane (view value.now)) }
     ensures typed { IfOk result (λ command. IsTrue (is_typed command)) }
 {
@@ -310,7 +312,7 @@ fn read_unlock(common: &[&str], lane: u32, value: &Value) -> Result<Command, For
 
 /// Reads a listing of the commits.
 #[tactic(auto, unfolding(crate::specs::Lines::fragments_of))]
-fn read_fragments(common: &[&str], value: &Value) -> Result<Command, FormFault>
+fn read_fragments(common: &[&str], value: &Json) -> Result<Command, FormFault>
     ensures gives { Gives result (fragments_of (map (λ key. key.now) common.entry.now) (view value.now)) }
     ensures typed { IfOk result (λ command. IsTrue (is_typed command)) }
 {

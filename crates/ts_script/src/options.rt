@@ -7,9 +7,10 @@ ghost use Rattle.ts_script.specs.Generator.{IsCellCount};
 ghost use Rattle.ts_script.specs.Shapes.{Gives, both_items, when};
 ghost use Rattle.ts_script.specs.Options.{begins_with_zero, cell_count_of, number_from, is_number_text, number_of, is_number_byte, integer_of, labels_onto, labels_of, three_items, bounds_of, named_box_of, has_name, is_below, place_of, placed, boxes_onto, boxes_of};
 
-use crate::json::{FormFault, FromJson};
+use crate::forms::{FormFault, FromJson};
 use crate::parts::parts_at;
 use crate::script::read_json;
+use json::Scratch;
 use std::alloc::Global;
 use ts_base::{Label, LabelList};
 use ts_cond::{NamedBox, NamedBoxList};
@@ -100,7 +101,8 @@ fn read_integer(alloc: Global, text: &[u8]) -> Result<i128, FormFault>
     if !are_number_bytes(text) {
         return Err(FormFault::Form);
     }
-    let value = read_json(alloc, text)?;
+    let mut scratch = Scratch::new(alloc);
+    let value = read_json(alloc, &mut scratch, text)?;
     i128::from_json(alloc, &value)
 }
 

@@ -1,17 +1,19 @@
 //! Scripts: bytes to lines, or to the first line that is none.
 ghost use Rattle.std.specs.Prelude.{◌≡◌, Some, None, Ok, Err, IfOk, IsErrOf, IsTrue, take};
-ghost use Rattle.serde_json.specs.View.{view};
+ghost use Rattle.ts_script.specs.Trees.{view};
 ghost use Rattle.ts_script.specs.Shapes.{Gives};
 ghost use Rattle.ts_model.specs.Jobs.{IsFitLine};
 ghost use Rattle.ts_script.specs.Script.{byte_limit, is_blank, json_of, line_in, line_at, with_line, script_of, object_in, object_command, IsScript, AreLimited};
 ghost use Rattle.ts_model.specs.Commands.{fits};
 
 use crate::fitting::fits;
-use crate::json::{FormFault, FromJson};
-use crate::lines::read_form;
+use crate::forms::FormFault;
+use crate::lines::{read_form, read_line_form};
 use crate::parts::next_part;
+use crate::tokens::read_text;
+use crate::tree::Json;
 use crate::words::ObjectForm;
-use serde_json::{Category, Value};
+use json::Scratch;
 use std::alloc::Global;
 use thiserror::Error;
 use ts_base::OutOfMemory;
@@ -66,16 +68,17 @@ pub fn read_script(alloc: Global, input: &[u8]) -> Result<LineList, ScriptFault>
 {
     let mut rest = within_limit(input);
     let mut lines = LineList::new(alloc);
+    let mut scratch = Scratch::new(alloc);
     let mut number = 1;
     while let Some((piece, others)) = next_part(rest, b'\n') {
-        lines = with_line(alloc, number, lines, piece)?;
+        lines = with_line(alloc, &mut scratch, number, lines, piece)?;
         rest = others;
         number += 1;
     }
     if input.len() > BYTE_LIMIT {
         return Err(ScriptFault::Bad { line: number });
     }
-    with_line(alloc, number, lines, rest)
+    with_line(alloc, &mut scratch, number, lines, rest)
 }
 
 /// The bytes up to the limit.
@@ -90,6 +93,7 @@ fn within_limit(input: &[u8]) -> &[u8]
 #[tactic(auto, unfolding(crate::specs::Script::with_line))]
 fn with_line(
     alloc: Global,
+    scratch: &mut Scratch,
     number: u64,
     mut lines: LineList,
     bytes: &[u8],
@@ -104,18 +108,23 @@ fn with_line(
     if lines.len() == COMMAND_LIMIT {
         return Err(ScriptFault::Bad { line: number });
     }
-    let line = read_line(alloc, number, bytes)?;
+    let line = read_line(alloc, scratch, number, bytes)?;
     lines.push(line)?;
     Ok(lines)
 }
 
 /// Reads the bytes of a line.
 #[tactic(auto, unfolding(crate::specs::Script::line_at))]
-fn read_line(alloc: Global, number: u64, bytes: &[u8]) -> Result<Line, ScriptFault>
+fn read_line(
+    alloc: Global,
+    scratch: &mut Scratch,
+    number: u64,
+    bytes: &[u8],
+) -> Result<Line, ScriptFault>
     ensures script { IsScript result (line_at number bytes.now) }
     ensures fit { IfOk result IsFitLine }
 {
-    match line_in(alloc, bytes) {
+    match line_in(alloc, scratch, bytes) {
         Ok(line) => Ok(line),
         Err(FormFault::Form) => Err(ScriptFault::Bad { line: number }),
         Err(FormFault::OutOfMemory) => Err(ScriptFault::OutOfMemory),
@@ -124,28 +133,28 @@ fn read_line(alloc: Global, number: u64, bytes: &[u8]) -> Result<Line, ScriptFau
 
 /// Reads the line that bytes stand for.
 #[tactic(auto, unfolding(crate::specs::Script::line_in))]
-fn line_in(alloc: Global, bytes: &[u8]) -> Result<Line, FormFault>
+fn line_in(alloc: Global, scratch: &mut Scratch, bytes: &[u8]) -> Result<Line, FormFault>
     ensures gives { Gives result (line_in bytes.now) }
     ensures fit { IfOk result IsFitLine }
 {
-    let value = read_json(alloc, bytes)?;
-    Line::from_json(alloc, &value)
+    let mut value = read_json(alloc, scratch, bytes)?;
+    read_line_form(alloc, &mut value)
 }
 
-/// Reads bytes as one JSON value (RFC 8259), as `serde_json` does.
+/// Reads bytes as one JSON value (RFC 8259).
 #[tactic(auto, using(crate::proofs::Texts::text_tests), unfolding(crate::specs::Script::json_of))]
-pub(crate) fn read_json(alloc: Global, bytes: &[u8]) -> Result<Value, FormFault>
+pub(crate) fn read_json(
+    alloc: Global,
+    scratch: &mut Scratch,
+    bytes: &[u8],
+) -> Result<Json, FormFault>
     ensures value { IfOk result (λ value. json_of bytes.now ≡ Some (view value)) }
     ensures form { IsErrOf result FormFault.Form → json_of bytes.now ≡ None }
 {
     let Ok(text) = str::from_utf8(bytes) else {
         return Err(FormFault::Form);
     };
-    match Value::from_str(alloc, text) {
-        Ok(value) => Ok(value),
-        Err(error) if error.classify() == Category::Memory => Err(FormFault::OutOfMemory),
-        Err(_) => Err(FormFault::Form),
-    }
+    read_text(alloc, text, scratch)
 }
 
 /// Reads the input of a single command: one JSON object of at most 64 MiB, with the keys that a line
@@ -172,8 +181,9 @@ fn object_command(alloc: Global, form: ObjectForm, input: &[u8]) -> Result<Comma
     ensures gives { Gives result (object_command form input.now) }
     ensures fit { IfOk result (λ command. IsTrue (fits command)) }
 {
-    let value = read_json(alloc, input)?;
-    let command = read_form(alloc, form, &value)?;
+    let mut scratch = Scratch::new(alloc);
+    let mut value = read_json(alloc, &mut scratch, input)?;
+    let command = read_form(alloc, form, &mut value)?;
     if !fits(&command) {
         return Err(FormFault::Form);
     }

@@ -1,20 +1,21 @@
 //! Names, types, values, dimensions, attributes and stops as JSON values.
-ghost use Rattle.std.specs.Prelude.{◌≡◌, ◌^◌, ◌&&◌, [], true, length, nat_lt, IfOk, IfSome, IsTrue, option_map};
+ghost use Rattle.std.specs.Prelude.{◌≡◌, ◌^◌, ◌&&◌, [], true, length, nat_lt, IfOk, IsTrue, option_map};
 ghost use Rattle.std.specs.List.{list_all};
 ghost use Rattle.std.specs.Option.{option_map_or};
-ghost use Rattle.ts_base.specs.declared.values.Val.TheVariants.{Bytes};
 ghost use Rattle.ts_base.specs.Labels.{is_label};
 ghost use Rattle.ts_model.specs.Commands.{is_spelled_attr, is_spelled_val, is_text};
-ghost use Rattle.serde_json.specs.View.{view, items_view, members_view};
+ghost use Rattle.ts_script.specs.Trees.{view, items_view, members_view};
 ghost use Rattle.ts_table.specs.Columns.{val_seen};
 ghost use Rattle.ts_script.specs.Shapes.{items_onto, list_of, Gives};
 ghost use Rattle.ts_script.specs.Typed.{is_typed_col};
 ghost use Rattle.ts_script.specs.Values.{label, type_named, val_type, order, layout, layout_named, value, fill_said, fill, dim, attr, columns_onto, columns, bounds_onto, box, filter, point_named, stop};
 
-use crate::fitting::{are_text, as_text};
-use crate::json::{FormFault, FromJson, both_items, has_only, optional, required};
-use serde_json::{Map, Value};
+use crate::cells::Cells;
+use crate::fitting::as_text;
+use crate::forms::{FormFault, FromItem, FromJson, both_items, has_only, optional, required};
+use crate::tree::Json;
 use std::alloc::Global;
+use std::collections::BTreeMap;
 use ts_base::{ByteList, Label, OutOfMemory, Point, Sequence, Stop, Val, ValType};
 use ts_cond::{NamedBox, NamedBoxList};
 use ts_domain::{Dim, Layout, Order};
@@ -30,10 +31,23 @@ impl FromJson for Label {
     ghost typed = { is_label };
 
     #[tactic(auto, using(crate::proofs::Typed::label_typed))]
-    fn from_json(_alloc: Global, value: &Value) -> Result<Label, FormFault> {
+    fn from_json(_alloc: Global, value: &Json) -> Result<Label, FormFault> {
         match value.as_str().and_then(Label::new) {
             Some(label) => Ok(label),
             None => Err(FormFault::Form),
+        }
+    }
+}
+
+impl FromItem for Label {
+    #[tactic(auto, using(crate::proofs::Typed::label_typed))]
+    fn from_item(_alloc: Global, seen: Seen<'_>) -> Result<Label, FormFault> {
+        match seen {
+            Seen::Bytes(bytes) => match Label::from_bytes(bytes) {
+                Some(label) => Ok(label),
+                None => Err(FormFault::Form),
+            },
+            _ => Err(FormFault::Form),
         }
     }
 }
@@ -44,7 +58,7 @@ impl FromJson for ValType {
 
     ghost typed = { λ _. true };
 
-    fn from_json(_alloc: Global, value: &Value) -> Result<ValType, FormFault> {
+    fn from_json(_alloc: Global, value: &Json) -> Result<ValType, FormFault> {
         match value.as_str().and_then(type_named) {
             Some(ty) => Ok(ty),
             None => Err(FormFault::Form),
@@ -78,7 +92,7 @@ impl FromJson for Order {
     ghost typed = { λ _. true };
 
     #[tactic(auto, unfolding(crate::specs::Values::order))]
-    fn from_json(_alloc: Global, value: &Value) -> Result<Order, FormFault> {
+    fn from_json(_alloc: Global, value: &Json) -> Result<Order, FormFault> {
         match value.as_str() {
             Some("row") => Ok(Order::Row),
             Some("col") => Ok(Order::Col),
@@ -94,7 +108,7 @@ impl FromJson for Layout {
     ghost typed = { λ _. true };
 
     #[tactic(auto, unfolding(crate::specs::Values::layout))]
-    fn from_json(_alloc: Global, value: &Value) -> Result<Layout, FormFault> {
+    fn from_json(_alloc: Global, value: &Json) -> Result<Layout, FormFault> {
         match value.as_str().and_then(layout_named) {
             Some(layout) => Ok(layout),
             None => Err(FormFault::Form),
@@ -120,14 +134,14 @@ impl FromJson for Val {
 
     ghost typed = { is_spelled_val };
 
-    fn from_json(alloc: Global, value: &Value) -> Result<Val, FormFault> {
+    fn from_json(alloc: Global, value: &Json) -> Result<Val, FormFault> {
         match value {
-            Value::Null => Ok(Val::Null),
-            Value::Number(number) => match number.as_i128() {
+            Json::Null => Ok(Val::Null),
+            Json::Number(number) => match number.as_i128() {
                 Some(integer) => Ok(Val::Int(integer)),
                 None => Err(FormFault::Form),
             },
-            Value::String(text) => {
+            Json::Text(text) => {
                 let bytes = ByteList::of_bytes(alloc, text.as_bytes())?;
                 Ok(Val::Bytes(as_text(bytes)))
             }
@@ -142,7 +156,7 @@ fn read_fill(
     alloc: Global,
     ty: ValType,
     nullable: bool,
-    given: Option<&Value>,
+    given: Option<&Json>,
 ) -> Result<Val, FormFault>
     ensures gives { Gives result (fill ty nullable (option_map (λ d. view d.now) given.entry)) }
     ensures typed { IfOk result (λ val. IsTrue (is_spelled_val val)) }
@@ -175,7 +189,7 @@ impl FromJson for Dim {
     ghost typed = { λ _. true };
 
     #[tactic(auto, unfolding(crate::specs::Values::dim))]
-    fn from_json(alloc: Global, value: &Value) -> Result<Dim, FormFault> {
+    fn from_json(alloc: Global, value: &Json) -> Result<Dim, FormFault> {
         let name = required(alloc, value, "name")?;
         let ty = required(alloc, value, "type")?;
         let bounds: Sequence<i128> = required(alloc, value, "domain")?;
@@ -196,6 +210,13 @@ impl FromJson for Dim {
     }
 }
 
+impl FromItem for Dim {
+    #[tactic(auto, unfolding(crate::specs::Values::dim))]
+    fn from_item(_alloc: Global, _seen: Seen<'_>) -> Result<Dim, FormFault> {
+        Err(FormFault::Form)
+    }
+}
+
 /// An attribute.
 impl FromJson for Attr {
     ghost form = { attr };
@@ -203,7 +224,7 @@ impl FromJson for Attr {
     ghost typed = { is_spelled_attr };
 
     #[tactic(auto, unfolding(crate::specs::Values::attr))]
-    fn from_json(alloc: Global, value: &Value) -> Result<Attr, FormFault> {
+    fn from_json(alloc: Global, value: &Json) -> Result<Attr, FormFault> {
         let name = required(alloc, value, "name")?;
         let ty = required(alloc, value, "type")?;
         let nullable = optional(alloc, value, "nullable", false)?;
@@ -220,93 +241,86 @@ impl FromJson for Attr {
     }
 }
 
-/// A list of values.
-impl FromJson for Column {
-    ghost form = { list_of value };
-
-    ghost typed = { λ vals. nat_lt (length vals) (2 ^ 64) && list_all is_spelled_val vals };
-
-    fn from_json(alloc: Global, value: &Value) -> Result<Column, FormFault> {
-        match value.as_array() {
-            Some(items) => read_values(alloc, items.as_slice()),
-            None => Err(FormFault::Form),
-        }
+impl FromItem for Attr {
+    #[tactic(auto, unfolding(crate::specs::Values::attr))]
+    fn from_item(_alloc: Global, _seen: Seen<'_>) -> Result<Attr, FormFault> {
+        Err(FormFault::Form)
     }
 }
 
-/// Reads a value from each item of an array.
-#[tactic(auto, using(crate::proofs::Typed::one_more))]
-fn read_values(alloc: Global, items: &[Value]) -> Result<Column, FormFault>
-    ensures gives { Gives result (items_onto value [] (items_view items.now)) }
+/// The list of values that a JSON value is. Its plain values stay in their column.
+fn column_of(given: Json) -> Result<Column, FormFault>
+    ensures gives { Gives result (list_of value (view given)) }
+    ensures typed { IfOk result (λ vals. IsTrue (nat_lt (length vals) (2 ^ 64) && list_all is_spelled_val vals)) }
+{
+    match given {
+        Json::Values(cells, rest) => with_values(Box::into_inner(cells), rest.as_slice()),
+        Json::List(items) => with_values(Cells::new(*items.allocator()), items.as_slice()),
+        _ => Err(FormFault::Form),
+    }
+}
+
+/// Reads a value from each of some items, behind those that are there.
+fn with_values(mut cells: Cells, items: &[Json]) -> Result<Column, FormFault>
+    ensures gives { Gives result (items_onto value cells.column (items_view items.now)) }
     ensures few { IfOk result (λ vals. IsTrue (nat_lt (length vals) (2 ^ 64))) }
     ensures typed { IfOk result (λ vals. IsTrue (list_all is_spelled_val vals)) }
 {
-    let mut done = Column::new(alloc);
     for item in items {
         let Some(seen) = value_in(item) else {
             return Err(FormFault::Form);
         };
-        done.push_seen(seen)?;
+        cells.push(seen)?;
     }
-    let _count = done.len();
-    Ok(done)
+    let _count = cells.len();
+    Ok(cells.into_column())
 }
 
 /// The value of a cell, seen in its place.
-fn value_in(item: &Value) -> Option<Seen<'_>>
-    ensures gives { option_map val_seen result ≡ value (view item.now) }
-    ensures typed { IfSome result (λ seen. IsTrue (is_spelled_val (val_seen seen))) }
+fn value_in(item: &Json) -> Option<Seen<'_>>
+    ensures { option_map val_seen result ≡ value (view item.now) }
 {
     match item {
-        Value::Null => Some(Seen::Null),
-        Value::Number(number) => match number.as_i128() {
+        Json::Null => Some(Seen::Null),
+        Json::Number(number) => match number.as_i128() {
             Some(integer) => Some(Seen::Int(integer)),
             None => None,
         },
-        Value::String(text) => Some(text_in(text.as_bytes())),
+        Json::Text(text) => Some(Seen::Bytes(text.as_bytes())),
         _ => None,
     }
 }
 
-/// The bytes of a text as a value. There are so few that their number has 64 bits.
-fn text_in(bytes: &[u8]) -> Seen<'_>
-    ensures is { val_seen result ≡ Bytes bytes.entry.now }
-    ensures typed { IsTrue (is_spelled_val (val_seen result)) }
-{
-    are_text(bytes);
-    Seen::Bytes(bytes)
-}
-
 /// The columns of a write: an object from names to lists of values.
-pub(crate) fn read_columns(alloc: Global, value: &Value) -> Result<ColInList, FormFault>
-    ensures gives { Gives result (columns (view value.now)) }
+pub(crate) fn read_columns(alloc: Global, given: Json) -> Result<ColInList, FormFault>
+    ensures gives { Gives result (columns (view given)) }
     ensures typed { IfOk result (λ cols. IsTrue (list_all is_typed_col cols)) }
 {
-    match value.as_object() {
-        Some(members) => read_members(alloc, members),
-        None => Err(FormFault::Form),
+    match given {
+        Json::Object(members) => read_members(alloc, members),
+        _ => Err(FormFault::Form),
     }
 }
 
 /// Reads a column from each member of an object.
 #[tactic(auto, using(crate::proofs::Typed::one_more))]
-fn read_members(alloc: Global, members: &Map<String, Value>) -> Result<ColInList, FormFault>
-    ensures gives { Gives result (columns_onto [] (members_view members.now.entries)) }
+fn read_members(alloc: Global, members: BTreeMap<String, Json>) -> Result<ColInList, FormFault>
+    ensures gives { Gives result (columns_onto [] (members_view members.entries)) }
     ensures typed { IfOk result (λ cols. IsTrue (list_all is_typed_col cols)) }
 {
     let mut done = ColInList::new(alloc);
-    for (key, value) in members.iter() {
+    for (key, found) in members {
         let Some(name) = Label::new(key.as_str()) else {
             return Err(FormFault::Form);
         };
-        let values = Column::from_json(alloc, value)?;
+        let values = column_of(found)?;
         done.push(ColIn { name, values })?;
     }
     Ok(done)
 }
 
 /// The box of a read or of a write, if one is given: an object from names to bounds.
-pub(crate) fn read_box(alloc: Global, given: Option<&Value>) -> Result<NamedBoxList, FormFault>
+pub(crate) fn read_box(alloc: Global, given: Option<&Json>) -> Result<NamedBoxList, FormFault>
     ensures { Gives result (box (option_map (λ d. view d.now) given.entry)) }
 {
     let Some(found) = given else {
@@ -319,7 +333,7 @@ pub(crate) fn read_box(alloc: Global, given: Option<&Value>) -> Result<NamedBoxL
 }
 
 /// Reads the bounds of a dimension from each member of an object.
-fn read_bounds(alloc: Global, members: &Map<String, Value>) -> Result<NamedBoxList, FormFault>
+fn read_bounds(alloc: Global, members: &BTreeMap<String, Json>) -> Result<NamedBoxList, FormFault>
     ensures { Gives result (bounds_onto [] (members_view members.now.entries)) }
 {
     let mut done = NamedBoxList::new(alloc);
@@ -339,7 +353,7 @@ fn read_bounds(alloc: Global, members: &Map<String, Value>) -> Result<NamedBoxLi
 /// The text of a read's filter, if one is given.
 pub(crate) fn read_filter(
     alloc: Global,
-    given: Option<&Value>,
+    given: Option<&Json>,
 ) -> Result<Option<ByteList>, FormFault>
     ensures gives { Gives result (filter (option_map (λ d. view d.now) given.entry)) }
     ensures typed { IfOk result (λ text. IsTrue (option_map_or is_text text true)) }
@@ -362,13 +376,13 @@ impl FromJson for Stop {
 
     ghost typed = { λ _. true };
 
-    fn from_json(_alloc: Global, value: &Value) -> Result<Stop, FormFault> {
+    fn from_json(_alloc: Global, value: &Json) -> Result<Stop, FormFault> {
         match value {
-            Value::Number(number) => match number.as_u64() {
+            Json::Number(number) => match number.as_u64() {
                 Some(calls) => Ok(Stop::Calls(calls)),
                 None => Err(FormFault::Form),
             },
-            Value::String(name) => match point_named(name.as_str()) {
+            Json::Text(name) => match point_named(name.as_str()) {
                 Some(point) => Ok(Stop::Before(point)),
                 None => Err(FormFault::Form),
             },

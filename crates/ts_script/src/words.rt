@@ -13,7 +13,7 @@ ghost use Rattle.ts_script.specs.Words.{asked, asked_by, box_in, consolidate_ask
 
 use crate::commands::tilestore_command;
 use crate::fitting::{as_text, fits};
-use crate::json::FormFault;
+use crate::forms::FormFault;
 use crate::lines::{MAX, MIN};
 use crate::options::{cell_count_of, number_of, read_boxes, read_labels};
 use crate::values::layout_named;

@@ -1,4 +1,3 @@
-use Rattle.std.proofs.Common.{arith}
 use Rattle.ts_script.proofs.Generating.{writes_fit}
 use Rattle.ts_script.proofs.generator.numbers_written.Goals as goal
 

@@ -1,5 +1,5 @@
 use Rattle.std.proofs.Common.{◌≡◌, []}
-use Rattle.serde_json.specs.View.{members_view}
+use Rattle.ts_script.specs.Trees.{members_view}
 use Rattle.ts_script.specs.Values.{bounds_onto}
 use Rattle.ts_script.proofs.values.read_bounds.Given as goal
 

@@ -1,7 +1,7 @@
 use Rattle.std.proofs.Common.{◌≡◌, map}
-use Rattle.serde_json.specs.View.{members_view}
+use Rattle.ts_script.specs.Trees.{members_view}
 use Rattle.ts_script.specs.Shapes.{keys_within}
-use Rattle.ts_script.proofs.json.keys_within.Given as goal
+use Rattle.ts_script.proofs.forms.keys_within.Given as goal
 
 abbrev pub invariant-loop-key : goal.invariant-loop-key
 invariant-loop-key l =

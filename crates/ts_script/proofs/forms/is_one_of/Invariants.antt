@@ -1,6 +1,6 @@
 use Rattle.std.proofs.Common.{◌≡◌, map, drop}
 use Rattle.ts_script.specs.Shapes.{is_one_of}
-use Rattle.ts_script.proofs.json.is_one_of.Given as goal
+use Rattle.ts_script.proofs.forms.is_one_of.Given as goal
 
 abbrev pub invariant-loop-candidate : goal.invariant-loop-candidate
 invariant-loop-candidate l =
