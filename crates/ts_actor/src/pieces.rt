@@ -61,7 +61,8 @@ pub trait Pieces: Spelling {
     /// this number, and its own crate says what it is.
     ghost most_gets: { AnyFrame → AnySchema → AnyPiece → AnyWant → ℕ };
 
-    /// The parts of a piece, in the order in which they are put: that of the head is the last.
+    /// The parts of a piece that can be written, in the order in which they are put: that of the head is
+    /// the last. `codec.writable` says which pieces can be.
     fn parts(
         alloc: Global,
         frame: &Frame,

@@ -23,7 +23,8 @@ pub enum Unmerged {
     /// Together they have 2^32 origins or more, or so many versions that are kept, or in a dense array a
     /// hull of so many cells. A fragment can name and count fewer.
     TooMany,
-    /// There was no memory for the piece.
+    /// There was no memory for the piece. This comes too for more than 2^32 batches, and for 2^32
+    /// versions or more in one.
     OutOfMemory,
 }
 
@@ -39,7 +40,9 @@ impl From<OutOfMemory> for Unmerged {
 /// identifier.
 ///
 /// `got` has the versions of each source, in the order of the heads, as a fetch that wants all of
-/// them finds them. No row is made of them. It takes time in proportion to the number of versions
+/// them finds them. The piece has them in global order, those of one cell by their keys. In a sparse
+/// array all are kept, and of two with one key in one cell the first; in a dense array the newest of
+/// each cell. No row is made of them. It takes time in proportion to the number of versions
 /// and origins, times the number of binary digits of that.
 pub fn merge_pieces(
     alloc: Global,

@@ -20,7 +20,7 @@ use ts_schema::Frame;
 /// Where those versions of batches stand that a consolidation keeps: all of them, or of each cell the
 /// newest one alone; in global order, those of one cell by their keys.
 ///
-/// `OutOfMemory` also where there are 2^32 batches, or as many versions in one of them.
+/// `OutOfMemory` also where there are more than 2^32 batches, or 2^32 versions or more in one of them.
 pub(crate) fn merged_spots(
     alloc: Global,
     frame: &Frame,

@@ -14,8 +14,9 @@ pub type TypeList = Sequence<ValType>;
 pub struct Answer {
     /// The types of the fields that are shown.
     pub types: TypeList,
-    /// A row for each cell of the box that has a value and passes the filter, in the layout that
-    /// was asked for: the value of each field that is shown.
+    /// A row for each cell of the box that shows something and passes the filter, in the layout that
+    /// was asked for: the value of each field that is shown. In a dense array each cell shows
+    /// something, a fill where no write is left.
     pub rows: RowBatch,
     /// The fragments that are clipped, ascending: each is committed, but the read could not use it,
     /// and it holds a write that the answer leaves out. That can be where a vacuum removed what was
