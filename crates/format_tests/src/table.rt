@@ -4,10 +4,12 @@ ghost use Rattle.ts_domain.specs.Dims.{IsDim};
 use std::alloc::Global;
 use std::process::Abort;
 use std::test::Fail;
-use ts_base::{ByteList, Coords, Key, Label, OutOfMemory, Row, Val, ValType, Version, VersionList};
+use ts_base::{
+    ByteList, Coords, Duplicate, Key, Label, OutOfMemory, Row, Val, ValType, Version, VersionList,
+};
 use ts_domain::{Dim, Domain, Order, SubBox};
 use ts_table::{
-    BoxTable, Cell, CellOrder, Column, Numbers, Origin, Picked, Seen, Table, Texts,
+    BoxTable, Cell, CellOrder, Column, Integers, Numbers, Origin, Picked, Seen, Table, Texts,
     are_versions_in_order, is_inside, is_table, merge_tables, ordered_places, stamped,
 };
 
@@ -88,30 +90,46 @@ fn rows_of(alloc: Global, versions: &[(u64, i128, i128)]) -> Result<VersionList,
     Ok(list)
 }
 
+// These integers.
+fn numbers_of(alloc: Global, list: &[i128]) -> Result<Numbers, OutOfMemory> {
+    let mut numbers = Numbers::new(alloc);
+    for number in list {
+        numbers.push(*number)?;
+    }
+    Ok(numbers)
+}
+
+// In how many bits each integer lies, if all lie in as many.
+fn bits(numbers: &Numbers) -> Option<u32> {
+    match numbers.as_slice() {
+        Some(Integers::Short(_)) => Some(32),
+        Some(Integers::Long(_)) => Some(64),
+        None => None,
+    }
+}
+
 #[test]
 fn numbers_are_a_list_of_integers(rt: HostRuntime) -> Result<(), Fail> {
     let alloc = rt.alloc();
-    let list = [5, -9_223_372_036_854_775_808, 9_223_372_036_854_775_808, 7];
-    let mut numbers = Numbers::new(alloc);
-    for number in list {
-        numbers.push(number)?;
-    }
-    assert_eq!(rt; numbers.len(), 4);
-    for (place, number) in [
-        (0, list[0]),
-        (1, list[1]),
-        (2, list[2]),
-        (3, list[3]),
-        (4, 0),
+    for (list, wanted) in [
+        ([5, -2_147_483_648, 2_147_483_647, 7], Some(32)),
+        ([5, -2_147_483_649, 7, 7], Some(64)),
+        ([2_147_483_648, 5, 7, 7], Some(64)),
+        ([5, 7, 9_223_372_036_854_775_808, 7], None),
     ] {
-        assert_eq!(rt; numbers.at_or_zero(place), number);
+        let numbers = numbers_of(alloc, &list)?;
+        assert_eq!(rt; numbers.len(), 4);
+        for (place, number) in list.iter().enumerate() {
+            assert_eq!(rt; numbers.at_or_zero(place as u64), *number);
+        }
+        assert_eq!(rt; numbers.at_or_zero(4), 0);
+        assert_eq!(rt; bits(&numbers), wanted);
+        let back = numbers.gathered(alloc, &[1, 0])?;
+        assert_eq!(rt;
+            (back.at_or_zero(0), back.at_or_zero(1)),
+            (list[1], list[0])
+        );
     }
-    assert_eq!(rt; numbers.as_narrow(), None);
-    let some = numbers.gathered(alloc, &[1, 0])?;
-    assert_eq!(rt;
-        some.as_narrow(),
-        Some([-9_223_372_036_854_775_808, 5].as_slice())
-    );
     Ok(())
 }
 
@@ -149,6 +167,68 @@ fn columns_are_lists_of_values(rt: HostRuntime) -> Result<(), Fail> {
         assert_eq!(rt; column.at(place).to_val(alloc)?, *val);
         assert_eq!(rt; again.at(place).to_val(alloc)?, *val);
     }
+    Ok(())
+}
+
+// The column of these integers, and of a null where there is none.
+fn column_of(alloc: Global, list: &[Option<i128>]) -> Result<Column, OutOfMemory> {
+    let mut column = Column::new(alloc);
+    for value in list {
+        match value {
+            Some(number) => column.push_number(*number)?,
+            None => column.push_null()?,
+        }
+    }
+    Ok(column)
+}
+
+// Whether the value at a place is this integer, or null where there is none.
+fn is_at(column: &Column, place: u64, value: Option<i128>) -> bool {
+    place < column.len()
+        && match column.at(place) {
+            Seen::Int(number) => value == Some(number),
+            Seen::Null => value.is_none(),
+            Seen::Bytes(_) => false,
+        }
+}
+
+// Whether the column is that of these.
+fn is_column_of(column: &Column, list: &[Option<i128>]) -> bool {
+    for (place, value) in list.iter().enumerate() {
+        if !is_at(column, place as u64, *value) {
+            return false;
+        }
+    }
+    column.len() == list.len() as u64
+}
+
+#[test]
+fn columns_of_integers_and_nulls_are_copied_and_gathered(rt: HostRuntime) -> Result<(), Fail> {
+    let alloc = rt.alloc();
+    for [a, b, c] in [
+        [Some(1), Some(-2), Some(3)],
+        [Some(1), Some(4_294_967_296), Some(3)],
+        [Some(9_223_372_036_854_775_808), Some(1), Some(3)],
+        [None, None, None],
+        [Some(1), None, Some(3)],
+        [None, Some(1), Some(4_294_967_296)],
+        [Some(1), Some(2), None],
+    ] {
+        let column = column_of(alloc, &[a, b, c])?;
+        assert!(rt; column.len() == 3);
+        assert!(rt; is_column_of(&column, &[a, b, c]));
+        let mut more = column.copy(alloc)?;
+        assert!(rt; is_column_of(&more, &[a, b, c]));
+        more.append_part(&column, 1, 2)?;
+        assert!(rt; is_column_of(&more, &[a, b, c, b, c]));
+        let back = column.gathered(alloc, &[2, 0])?;
+        assert!(rt; is_column_of(&back, &[c, a]));
+    }
+    let nulls = Column::nulls(alloc, 2)?;
+    assert!(rt; is_column_of(&nulls, &[None, None]));
+    let column = Column::of_integers(alloc, numbers_of(alloc, &[3, 4])?)?;
+    assert!(rt; is_column_of(&column, &[Some(3), Some(4)]));
+    assert!(rt; matches!(column.as_integers(), Some(Integers::Short([3, 4]))));
     Ok(())
 }
 

@@ -1,13 +1,13 @@
 //! Batches of versions.
 ghost use Rattle.std.specs.Prelude.{◌≡◌, ◌<◌, length, slice_get, option_map, IfErr, IfOk, IfSome};
 ghost use Rattle.ts_table.specs.Columns.{val_seen};
-ghost use Rattle.ts_table.specs.Tables.{HaveRows, HasVals, version_or};
+ghost use Rattle.ts_table.specs.Tables.{column_of, HaveRows, HasVals, version_or};
 
 use crate::seen::seen_in;
 use std::alloc::Global;
 use std::marker::Model;
 use ts_base::{Coords, Duplicate, Key, OutOfMemory, Version, VersionList};
-use ts_table::{BoxTable, Column, Seen, Table};
+use ts_table::{BoxTable, Column, Numbers, Seen, Table};
 
 /// How the versions of a batch lie in memory.
 #[derive(Debug, Drop)]
@@ -86,6 +86,16 @@ impl Batch {
         }
     }
 
+    /// The coordinates of all versions along a dimension, if there is a column of them. No clause says when.
+    pub fn column(&self, dim: u8) -> Option<&Numbers>
+        ensures { IfSome result (λ column. column.now ≡ column_of self.now dim) }
+    {
+        match &self.held {
+            Held::Columns(table) => table.column(dim),
+            _ => None,
+        }
+    }
+
     /// The values of the versions, one column for each attribute, which are moved. Of versions that are
     /// rows there are none, and these come back.
     pub fn into_attrs(self) -> Result<Vec<Column>, Batch>
@@ -148,6 +158,7 @@ impl Batch {
     }
 
     /// The coordinate along a dimension of the version at a place, if it has one there.
+    #[inline(always)]
     pub fn coord(&self, place: u64, dim: u8) -> Option<i128>
         requires { place < length self.now }
         ensures { result ≡ slice_get (version_or self.now place).coords dim }

@@ -178,7 +178,7 @@ nonneg_same n few h = ⊎_elim low high (cases_lt n 9223372036854775808)
         let same : twos_complement 8 n ≡ negsuc (18446744073709551616 - suc n) = rw is (grind (arith, ints)) in
         absurd (below (18446744073709551616 - suc n) (ap (int_le (pos 0)) (sym same) ∙ h))
 
-both_true : (a b : Bool) → (a && b) ≡ true → (a ≡ true) × (b ≡ true)
+pub both_true : (a b : Bool) → (a && b) ≡ true → (a ≡ true) × (b ≡ true)
 both_true true true h = (refl, refl)
 both_true true false h = absurd (cc)
 both_true false b h = absurd (cc)

@@ -1,21 +1,21 @@
 -- Coordinates are read exactly, and the first that is broken is found.
-use Rattle.std.proofs.Common.{◌≡◌, ℕ, zero, suc, ◌+◌, ◌*◌, ◌^◌, ◌<◌, ◌≤◌, Bool, true, false, not, ◌&&◌, ◌||◌, if◌then◌else◌, ℤ, pos, List, [], ◌∷◌, length, drop, get_or, Option, Some, None, Result, Ok, Err, refl, sym, ap, subst, ◌∙◌, arith, add-one, int_le}
+use Rattle.std.proofs.Common.{◌≡◌, ℕ, zero, suc, ◌+◌, ◌*◌, ◌<◌, ◌≤◌, Bool, true, false, ◌&&◌, ◌||◌, if◌then◌else◌, ℤ, pos, List, [], ◌∷◌, length, drop, get_or, Option, Some, None, Result, Ok, Err, refl, sym, ap, subst, ◌∙◌, arith, add-one, int_le}
 use Rattle.std.specs.Prelude.{IfOk}
-use Rattle.std.specs.List.{flat_map, list_any, position_from, slice_get}
+use Rattle.std.specs.List.{list_all, list_any, position_from, slice_get}
 use Rattle.std.proofs.Math.Nat.{mul-le-mul_right}
 use Rattle.std.proofs.lemmas.List.{drop_all}
 use Rattle.ts_base.specs.declared.values.ValType.{ValType}
 use Rattle.ts_base.specs.Values.{is_integer, width_of}
 use Rattle.ts_wire.specs.declared.faults.ReadFault.{ReadFault}
-use Rattle.ts_wire.specs.declared.faults.ReadFault.TheVariants as fault
 use Rattle.ts_wire.specs.Exact.{IsBytes}
 use Rattle.ts_wire.specs.Numbers.{int_bytes}
-use Rattle.ts_wire.specs.Place.{place, ◌>>=◌}
+use Rattle.ts_wire.specs.Place.{place}
 use Rattle.ts_wire.specs.Reading.{DecodesOr}
 use Rattle.ts_wire.proofs.Laws.{whole_found, bound}
 use Rattle.ts_wire.proofs.Numbers.{length-number_bytes}
 use Rattle.ts_column.specs.Tiles.{is_signed, ints_in}
 use Rattle.ts_column.specs.Coords.{is_filled, is_out, first_out, unless_at, coords_in, AreCoords}
+use Rattle.ts_column.proofs.BulkLaws.{both_true}
 use Rattle.ts_column.proofs.IntLaws.{ints_exact}
 use Rattle.ts_column.proofs.TileLaws.{widths}
 use Rattle.ts_column.proofs.Ranges.{length-cells}
@@ -115,6 +115,16 @@ unfolding first_out
 high_free low high xs a b = rw (a, b) refl
 
 pub ruleset outs = (filled_out, low_free, high_free)
+
+-- all lie inside
+none_out : (low high : ℤ) (i : ℕ) (xs : List ℤ) → list_all (λ x. int_le low x && int_le x high) xs ≡ true → position_from (is_out low high) i xs ≡ None
+none_out low high i [] all = refl
+none_out low high i (x ∷ xs) all =
+    let two = both_true (int_le low x && int_le x high) _ all in
+    rw two.0 (none_out low high (i + 1) xs two.1)
+
+pub all_span : (low high : ℤ) (xs : List ℤ) → list_any (λ x. int_le x low) xs ≡ true → list_any (λ x. int_le high x) xs ≡ true → list_all (λ x. int_le low x && int_le x high) xs ≡ true → first_out low high xs ≡ None
+all_span low high xs a b all = filled_out low high xs a b ∙ none_out low high 0 xs all
 
 -- ---- the answer
 

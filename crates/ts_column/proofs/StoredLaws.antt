@@ -1,19 +1,23 @@
 -- Stored values, and the marks beside them.
-use Rattle.std.proofs.Common.{◌≡◌, ℕ, zero, suc, ◌<◌, true, false, ℤ, pos, List, [], ◌∷◌, ◌++◌, length, map, get_or, Ok, Err, refl, sym, ap, ◌∙◌, arith, length-append, append_assoc}
+use Rattle.std.proofs.Common.{◌≡◌, ℕ, zero, suc, ◌+◌, ◌<◌, true, false, ℤ, pos, List, [], ◌∷◌, ◌++◌, length, nat_eq, nat_lt, map, get_or, Ok, Err, refl, sym, ap, ◌∙◌, arith, length-append, append_assoc}
 use Rattle.std.specs.Prelude.{replicate}
+use Rattle.std.specs.List.{list_all}
+use Rattle.std.proofs.lemmas.Bool.{le-ltb, eqb-true}
 use Rattle.std.proofs.lemmas.List.{length-map}
 use Rattle.ts_base.specs.declared.values.Val.{Val}
 use Rattle.ts_base.specs.declared.values.Val.TheVariants.{Null, Int, Bytes}
-use Rattle.ts_wire.specs.Place.{Place}
+use Rattle.ts_wire.specs.Place.{Place, place, each_at}
+use Rattle.ts_wire.specs.Numbers.{number_at as field_at}
 use Rattle.ts_wire.specs.Fields.{bool_at}
-use Rattle.ts_table.specs.declared.column.Kind.{Kind}
-use Rattle.ts_table.specs.declared.column.Kind.TheVariants as kind
+use Rattle.ts_table.specs.declared.kinds.Kind.{Kind}
+use Rattle.ts_table.specs.declared.kinds.Kind.TheVariants as kind
 use Rattle.ts_table.specs.Columns.{val_of, vals_from}
 use Rattle.ts_table.proofs.Columns.{vals_more}
 use Rattle.ts_column.specs.declared.stored.Stored.{Stored}
 use Rattle.ts_column.specs.declared.stored.Stored.TheVariants.{Numbers, Texts}
 use Rattle.ts_column.specs.Stored.{stored_vals, kinds_vals, kind_of, kind_val}
-use Rattle.ts_column.specs.Tiles.{is_blank, is_there, cell_at}
+use Rattle.ts_column.specs.Tiles.{is_blank, is_there, cell_at, cells_in}
+use Rattle.ts_column.proofs.BulkLaws.{both_true}
 
 pub count_numbers : (numbers : List ℤ) → length (map Int numbers) ≡ length numbers
 count_numbers numbers = length-map numbers Int
@@ -99,3 +103,41 @@ all_texts front (t ∷ texts) =
 pub all_kinds : (stored : Stored) (n : ℕ) → n ≡ length (stored_vals stored) → kinds_vals stored (replicate n (kind_of stored)) ≡ stored_vals stored
 all_kinds (Numbers numbers) n count = rw (count, count_numbers numbers) (all_numbers [] numbers)
 all_kinds (Texts texts) n count = rw (count, count_texts texts) (all_texts [] texts)
+
+-- ---- marks that all say that a value is there
+
+bool_one : (bytes : List ℕ) (at : ℕ) → bool_at (place (1 ∷ bytes) at) ≡ Ok (true, place bytes (at + 1))
+unfolding bool_at field_at
+bool_one bytes at = let is : nat_lt (length (1 ∷ bytes)) 1 ≡ false = le-ltb (length (1 ∷ bytes)) 1 (omega arith) in rw is refl
+
+one_there : (v : Val) (bytes : List ℕ) (at : ℕ) → is_there v ≡ true → cell_at v (place (1 ∷ bytes) at) ≡ Ok (v, place bytes (at + 1))
+unfolding cell_at
+one_there v bytes at is = rw (bool_one bytes at, is) refl
+
+each_there : (vals : List Val) (bytes : List ℕ) (at : ℕ) → list_all is_there vals ≡ true → length bytes ≡ length vals → list_all (λ b. nat_eq b 1) bytes ≡ true
+    → each_at cell_at vals (place bytes at) ≡ Ok (vals, place [] (at + length vals))
+unfolding each_at
+each_there [] [] at there long ones = ap (λ i. Ok ([], place [] i)) (omega arith)
+each_there [] (b ∷ bytes) at there long ones = absurd (omega (arith, long))
+each_there (v ∷ vals) [] at there long ones = absurd (omega (arith, long))
+each_there (v ∷ vals) (b ∷ bytes) at there long ones =
+    let here = both_true (is_there v) _ there in
+    let one = both_true (nat_eq b 1) _ ones in
+    let is : b ≡ 1 = eqb-true b 1 one.0 in
+    rw (is, one_there v bytes at here.0, each_there vals bytes (at + 1) here.1 (omega (arith, long)) one.1) (ap (λ i. Ok (v ∷ vals, place [] i)) (omega arith))
+
+all_there : (stored : Stored) → list_all is_there (stored_vals stored) ≡ true
+all_there (Numbers numbers) = ints numbers
+  where
+    ints : (numbers : List ℤ) → list_all is_there (map Int numbers) ≡ true
+    ints [] = refl
+    ints (z ∷ numbers) = ints numbers
+all_there (Texts texts) = lists texts
+  where
+    lists : (texts : List (List ℕ)) → list_all is_there (map Bytes texts) ≡ true
+    lists [] = refl
+    lists (t ∷ texts) = lists texts
+
+pub all_marked : (stored : Stored) (bytes : List ℕ) → length bytes ≡ length (stored_vals stored) → list_all (λ b. nat_eq b 1) bytes ≡ true
+    → cells_in true (stored_vals stored) bytes ≡ Ok (kinds_vals stored (replicate (length (stored_vals stored)) (kind_of stored)))
+all_marked stored bytes long ones = rw (each_there (stored_vals stored) bytes 0 (all_there stored) long ones) (ap Ok (sym (all_kinds stored (length (stored_vals stored)) refl)))

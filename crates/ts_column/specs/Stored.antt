@@ -3,8 +3,8 @@ use Rattle.std.specs.Prelude.{ℕ, pos, List, [], map}
 use Rattle.std.specs.List.{slice_index_or}
 use Rattle.ts_base.specs.declared.values.Val.{Val}
 use Rattle.ts_base.specs.declared.values.Val.TheVariants.{Int, Bytes}
-use Rattle.ts_table.specs.declared.column.Kind.{Kind}
-use Rattle.ts_table.specs.declared.column.Kind.TheVariants as kind
+use Rattle.ts_table.specs.declared.kinds.Kind.{Kind}
+use Rattle.ts_table.specs.declared.kinds.Kind.TheVariants as kind
 use Rattle.ts_table.specs.Columns.{val_of, vals_from}
 use Rattle.ts_column.specs.declared.stored.Stored.{Stored}
 use Rattle.ts_column.specs.declared.stored.Stored.TheVariants.{Numbers, Texts}

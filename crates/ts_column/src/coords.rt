@@ -1,6 +1,6 @@
 //! The coordinates of the cells of a tile.
-ghost use Rattle.std.specs.Prelude.{◌≡◌, ◌<◌, ◌≤◌, ◌*◌, int_le, length, slice_index_or, pos, IfOk, IsTrue};
-ghost use Rattle.std.specs.List.{list_any, position_from};
+ghost use Rattle.std.specs.Prelude.{◌≡◌, ◌<◌, ◌≤◌, ◌*◌, ◌&&◌, int_le, length, slice_index_or, None, pos, IfOk, IsTrue};
+ghost use Rattle.std.specs.List.{list_all, list_any, position_from};
 ghost use Rattle.ts_base.specs.Values.{is_integer, width_of};
 ghost use Rattle.ts_wire.specs.Reading.{DecodesOr};
 ghost use Rattle.ts_column.specs.Coords.{coords_in, first_out, is_out, AreCoords};
@@ -9,7 +9,7 @@ use crate::bytes::are_bytes;
 use crate::numbers::read_numbers;
 use std::alloc::Global;
 use ts_base::ValType;
-use ts_table::Numbers;
+use ts_table::{Integers, Numbers};
 use ts_wire::{Damaged, ReadFault};
 
 /// The coordinates of so many cells along a dimension of this type, whose tile goes from `low` to
@@ -69,8 +69,90 @@ fn offset_of(place: u64, ty: ValType, bytes: &[u8]) -> u64
 }
 
 // The place of the coordinate that is broken first, if one is.
-#[tactic(auto, using(crate::proofs::CoordLaws::outs), unfolding(crate::specs::Coords::first_out))]
 fn first_out(coords: &Numbers, low: &i128, high: &i128) -> Option<u64>
+    ensures { result ≡ first_out low.now high.now coords.now }
+{
+    if do_span(coords, *low, *high) {
+        None
+    } else {
+        sought_out(coords, low, high)
+    }
+}
+
+// Whether no coordinate is broken. Where it says no, there may be none all the same.
+fn do_span(coords: &Numbers, low: i128, high: i128) -> bool
+    ensures { IsTrue result → first_out low high coords.now ≡ None }
+{
+    match coords.as_slice() {
+        Some(Integers::Short(all)) => match (i32::try_from(low), i32::try_from(high)) {
+            (Ok(low), Ok(high)) => do_short_span(all, &low, &high),
+            _ => false,
+        },
+        Some(Integers::Long(all)) => match (i64::try_from(low), i64::try_from(high)) {
+            (Ok(low), Ok(high)) => do_long_span(all, &low, &high),
+            _ => false,
+        },
+        None => false,
+    }
+}
+
+fn do_short_span(all: &[i32], low: &i32, high: &i32) -> bool
+    ensures { IsTrue result → first_out low.now high.now all.now ≡ None }
+{
+    if !has_short_at_most(all, low) || !has_short_at_least(all, high) {
+        return false;
+    }
+    are_short_within(all, low, high)
+}
+
+fn has_short_at_most(all: &[i32], low: &i32) -> bool
+    ensures { result ≡ list_any (λ x. int_le x low.now) all.now }
+{
+    all.iter().any(|x| *x <= *low)
+}
+
+fn has_short_at_least(all: &[i32], high: &i32) -> bool
+    ensures { result ≡ list_any (λ x. int_le high.now x) all.now }
+{
+    all.iter().any(|x| *high <= *x)
+}
+
+fn are_short_within(all: &[i32], low: &i32, high: &i32) -> bool
+    ensures { result ≡ list_all (λ x. int_le low.now x && int_le x high.now) all.now }
+{
+    all.iter().all(|x| *low <= *x && *x <= *high)
+}
+
+fn do_long_span(all: &[i64], low: &i64, high: &i64) -> bool
+    ensures { IsTrue result → first_out low.now high.now all.now ≡ None }
+{
+    if !has_long_at_most(all, low) || !has_long_at_least(all, high) {
+        return false;
+    }
+    are_long_within(all, low, high)
+}
+
+fn has_long_at_most(all: &[i64], low: &i64) -> bool
+    ensures { result ≡ list_any (λ x. int_le x low.now) all.now }
+{
+    all.iter().any(|x| *x <= *low)
+}
+
+fn has_long_at_least(all: &[i64], high: &i64) -> bool
+    ensures { result ≡ list_any (λ x. int_le high.now x) all.now }
+{
+    all.iter().any(|x| *high <= *x)
+}
+
+fn are_long_within(all: &[i64], low: &i64, high: &i64) -> bool
+    ensures { result ≡ list_all (λ x. int_le low.now x && int_le x high.now) all.now }
+{
+    all.iter().all(|x| *low <= *x && *x <= *high)
+}
+
+// The place of the coordinate that is broken first, if one is, sought one by one.
+#[tactic(auto, using(crate::proofs::CoordLaws::outs), unfolding(crate::specs::Coords::first_out))]
+fn sought_out(coords: &Numbers, low: &i128, high: &i128) -> Option<u64>
     ensures { result ≡ first_out low.now high.now coords.now }
 {
     if !has_at_most(coords, low) || !has_at_least(coords, high) {

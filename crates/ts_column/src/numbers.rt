@@ -46,13 +46,13 @@ fn read_all(alloc: Global, ty: ValType, bytes: &[u8]) -> Result<Numbers, OutOfMe
     ensures { IfOk result (λ numbers. numbers ≡ map (int_of (width_of ty) (is_signed ty)) (first_chunks (width_of ty) (length bytes.now / width_of ty) bytes.now)) }
 {
     match ty {
-        ValType::I8 => Ok(Numbers::from_narrow(alloc, bulk::read_i8s(alloc, bytes)?)),
-        ValType::I16 => Ok(Numbers::from_narrow(alloc, bulk::read_i16s(alloc, bytes)?)),
-        ValType::I32 => Ok(Numbers::from_narrow(alloc, bulk::read_i32s(alloc, bytes)?)),
-        ValType::I64 => Ok(Numbers::from_narrow(alloc, bulk::read_i64s(alloc, bytes)?)),
-        ValType::U8 => Ok(Numbers::from_narrow(alloc, bulk::read_u8s(alloc, bytes)?)),
-        ValType::U16 => Ok(Numbers::from_narrow(alloc, bulk::read_u16s(alloc, bytes)?)),
-        ValType::U32 => Ok(Numbers::from_narrow(alloc, bulk::read_u32s(alloc, bytes)?)),
+        ValType::I8 => Ok(Numbers::from_short(bulk::read_i8s(alloc, bytes)?)),
+        ValType::I16 => Ok(Numbers::from_short(bulk::read_i16s(alloc, bytes)?)),
+        ValType::I32 => Ok(Numbers::from_short(bulk::read_i32s(alloc, bytes)?)),
+        ValType::I64 => Ok(Numbers::from_long(alloc, bulk::read_i64s(alloc, bytes)?)),
+        ValType::U8 => Ok(Numbers::from_short(bulk::read_u8s(alloc, bytes)?)),
+        ValType::U16 => Ok(Numbers::from_short(bulk::read_u16s(alloc, bytes)?)),
+        ValType::U32 => Ok(Numbers::from_long(alloc, bulk::read_u32s(alloc, bytes)?)),
         ValType::U64 => read_u64s(alloc, bytes),
         ValType::Text | ValType::Blob => unreachable!(),
     }
@@ -66,7 +66,7 @@ fn read_u64s(alloc: Global, bytes: &[u8]) -> Result<Numbers, OutOfMemory>
 {
     let narrow = bulk::read_i64s(alloc, bytes)?;
     if has_no_negative(narrow.as_slice()) {
-        return Ok(Numbers::from_narrow(alloc, narrow));
+        return Ok(Numbers::from_long(alloc, narrow));
     }
     let (chunks, _) = bytes.as_chunks::<8>();
     read_wide(alloc, chunks)

@@ -1,5 +1,6 @@
 //! Values as they are stored, and the marks that say which of them are there.
-ghost use Rattle.std.specs.Prelude.{◌≡◌, ◌<◌, ◌++◌, ◌∷◌, [], length, slice_index_or, IfOk, OnOk};
+ghost use Rattle.std.specs.Prelude.{◌≡◌, ◌<◌, length, nat_eq, replicate, slice_index_or, true, IfOk, IsTrue, Ok};
+ghost use Rattle.std.specs.List.{list_all};
 ghost use Rattle.ts_base.specs.declared.values.Val.TheVariants as val;
 ghost use Rattle.ts_wire.specs.Place.{each_at};
 ghost use Rattle.ts_wire.specs.Reading.{Reads, ReadsOr, DecodesOr};
@@ -7,8 +8,7 @@ ghost use Rattle.ts_column.specs.Stored.{stored_vals, kinds_vals, kind_of, kind_
 ghost use Rattle.ts_column.specs.Tiles.{is_blank, cell_at, cells_in};
 
 use std::alloc::Global;
-use ts_base::OutOfMemory;
-use ts_table::{Column, Kind, Numbers, Texts};
+use ts_table::{Column, Kind, Kinds, Numbers, Texts};
 use ts_wire::{Cursor, Damaged, ReadFault};
 
 /// The stored values of some cells.
@@ -56,9 +56,9 @@ impl Stored {
 
     /// The column of the values of these kinds. It takes no memory.
     #[tactic(auto, using(crate::proofs::StoredLaws::lengths))]
-    pub(crate) fn into_column(self, alloc: Global, kinds: Vec<Kind>) -> Column
-        requires { length kinds.items ≡ length (stored_vals self) }
-        ensures { result ≡ kinds_vals self kinds.items }
+    pub(crate) fn into_column(self, alloc: Global, kinds: Kinds) -> Column
+        requires { length kinds ≡ length (stored_vals self) }
+        ensures { result ≡ kinds_vals self kinds }
     {
         match self {
             Stored::Numbers(numbers) => Column::of(kinds, numbers, Texts::new(alloc)),
@@ -75,32 +75,58 @@ pub(crate) fn read_kinds(
     nullable: bool,
     stored: &Stored,
     bytes: &[u8],
-) -> Result<Vec<Kind>, ReadFault>
-    ensures reads { DecodesOr (λ kinds. kinds_vals stored.now kinds.items) (cells_in nullable (stored_vals stored.now) bytes.now) result }
-    ensures many { IfOk result (λ kinds. length kinds.items ≡ length (stored_vals stored.now)) }
+) -> Result<Kinds, ReadFault>
+    ensures reads { DecodesOr (λ kinds. kinds_vals stored.now kinds) (cells_in nullable (stored_vals stored.now) bytes.now) result }
+    ensures many { IfOk result (λ kinds. length kinds ≡ length (stored_vals stored.now)) }
 {
-    let mut cursor = Cursor::new(bytes, 0);
-    if !nullable {
-        cursor.end()?;
-        return Ok(vec![in alloc; stored.kind(); stored.len() as usize]?);
+    if nullable {
+        return read_marks(alloc, stored, bytes);
     }
+    let mut cursor = Cursor::new(bytes, 0);
+    cursor.end()?;
+    Ok(Kinds::same(alloc, stored.kind(), stored.len())?)
+}
+
+// Of what kind each value is by its mark.
+fn read_marks(alloc: Global, stored: &Stored, bytes: &[u8]) -> Result<Kinds, ReadFault>
+    ensures reads { DecodesOr (λ kinds. kinds_vals stored.now kinds) (cells_in true (stored_vals stored.now) bytes.now) result }
+    ensures many { IfOk result (λ kinds. length kinds ≡ length (stored_vals stored.now)) }
+{
+    if are_all_there(stored, bytes) {
+        return Ok(Kinds::same(alloc, stored.kind(), stored.len())?);
+    }
+    let mut cursor = Cursor::new(bytes, 0);
     let kinds = read_each_kind(alloc, stored, &mut cursor)?;
     cursor.end()?;
     Ok(kinds)
 }
 
-fn read_each_kind(
-    alloc: Global,
-    stored: &Stored,
-    cursor: &mut Cursor,
-) -> Result<Vec<Kind>, ReadFault>
-    ensures reads { ReadsOr (λ kinds. kinds_vals stored.now kinds.items) (each_at cell_at (stored_vals stored.now)) cursor.old cursor.new result }
-    ensures many { IfOk result (λ kinds. length kinds.items ≡ length (stored_vals stored.now)) }
+// Whether there is a mark for each value, and each says that the value is there.
+fn are_all_there(stored: &Stored, marks: &[u8]) -> bool
+    ensures { IsTrue result → cells_in true (stored_vals stored.now) marks.now ≡ Ok (kinds_vals stored.now (replicate (length (stored_vals stored.now)) (kind_of stored.now))) }
 {
-    let mut kinds = Vec::new(alloc);
+    if marks.len() as u64 != stored.len() {
+        return false;
+    }
+    are_ones(marks)
+}
+
+// Whether all marks say that a value is there.
+fn are_ones(marks: &[u8]) -> bool
+    ensures { result ≡ list_all (λ b. nat_eq b 1) marks.now }
+{
+    marks.iter().all(|b| *b == 1)
+}
+
+// Of what kind each value is by its mark, read one by one.
+fn read_each_kind(alloc: Global, stored: &Stored, cursor: &mut Cursor) -> Result<Kinds, ReadFault>
+    ensures reads { ReadsOr (λ kinds. kinds_vals stored.now kinds) (each_at cell_at (stored_vals stored.now)) cursor.old cursor.new result }
+    ensures many { IfOk result (λ kinds. length kinds ≡ length (stored_vals stored.now)) }
+{
+    let mut kinds = Kinds::new(alloc);
     for place in 0..stored.len() {
         match read_kind(stored, place, cursor) {
-            Ok(kind) => push_kind(&mut kinds, kind)?,
+            Ok(kind) => kinds.push(kind)?,
             Err(damaged) => return Err(ReadFault::Damaged(damaged)),
         }
     }
@@ -123,12 +149,4 @@ fn read_kind(stored: &Stored, place: u64, cursor: &mut Cursor) -> Result<Kind, D
     } else {
         Err(Damaged { at })
     }
-}
-
-// Appends a kind.
-fn push_kind(kinds: &mut Vec<Kind>, kind: Kind) -> Result<(), OutOfMemory>
-    ensures { OnOk result (kinds.new.items ≡ kinds.old.items ++ kind ∷ []) }
-{
-    kinds.push(kind)?;
-    Ok(())
 }

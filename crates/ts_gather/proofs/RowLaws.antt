@@ -1,5 +1,5 @@
 -- Columns at rows.
-use Rattle.std.proofs.Common.{◌≡◌, ℕ, zero, suc, ◌+◌, ◌<◌, ◌≤◌, ◌⊎◌, inl, inr, ℤ, pos, List, [], ◌∷◌, ◌++◌, length, map, get_or, take, drop, replicate, refl, sym, ap, subst, ◌∙◌, arith}
+use Rattle.std.proofs.Common.{◌≡◌, ℕ, ◌+◌, ◌<◌, ◌≤◌, ◌⊎◌, inl, inr, ℤ, pos, List, [], ◌∷◌, ◌++◌, length, map, get_or, take, drop, replicate, refl, sym, ap, subst, ◌∙◌, arith}
 use Rattle.std.specs.List.{All, range_with_len}
 use Rattle.std.proofs.lemmas.Bool.{cases_lt}
 use Rattle.std.proofs.lemmas.List.{same_lists, get_or_default, get_or_past, drop_more, take_more, take_all, map-append, length-drop}
@@ -7,14 +7,7 @@ use Rattle.std.proofs.lemmas.List.FromFn.{get_or-map-range_with_len, length-map-
 use Rattle.std.proofs.lemmas.List.Elements.{All-head, All-tail}
 use Rattle.ts_base.specs.declared.values.Val.{Val}
 use Rattle.ts_base.specs.declared.values.Val.TheVariants.{Null}
-use Rattle.ts_table.specs.declared.column.Kind.TheVariants as kind
-use Rattle.ts_table.specs.Columns.{vals_from}
 use Rattle.ts_gather.specs.Rows.{AreRows, AreAscending, at_rows, chosen}
-
--- the values of so many kinds that are null
-pub nulls_are : (numbers : List ℤ) (texts : List (List ℕ)) (place count : ℕ) → vals_from numbers texts place (replicate count kind.Null) ≡ replicate count Null
-nulls_are numbers texts place zero = refl
-nulls_are numbers texts place (suc count) = ap (λ vals. Null ∷ vals) (nulls_are numbers texts (suc place) count)
 
 -- at all rows a column is itself
 pub whole_column : {X : Type 0} (d : X) (count : ℕ) (column : List X) → length column ≡ count → at_rows d (range_with_len 0 count) column ≡ column

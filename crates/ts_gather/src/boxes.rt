@@ -7,7 +7,7 @@ ghost use Rattle.ts_order.specs.Orders.{coords_in_order};
 ghost use Rattle.ts_gather.specs.Rows.{chosen};
 ghost use Rattle.ts_gather.specs.Parts.{places_over, vals_over, version_over};
 
-use crate::chosen::{are_ascending, moved_columns, nulls};
+use crate::chosen::{are_ascending, moved_columns};
 use crate::parts::part_over;
 use std::alloc::Global;
 use ts_base::OutOfMemory;
@@ -101,6 +101,6 @@ fn copied_column(
     if place < vals.len() {
         part_over(alloc, &vals[place], outer, inner, order)
     } else {
-        nulls(alloc, inner.cells())
+        Column::nulls(alloc, inner.cells())
     }
 }

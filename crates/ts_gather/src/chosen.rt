@@ -1,5 +1,5 @@
 //! Some columns of values, at some rows.
-ghost use Rattle.std.specs.Prelude.{◌≡◌, ◌+◌, ◌<◌, ◌↔◌, ℕ, [], ◌∷◌, ◌++◌, List, length, map, get_or, replicate, IfOk, OnOk, IsTrue, if◌then◌else◌};
+ghost use Rattle.std.specs.Prelude.{◌≡◌, ◌+◌, ◌<◌, ◌↔◌, ℕ, [], ◌∷◌, ◌++◌, List, length, map, get_or, IfOk, OnOk, IsTrue, if◌then◌else◌};
 ghost use Rattle.std.specs.List.{All};
 ghost use Rattle.ts_base.specs.declared.values.Val.{Val as AnyVal};
 ghost use Rattle.ts_base.specs.declared.values.Val.TheVariants as val;
@@ -7,7 +7,7 @@ ghost use Rattle.ts_gather.specs.Rows.{AreRows, AreAscending, at_rows, chosen};
 
 use std::alloc::Global;
 use ts_base::OutOfMemory;
-use ts_table::{Column, Kind, Numbers, Texts};
+use ts_table::Column;
 
 /// The columns at these places, at these rows. A place without a column gives nulls. Where all rows are
 /// wanted, and each column at most once, the columns are moved.
@@ -138,16 +138,6 @@ fn gathered_column(
     if place < vals.len() {
         vals[place].gathered(alloc, rows)
     } else {
-        nulls(alloc, rows.len() as u64)
+        Column::nulls(alloc, rows.len() as u64)
     }
-}
-
-/// A column of so many nulls.
-#[tactic(auto, using(crate::proofs::RowLaws::nulls_are))]
-pub fn nulls(alloc: Global, count: u64) -> Result<Column, OutOfMemory>
-    ensures { IfOk result (λ column. column ≡ replicate count val.Null) }
-{
-    let kinds = vec![in alloc; Kind::Null; count as usize]?;
-    let (numbers, texts) = (Numbers::new(alloc), Texts::new(alloc));
-    Ok(Column::of(kinds, numbers, texts))
 }

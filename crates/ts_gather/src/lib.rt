@@ -10,7 +10,6 @@ mod shared;
 mod sides;
 
 pub use boxes::box_of;
-pub use chosen::nulls;
 pub use parts::part_over;
 pub use rows::table_of;
 pub use shared::shared_part;

@@ -29,8 +29,9 @@ pub fn part_over(
     ensures { IfOk result (λ part. part ≡ vals_over order outer.now inner.now column.now) }
 {
     let run = run_in(inner, order);
-    let mut part = Column::new(alloc);
-    for row in 0..inner.cells() / run {
+    let count = inner.cells();
+    let mut part = Column::with_room_for(alloc, column, count)?;
+    for row in 0..count / run {
         let first = coords_at(inner, order, row * run);
         let from = position_of(outer, order, &first);
         part.append_part(column, from, run)?;

@@ -5,19 +5,16 @@ use Rattle.std.proofs.lemmas.Bool.{cases_eq}
 use Rattle.std.proofs.lemmas.List.{same_lists, length-map, length-replicate, get_or-map, get_or-replicate, get_or_default}
 use Rattle.std.proofs.lemmas.Option.{slice_get-map, slice_get-get_or}
 use Rattle.std.specs.Option.{option_map}
-use Rattle.std.specs.declared.cmp.Ordering.{Ordering}
-use Rattle.std.specs.declared.cmp.Ordering.TheVariants.{Less, Equal, Greater}
 use Rattle.ts_base.specs.declared.heads.Version.{Version}
 use Rattle.ts_base.specs.declared.values.Val.{Val}
 use Rattle.ts_base.specs.declared.values.Val.TheVariants.{Int}
-use Rattle.ts_cond.specs.declared.nodes.CondOp.{CondOp}
 use Rattle.ts_cond.specs.Holds.{passes}
 use Rattle.ts_cond.specs.declared.fields.Pick.{Pick}
 use Rattle.ts_cond.specs.declared.fields.Pick.TheVariants.{Attr}
 use Rattle.ts_cond.specs.Picks.{picked_by, val_or}
 use Rattle.ts_table.specs.Tables.{HasVals, no_version, version_or}
 use Rattle.ts_match.specs.declared.keeping.View.{View}
-use Rattle.ts_match.specs.Keeping.{value_at, one_of, AreIntegers, AreKept, ArePicked}
+use Rattle.ts_match.specs.Keeping.{value_at, AreIntegers, AreKept, ArePicked}
 
 -- up to a place those are kept where this holds, and the others are as they were
 pub record KeptTo (here : ℕ → Bool) (old now : List Bool) (n : ℕ) : Type 0 where
@@ -80,12 +77,6 @@ kept_others here old others new kept left = record {
 pub kept_taken : (here : ℕ → Bool) (old others new : List Bool) → AreKept (λ i. not (here i)) old others → AreKept (λ i. not (get_or others i false)) old new → AreKept here old new
 kept_taken here old others new kept left =
     kept_same (λ i. not (not (here i))) here old new (λ i within. not_not (here i)) (kept_others (λ i. not (here i)) old others new kept left)
-
--- the answers for the three ways to stand to each other are those of the comparison
-pub sides_pass : (op : CondOp) (o : Ordering) → one_of o (passes op Less) (passes op Equal) (passes op Greater) ≡ passes op o
-sides_pass op Less = refl
-sides_pass op Equal = refl
-sides_pass op Greater = refl
 
 -- of all places those are kept where the version passes
 pub kept_list : (here : ℕ → Bool) (passes : Version → Bool) (versions : List Version) (old found : List Bool) → old ≡ replicate (length versions) true

@@ -12,7 +12,7 @@ use Rattle.ts_cond.specs.declared.fields.Pick.{Pick}
 use Rattle.ts_cond.specs.Picks.{picked, picked_value}
 use Rattle.ts_cond.specs.Tests.{Test}
 use Rattle.ts_table.specs.Tables.{version_or}
-use Rattle.ts_match.specs.declared.keeping.Sides.{Sides}
+use Rattle.ts_match.specs.declared.comparing.Sides.{Sides}
 use Rattle.ts_match.specs.declared.keeping.View.{View}
 
 -- the value that is seen for a field at the version at a place
@@ -45,5 +45,5 @@ one_of Equal below there above = there
 one_of Greater below there above = above
 
 -- whether an integer passes: it is below the bound, there or above it, as is asked for
-abbrev pub is_on : Sides → ℤ → Bool
+abbrev pub is_on : Sides ℤ → ℤ → Bool
 is_on sides number = one_of (int_cmp number sides.bound) sides.below sides.there sides.above

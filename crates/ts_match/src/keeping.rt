@@ -1,18 +1,18 @@
 //! Which versions of a batch match a condition, asked of all of them at once.
-ghost use Rattle.std.specs.Prelude.{◌≡◌, ℤ, map, get_or, length, pos, false, IfOk, IfSome, OnOk, not, ◌<◌, ◌&&◌};
+ghost use Rattle.std.specs.Prelude.{◌≡◌, map, get_or, length, false, IfOk, IfSome, OnOk, not, ◌<◌, ◌&&◌};
 ghost use Rattle.std.specs.List.{list_all, list_any};
-ghost use Rattle.ts_base.specs.declared.values.Val.TheVariants as val;
-ghost use Rattle.ts_cond.specs.Holds.{compares};
 ghost use Rattle.ts_cond.specs.Views.{test_of};
+ghost use Rattle.ts_table.specs.Widths.{numbers_seen};
 ghost use Rattle.ts_match.specs.Matching.{matches_at};
-ghost use Rattle.ts_match.specs.Keeping.{holds_at, is_on, AreIntegers, AreKept, ArePicked};
+ghost use Rattle.ts_match.specs.Keeping.{holds_at, AreIntegers, AreKept, ArePicked};
 
-use crate::matching::{Sight, node_holds, passes};
+use crate::comparing::keep_compared;
+use crate::matching::{Sight, node_holds};
 use std::alloc::Global;
-use std::cmp::Ordering;
 use ts_base::{OutOfMemory, Val};
 use ts_batch::{Batch, BatchCell};
-use ts_cond::{Cond, CondField, CondNode, CondOp, Pick, PickList};
+use ts_cond::{Cond, CondField, CondNode, Pick, PickList};
+use ts_table::Integers;
 
 /// For each version of a batch whether it matches a condition, as [`crate::matches_cell`] says.
 ///
@@ -132,7 +132,7 @@ fn drop_those(kept: &mut [bool], others: &[bool])
     ensures { AreKept (λ place. not (get_or others.now place false)) kept.old kept.new }
 {
     for place in 0..kept.len() {
-        kept[place] = kept[place] && !others[place];
+        kept[place] = kept[place] & !others[place];
     }
 }
 
@@ -147,8 +147,8 @@ fn keep_leaf(node: &CondNode, view: &View, kept: &mut [bool])
         val: Val::Int(bound),
     } = node
     {
-        if let (Some(numbers), Some(sides)) = (integers_of(view, *field), sides_of(*op, bound)) {
-            keep_sides(&sides, numbers, kept);
+        if let Some(numbers) = integers_of(view, *field) {
+            keep_compared(*op, bound, numbers, kept);
             return;
         }
     }
@@ -192,8 +192,8 @@ fn is_held(node: &CondNode, view: &View, place: u64) -> bool
 
 // The values of a field at all versions, if there is a column of integers of 64 bits.
 #[tactic(auto, using(crate::proofs::Kept::finds), unfolding(crate::specs::Keeping::value_at))]
-fn integers_of<'a>(view: &View<'a>, field: u8) -> Option<&'a [i64]>
-    ensures { IfSome result (λ numbers. AreIntegers view.now field numbers.now) }
+fn integers_of<'a>(view: &View<'a>, field: u8) -> Option<Integers<'a>>
+    ensures { IfSome result (λ numbers. AreIntegers view.now field (numbers_seen numbers)) }
 {
     let place = field as usize;
     if place < view.picks.len() && place < view.fields.len() {
@@ -205,8 +205,8 @@ fn integers_of<'a>(view: &View<'a>, field: u8) -> Option<&'a [i64]>
 
 // The values that a pick finds, if there is a column of integers of 64 bits.
 #[tactic(auto, using(crate::proofs::Kept::finds))]
-fn picked_integers<'a>(pick: &Pick, cells: &'a Batch) -> Option<&'a [i64]>
-    ensures { IfSome result (λ numbers. ArePicked pick.now cells.now numbers.now) }
+fn picked_integers<'a>(pick: &Pick, cells: &'a Batch) -> Option<Integers<'a>>
+    ensures { IfSome result (λ numbers. ArePicked pick.now cells.now (numbers_seen numbers)) }
 {
     match pick {
         Pick::Attr(attr) => match cells.vals(*attr as u64) {
@@ -215,62 +215,4 @@ fn picked_integers<'a>(pick: &Pick, cells: &'a Batch) -> Option<&'a [i64]>
         },
         _ => None,
     }
-}
-
-// A bound, and which integers pass.
-#[derive(Clone, Copy)]
-struct Sides {
-    bound: i64,
-    // Those below it.
-    below: bool,
-    // The bound itself.
-    there: bool,
-    // Those above it.
-    above: bool,
-}
-
-// Which integers compare so with a bound, if that fits 64 bits.
-fn sides_of(op: CondOp, bound: &i128) -> Option<Sides>
-    ensures { IfSome result (λ sides. (number : ℤ) → is_on sides number ≡ compares op (val.Int number) (val.Int bound.now)) }
-{
-    match i64::try_from(*bound) {
-        Ok(bound) => Some(Sides {
-            bound,
-            below: passes(op, Ordering::Less),
-            there: passes(op, Ordering::Equal),
-            above: passes(op, Ordering::Greater),
-        }),
-        Err(_wide) => None,
-    }
-}
-
-// Of the places that are kept, keeps those whose integers pass.
-#[tactic(auto, using(crate::proofs::Kept::steps))]
-fn keep_sides(sides: &Sides, numbers: &[i64], kept: &mut [bool])
-    requires { length numbers.now ≡ length kept.old }
-    ensures { AreKept (λ place. is_on sides.now (get_or numbers.now place (pos 0))) kept.old kept.new }
-{
-    let sides = *sides;
-    for place in 0..kept.len() {
-        let found = is_found(&sides, &numbers[place]);
-        kept[place] = both(kept[place], found);
-    }
-}
-
-// Whether an integer passes.
-fn is_found(sides: &Sides, number: &i64) -> bool
-    ensures { result ≡ is_on sides.now number.now }
-{
-    match number.cmp(&sides.bound) {
-        Ordering::Less => sides.below,
-        Ordering::Equal => sides.there,
-        Ordering::Greater => sides.above,
-    }
-}
-
-// Whether both are so.
-fn both(first: bool, second: bool) -> bool
-    ensures { result ≡ (first && second) }
-{
-    first && second
 }

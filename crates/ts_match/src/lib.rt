@@ -1,6 +1,7 @@
 //! Which cells of batches match a condition, asked of the cells in their places.
 #![tactic(auto)]
 
+mod comparing;
 mod keeping;
 mod matching;
 mod order;

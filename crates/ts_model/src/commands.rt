@@ -5,7 +5,6 @@ use ts_base::{ByteList, Duplicate, Label, OutOfMemory, Sequence, Stop};
 use ts_commit::Limits;
 use ts_cond::{NamedBoxList, Query};
 use ts_domain::{DimList, Order};
-use ts_piece::copied;
 use ts_schema::{AttrList, Evolution};
 use ts_table::Column;
 
@@ -48,7 +47,7 @@ impl Duplicate for ColIn {
     fn copy(&self, alloc: Global) -> Result<ColIn, OutOfMemory> {
         Ok(ColIn {
             name: self.name,
-            values: copied(alloc, &self.values)?,
+            values: self.values.copy(alloc)?,
         })
     }
 }

@@ -1,21 +1,17 @@
 -- The columns of all versions.
-use Rattle.std.proofs.Common.{◌≡◌, ℕ, ◌+◌, ◌-◌, ◌<◌, ◌≤◌, ◌⊎◌, inl, inr, true, false, ℤ, pos, List, [], ◌∷◌, ◌++◌, length, map, take, get_or, replicate, refl, sym, ap, ◌∙◌, arith, length-append}
+use Rattle.std.proofs.Common.{◌≡◌, ℕ, ◌+◌, ◌-◌, ◌<◌, ◌≤◌, ◌⊎◌, inl, inr, true, false, ℤ, pos, List, [], ◌∷◌, ◌++◌, length, map, take, get_or, refl, sym, ap, ◌∙◌, arith, length-append}
 use Rattle.std.specs.Prelude.{All, cond, filter, nat_lt}
 use Rattle.std.specs.Option.{option_map}
 use Rattle.std.proofs.lemmas.Bool.{cases_lt, ltb-true}
 use Rattle.std.proofs.lemmas.List.Elements.{All-head, All-tail}
 use Rattle.std.specs.List.{range_with_len, slice_get}
-use Rattle.std.proofs.lemmas.List.{same_lists, length-map, length-replicate, get_or-map, get_or-replicate, get_or_default, get_or_append_left, get_or-append_right, take_more, take_all}
+use Rattle.std.proofs.lemmas.List.{same_lists, length-map, get_or-map, get_or_default, get_or_append_left, get_or-append_right, take_more, take_all}
 use Rattle.std.proofs.lemmas.List.FromFn.{length-map-range_with_len, get_or-map-range_with_len}
 use Rattle.std.proofs.lemmas.Option.{slice_get-get_or, get_or_from_slice_get}
 use Rattle.ts_base.specs.declared.heads.Version.{Version}
 use Rattle.ts_base.specs.declared.values.Val.{Val}
 use Rattle.ts_base.specs.declared.values.Val.TheVariants.{Null, Int}
-use Rattle.ts_table.specs.declared.column.Kind.{Kind}
-use Rattle.ts_table.specs.declared.column.Kind.TheVariants as kind
-use Rattle.ts_table.specs.Columns.{vals_from}
 use Rattle.ts_table.specs.Tables.{column_of, no_version, version_or, HaveRows, HasVals}
-use Rattle.ts_table.proofs.Parts.{all_integers}
 use Rattle.ts_table.proofs.Tables.{across_here, across-length}
 use Rattle.ts_select.specs.Cells.{fields_at}
 use Rattle.ts_select.specs.Columns.{columns_at, whole_column, HaveFields}
@@ -35,14 +31,6 @@ along_all versions dim place over =
     take_all place (column_of versions dim) (omega (arith, over, length-map versions number))
 
 pub ruleset alongs = (along_more, along_all)
-
--- integers alone
-pub all_numbers : (numbers : List ℤ) (texts : List (List ℕ)) (kinds : List Kind) → texts ≡ [] → kinds ≡ replicate (length numbers) kind.Number → vals_from numbers texts 0 kinds ≡ map Int numbers
-all_numbers numbers texts kinds none are =
-    let many : length numbers ≡ length kinds = sym (ap length are ∙ length-replicate (length numbers) kind.Number) in
-    sym (all_integers numbers texts kinds none many (λ k d below. let within : k < length numbers = omega (arith, below, many) in ap (λ ks. get_or ks k d) are ∙ get_or-replicate (length numbers) k kind.Number d within))
-
-pub ruleset integers = (all_numbers)
 
 -- the columns of the coordinates are those of the dimensions
 pub dims_have : (versions : List Version) (dims : ℕ) (fields : List ℕ) (columns : List (List Val)) → All (λ (v : Version). length v.coords ≡ dims) versions

@@ -5,7 +5,6 @@ pub mod Ascending
 pub mod Placed
 pub mod SiteTables
 pub mod Alike
-pub mod RunParts
 pub mod Boxes
 pub mod AllCells
 pub mod Takings

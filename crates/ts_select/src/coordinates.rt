@@ -10,7 +10,7 @@ use std::alloc::Global;
 use ts_base::OutOfMemory;
 use ts_batch::Batch;
 use ts_gather::coords_columns;
-use ts_table::{BoxTable, Column, Kind, Numbers, Texts};
+use ts_table::{BoxTable, Column, Numbers};
 
 /// The coordinates of all cells, one column for each dimension.
 pub(crate) fn coordinates_of(
@@ -78,16 +78,7 @@ fn columns_of(alloc: Global, numbers: Vec<Numbers>) -> Result<Vec<Column>, OutOf
 {
     let mut columns = Vec::new(alloc);
     for list in numbers {
-        columns.push(column_of(alloc, list)?)?;
+        columns.push(Column::of_integers(alloc, list)?)?;
     }
     Ok(columns)
-}
-
-// The column of integers.
-#[tactic(auto, using(crate::proofs::AllCells::integers))]
-fn column_of(alloc: Global, numbers: Numbers) -> Result<Column, OutOfMemory>
-    ensures { IfOk result (λ column. column ≡ map val.Int numbers) }
-{
-    let kinds = vec![in alloc; Kind::Number; numbers.len() as usize]?;
-    Ok(Column::of(kinds, numbers, Texts::new(alloc)))
 }

@@ -5,7 +5,6 @@ mod columns;
 mod coordinates;
 mod layout;
 mod places;
-mod runs;
 mod selecting;
 mod sites;
 mod sorted;

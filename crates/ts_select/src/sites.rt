@@ -49,13 +49,25 @@ fn columns_of(
     Ok(columns)
 }
 
-// The coordinates of the cells at these places along a dimension, 0 where a cell has none.
-fn column_along(
+/// The coordinates of the cells at these places along a dimension, 0 where a cell has none.
+#[tactic(auto, using(crate::proofs::Fields::alongs))]
+pub(crate) fn column_along(
     alloc: Global,
     dim: u8,
     cells: &Batch,
     places: &[u32],
 ) -> Result<Numbers, OutOfMemory>
+    requires { All (λ place. place < length cells.now) places.now }
+    ensures { IfOk result (λ column. column ≡ numbers_at cells.now places.now dim) }
+{
+    match cells.column(dim) {
+        Some(column) => column.gathered(alloc, places),
+        None => read_along(alloc, dim, cells, places),
+    }
+}
+
+// The coordinates of the cells at these places along a dimension, read one by one.
+fn read_along(alloc: Global, dim: u8, cells: &Batch, places: &[u32]) -> Result<Numbers, OutOfMemory>
     requires { All (λ place. place < length cells.now) places.now }
     ensures { IfOk result (λ column. column ≡ numbers_at cells.now places.now dim) }
 {

@@ -3,7 +3,7 @@ ghost use Rattle.std.specs.Prelude.{◌≡◌, ◌+◌, ◌<◌, ℕ, [], false,
 
 use std::alloc::Global;
 use std::mem;
-use ts_base::OutOfMemory;
+use ts_base::{Duplicate, OutOfMemory};
 use ts_table::Column;
 
 /// The columns at those of these places where there are columns. A column that is asked for again
@@ -39,7 +39,7 @@ fn taken(
     ensures kept { (k : ℕ) → k < length later.now → get_or all.new (get_or later.now k 0) [] ≡ get_or all.old (get_or later.now k 0) [] }
 {
     if is_among(field, later) {
-        copied(alloc, &all[field as usize])
+        all[field as usize].copy(alloc)
     } else {
         Ok(mem::replace(&mut all[field as usize], Column::new(alloc)))
     }
@@ -55,13 +55,4 @@ fn is_among(field: u32, fields: &[u32]) -> bool
         }
     }
     false
-}
-
-// The same column once more.
-fn copied(alloc: Global, column: &Column) -> Result<Column, OutOfMemory>
-    ensures { IfOk result (λ copy. copy ≡ column.now) }
-{
-    let mut copy = Column::new(alloc);
-    copy.append_part(column, 0, column.len())?;
-    Ok(copy)
 }

@@ -23,4 +23,5 @@ pub mod CountLaws
 pub mod TileBoxes
 pub mod ToldLaws
 pub mod SeenValues
-pub mod IntegerLaws
+pub mod SpotLaws
+pub mod SeenLaws

@@ -3,4 +3,4 @@ pub mod Sparse
 pub mod Cuts
 pub mod Laying
 pub mod Told
-pub mod Integers
+pub mod Seen

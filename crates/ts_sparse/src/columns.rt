@@ -13,15 +13,18 @@ ghost use Rattle.ts_wire.specs.Numbers.{FitsInt, number_bytes, int_bytes};
 ghost use Rattle.ts_table.specs.Columns.{val_seen};
 ghost use Rattle.ts_column.specs.Spelled.{number_of, text_of};
 ghost use Rattle.ts_column.specs.Tiles.{is_signed, is_there};
+ghost use Rattle.ts_piece.specs.Spots.{version_in, IsSpot};
 ghost use Rattle.ts_plain.specs.Writes.{place_of, HasPlace};
+ghost use Rattle.ts_sparse.specs.Seen.{AreSources};
 ghost use Rattle.ts_sparse.specs.Laying.{coords_along, values_along};
 
-use crate::integers::{integer_at, slices_of};
+use crate::coords::{coord_at, slices_of};
+use crate::values::{Source, sources_of, value_at, value_of};
 use std::alloc::Global;
 use ts_base::{ByteList, KeyList, OutOfMemory, ValType};
-use ts_batch::BatchCell;
+use ts_batch::{Batch, BatchCell};
 use ts_column::is_signed;
-use ts_piece::{BatchPiece, PieceParts, cell_at};
+use ts_piece::{BatchPiece, PieceParts, Spot, cell_at};
 use ts_plain::place_of;
 use ts_table::{Seen, Texts};
 use ts_wire::{Kind, Scribe};
@@ -33,17 +36,6 @@ fn room_for(alloc: Global, piece: &BatchPiece, width: u8) -> Result<Scribe, OutO
     let mut scribe = Scribe::new(alloc);
     scribe.reserve(piece.len().saturating_mul(u64::from(width)))?;
     Ok(scribe)
-}
-
-// The coordinate of a cell along a dimension, or 0 where there is no such dimension.
-#[tactic(auto, using(crate::proofs::SeenValues::coord_there))]
-fn coord_of(version: &BatchCell<'_>, dim: u8) -> i128
-    ensures { result ≡ get_or version.now.coords dim (pos 0) }
-{
-    match version.coord(dim) {
-        Some(x) => x,
-        None => 0,
-    }
 }
 
 /// The object of the coordinates along a dimension, of which each takes the width of the type.
@@ -60,20 +52,21 @@ pub(crate) fn coords_object(
 {
     let mut scribe = room_for(alloc, piece, ty.width())?;
     let PieceParts { batches, spots } = piece.parts();
+    let slices = slices_of(alloc, batches, dim)?;
     for spot in spots {
-        let version = cell_at(batches, *spot);
-        scribe.int(ty.width(), is_signed(ty), coord_of(&version, dim))?;
+        let number = coord_at(batches, slices.as_slice(), dim, *spot);
+        scribe.int(ty.width(), is_signed(ty), number)?;
     }
     scribe.into_object(Kind::Column)
 }
 
-// The value of an attribute, null where there is none.
-fn value_of<'a>(version: &BatchCell<'a>, attr: u8) -> Seen<'a>
-    ensures { val_seen result ≡ get_or version.now.row attr val.Null }
+// The integer that is stored for a value: 0 for a null.
+fn number_in(value: Seen<'_>) -> i128
+    ensures { result ≡ number_of (val_seen value.entry) }
 {
-    match version.val(attr as u64) {
-        Some(value) => value,
-        None => Seen::Null,
+    match value {
+        Seen::Int(number) => number,
+        Seen::Null | Seen::Bytes(_) => 0,
     }
 }
 
@@ -81,10 +74,16 @@ fn value_of<'a>(version: &BatchCell<'a>, attr: u8) -> Seen<'a>
 pub fn number_of(version: &BatchCell<'_>, attr: u8) -> i128
     ensures { result ≡ number_of (get_or version.now.row attr val.Null) }
 {
-    match value_of(version, attr) {
-        Seen::Int(number) => number,
-        Seen::Null | Seen::Bytes(_) => 0,
-    }
+    number_in(value_of(version, attr))
+}
+
+// The integer that is stored for the value of an attribute at a spot: 0 for a null.
+fn number_at(batches: &[Batch], sources: &[Source<'_>], attr: u8, spot: Spot) -> i128
+    requires there { IsSpot batches.now spot }
+    requires sources { AreSources attr batches.now sources.now }
+    ensures { result ≡ number_of (get_or (version_in batches.now spot).row attr val.Null) }
+{
+    number_in(value_at(batches, sources, attr, spot))
 }
 
 /// The object of the values of an attribute that are integers, of which each takes the width of the type.
@@ -101,22 +100,38 @@ pub fn numbers_object(
 {
     let mut scribe = room_for(alloc, piece, ty.width())?;
     let PieceParts { batches, spots } = piece.parts();
-    let slices = slices_of(alloc, batches, attr)?;
+    let sources = sources_of(alloc, batches, attr)?;
     for spot in spots {
-        let number = integer_at(batches, slices.as_slice(), attr, *spot);
+        let number = number_at(batches, sources.as_slice(), attr, *spot);
         scribe.int(ty.width(), is_signed(ty), number)?;
     }
     scribe.into_object(Kind::Column)
+}
+
+// Whether a value is no null.
+fn is_value(value: Seen<'_>) -> bool
+    ensures { result ≡ is_there (val_seen value.entry) }
+{
+    match value {
+        Seen::Int(_) | Seen::Bytes(_) => true,
+        Seen::Null => false,
+    }
 }
 
 /// Whether the value of an attribute is no null.
 pub fn is_there(version: &BatchCell<'_>, attr: u8) -> bool
     ensures { result ≡ is_there (get_or version.now.row attr val.Null) }
 {
-    match value_of(version, attr) {
-        Seen::Int(_) | Seen::Bytes(_) => true,
-        Seen::Null => false,
-    }
+    is_value(value_of(version, attr))
+}
+
+// Whether the value of an attribute at a spot is no null.
+fn is_there_at(batches: &[Batch], sources: &[Source<'_>], attr: u8, spot: Spot) -> bool
+    requires there { IsSpot batches.now spot }
+    requires sources { AreSources attr batches.now sources.now }
+    ensures { result ≡ is_there (get_or (version_in batches.now spot).row attr val.Null) }
+{
+    is_value(value_at(batches, sources, attr, spot))
 }
 
 /// The object that tells of each cell whether its value of an attribute is there: one byte each.
@@ -125,20 +140,37 @@ pub fn validity_object(alloc: Global, attr: u8, piece: &BatchPiece) -> Result<By
 {
     let mut scribe = room_for(alloc, piece, 1)?;
     let PieceParts { batches, spots } = piece.parts();
+    let sources = sources_of(alloc, batches, attr)?;
     for spot in spots {
-        scribe.bool(is_there(&cell_at(batches, *spot), attr))?;
+        scribe.bool(is_there_at(batches, sources.as_slice(), attr, *spot))?;
     }
     scribe.into_object(Kind::Column)
+}
+
+// The bytes that are stored for a value: none for a null.
+fn bytes_in(value: Seen<'_>) -> &[u8]
+    ensures { result.now ≡ text_of (val_seen value.entry) }
+{
+    match value {
+        Seen::Bytes(bytes) => bytes,
+        Seen::Null | Seen::Int(_) => &[],
+    }
 }
 
 /// The bytes that are stored for the value of an attribute: none for a null.
 pub fn text_of<'a>(version: &BatchCell<'a>, attr: u8) -> &'a [u8]
     ensures { result.now ≡ text_of (get_or version.now.row attr val.Null) }
 {
-    match value_of(version, attr) {
-        Seen::Bytes(bytes) => bytes,
-        Seen::Null | Seen::Int(_) => &[],
-    }
+    bytes_in(value_of(version, attr))
+}
+
+// The bytes that are stored for the value of an attribute at a spot: none for a null.
+fn text_at<'a>(batches: &'a [Batch], sources: &[Source<'a>], attr: u8, spot: Spot) -> &'a [u8]
+    requires there { IsSpot batches.now spot }
+    requires sources { AreSources attr batches.now sources.now }
+    ensures { result.now ≡ text_of (get_or (version_in batches.now spot).row attr val.Null) }
+{
+    bytes_in(value_at(batches, sources, attr, spot))
 }
 
 /// The values of an attribute that are byte lists, a null as the empty one.
@@ -147,8 +179,9 @@ pub fn texts_of(alloc: Global, attr: u8, piece: &BatchPiece) -> Result<Texts, Ou
 {
     let mut texts = Texts::new(alloc);
     let PieceParts { batches, spots } = piece.parts();
+    let sources = sources_of(alloc, batches, attr)?;
     for spot in spots {
-        texts.push(text_of(&cell_at(batches, *spot), attr))?;
+        texts.push(text_at(batches, sources.as_slice(), attr, *spot))?;
     }
     Ok(texts)
 }

@@ -4,11 +4,12 @@
 
 mod building;
 mod columns;
-mod integers;
+mod coords;
 mod laws;
 mod laying;
 mod metadata;
 mod starts;
+mod values;
 
 pub use building::build;
 pub use columns::{

@@ -1,17 +1,14 @@
 -- The columns of a tile, one by one.
-use Rattle.std.proofs.Common.{◌≡◌, ℕ, zero, suc, ◌+◌, ◌<◌, ◌≤◌, Bool, true, false, not, ◌&&◌, cond, ℤ, pos, int_le, List, [], ◌∷◌, ◌++◌, length, drop, take, get_or, replicate, Some, None, Result, Ok, Err, refl, sym, ap, subst, ◌∙◌, add-one, append_assoc}
+use Rattle.std.proofs.Common.{◌≡◌, ℕ, zero, suc, ◌+◌, ◌<◌, ◌≤◌, Bool, true, false, not, ◌&&◌, cond, ℤ, pos, int_le, List, [], ◌∷◌, ◌++◌, length, drop, take, get_or, Some, None, Result, Ok, Err, refl, sym, ap, subst, ◌∙◌, add-one, append_assoc}
 use Rattle.std.specs.List.{All, list_any, position_from}
 use Rattle.std.proofs.lemmas.List.{drop_more, drop_all, take_more, take_all, append-nil}
 use Rattle.std.proofs.lemmas.List.Elements.{All-nil, All-cons, All-append}
 use Rattle.ts_base.specs.declared.names.Part.TheVariants as part
 use Rattle.ts_base.specs.declared.values.Val.{Val}
-use Rattle.ts_base.specs.declared.values.Val.TheVariants.{Null}
 use Rattle.ts_base.specs.declared.values.ValType.{ValType}
 use Rattle.ts_domain.specs.declared.dims.Dim.{Dim}
 use Rattle.ts_domain.specs.declared.boxes.SubBox.{SubBox}
 use Rattle.ts_schema.specs.declared.attrs.Attr.{Attr}
-use Rattle.ts_table.specs.declared.column.Kind.TheVariants as kind
-use Rattle.ts_table.specs.Columns.{vals_from}
 use Rattle.ts_column.specs.Coords.{is_out, first_out, coords_in, AreCoords}
 use Rattle.ts_sparse_read.specs.declared.faults.CellFault.{CellFault}
 use Rattle.ts_sparse_read.specs.declared.faults.CellFault.TheVariants as told
@@ -19,13 +16,6 @@ use Rattle.ts_sparse_read.specs.Faults.{Fault, and_then, Ranged, bytes_of, in_pa
 use Rattle.ts_sparse_read.specs.TileReads.{is_among, coords_of_tile, vals_if, vals_of_tile}
 use Rattle.ts_sparse_read.specs.Reads.{IsCellFault, DecodesFault}
 use Rattle.ts_sparse_read.specs.ReadRows.{IsOn, IsSide, AreSides}
-
--- ---- nulls
-
--- the values of so many kinds that are null
-pub nulls_are : (numbers : List ℤ) (texts : List (List ℕ)) (place count : ℕ) → vals_from numbers texts place (replicate count kind.Null) ≡ replicate count Null
-nulls_are numbers texts place zero = refl
-nulls_are numbers texts place (suc count) = ap (λ vals. Null ∷ vals) (nulls_are numbers texts (suc place) count)
 
 -- ---- answers
 

@@ -3,7 +3,6 @@ ghost use Rattle.std.specs.Prelude.{◌≡◌, ◌≤◌, List, pos, length, get
 ghost use Rattle.std.specs.List.{All};
 ghost use Rattle.ts_base.specs.declared.names.Part.TheVariants as part;
 ghost use Rattle.ts_base.specs.declared.values.Val.{Val as AnyVal};
-ghost use Rattle.ts_base.specs.declared.values.Val.TheVariants as val;
 ghost use Rattle.ts_base.specs.Values.{is_integer};
 ghost use Rattle.ts_domain.specs.Domains.{LiesInDomain};
 ghost use Rattle.ts_domain.specs.declared.dims.Dim.{Dim as AnyDim};
@@ -24,7 +23,7 @@ use ts_base::{ByteList, Coords, IndexList, OutOfMemory, Part, Sequence, ValType}
 use ts_column::{ColumnList, Tile, TileFault, decode_column, decode_coords, decode_origins};
 use ts_domain::{Dim, Domain, SubBox};
 use ts_schema::Attr;
-use ts_table::{Column, Kind, Numbers, Texts};
+use ts_table::{Column, Numbers};
 use ts_wire::ReadFault;
 
 /// A list of lists of numbers.
@@ -231,23 +230,13 @@ fn vals_of(
     ensures many { IfOk result (λ column. length column ≡ count) }
 {
     if !read {
-        return Ok(nulls(alloc, count)?);
+        return Ok(Column::nulls(alloc, count)?);
     }
     let tile = tile_in(alloc, ranges, place)?;
     match decode_column(alloc, attr.ty, attr.nullable, count, &tile) {
         Ok(column) => Ok(column),
         Err(fault) => Err(fault_of(ranges, place, fault)),
     }
-}
-
-/// So many nulls.
-#[tactic(auto, using(crate::proofs::ColumnSteps::nulls_are))]
-pub(crate) fn nulls(alloc: Global, count: u64) -> Result<Column, OutOfMemory>
-    ensures { IfOk result (λ column. column ≡ replicate count val.Null) }
-{
-    let kinds = vec![in alloc; Kind::Null; count as usize]?;
-    let (numbers, texts) = (Numbers::new(alloc), Texts::new(alloc));
-    Ok(Column::of(kinds, numbers, texts))
 }
 
 /// The tile of the attribute at a place.

@@ -2,7 +2,7 @@
 ghost use Rattle.std.specs.Prelude.{◌≡◌, ◌≤◌, [], ◌∷◌, length, replicate, IfOk, IfSome, OnOk};
 ghost use Rattle.ts_sparse_read.specs.Decoded.{counts_of, attr_tiles, null_columns, AreOfAttr, AreDecoded, turned};
 
-use crate::columns::{nulls, tile_in};
+use crate::columns::tile_in;
 use crate::opened::WantedTile;
 use crate::ranges::Ranges;
 use crate::used::is_among;
@@ -110,7 +110,7 @@ fn null_columns(alloc: Global, counts: &[u64]) -> Result<ColumnList, OutOfMemory
 {
     let mut columns = ColumnList::new(alloc);
     for count in counts {
-        columns.push(nulls(alloc, *count)?)?;
+        columns.push(Column::nulls(alloc, *count)?)?;
     }
     Ok(columns)
 }

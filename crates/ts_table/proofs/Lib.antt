@@ -1,5 +1,6 @@
 pub mod Spans
 pub mod Columns
+pub mod KindLists
 pub mod Parts
 pub mod Tables
 pub mod Picks
@@ -16,5 +17,5 @@ pub mod RankOrders
 pub mod RankSteps
 pub mod Neighbours
 pub mod BoxTables
-pub mod Narrow
+pub mod LongLaws
 pub mod Vals

@@ -1,13 +1,14 @@
 -- Parts of columns: the values from a place on.
-use Rattle.std.proofs.Common.{◌≡◌, ℕ, zero, suc, ◌+◌, ◌<◌, ◌≤◌, List, [], ◌∷◌, ◌++◌, length, map, get_or, take, drop, refl, sym, ap, subst, ◌∙◌, arith}
-use Rattle.std.proofs.lemmas.List.Elements.{All-head, All-tail}
-use Rattle.std.proofs.lemmas.List.{get_or_append_left, get_or-append-add, get_or-drop, get_or-take, length-take, length-drop, take_more}
-use Rattle.ts_table.proofs.Columns.{vals_same, vals-length}
+use Rattle.std.proofs.Common.{◌≡◌, ℕ, zero, suc, ◌+◌, ◌<◌, ◌≤◌, List, [], ◌∷◌, ◌++◌, length, map, get_or, replicate, take, drop, refl, sym, ap, subst, ◌∙◌, arith}
+use Rattle.std.proofs.lemmas.List.Elements.{All-head, All-tail, All-cons}
+use Rattle.std.proofs.lemmas.List.{get_or_append_left, get_or-append-add, get_or-drop, get_or-take, length-take, length-drop, length-replicate, take_more}
+use Rattle.std.proofs.lemmas.Option.{get_or_from_slice_get}
+use Rattle.ts_table.proofs.Columns.{val_first, vals_same, vals-length}
 use Rattle.std.specs.Prelude.{ℤ, pos, All}
 use Rattle.ts_base.specs.declared.values.Val.{Val}
 use Rattle.ts_base.specs.declared.values.Val.TheVariants.{Int, Null}
-use Rattle.ts_table.specs.declared.column.Kind.{Kind}
-use Rattle.ts_table.specs.declared.column.Kind.TheVariants.{Number}
+use Rattle.ts_table.specs.declared.kinds.Kind.{Kind}
+use Rattle.ts_table.specs.declared.kinds.Kind.TheVariants.{Number, Null as NoKind}
 use Rattle.ts_table.specs.Columns.{val_of, vals_from}
 
 -- the values of more kinds
@@ -94,7 +95,38 @@ ints_from (n ∷ ns) (k ∷ kinds) many all =
 pub all_integers : (ns : List ℤ) (texts : List (List ℕ)) (kinds : List Kind) → texts ≡ [] → length ns ≡ length kinds → All (λ k. k ≡ Number) kinds → map Int ns ≡ vals_from ns texts 0 kinds
 all_integers ns texts kinds none many all = subst (λ t. map Int ns ≡ vals_from ns t 0 kinds) (sym none) (ints_from ns kinds many all)
 
-pub ruleset integers = (all_integers)
+-- kinds that are all of integers
+all_number : (count : ℕ) → All (λ k. k ≡ Number) (replicate count Number)
+all_number zero = λ k d h. absurd (omega (arith, h))
+all_number (suc count) = All-cons (λ k. k ≡ Number) Number (replicate count Number) refl (all_number count)
+
+pub integers_are : (ns : List ℤ) → vals_from ns [] 0 (replicate (length ns) Number) ≡ map Int ns
+integers_are ns = sym (ints_from ns (replicate (length ns) Number) (sym (length-replicate (length ns) Number)) (all_number (length ns)))
+
+pub ruleset integers = (all_integers, integers_are)
+
+-- the values at some places
+vals_at : (ns : List ℤ) (kinds : List Kind) (places : List ℕ) (from : ℕ) (ms : List ℤ) → All (λ place. place < length kinds) places
+    → ((i : ℕ) → get_or ms (from + i) (pos 0) ≡ get_or (map (λ place. get_or ns place (pos 0)) places) i (pos 0))
+    → vals_from ms [] from (map (λ place. get_or kinds place NoKind) places) ≡ map (λ place. get_or (vals_from ns [] 0 kinds) place Null) places
+vals_at ns kinds [] from ms all same = refl
+vals_at ns kinds (p ∷ places) from ms all same =
+    let within : p < length kinds = All-head (λ place. place < length kinds) p places all in
+    let start : from + 0 ≡ from = omega arith in
+    let here : get_or ms from (pos 0) ≡ get_or ns p (pos 0) = ap (λ j. get_or ms j (pos 0)) (sym start) ∙ same 0 in
+    let got : get_or (vals_from ns [] 0 kinds) p Null ≡ val_of (get_or kinds p NoKind) (get_or ns p (pos 0)) [] = get_or_from_slice_get (vals_from ns [] 0 kinds) p _ Null (val_first ns [] kinds p NoKind within) in
+    let rest : vals_from ms [] (suc from) (map (λ place. get_or kinds place NoKind) places) ≡ map (λ place. get_or (vals_from ns [] 0 kinds) place Null) places =
+    vals_at ns kinds places (suc from) ms (All-tail (λ place. place < length kinds) p places all) (λ i. let next : suc from + i ≡ from + suc i = omega arith in ap (λ j. get_or ms j (pos 0)) next ∙ same (suc i)) in
+    cc
+
+pub gathered_vals : (ns : List ℤ) (texts : List (List ℕ)) (kinds : List Kind) (places : List ℕ) → texts ≡ [] → All (λ place. place < length (vals_from ns texts 0 kinds)) places
+    → vals_from (map (λ place. get_or ns place (pos 0)) places) [] 0 (map (λ place. get_or kinds place NoKind) places) ≡ map (λ place. get_or (vals_from ns texts 0 kinds) place Null) places
+gathered_vals ns texts kinds places none all =
+    let long = vals-length ns texts 0 kinds in
+    subst (λ t. vals_from (map (λ place. get_or ns place (pos 0)) places) [] 0 (map (λ place. get_or kinds place NoKind) places) ≡ map (λ place. get_or (vals_from ns t 0 kinds) place Null) places) (sym none)
+    (vals_at ns kinds places 0 (map (λ place. get_or ns place (pos 0)) places) (λ k d h. let below = all k d h in omega (arith, below, long)) (λ i. let start : 0 + i ≡ i = omega arith in ap (λ j. get_or (map (λ place. get_or ns place (pos 0)) places) j (pos 0)) start))
+
+pub ruleset gathers = (gathered_vals, vals-length)
 
 -- one value more of a part
 pub part_step : (vals : List Val) (from step count : ℕ) → from + count ≤ length vals → step < count → take (step + 1) (drop from vals) ≡ take step (drop from vals) ++ get_or vals (from + step) Null ∷ []

@@ -8,4 +8,5 @@ pub mod BoxTables
 pub mod Ordered
 pub mod Spots
 pub mod Ranks
-pub mod Narrows
+pub mod Longs
+pub mod Widths

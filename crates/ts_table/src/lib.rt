@@ -5,6 +5,8 @@
 mod box_table;
 mod cell;
 mod column;
+mod kinds;
+mod long;
 mod merging;
 mod numbers;
 mod order;
@@ -13,15 +15,17 @@ mod origins;
 mod picked;
 mod ranks;
 mod rows;
+mod slices;
 mod spots;
 mod table;
 mod texts;
 
 pub use box_table::{BoxParts, BoxTable};
 pub use cell::Cell;
-pub use column::{Column, Kind, Seen};
+pub use column::{Column, Seen};
+pub use kinds::{Kind, Kinds};
 pub use merging::{CellList, merge_tables, merge_two, newest_alone};
-pub use numbers::Numbers;
+pub use numbers::{Integers, Numbers};
 pub use order::CellOrder;
 pub use ordering::{are_versions_in_order, is_in_order, is_inside, ordered_places};
 pub use origins::Origin;

@@ -10,7 +10,7 @@ ghost use Rattle.ts_table.specs.Orders.{cells_cmp, LiesInside};
 ghost use Rattle.ts_table.specs.Ordered.{AreOrdered};
 ghost use Rattle.ts_table.specs.Ranks.{IsCountable, IsLine, steps_on, CanCount, counted_on, ArePlaces, place_in, front_place, tile_place, cell_place, ranks_of, rank_cmp};
 
-use crate::numbers::Numbers;
+use crate::numbers::{Integers, Numbers};
 use crate::order::CellOrder;
 use crate::table::Table;
 use std::alloc::Global;
@@ -196,15 +196,35 @@ fn count_on(
     let dim = dim_at(order, domain.count(), rank);
     let line = line_of(counted, domain.dim(dim));
     if let Some(column) = table.column(dim) {
-        match column.as_narrow() {
-            Some(narrow) => count_narrow(&line, narrow, places),
-            None => count_wide(&line, column, places),
-        }
+        count_along(&line, column, places);
     }
 }
 
 // Counts places on along a line, by these coordinates.
-fn count_narrow(line: &Line, column: &[i64], places: &mut [u64])
+fn count_along(line: &Line, column: &Numbers, places: &mut [u64])
+    requires { CanCount line.now column.now places.old }
+    ensures { places.new ≡ counted_on line.now column.now places.old }
+{
+    match column.as_slice() {
+        Some(Integers::Short(short)) => count_short(line, short, places),
+        Some(Integers::Long(long)) => count_long(line, long, places),
+        None => count_wide(line, column, places),
+    }
+}
+
+// Counts places on along a line, by coordinates of 32 bits.
+fn count_short(line: &Line, column: &[i32], places: &mut [u64])
+    requires { CanCount line.now column.now places.old }
+    ensures { places.new ≡ counted_on line.now column.now places.old }
+{
+    for place in 0..places.len() {
+        let steps = steps_on(line, column[place] as i128);
+        places[place] = places[place] * line.count + steps;
+    }
+}
+
+// Counts places on along a line, by coordinates of 64 bits.
+fn count_long(line: &Line, column: &[i64], places: &mut [u64])
     requires { CanCount line.now column.now places.old }
     ensures { places.new ≡ counted_on line.now column.now places.old }
 {

@@ -107,6 +107,7 @@ impl Table {
     }
 
     /// The coordinate along a dimension of the version at a place, if it has one there.
+    #[inline(always)]
     #[tactic(auto, using(crate::proofs::Tables::gets))]
     pub fn coord(&self, place: u64, dim: u8) -> Option<i128>
         requires { place < length self.now }
@@ -223,6 +224,7 @@ impl Table {
 }
 
 // The item at a place of the column of a dimension.
+#[inline(always)]
 #[tactic(auto, using(crate::proofs::Tables::acrosses))]
 fn coord_of(dims: &[Numbers], place: u64, dim: u8) -> Option<i128>
     requires { All (λ (column : List ℤ). place < length column) dims.now }

@@ -1,5 +1,4 @@
 -- What is decoded was spelled so.
-use Rattle.std.proofs.Common.{◌≡◌}
 use Rattle.ts_column.proofs.CoordLaws.{decoded_spelled}
 use Rattle.ts_column.proofs.coords.decode_coords.Goals as goal
 

@@ -1,5 +1,5 @@
 -- The offset of a coordinate is one in the bytes.
-use Rattle.std.proofs.Common.{◌≡◌, sym}
+use Rattle.std.proofs.Common.{sym}
 use Rattle.ts_column.proofs.CoordLaws.{place_room}
 use Rattle.ts_column.proofs.coords.read_coords.Goals as goal
 

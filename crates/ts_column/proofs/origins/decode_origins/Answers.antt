@@ -1,5 +1,4 @@
 -- What is decoded was spelled so.
-use Rattle.std.proofs.Common.{◌≡◌}
 use Rattle.ts_column.proofs.OriginLaws.{decoded_spelled}
 use Rattle.ts_column.proofs.origins.decode_origins.Goals as goal
 

@@ -1,5 +1,4 @@
 -- What is spelled is decoded.
-use Rattle.std.proofs.Common.{◌≡◌}
 use Rattle.ts_column.proofs.OriginLaws.{encoded_back}
 use Rattle.ts_column.proofs.origins.encode_origins.Goals as goal
 

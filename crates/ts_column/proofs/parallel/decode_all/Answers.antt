@@ -1,6 +1,6 @@
 -- The answers by the places of the tiles are those of the tiles in turn.
-use Rattle.std.proofs.Common.{◌≡◌, ℕ, ◌<◌, ◌-◌, ◌^◌, ◌∙◌, List, length, ap, subst, arith}
-use Rattle.std.specs.List.{All, AllZip, range_with_len}
+use Rattle.std.proofs.Common.{◌≡◌, ℕ, ◌<◌, ◌-◌, ◌∙◌, List, length, ap, subst, arith}
+use Rattle.std.specs.List.{AllZip, range_with_len}
 use Rattle.rayon.specs.Numbers.{nat_range}
 use Rattle.rayon.proofs.ToStd.{nat_range-All}
 use Rattle.ts_column.proofs.Gathering.{AnswersAt, by_place, gathered_all}

@@ -1,5 +1,4 @@
 -- The value of one row more.
-use Rattle.std.proofs.Common.{◌≡◌}
 use Rattle.ts_column.proofs.Written.{value_more}
 use Rattle.ts_column.proofs.rows.column_of.Goals as goal
 

@@ -1,5 +1,4 @@
 -- There are as many values as rows.
-use Rattle.std.proofs.Common.{◌≡◌}
 use Rattle.ts_column.proofs.Written.{rows_back}
 use Rattle.ts_column.proofs.rows.encode_tile.Goals as goal
 

@@ -9,6 +9,6 @@ use Rattle.ts_column.proofs.stored.read_each_kind.Given as goal
 abbrev pub invariant-loop-place : goal.invariant-loop-place
 invariant-loop-place l =
     record {
-      reads : with_front (kinds_vals l.stored l.kinds.items) (each_at cell_at (drop l.place (stored_vals l.stored)) l.cursor) ≡ each_at cell_at (stored_vals l.stored) l.fn.cursor;
-      many : length l.kinds.items ≡ l.place;
+      reads : with_front (kinds_vals l.stored l.kinds) (each_at cell_at (drop l.place (stored_vals l.stored)) l.cursor) ≡ each_at cell_at (stored_vals l.stored) l.fn.cursor;
+      many : length l.kinds ≡ l.place;
     }

@@ -13,4 +13,4 @@ returns-else-place-vals c =
     let less = fewer a.order a.outer.now a.inner.now c.requires.valid c.requires.within in
     let cells : c.cells.result ≡ cells_of c.args.inner.now = omega (arith, c.cells.ensures.capped, less, c.requires.few) in
     ok_then (λ column. column ≡ replicate c.cells.result Null) (λ column. column ≡ vals_over a.order a.outer.now a.inner.now (get_or a.vals.now a.attr [])) c.nulls.result
-    (λ column is. none_over a.order a.outer.now a.inner.now a.vals.now a.attr c.cells.result column c.requires.valid c.if-place-vals.false cells is) c.nulls.ensures
+    (λ column is. none_over a.order a.outer.now a.inner.now a.vals.now a.attr c.cells.result column c.requires.valid c.if-place-vals.false cells is) c.nulls.ensures.ok

@@ -16,7 +16,7 @@ append_part-requires c =
     let l = c.loop-row in
     let run = c.run_in-run in
     let less = fewer a.order a.outer.now a.inner.now c.requires.valid c.requires.within in
-    let cells : c.cells.result ≡ cells_of c.args.inner.now = omega (arith, c.cells.ensures.capped, less, c.requires.few) in
+    let cells : c.cells-count.result ≡ cells_of c.args.inner.now = omega (arith, c.cells-count.ensures.capped, less, c.requires.few) in
     let within : c.loop-row.row < cells_of c.args.inner.now / c.run_in-run.result = omega (arith, c.loop-row-test.true, ap (λ n. n / run.result) cells) in
     omega (
       arith,
@@ -30,7 +30,7 @@ loop-row-preserved c =
     let l = c.loop-row in
     let run = c.run_in-run in
     let less = fewer a.order a.outer.now a.inner.now c.requires.valid c.requires.within in
-    let cells : c.cells.result ≡ cells_of c.args.inner.now = omega (arith, c.cells.ensures.capped, less, c.requires.few) in
+    let cells : c.cells-count.result ≡ cells_of c.args.inner.now = omega (arith, c.cells-count.ensures.capped, less, c.requires.few) in
     let within : c.loop-row.row < cells_of c.args.inner.now / c.run_in-run.result = omega (arith, c.loop-row-test.true, ap (λ n. n / run.result) cells) in
     run_more a.order a.outer.now a.inner.now c.requires.valid c.requires.within run.ensures.dims run.result l.row c.position_of-from.result c.coords_at-first.result run.ensures.value run.ensures.some within c.coords_at-first.ensures.place c.position_of-from.ensures.place
     a.column.now c.requires.long l.part c.append_part.new.self l.invariant c.in_ok-append_part.ensures
@@ -41,6 +41,6 @@ returns c =
     let l = c.loop-row in
     let run = c.run_in-run in
     let less = fewer a.order a.outer.now a.inner.now c.requires.valid c.requires.within in
-    let cells : c.cells.result ≡ cells_of c.args.inner.now = omega (arith, c.cells.ensures.capped, less, c.requires.few) in
+    let cells : c.cells-count.result ≡ cells_of c.args.inner.now = omega (arith, c.cells-count.ensures.capped, less, c.requires.few) in
     let over : cells_of c.args.inner.now / c.run_in-run.result ≤ c.loop-row.row = omega (arith, c.loop-row-test.false, ap (λ n. n / run.result) cells) in
     runs_all a.order a.outer.now a.inner.now c.requires.valid c.requires.within run.ensures.dims run.result l.row a.column.now l.part run.ensures.value run.ensures.some over l.invariant

@@ -1,12 +1,20 @@
--- Each coordinate has room.
+-- Each coordinate has room, and is written behind those so far.
 use Rattle.std.proofs.Common.{rules, FitsSigned, to_z-of_z}
 use Rattle.std.specs.Int.{w128}
-use Rattle.ts_sparse.proofs.IntegerLaws.{coord_fits}
+use Rattle.ts_base.specs.Values.{width_of}
+use Rattle.ts_sparse.specs.Seen.{coord_of}
+use Rattle.ts_sparse.proofs.SpotLaws.{integer_fits, integer_next}
 use Rattle.ts_sparse.proofs.columns.coords_object.Goals as goal
 
 pub int-requires-clause-fits : goal.int-requires-clause-fits
 int-requires-clause-fits c =
-    let z : FitsSigned w128 c.coord_of.result = search rules in
+    let z : FitsSigned w128 c.coord_at-number.result = search rules in
     rw (c.width-in-loop-spot.ensures, c.is_signed.ensures, to_z-of_z z)
-    (coord_fits c.args.ty c.args.dim c.parts.result.batches.now c.parts.result.spots.now c.args.piece.now.versions c.loop-spot.spot-index _ c.cell_at-version.result c.coord_of.result
-    c.parts.ensures.versions c.requires.fits c.loop-spot-test.true c.cell_at-version.ensures c.coord_of.ensures)
+    (integer_fits c.args.ty (coord_of c.args.dim) c.parts.result.batches.now c.parts.result.spots.now c.args.piece.now.versions c.loop-spot.spot-index _ c.coord_at-number.result
+    c.parts.ensures.versions c.requires.fits c.loop-spot-test.true c.coord_at-number.ensures)
+
+pub loop-spot-preserved : goal.loop-spot-preserved
+loop-spot-preserved c =
+    let z : FitsSigned w128 c.coord_at-number.result = search rules in
+    integer_next (coord_of c.args.dim) (width_of c.args.ty) c.width-in-loop-spot.result c.parts.result.batches.now c.parts.result.spots.now c.loop-spot.spot-index _ _ c.coord_at-number.result c.loop-spot.scribe c.int.new.self
+    c.loop-spot.invariant c.loop-spot-test.true c.coord_at-number.ensures c.width-in-loop-spot.ensures (to_z-of_z z) c.in_ok-int.ensures.ok

@@ -1,5 +1,5 @@
 -- The write of each version is known.
-use Rattle.ts_sparse.proofs.IntegerLaws.{key_known}
+use Rattle.ts_sparse.proofs.SpotLaws.{key_known}
 use Rattle.ts_sparse.proofs.columns.origins_object.Goals as goal
 
 pub place_of-requires-clause-known : goal.place_of-requires-clause-known

@@ -8,7 +8,7 @@ use Rattle.ts_piece.specs.Spots.{spotted}
 use Rattle.ts_rtree.specs.Trees.{hulls_of}
 use Rattle.ts_sparse.specs.Sparse.{leaves_of}
 use Rattle.ts_sparse.specs.Laying.{boxes_of, cells_of}
-use Rattle.ts_sparse.proofs.IntegerLaws.{spotted_long}
+use Rattle.ts_sparse.proofs.SpotLaws.{spotted_long}
 use Rattle.ts_sparse.proofs.MetaLaws.{some_versions, boxes_alike, leaves_same, leaves_alike, leaves_there}
 use Rattle.ts_sparse.proofs.metadata.leaves_of.Goals as goal
 

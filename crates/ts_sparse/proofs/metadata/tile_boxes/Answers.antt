@@ -3,7 +3,7 @@ use Rattle.std.proofs.Common.{◌<◌, ◌≤◌, ◌-◌, length, sym, subst, a
 use Rattle.ts_piece.specs.Spots.{spotted}
 use Rattle.ts_rtree.proofs.HullLaws.{Making, making_next_at, making_more_at}
 use Rattle.ts_sparse.specs.Laying.{boxes_of}
-use Rattle.ts_sparse.proofs.IntegerLaws.{spotted_at, spotted_long}
+use Rattle.ts_sparse.proofs.SpotLaws.{spotted_at, spotted_long}
 use Rattle.ts_sparse.proofs.TileBoxes.{box_at, box_within, first_made, next_like}
 use Rattle.ts_sparse.proofs.metadata.tile_boxes.Goals as goal
 use Rattle.ts_sparse.proofs.metadata.tile_boxes.Goals.{then-left-eq0+in_ok-push, else-left-eq0}

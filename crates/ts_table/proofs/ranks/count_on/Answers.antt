@@ -11,37 +11,21 @@ line_of-line-requires-clause-few c =
     let d = c.dim.result.now in
     side_few dims c.dim_at-dim.result d c.requires.sound c.requires.countable (omega arith) (sym (get_or_from_slice_get dims c.dim_at-dim.result d d c.dim.ensures.place))
 
-pub count_narrow-requires : goal.count_narrow-requires
-count_narrow-requires c =
-    let dims = c.args.domain.now in
-    let dim : c.dim_at-dim.result ≡ dim_at c.args.order (length dims) c.args.rank = c.dim_at-dim.ensures.value ∙ ap (λ n. dim_at c.args.order n c.args.rank) c.count.ensures.count in
-    rw (c.in-Some-as_narrow.ensures.all, c.in-Some.ensures.some)
-    (can_count c.args.counted dims c.args.order c.args.table.now c.requires.sound c.requires.countable c.requires.inside c.args.rank c.dim_at-dim.result c.dim.result.now c.line_of-line.result c.requires.within dim c.dim.ensures.place
-    c.line_of-line.ensures c.args.places.now c.requires.so_far)
-
-pub count_wide-requires : goal.count_wide-requires
-count_wide-requires c =
+pub count_along-requires : goal.count_along-requires
+count_along-requires c =
     let dims = c.args.domain.now in
     let dim : c.dim_at-dim.result ≡ dim_at c.args.order (length dims) c.args.rank = c.dim_at-dim.ensures.value ∙ ap (λ n. dim_at c.args.order n c.args.rank) c.count.ensures.count in
     rw c.in-Some.ensures.some
     (can_count c.args.counted dims c.args.order c.args.table.now c.requires.sound c.requires.countable c.requires.inside c.args.rank c.dim_at-dim.result c.dim.result.now c.line_of-line.result c.requires.within dim c.dim.ensures.place
     c.line_of-line.ensures c.args.places.now c.requires.so_far)
 
-pub returns-in-Some-as_narrow : goal.returns-in-Some-as_narrow
-returns-in-Some-as_narrow c =
+pub returns-in-Some : goal.returns-in-Some
+returns-in-Some c =
     let dims = c.args.domain.now in
     let dim : c.dim_at-dim.result ≡ dim_at c.args.order (length dims) c.args.rank = c.dim_at-dim.ensures.value ∙ ap (λ n. dim_at c.args.order n c.args.rank) c.count.ensures.count in
     placed_on c.args.counted dims c.args.order c.args.table.now c.requires.sound c.requires.countable c.requires.inside c.args.rank c.dim_at-dim.result c.dim.result.now c.line_of-line.result c.requires.within dim c.dim.ensures.place
     c.line_of-line.ensures c.args.places.now c.requires.so_far
-    c.count_narrow.new.places (rw (c.in-Some-as_narrow.ensures.all, c.in-Some.ensures.some) at c.count_narrow.ensures)
-
-pub returns-in-None : goal.returns-in-None
-returns-in-None c =
-    let dims = c.args.domain.now in
-    let dim : c.dim_at-dim.result ≡ dim_at c.args.order (length dims) c.args.rank = c.dim_at-dim.ensures.value ∙ ap (λ n. dim_at c.args.order n c.args.rank) c.count.ensures.count in
-    placed_on c.args.counted dims c.args.order c.args.table.now c.requires.sound c.requires.countable c.requires.inside c.args.rank c.dim_at-dim.result c.dim.result.now c.line_of-line.result c.requires.within dim c.dim.ensures.place
-    c.line_of-line.ensures c.args.places.now c.requires.so_far
-    c.count_wide.new.places (rw c.in-Some.ensures.some at c.count_wide.ensures)
+    c.count_along.new.places (rw c.in-Some.ensures.some at c.count_along.ensures)
 
 pub returns-in_default : goal.returns-in_default
 returns-in_default c =

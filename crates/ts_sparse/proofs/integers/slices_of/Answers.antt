@@ -1,8 +1,0 @@
--- One slice more.
-use Rattle.ts_sparse.proofs.IntegerLaws.{slices_next}
-use Rattle.ts_sparse.proofs.integers.slices_of.Goals as goal
-
-pub loop-batch-preserved : goal.loop-batch-preserved
-loop-batch-preserved c =
-    let l = c.loop-batch in
-    slices_next c.args.attr c.args.batches.now l.slices.items c.push.new.self.items l.batch-index c.batch-item.result c.slice_of.result l.invariant c.loop-batch-test.true c.batch-item.is c.slice_of.ensures c.in_ok-push.ensures.items
