@@ -13,7 +13,7 @@ use crate::putting::put_merged;
 use std::alloc::Global;
 use std::thread::Threads;
 use ts_actor::{Fetched, Pieces, wanted};
-use ts_base::{Boxed, FragKey, Name, OutOfMemory};
+use ts_base::{FragKey, Name, OutOfMemory};
 use ts_batch::{Batches, BatchesList};
 use ts_model::{Job, Merging, Opened, OpenedList, Outcome, Refusal, State, Survey, box_of};
 use ts_schema::{AttrList, Frame, Schema, Want};
@@ -86,7 +86,7 @@ pub(crate) fn merge_from<P: Pieces, R: Threads + Sync>(
                     got,
                     fetch,
                 };
-                let state = fetches(alloc, merged, ongoing, asked)?;
+                let state = fetches(merged, ongoing, asked);
                 return Ok(State::Merges(state));
             }
             SourceStep::Takes(versions) => got.push(versions)?,
@@ -97,13 +97,8 @@ pub(crate) fn merge_from<P: Pieces, R: Threads + Sync>(
 }
 
 // A consolidation waits for the reply to a call of a fetch.
-fn fetches<F: Drop>(
-    alloc: Global,
-    merged: Sources,
-    ongoing: SourceFetch<F>,
-    asked: Call,
-) -> Result<Merging<F>, OutOfMemory>
-    ensures { IfOk result (λ state. state ≡ Merging.Fetches merged.survey merged.opened merged.schema ongoing.next ongoing.frag ongoing.got ongoing.fetch asked) }
+fn fetches<F: Drop>(merged: Sources, ongoing: SourceFetch<F>, asked: Call) -> Merging<F>
+    ensures { result ≡ Merging.Fetches merged.survey merged.opened merged.schema ongoing.next ongoing.frag ongoing.got ongoing.fetch asked }
 {
     let Sources {
         survey,
@@ -116,16 +111,16 @@ fn fetches<F: Drop>(
         got,
         fetch,
     } = ongoing;
-    Ok(Merging::Fetches {
+    Merging::Fetches {
         survey,
         sources,
         schema,
         next,
         frag,
         got,
-        fetch: Boxed::new(alloc, fetch)?,
+        fetch,
         asked,
-    })
+    }
 }
 
 // Begins to fetch a source.
@@ -267,7 +262,7 @@ fn after_told<P: Pieces, R: Threads + Sync>(
                 got,
                 fetch,
             };
-            let state = fetches(alloc, merged, ongoing, asked)?;
+            let state = fetches(merged, ongoing, asked);
             Ok(State::Merges(state))
         }
         SourceStep::Takes(versions) => {

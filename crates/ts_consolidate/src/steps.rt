@@ -197,7 +197,7 @@ fn go_merging<P: Pieces, R: Threads + Sync>(
                 next,
                 frag,
                 got,
-                fetch: fetch.into_inner(),
+                fetch,
             };
             after_source::<P, R>(rt, alloc, job, merged, ongoing, asked, reply)
         }

@@ -2,6 +2,7 @@
 #![tactic(auto)]
 
 mod before;
+mod boxed;
 mod holes;
 mod judging;
 mod opened;
@@ -18,6 +19,7 @@ mod tiles;
 mod used;
 mod versions;
 
+pub use boxed::BoxedFetch;
 pub use opened::Opened;
 pub use opening::open;
 pub use pieces::DensePieces;

@@ -14,6 +14,7 @@ ghost use Rattle.ts_dense_read.specs.SpaceGets.{space_own, space_inside, space_f
 ghost use Rattle.ts_dense_read.specs.InOrder.{space_ordered};
 ghost use Rattle.ts_dense_read.specs.Restored.{space_stores};
 
+use crate::boxed::BoxedFetch;
 use crate::opened::Opened;
 use crate::opening::open;
 use std::alloc::Global;
@@ -49,7 +50,7 @@ impl<S: Spelling> Spelling for DensePieces<S> {
 }
 
 impl<S: Pieces> Pieces for DensePieces<S> {
-    type Fetch = EitherFetch<TileFetch<Opened>, S::Fetch>;
+    type Fetch = BoxedFetch<EitherFetch<TileFetch<Opened>, S::Fetch>>;
 
     ghost codec = { either_codec space_codec S.codec };
 
@@ -124,23 +125,23 @@ impl<S: Pieces> Pieces for DensePieces<S> {
         frag: FragKey,
         object: &ByteList,
         want: &Want,
-    ) -> Result<EitherFetch<TileFetch<Opened>, S::Fetch>, ReadFault> {
+    ) -> Result<BoxedFetch<EitherFetch<TileFetch<Opened>, S::Fetch>>, ReadFault> {
         if frame.dense {
             let fetch = open(alloc, frame, schema, frag, object.as_slice(), want)?;
-            Ok(EitherFetch::Dense(fetch))
+            Ok(BoxedFetch::new(alloc, EitherFetch::Dense(fetch))?)
         } else {
             let fetch = S::fetch(rt, alloc, frame, schema, frag, object, want)?;
-            Ok(EitherFetch::Sparse(fetch))
+            Ok(BoxedFetch::new(alloc, EitherFetch::Sparse(fetch))?)
         }
     }
 
     fn next<R: Threads + Sync>(
         rt: &R,
         alloc: Global,
-        fetch: &mut EitherFetch<TileFetch<Opened>, S::Fetch>,
+        fetch: &mut BoxedFetch<EitherFetch<TileFetch<Opened>, S::Fetch>>,
         reply: Reply,
     ) -> Fetched {
-        match fetch {
+        match &mut *fetch.inner {
             EitherFetch::Dense(fetch) => fetch.next(rt, alloc, reply),
             EitherFetch::Sparse(fetch) => S::next(rt, alloc, fetch, reply),
         }

@@ -230,19 +230,19 @@ pub enum Collecting<F> {
     /// It gets the `.vac` objects of committed fragments, one after the other.
     GetsVacs {
         /// What it reads, with the `.vac` objects before the next one.
-        reading: Reading,
+        reading: Boxed<Reading>,
     },
     /// It gets the part that has the head, of one fragment after the other.
     GetsHeads {
         /// What it reads.
-        reading: Reading,
+        reading: Boxed<Reading>,
         /// The fragments before the next one.
         opened: OpenedList,
     },
     /// It gets the further schemas that the heads name, one after the other.
     GetsSchemas {
         /// What it reads.
-        reading: Reading,
+        reading: Boxed<Reading>,
         /// The fragments that it loads.
         opened: OpenedList,
         /// The keys of the schemas, ascending.
@@ -253,7 +253,7 @@ pub enum Collecting<F> {
     /// It gets the deletes, one after the other.
     GetsDeletes {
         /// What it reads, with the deletes before the next one.
-        reading: Reading,
+        reading: Boxed<Reading>,
         /// The fragments that it loads.
         opened: OpenedList,
         /// The schemas that the heads name.
@@ -262,7 +262,7 @@ pub enum Collecting<F> {
     /// It fetches one fragment after the other.
     Fetches {
         /// What it reads.
-        reading: Reading,
+        reading: Boxed<Reading>,
         /// The fragments that it loads.
         opened: OpenedList,
         /// The schemas that the heads name.
@@ -335,8 +335,8 @@ pub enum Merging<F> {
         frag: FragKey,
         /// The versions of each fragment before it.
         got: BatchesList,
-        /// How far the fetch has come. This is large, so it lies in a place of its own.
-        fetch: Boxed<F>,
+        /// How far the fetch has come.
+        fetch: F,
         /// The call that it asks for.
         asked: Call,
     },

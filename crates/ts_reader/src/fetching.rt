@@ -2,7 +2,7 @@
 ghost use Rattle.std.specs.Prelude.{◌≡◌, ◌≤◌, ◌<◌, ◌-◌, ◌+◌, ◌^◌, ◌++◌, suc, drop, length, IfOk};
 ghost use Rattle.ts_base.specs.Names.{IsSpelledFrag};
 ghost use Rattle.ts_actor.specs.Fetches.{IsWorkCall};
-ghost use Rattle.ts_model.specs.States.{after_fetched, fetch_leads, fetching, known_schema};
+ghost use Rattle.ts_model.specs.States.{after_fetched, fetch_leads, fetching, known_schema, with_deletion};
 ghost use Rattle.ts_domain.specs.declared.boxes.SubBox.{SubBox as AnyBox};
 ghost use Rattle.ts_actor.specs.PieceLaws.{AreInBox, IsFetchIn};
 ghost use Rattle.ts_reader.specs.Reading.{IsFetching, IsKnown, IsReadState, fetches_left, reads_left};
@@ -17,7 +17,7 @@ use std::thread::Threads;
 use ts_actor::{Fetched, Pieces};
 use ts_base::{Boxed, FragKey, KeyList, Name, OutOfMemory};
 use ts_batch::Batches;
-use ts_model::{Collecting, Opened, OpenedList, Outcome, Reading, Refusal, State};
+use ts_model::{Collecting, Deletion, Opened, OpenedList, Outcome, Reading, Refusal, State};
 use ts_schema::SchemaList;
 use ts_store::{Call, Reply};
 use ts_wire::ReadFault;
@@ -25,7 +25,7 @@ use ts_wire::ReadFault;
 /// What a read has once it fetches.
 pub(crate) struct Gathered {
     /// What it reads.
-    pub reading: Reading,
+    pub reading: Boxed<Reading>,
     /// The fragments that it loads.
     pub opened: OpenedList,
     /// The further schemas that it knows.
@@ -75,6 +75,28 @@ impl Gathered {
             opened,
             schemas,
         }
+    }
+
+    /// One delete more was got.
+    pub(crate) fn with_deletion(
+        self,
+        alloc: Global,
+        deletion: Deletion,
+    ) -> Result<Gathered, OutOfMemory>
+        ensures { IfOk result (λ more. more ≡ record { reading = with_deletion self.reading deletion; opened = self.opened; schemas = self.schemas }) }
+    {
+        let Gathered {
+            reading,
+            opened,
+            schemas,
+        } = self;
+        let mut reading = reading.into_inner();
+        reading.deletions.push(deletion)?;
+        Ok(Gathered {
+            reading: Boxed::new(alloc, reading)?,
+            opened,
+            schemas,
+        })
     }
 
     // A read waits for the reply to a call of a fetch.
@@ -151,7 +173,7 @@ pub(crate) fn fetch_from<P: Pieces, R: Threads + Sync>(
     for place in next..count {
         let opened = gathered.opened.at(place);
         let frag = opened.frag;
-        match start::<P, R>(rt, alloc, &gathered.reading, &gathered.schemas, opened)? {
+        match start::<P, R>(rt, alloc, gathered.reading.get(), &gathered.schemas, opened)? {
             FetchStep::Asks(fetch, asked) => {
                 let ongoing = OngoingFetch {
                     next: place,
@@ -166,7 +188,7 @@ pub(crate) fn fetch_from<P: Pieces, R: Threads + Sync>(
             FetchStep::Ends(end) => return Ok(State::Over(end)),
         }
     }
-    let answer = answer_of(alloc, &gathered.reading, &gathered.schemas, got)?;
+    let answer = answer_of(alloc, gathered.reading.get(), &gathered.schemas, got)?;
     Ok(State::Over(Outcome::Read(answer)))
 }
 

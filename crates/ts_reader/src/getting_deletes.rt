@@ -27,8 +27,8 @@ pub(crate) fn next_delete<P: Pieces, R: Threads + Sync>(
     ensures bound { length gathered.reading.delete_names < 2 ^ 64 }
     ensures fewer { IfOk result (λ next. reads_left P.left next ≤ 2 ^ 192 + (length gathered.reading.delete_names - length gathered.reading.deletions)) }
 {
-    let count = gathered.reading.delete_names.len();
-    if gathered.reading.deletions.len() < count {
+    let count = gathered.reading.get().delete_names.len();
+    if gathered.reading.get().deletions.len() < count {
         let deletes = Boxed::new(alloc, gathered.gets_deletes())?;
         return Ok(State::Collects(deletes));
     }
@@ -47,11 +47,11 @@ pub(crate) fn after_delete_reply<P: Pieces, R: Threads + Sync>(
     ensures may { IfOk result (IsReadState P.codec) }
     ensures fewer { IfOk result (λ next. length gathered.reading.deletions < length gathered.reading.delete_names → reads_left P.left next < 2 ^ 192 + (length gathered.reading.delete_names - length gathered.reading.deletions)) }
 {
-    let place = gathered.reading.deletions.len();
-    if place >= gathered.reading.delete_names.len() {
+    let place = gathered.reading.get().deletions.len();
+    if place >= gathered.reading.get().delete_names.len() {
         return Ok(State::Over(Outcome::OutOfMemory));
     }
-    let frag = *gathered.reading.delete_names.at(place);
+    let frag = *gathered.reading.get().delete_names.at(place);
     match reply {
         Reply::Bytes(bytes) => after_delete::<P, R>(rt, alloc, gathered, frag, bytes),
         other => {
@@ -76,7 +76,7 @@ fn after_delete<P: Pieces, R: Threads + Sync>(
     ensures fewer { IfOk result (λ next. reads_left P.left next < 2 ^ 192 + (length gathered.reading.delete_names - length gathered.reading.deletions)) }
 {
     match Cond::decode(alloc, bytes.as_slice()) {
-        Ok(cond) => next_delete::<P, R>(rt, alloc, with_deletion(gathered, frag, cond)?),
+        Ok(cond) => next_delete::<P, R>(rt, alloc, with_deletion(alloc, gathered, frag, cond)?),
         Err(ReadFault::Damaged(fault)) => {
             Ok(damaged::<P>(Name::Commit(frag, CommitKind::Del), fault.at))
         }
@@ -85,14 +85,17 @@ fn after_delete<P: Pieces, R: Threads + Sync>(
 }
 
 // One delete more was got.
-fn with_deletion(gathered: Gathered, frag: FragKey, cond: Cond) -> Result<Gathered, OutOfMemory>
+fn with_deletion(
+    alloc: Global,
+    gathered: Gathered,
+    frag: FragKey,
+    cond: Cond,
+) -> Result<Gathered, OutOfMemory>
     ensures { IfOk result (λ more. more ≡ record { reading = with_deletion gathered.reading (deletion_named frag cond); opened = gathered.opened; schemas = gathered.schemas }) }
 {
-    let mut gathered = gathered;
     let key = Key {
         t: frag.t1,
         id: frag.id,
     };
-    gathered.reading.deletions.push(Deletion { key, cond })?;
-    Ok(gathered)
+    gathered.with_deletion(alloc, Deletion { key, cond })
 }

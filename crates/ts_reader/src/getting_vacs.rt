@@ -18,7 +18,7 @@ use ts_wire::ReadFault;
 pub(crate) fn next_vac<P: Pieces, R: Threads + Sync>(
     rt: &R,
     alloc: Global,
-    reading: Reading,
+    reading: Boxed<Reading>,
 ) -> Result<State<P::Fetch>, OutOfMemory>
     requires { IsReading reading }
     ensures is { IfOk result (λ next. next ≡ getting_vacs P.codec reading) }
@@ -26,8 +26,8 @@ pub(crate) fn next_vac<P: Pieces, R: Threads + Sync>(
     ensures bound { length reading.counting < 2 ^ 64 }
     ensures fewer { IfOk result (λ next. reads_left P.left next ≤ 2 ^ 194 + 2 ^ 193 + (length reading.counting - length reading.vacs)) }
 {
-    let count = reading.counting.len();
-    if reading.vacs.len() < count {
+    let count = reading.get().counting.len();
+    if reading.get().vacs.len() < count {
         let vacs = Boxed::new(alloc, Collecting::GetsVacs { reading })?;
         return Ok(State::Collects(vacs));
     }
@@ -38,7 +38,7 @@ pub(crate) fn next_vac<P: Pieces, R: Threads + Sync>(
 pub(crate) fn after_vac_reply<P: Pieces, R: Threads + Sync>(
     rt: &R,
     alloc: Global,
-    reading: Reading,
+    reading: Boxed<Reading>,
     reply: Reply,
 ) -> Result<State<P::Fetch>, OutOfMemory>
     requires { IsReading reading }
@@ -46,11 +46,11 @@ pub(crate) fn after_vac_reply<P: Pieces, R: Threads + Sync>(
     ensures may { IfOk result (IsReadState P.codec) }
     ensures fewer { IfOk result (λ next. length reading.vacs < length reading.counting → reads_left P.left next < 2 ^ 194 + 2 ^ 193 + (length reading.counting - length reading.vacs)) }
 {
-    let place = reading.vacs.len();
-    if place >= reading.counting.len() {
+    let place = reading.get().vacs.len();
+    if place >= reading.get().counting.len() {
         return Ok(State::Over(Outcome::OutOfMemory));
     }
-    let frag = *reading.counting.at(place);
+    let frag = *reading.get().counting.at(place);
     match reply {
         Reply::Bytes(bytes) => after_vac::<P, R>(rt, alloc, reading, frag, bytes),
         other => {
@@ -64,7 +64,7 @@ pub(crate) fn after_vac_reply<P: Pieces, R: Threads + Sync>(
 fn after_vac<P: Pieces, R: Threads + Sync>(
     rt: &R,
     alloc: Global,
-    reading: Reading,
+    reading: Boxed<Reading>,
     frag: FragKey,
     bytes: ByteList,
 ) -> Result<State<P::Fetch>, OutOfMemory>
@@ -75,7 +75,7 @@ fn after_vac<P: Pieces, R: Threads + Sync>(
     ensures fewer { IfOk result (λ next. reads_left P.left next < 2 ^ 194 + 2 ^ 193 + (length reading.counting - length reading.vacs)) }
 {
     match decode_vac(alloc, bytes.as_slice()) {
-        Ok(names) => next_vac::<P, R>(rt, alloc, with_vac(reading, frag, names)?),
+        Ok(names) => next_vac::<P, R>(rt, alloc, with_vac(alloc, reading, frag, names)?),
         Err(ReadFault::Damaged(fault)) => {
             Ok(damaged::<P>(Name::Commit(frag, CommitKind::Vac), fault.at))
         }
@@ -84,10 +84,15 @@ fn after_vac<P: Pieces, R: Threads + Sync>(
 }
 
 // One `.vac` more was got.
-fn with_vac(reading: Reading, frag: FragKey, names: FragList) -> Result<Reading, OutOfMemory>
+fn with_vac(
+    alloc: Global,
+    reading: Boxed<Reading>,
+    frag: FragKey,
+    names: FragList,
+) -> Result<Boxed<Reading>, OutOfMemory>
     ensures { IfOk result (λ more. more ≡ with_vac reading frag names) }
 {
-    let mut reading = reading;
+    let mut reading = reading.into_inner();
     reading.vacs.push(VacOf { frag, names })?;
-    Ok(reading)
+    Boxed::new(alloc, reading)
 }

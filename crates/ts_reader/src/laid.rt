@@ -63,7 +63,9 @@ fn laid_column(
     requires climb { Climb 0 strips.now cells }
     ensures { IfOk result (λ column. column ≡ slot_vals reading.now schemas.now (laid batches.now 0 strips.now cells) attr.now) }
 {
-    let mut column = Column::new(alloc);
+    let mut column = begun_column(
+        alloc, reading, schemas, source, attr, batches, strips, cells,
+    )?;
     let mut at = 0;
     for strip in strips {
         column.push_times(&attr.fill, strip.start - at)?;
@@ -72,6 +74,31 @@ fn laid_column(
     }
     column.push_times(&attr.fill, cells - at)?;
     Ok(column)
+}
+
+// A column of no values, with room for those of so many cells where the first strip has a column of them.
+fn begun_column(
+    alloc: Global,
+    reading: &Reading,
+    schemas: &SchemaList,
+    source: &Source,
+    attr: &Attr,
+    batches: &[Batch],
+    strips: &[Strip],
+    cells: u64,
+) -> Result<Column, OutOfMemory>
+    requires rise { AreRising schemas.now }
+    requires are { source.now ≡ source_of (bindings_of reading.now schemas.now) attr.now }
+    requires there { All (IsThere batches.now) strips.now }
+    ensures { IfOk result (λ column. column ≡ []) }
+{
+    if let Some(strip) = strips.first() {
+        let batch = &batches[strip.batch as usize];
+        if let Some(vals) = vals_shown(reading, schemas, source, attr, batch) {
+            return Column::with_room_for(alloc, vals, cells);
+        }
+    }
+    Ok(Column::new(alloc))
 }
 
 // The values of one strip more.

@@ -6,7 +6,7 @@ ghost use Rattle.ts_actor.specs.Listings.{AreSpelled};
 
 use std::alloc::Global;
 use ts_actor::{heads_of, opened_among};
-use ts_base::{FragList, OutOfMemory};
+use ts_base::{Boxed, FragList, OutOfMemory};
 use ts_commit::{Selection, selection_of};
 use ts_model::{OpenedList, Reading};
 
@@ -14,7 +14,7 @@ use ts_model::{OpenedList, Reading};
 #[derive(Drop)]
 pub(crate) struct Loaded {
     /// What it reads, with the fragments that are clipped.
-    pub reading: Reading,
+    pub reading: Boxed<Reading>,
     /// The fragments.
     pub chosen: OpenedList,
 }
@@ -22,7 +22,7 @@ pub(crate) struct Loaded {
 /// Which of the open fragments a read loads, and which are clipped.
 pub(crate) fn choose(
     alloc: Global,
-    reading: Reading,
+    reading: Boxed<Reading>,
     opened: OpenedList,
 ) -> Result<Loaded, OutOfMemory>
     requires { AreSpelled opened }
@@ -31,25 +31,30 @@ pub(crate) fn choose(
     ensures spelled { IfOk result (λ loaded. AreSpelled loaded.chosen) }
 {
     let heads = heads_of(alloc, opened.as_slice())?;
+    let known = reading.get();
     let Selection { loaded, clipped } = selection_of(
         alloc,
         &heads,
-        &reading.vacs,
-        reading.from,
-        reading.to,
+        &known.vacs,
+        known.from,
+        known.to,
     )?;
     let chosen = opened_among(alloc, &loaded, opened)?;
     Ok(Loaded {
-        reading: with_clipped(reading, clipped),
+        reading: with_clipped(alloc, reading, clipped)?,
         chosen,
     })
 }
 
 // A read that knows which fragments are clipped.
-fn with_clipped(reading: Reading, clipped: FragList) -> Reading
-    ensures { result ≡ with_clipped reading clipped }
+fn with_clipped(
+    alloc: Global,
+    reading: Boxed<Reading>,
+    clipped: FragList,
+) -> Result<Boxed<Reading>, OutOfMemory>
+    ensures { IfOk result (λ known. known ≡ with_clipped reading clipped) }
 {
-    let mut reading = reading;
+    let mut reading = reading.into_inner();
     reading.clipped = clipped;
-    reading
+    Boxed::new(alloc, reading)
 }

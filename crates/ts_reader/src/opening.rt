@@ -90,7 +90,7 @@ fn ask_for<P: Pieces, R: Threads + Sync>(
                 delete_names: listed.delete_names,
                 deletions: DeletionList::new(alloc),
             };
-            next_vac::<P, R>(rt, alloc, reading)
+            next_vac::<P, R>(rt, alloc, Boxed::new(alloc, reading)?)
         }
         Err(QueryFault::Refused(refusal)) => Ok(State::Over(Outcome::Refused(refusal))),
         Err(QueryFault::OutOfMemory) => Err(OutOfMemory),
@@ -101,7 +101,7 @@ fn ask_for<P: Pieces, R: Threads + Sync>(
 pub(crate) fn open_next<P: Pieces, R: Threads + Sync>(
     rt: &R,
     alloc: Global,
-    reading: Reading,
+    reading: Boxed<Reading>,
     opened: OpenedList,
 ) -> Result<State<P::Fetch>, OutOfMemory>
     requires reading { IsReading reading }
@@ -111,7 +111,7 @@ pub(crate) fn open_next<P: Pieces, R: Threads + Sync>(
     ensures bound { length reading.fragments < 2 ^ 64 }
     ensures fewer { IfOk result (λ next. reads_left P.left next ≤ 2 ^ 194 + (length reading.fragments - length opened)) }
 {
-    let count = reading.fragments.len();
+    let count = reading.get().fragments.len();
     if opened.len() < count {
         let heads = Boxed::new(alloc, Collecting::GetsHeads { reading, opened })?;
         return Ok(State::Collects(heads));
@@ -123,7 +123,7 @@ pub(crate) fn open_next<P: Pieces, R: Threads + Sync>(
 fn load<P: Pieces, R: Threads + Sync>(
     rt: &R,
     alloc: Global,
-    reading: Reading,
+    reading: Boxed<Reading>,
     opened: OpenedList,
 ) -> Result<State<P::Fetch>, OutOfMemory>
     requires reading { IsReading reading }
@@ -140,7 +140,7 @@ fn load<P: Pieces, R: Threads + Sync>(
 fn gather<P: Pieces, R: Threads + Sync>(
     rt: &R,
     alloc: Global,
-    reading: Reading,
+    reading: Boxed<Reading>,
     opened: OpenedList,
 ) -> Result<State<P::Fetch>, OutOfMemory>
     requires reading { IsReading reading }
@@ -149,7 +149,7 @@ fn gather<P: Pieces, R: Threads + Sync>(
     ensures may { IfOk result (IsReadState P.codec) }
     ensures fewer { IfOk result (λ next. reads_left P.left next ≤ 2 ^ 194) }
 {
-    let keys = keys_named(alloc, reading.current.key, opened.as_slice())?;
+    let keys = keys_named(alloc, reading.get().current.key, opened.as_slice())?;
     let schemas = SchemaList::new(alloc);
     gather_next::<P, R>(
         rt,
@@ -167,7 +167,7 @@ fn gather<P: Pieces, R: Threads + Sync>(
 pub(crate) fn after_head_reply<P: Pieces, R: Threads + Sync>(
     rt: &R,
     alloc: Global,
-    reading: Reading,
+    reading: Boxed<Reading>,
     opened: OpenedList,
     reply: Reply,
 ) -> Result<State<P::Fetch>, OutOfMemory>
@@ -178,14 +178,14 @@ pub(crate) fn after_head_reply<P: Pieces, R: Threads + Sync>(
     ensures fewer { IfOk result (λ next. length opened < length reading.fragments → reads_left P.left next < 2 ^ 194 + (length reading.fragments - length opened)) }
 {
     let place = opened.len();
-    if place >= reading.fragments.len() {
+    if place >= reading.get().fragments.len() {
         return Ok(State::Over(Outcome::OutOfMemory));
     }
-    let frag = *reading.fragments.at(place);
+    let frag = *reading.get().fragments.at(place);
     match reply {
         Reply::Bytes(bytes) => after_head::<P, R>(rt, alloc, reading, opened, frag, bytes),
         other => {
-            let part = P::head_part(&reading.frame);
+            let part = P::head_part(&reading.get().frame);
             Ok(ended::<P>(&get_all(Name::Part(frag, part)), &other))
         }
     }
@@ -195,7 +195,7 @@ pub(crate) fn after_head_reply<P: Pieces, R: Threads + Sync>(
 fn after_head<P: Pieces, R: Threads + Sync>(
     rt: &R,
     alloc: Global,
-    reading: Reading,
+    reading: Boxed<Reading>,
     opened: OpenedList,
     frag: FragKey,
     bytes: ByteList,
@@ -208,7 +208,7 @@ fn after_head<P: Pieces, R: Threads + Sync>(
     ensures may { IfOk result (IsReadState P.codec) }
     ensures fewer { IfOk result (λ next. reads_left P.left next < 2 ^ 194 + (length reading.fragments - length opened)) }
 {
-    match P::head(alloc, &reading.frame, frag, bytes.as_slice()) {
+    match P::head(alloc, &reading.get().frame, frag, bytes.as_slice()) {
         Ok(head) => {
             let mut opened = opened;
             opened.push(Opened {
@@ -219,7 +219,7 @@ fn after_head<P: Pieces, R: Threads + Sync>(
             open_next::<P, R>(rt, alloc, reading, opened)
         }
         Err(ReadFault::Damaged(fault)) => {
-            let part = P::head_part(&reading.frame);
+            let part = P::head_part(&reading.get().frame);
             Ok(damaged::<P>(Name::Part(frag, part), fault.at))
         }
         Err(ReadFault::OutOfMemory) => Err(OutOfMemory),

@@ -137,12 +137,15 @@ fn ask_collecting<P: Pieces>(
     ensures spelled { IfOk result (λ call. IfSome call IsWorkCall) }
 {
     match collecting {
-        Collecting::GetsVacs { reading } => Ok(vac_asked(&reading.counting, reading.vacs.len())),
-        Collecting::GetsHeads { reading, opened } => Ok(head_asked::<P>(
-            &reading.frame,
-            &reading.fragments,
-            opened.len(),
-        )),
+        Collecting::GetsVacs { reading } => {
+            let reading = reading.get();
+            Ok(vac_asked(&reading.counting, reading.vacs.len()))
+        },
+        Collecting::GetsHeads { reading, opened } => {
+            let reading = reading.get();
+            let asked = head_asked::<P>(&reading.frame, &reading.fragments, opened.len());
+            Ok(asked)
+        }
         Collecting::GetsSchemas {
             reading: _,
             opened: _,
@@ -153,7 +156,7 @@ fn ask_collecting<P: Pieces>(
             reading,
             opened: _,
             schemas: _,
-        } => Ok(delete_asked(reading)),
+        } => Ok(delete_asked(reading.get())),
         Collecting::Fetches {
             reading: _,
             opened: _,

@@ -26,8 +26,8 @@ merge_from-requires-clause-got g c κs within =
     (subst (λ n. AreGot codec m.survey.frame m.schema.attrs (take n m.opened) (w.got ++ c.in-Takes.versions ∷ [])) next
     (got_more codec m.survey.frame m.schema.attrs m.opened w.got w.next o c.in-Takes.versions c.requires.at c.requires.taken (subst (LeadsOn codec m.survey.frame m.schema o) c.in-Takes.is leads)))
 
-pub returns-in_ok-state-in-Asks-clause-may : goal.returns-in_ok-state-in-Asks-clause-may
-returns-in_ok-state-in-Asks-clause-may g c =
+pub returns-in-Asks-clause-may : goal.returns-in-Asks-clause-may
+returns-in-Asks-clause-may g c =
     let codec = g.P.Pieces.codec in
     let m = c.args.merged in
     let w = c.args.ongoing in
@@ -36,7 +36,7 @@ returns-in_ok-state-in-Asks-clause-may g c =
     let led = c.in_ok-fetch.ensures.is ∙ ap (λ f. step_by f (codec.steps w.fetch c.args.reply)) (sym c.requires.named) in
     let may = c.may_reply.ensures c.if-not-may_reply.false in
     let leads = leads_told codec g.met.P.Pieces.stores m.survey.frame m.schema o c.requires.has.survey.is_frame c.requires.has.attrs is w.fetch c.args.asked.now c.args.reply c.in_ok-fetch.field-0 c.requires.going may led in
-    subst (IsMerging codec) (sym c.in_ok-state-in-Asks.ensures) (
+    subst (IsMerging codec) (sym c.fetches-state.ensures) (
       record {
         has = c.requires.has;
         taken = c.requires.taken;

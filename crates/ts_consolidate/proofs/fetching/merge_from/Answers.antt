@@ -22,7 +22,7 @@ pub returns-in-Asks-clause-is : goal.returns-in-Asks-clause-is
 returns-in-Asks-clause-is g c =
     let m = c.args.merged in
     let led = c.in_ok-fetch.ensures.is ∙ ap (λ (frame : Frame). step_of g.P.Pieces.codec frame m.schema c.at-source.result.now) c.get.ensures in
-    ap Merges c.in_ok-state-in-Asks.ensures
+    ap Merges c.fetches-state.ensures
     ∙ sym (leads_on g.P.Pieces.codec c.args.job.now m.survey m.opened m.schema c.loop-place.place c.loop-place.got c.at-source.result.now _
     (source_step.Asks c.in-Asks.fetch c.in-Asks.asked) c.at-source.ensures c.loop-place.invariant.goes_on (sym c.in-Asks.is ∙ led))
 

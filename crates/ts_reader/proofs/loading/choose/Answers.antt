@@ -12,7 +12,7 @@ pub returns-clause-chosen : goal.returns-clause-chosen
 returns-clause-chosen c =
     c.in_ok-chosen.ensures
     ∙ ap (λ fs. opened_among fs c.args.opened)
-    (c.in_ok-loaded.ensures.loaded ∙ ap (λ hs. list_map (λ head. head.frag) (loaded c.args.reading.from c.args.reading.to hs c.args.reading.vacs)) (c.in_ok-heads.ensures ∙ ap heads_of c.as_slice.ensures))
+    ((rw c.get-known.ensures at c.in_ok-loaded.ensures.loaded) ∙ ap (λ hs. list_map (λ head. head.frag) (loaded c.args.reading.from c.args.reading.to hs c.args.reading.vacs)) (c.in_ok-heads.ensures ∙ ap heads_of c.as_slice.ensures))
 
 pub returns-clause-spelled : goal.returns-clause-spelled
 returns-clause-spelled c = subst AreSpelled (sym c.in_ok-chosen.ensures) (All-filter (λ o. is_among o.frag c.in_ok-loaded.field-0.loaded) (λ o. IsSpelledFrag o.frag) c.args.opened c.requires)

@@ -14,4 +14,4 @@ pub returns-in-Ok-clause-is : goal.returns-in-Ok-clause-is
 returns-in-Ok-clause-is g c =
     IfOk-weaker c.open_next.result _ _ (λ s is.
     is ∙ head_read g.P.Pieces.codec c.args.reading c.args.opened _ c.args.frag c.args.bytes c.in-Ok.head
-    (sym (ap (λ bytes. g.P.Pieces.codec.head c.args.reading.frame c.args.frag bytes) c.as_slice.ensures) ∙ c.in-Ok.ensures) c.in_ok-push-in-Ok.ensures.ok) c.open_next.ensures.is
+    (sym (ap (λ bytes. g.P.Pieces.codec.head c.args.reading.frame c.args.frag bytes) c.as_slice.ensures) ∙ (rw c.get.ensures at c.in-Ok.ensures)) c.in_ok-push-in-Ok.ensures.ok) c.open_next.ensures.is

@@ -8,7 +8,7 @@ use Rattle.ts_reader.proofs.opening.gather.Goals as goal
 
 pub returns-clause-is : goal.returns-clause-is
 returns-clause-is g c =
-    let named = c.in_ok-keys.ensures.is ∙ ap (λ os. finite.keys (keys_of_others c.args.reading.current.key os)) c.as_slice.ensures in
+    let named = (rw c.get.ensures at c.in_ok-keys.ensures.is) ∙ ap (λ os. finite.keys (keys_of_others c.args.reading.current.key os)) c.as_slice.ensures in
     IfOk-weaker c.gather_next.result _ _ (λ s is. is ∙ all_loaded g.P.Pieces.codec c.args.reading c.args.opened c.in_ok-keys.keys c.new-schemas.result named c.new-schemas.ensures) c.gather_next.ensures.is
 
 pub gather_next-requires-clause-first : goal.gather_next-requires-clause-first
