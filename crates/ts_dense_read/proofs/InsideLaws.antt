@@ -2,45 +2,20 @@
 use Rattle.std.proofs.Common.{◌≡◌, ℕ, ◌+◌, ◌<◌, ◌≤◌, ◌≢◌, Bool, true, false, ◌&&◌, ℤ, pos, List, [], ◌∷◌, length, map, get_or, drop, sym, ap, ◌∙◌, arith}
 use Rattle.std.specs.Prelude.{IsTrue, int_le}
 use Rattle.std.specs.List.{All}
-use Rattle.std.proofs.lemmas.Bool.{and_parts, and_from}
-use Rattle.std.proofs.lemmas.Int.{ints}
 use Rattle.std.proofs.lemmas.List.{drop_more, drop_all, get_or-map, length-map}
 use Rattle.std.proofs.lemmas.Option.{slice_get-get_or}
 use Rattle.ts_domain.specs.declared.boxes.SubBox.{SubBox}
 use Rattle.ts_domain.specs.declared.orders.Order.{Order}
 use Rattle.ts_domain.specs.Bounds.{is_between}
 use Rattle.ts_domain.specs.Boxes.{IsBox, is_in_box, cells_of, Covers}
-use Rattle.ts_domain.proofs.Between.{within_parts, within_from, uneven_highs, uneven_coords}
+use Rattle.ts_domain.proofs.Between.{uneven_highs, uneven_coords}
 use Rattle.ts_order.specs.Orders.{coords_in_order}
 use Rattle.ts_order.proofs.OrderedCoords.{length-coords_in_order, is_in_box-slice_get}
 use Rattle.ts_gather.specs.Sides.{AreCoords}
 
 -- ---- all cells of a box
 
--- what lies between two corners lies between all bounds that both corners lie between
-pub between_on : (os qs ls hs xs : List ℤ) → IsTrue (is_between os qs ls) → IsTrue (is_between os qs hs) → IsTrue (is_between ls hs xs) → IsTrue (is_between os qs xs)
-between_on [] [] [] [] xs a b t = t
-between_on [] [] [] (h ∷ hs) xs a b t = cc
-between_on [] [] (l ∷ ls) hs xs a b t = cc
-between_on [] (q ∷ qs) ls hs xs a b t = cc
-between_on (o ∷ os) [] ls hs xs a b t = cc
-between_on (o ∷ os) (q ∷ qs) [] hs xs a b t = cc
-between_on (o ∷ os) (q ∷ qs) (l ∷ ls) [] xs a b t = cc
-between_on (o ∷ os) (q ∷ qs) (l ∷ ls) (h ∷ hs) [] a b t = cc
-between_on (o ∷ os) (q ∷ qs) (l ∷ ls) (h ∷ hs) (x ∷ xs) a b t =
-    let first = and_parts (int_le o l && int_le l q) (is_between os qs ls) a in
-    let second = and_parts (int_le o h && int_le h q) (is_between os qs hs) b in
-    let parts = and_parts (int_le l x && int_le x h) (is_between ls hs xs) t in
-    let one = within_parts o q l first.0 in
-    let two = within_parts o q h second.0 in
-    let here = within_parts l h x parts.0 in
-    and_from (int_le o x && int_le x q) (is_between os qs xs) (within_from o q x (omega (arith, ints)) (omega (arith, ints))) (between_on os qs ls hs xs first.1 second.1 parts.1)
-
--- a box that has both corners of another has all of its cells
-pub covered_by_corners : (outer inner : SubBox) → IsTrue (is_in_box outer inner.low) → IsTrue (is_in_box outer inner.high) → Covers outer inner
-covered_by_corners outer inner low high coords inside = between_on outer.low outer.high inner.low inner.high coords low high inside
-
--- so what stands at a place of the other lies in it
+-- what stands at a place of a box lies in each box that has all of its cells
 pub covered_inside : (outer leaf : SubBox) (order : Order) (k : ℕ) → Covers outer leaf → IsBox leaf → k < cells_of leaf → is_in_box outer (get_or (coords_in_order order leaf) k []) ≡ true
 covered_inside outer leaf order k covers box within =
     let long : k < length (coords_in_order order leaf) = omega (arith, within, length-coords_in_order order leaf box) in

@@ -29,7 +29,7 @@ use Rattle.ts_order.proofs.PlaceLaws.{slice_get-coords_between, is_between-coord
 use Rattle.ts_order.proofs.OrderedCoords.{length-coords_in_order, is_in_box-slice_get}
 use Rattle.ts_order.proofs.TileLaws.{is_between-tile_numbers}
 use Rattle.ts_order.proofs.TilesLemmas.{IsBox-tile_box}
-use Rattle.ts_dense_read.proofs.InsideLaws.{between_on}
+use Rattle.ts_gather.proofs.PartLaws.{between_on}
 use Rattle.ts_dense_read.specs.TileRanges.{nearest, range_of, cells_before}
 use Rattle.ts_dense_read.proofs.TileSums.{mapped, part_cells, parts_before}
 use Rattle.ts_dense_read.proofs.TileRanges.{le, coords_within, same_test, meets_range}

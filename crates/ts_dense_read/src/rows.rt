@@ -10,6 +10,7 @@ use crate::slots::NO_ORIGIN;
 use std::alloc::Global;
 use ts_base::{IndexList, OutOfMemory};
 use ts_domain::SubBox;
+use ts_gather::does_cover;
 use ts_sparse_read::origin_key;
 use ts_table::Numbers;
 
@@ -54,14 +55,6 @@ fn rows_below(
         push_row(opened, leaf, origins, coords, covered, row, &mut rows)?;
     }
     Ok(rows)
-}
-
-// Whether a box has both corners of another, and so all of its cells.
-#[tactic(auto, using(crate::proofs::InsideLaws::covered_by_corners))]
-fn does_cover(outer: &SubBox, inner: &SubBox) -> bool
-    ensures { IsTrue result → Covers outer.now inner.now }
-{
-    outer.contains(&inner.low) && outer.contains(&inner.high)
 }
 
 // Appends the place of a slot, if it has a cell which is wanted.

@@ -1,12 +1,13 @@
 -- The part of a box that lies in another, and what columns have of it that have a value for each cell of the whole.
-use Rattle.std.specs.Prelude.{◌≡◌, ℕ, ◌-◌, ℤ, pos, List, map, filter, length, get_or}
+use Rattle.std.specs.Prelude.{◌≡◌, ℕ, ◌-◌, ◌*◌, ◌/◌, ℤ, pos, List, [], map, filter, length, get_or}
+use Rattle.std.specs.List.{range_with_len}
 use Rattle.ts_base.specs.declared.heads.Version.{Version}
 use Rattle.ts_base.specs.declared.values.Val.{Val}
 use Rattle.ts_base.specs.declared.values.Val.TheVariants.{Null}
 use Rattle.ts_domain.specs.declared.orders.Order.{Order}
 use Rattle.ts_domain.specs.declared.boxes.SubBox.{SubBox}
 use Rattle.ts_domain.specs.Bounds.{count_between}
-use Rattle.ts_domain.specs.Boxes.{IsBox, is_in_box, Covers}
+use Rattle.ts_domain.specs.Boxes.{IsBox, is_in_box, cells_of, Covers}
 use Rattle.ts_order.specs.Orders.{turned, dim_at, coords_in_order}
 use Rattle.ts_order.specs.Places.{place_of}
 use Rattle.ts_table.specs.declared.origins.Origin.{Origin}
@@ -43,6 +44,10 @@ abbrev pub run_in : Order → SubBox → ℕ
 run_in order sub =
     let dim = dim_at order (length sub.low) (length sub.low - 1) in
     count_between (get_or sub.low dim (pos 0)) (get_or sub.high dim (pos 0))
+
+-- the places in a box at which the runs of a box within it begin, run after run
+abbrev pub starts_over : Order → SubBox → SubBox → List ℕ
+starts_over order outer inner = map (λ run. place_in order outer (get_or (coords_in_order order inner) (run * run_in order inner) [])) (range_with_len 0 (cells_of inner / run_in order inner))
 
 -- the version in a cell: its values are those that the columns at these places have for it, null where there is no column; the columns have a value for each cell of the outer box
 abbrev pub version_over : Origin → List ℕ → Order → SubBox → List (List Val) → List ℤ → Version

@@ -1,8 +1,7 @@
 -- Strips one after another, and the versions of all.
-use Rattle.std.proofs.Common.{◌≡◌, ℕ, zero, suc, ◌+◌, ◌<◌, ◌≤◌, ℤ, List, [], ◌∷◌, ◌++◌, length, map, get_or, take, drop, Some, refl, sym, ap, subst, ◌∙◌, arith}
-use Rattle.std.specs.Prelude.{slice_get}
+use Rattle.std.proofs.Common.{◌≡◌, ℕ, zero, suc, ◌+◌, ◌<◌, ◌≤◌, ℤ, List, [], ◌∷◌, ◌++◌, length, map, get_or, take, drop, refl, sym, ap, subst, ◌∙◌, arith}
 use Rattle.std.specs.List.{flat_map}
-use Rattle.std.proofs.lemmas.List.{length-map, length-take, length-drop, drop_more, drop-map, append_assoc, append-nil, map-id, take_more}
+use Rattle.std.proofs.lemmas.List.{length-map, drop_more, drop-map, append_assoc, append-nil, map-id, take_more}
 use Rattle.std.proofs.lemmas.Grind.{flat_map-append}
 use Rattle.ts_base.specs.declared.heads.Version.{Version}
 use Rattle.ts_base.specs.declared.values.Val.{Val}
@@ -10,13 +9,12 @@ use Rattle.ts_batch.specs.Batches.{versions_of}
 use Rattle.ts_table.specs.declared.origins.Origin.{Origin}
 use Rattle.ts_table.specs.BoxTables.{versions_over}
 use Rattle.ts_domain.specs.declared.boxes.SubBox.{SubBox}
-use Rattle.ts_domain.specs.Boxes.{coords_of_box}
+use Rattle.ts_domain.specs.Boxes.{cells_of, coords_of_box}
+use Rattle.ts_domain.proofs.Between.{length-coords_between}
 use Rattle.ts_domain.specs.declared.orders.Order.TheVariants.{Row}
 use Rattle.ts_order.specs.Orders.{coords_in_order}
 use Rattle.ts_strip.specs.declared.strips.Strip.{Strip}
-use Rattle.ts_strip.specs.Rows.{Fits, row_from}
 use Rattle.ts_strip.specs.Strips.{strip_versions, Climb, IsStrip}
-use Rattle.ts_strip.proofs.RowLaws.{row_stands, row_length}
 
 -- the cells of a box are those in row order
 pub in_row_order : (sub : SubBox) → coords_in_order Row sub ≡ coords_of_box sub
@@ -51,20 +49,14 @@ module _ (batches : List (List Version)) (sub inner : SubBox) (batch : ℕ) wher
   versions = get_or batches batch []
 
   -- the next strip of a batch whose versions are of the cells of a box
-  pub next_strip : (place count start : ℕ) (first : List ℤ) → 0 < count → batch < length batches → map (λ (v : Version). v.coords) versions ≡ coords_of_box inner
-      → slice_get (coords_of_box inner) place ≡ Some first → Fits inner.high first count → take count (drop start (coords_of_box sub)) ≡ row_from first count
-      → IsStrip batches (coords_of_box sub) (record { start = start; count = count; batch = batch; place = place })
-  next_strip place count start first some named cells there fits row =
-      let own = row_stands inner.low inner.high first count place fits there in
-      let alike : map (λ (v : Version). v.coords) (take count (drop place versions)) ≡ take count (drop place (coords_of_box inner)) =
-      map_take (λ (v : Version). v.coords) count (drop place versions) ∙ ap (take count) (sym (drop-map (λ (v : Version). v.coords) place versions) ∙ ap (drop place) cells) in
-      let long = sym (length-map (take count (drop place versions)) (λ (v : Version). v.coords)) ∙ ap length (alike ∙ own) ∙ row_length inner.high first count fits in
-      let cut = length-take count (drop place versions) in
-      let left = length-drop place versions in
+  pub next_strip : (place count start : ℕ) → batch < length batches → map (λ (v : Version). v.coords) versions ≡ coords_of_box inner → place + count ≤ cells_of inner
+      → take count (drop place (coords_of_box inner)) ≡ take count (drop start (coords_of_box sub)) → IsStrip batches (coords_of_box sub) (record { start = start; count = count; batch = batch; place = place })
+  next_strip place count start named cells room same =
+      let long = sym (length-map versions (λ (v : Version). v.coords)) ∙ ap length cells ∙ length-coords_between inner.low inner.high in
       record {
         named = named;
-        room = omega (arith, some, long, cut, left);
-        alike = alike ∙ own ∙ sym row;
+        room = omega (arith, room, long);
+        alike = map_take (λ (v : Version). v.coords) count (drop place versions) ∙ ap (take count) (sym (drop-map (λ (v : Version). v.coords) place versions) ∙ ap (drop place) cells) ∙ same;
       }
 
 -- the cells of the versions over coordinates

@@ -1,19 +1,17 @@
 //! The strips of the versions of boxes.
-ghost use Rattle.std.specs.Prelude.{◌≡◌, ◌<◌, ◌^◌, ◌-◌, ◌++◌, [], length, map, drop, take, slice_index_or, All, IfOk, IfSome, IsTrue};
+ghost use Rattle.std.specs.Prelude.{◌≡◌, ◌<◌, ◌^◌, ◌-◌, ◌++◌, [], length, map, slice_index_or, All, IfOk, IfSome, IsTrue};
 ghost use Rattle.std.specs.List.{flat_map};
 ghost use Rattle.std.specs.List.Sorted.{IsPermutation};
 ghost use Rattle.ts_base.specs.declared.heads.Version.{Version as AnyVersion};
 ghost use Rattle.ts_batch.specs.Batches.{versions_of};
 ghost use Rattle.ts_domain.specs.Boxes.{IsBox, cells_of, coords_of_box};
-ghost use Rattle.ts_strip.specs.Rows.{row_from};
 ghost use Rattle.ts_strip.specs.Strips.{strip_versions, IsStrip, Climb};
 
-use crate::rows::row_room;
 use std::alloc::Global;
-use ts_base::{Coords, OutOfMemory};
+use ts_base::OutOfMemory;
 use ts_batch::Batch;
 use ts_domain::{Order, SubBox};
-use ts_order::{coords_at, position_of};
+use ts_gather::{does_cover, run_in, run_starts};
 
 /// Some cells that stand one after another in a box, in row order. Their versions stand one after
 /// another in a batch. All is counted from 0.
@@ -29,11 +27,10 @@ pub struct Strip {
     pub place: u64,
 }
 
-/// The strips of the versions of batches in a box, one batch after the other, each as long as a row of
-/// its batch.
+/// The strips of the versions of batches in a box, one batch after the other.
 ///
-/// None where a batch is not of a box in row order that lies in this one; no clause says so. A caller
-/// then goes version by version.
+/// Each is as long as a row of its batch, and there are none where a batch is not of a box in row order
+/// that lies in this one. No clause says either. Where there are none a caller goes version by version.
 pub fn strips_of(
     alloc: Global,
     sub: &SubBox,
@@ -46,7 +43,7 @@ pub fn strips_of(
 {
     let mut strips = Vec::new(alloc);
     for batch in 0..batches.len() {
-        if !add_strips(&mut strips, sub, batches, batch)? {
+        if !add_strips(alloc, &mut strips, sub, batches, batch)? {
             return Ok(None);
         }
     }
@@ -93,6 +90,7 @@ fn do_climb(strips: &[Strip], cells: u64) -> bool
 
 // The strips of one batch more, or false where it is not of a box in row order that lies in this one.
 fn add_strips(
+    alloc: Global,
     strips: &mut Vec<Strip>,
     sub: &SubBox,
     batches: &[Batch],
@@ -109,13 +107,14 @@ fn add_strips(
     };
     let parts = table.parts();
     match parts.order {
-        Order::Row => add_rows(strips, sub, batches, batch, parts.sub),
+        Order::Row => add_rows(alloc, strips, sub, batches, batch, parts.sub),
         Order::Col => Ok(false),
     }
 }
 
 // The strips of one batch more, whose versions are of the cells of a box in row order.
 fn add_rows(
+    alloc: Global,
     strips: &mut Vec<Strip>,
     sub: &SubBox,
     batches: &[Batch],
@@ -123,7 +122,7 @@ fn add_rows(
     inner: &SubBox,
 ) -> Result<bool, OutOfMemory>
     requires valid { IsBox inner.now }
-    requires fewer { cells_of inner.now < 2 ^ 64 - 1 }
+    requires few_inner { cells_of inner.now < 2 ^ 64 - 1 }
     requires few { cells_of sub.now < 2 ^ 64 - 1 }
     requires within { batch < length batches.now }
     requires each { All (IsStrip batches.now (coords_of_box sub.now)) strips.old.items }
@@ -131,16 +130,15 @@ fn add_rows(
     ensures each { All (IsStrip batches.now (coords_of_box sub.now)) strips.new.items }
     ensures more { IfOk result (λ done. IsTrue done → flat_map (strip_versions batches.now) strips.new.items ≡ flat_map (strip_versions batches.now) strips.old.items ++ slice_index_or batches.now batch []) }
 {
-    let cells = inner.cells();
+    if !does_cover(sub, inner) {
+        return Ok(false);
+    }
+    let count = run_in(inner, Order::Row);
+    let starts = run_starts(alloc, sub, inner, Order::Row)?;
     let mut place = 0;
-    while place < cells {
-        let first = coords_at(inner, Order::Row, place);
-        let count = row_room(inner.high.as_slice(), first.as_slice());
-        let Some(start) = start_of(sub, &first, count) else {
-            return Ok(false);
-        };
+    for start in starts.as_slice() {
         strips.push(Strip {
-            start,
+            start: *start,
             count,
             batch: batch as u64,
             place,
@@ -148,19 +146,4 @@ fn add_rows(
         place += count;
     }
     Ok(true)
-}
-
-// The place of a cell in a box, where so many cells of its row stand there from it on, and some do.
-fn start_of(sub: &SubBox, first: &Coords, count: u64) -> Option<u64>
-    requires { cells_of sub.now < 2 ^ 64 - 1 }
-    ensures row { IfSome result (λ start. take count (drop start (coords_of_box sub.now)) ≡ row_from first.now count) }
-    ensures some { IfSome result (λ start. 0 < count) }
-{
-    if count == 0 || !sub.contains(first) {
-        return None;
-    }
-    if count > row_room(sub.high.as_slice(), first.as_slice()) {
-        return None;
-    }
-    Some(position_of(sub, Order::Row, first))
 }

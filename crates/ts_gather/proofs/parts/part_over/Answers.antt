@@ -1,46 +1,38 @@
 -- The cells of a run follow one another in both boxes.
-use Rattle.std.proofs.Common.{arith, ◌≡◌, ◌<◌, ◌≤◌, ◌/◌, ap}
+use Rattle.std.proofs.Common.{arith, ◌<◌, ◌≤◌, ◌/◌, get_or, length, ap, ◌∙◌}
 use Rattle.ts_domain.specs.Boxes.{cells_of}
-use Rattle.ts_gather.proofs.PartLaws.{fewer, run_fits, run_more, runs_all}
+use Rattle.ts_gather.proofs.PartLaws.{fewer, run_fits, runs_all, runs_joined, starts_at, starts_many}
 use Rattle.ts_gather.proofs.parts.part_over.Goals as goal
 
 pub run_in-run-requires-clause-few : goal.run_in-run-requires-clause-few
 run_in-run-requires-clause-few c = let less = fewer c.args.order c.args.outer.now c.args.inner.now c.requires.valid c.requires.within in omega (arith, less, c.requires.few)
 
-pub coords_at-first-requires-clause-few : goal.coords_at-first-requires-clause-few
-coords_at-first-requires-clause-few c = let less = fewer c.args.order c.args.outer.now c.args.inner.now c.requires.valid c.requires.within in omega (arith, less, c.requires.few)
-
 pub append_part-requires : goal.append_part-requires
 append_part-requires c =
     let a = c.args in
-    let l = c.loop-row in
     let run = c.run_in-run in
-    let less = fewer a.order a.outer.now a.inner.now c.requires.valid c.requires.within in
-    let cells : c.cells-count.result ≡ cells_of c.args.inner.now = omega (arith, c.cells-count.ensures.capped, less, c.requires.few) in
-    let within : c.loop-row.row < cells_of c.args.inner.now / c.run_in-run.result = omega (arith, c.loop-row-test.true, ap (λ n. n / run.result) cells) in
+    let row = c.loop-from.from-index in
+    let starts = c.as_slice-from-items.result.now in
+    let are = c.as_slice-from-items.ensures.value ∙ c.in_ok-starts.ensures in
+    let there : c.loop-from.from-index < length c.as_slice-from-items.result.now = omega (arith, c.loop-from-test.true, c.loop-from.auto.from-index-end) in
+    let within : c.loop-from.from-index < cells_of c.args.inner.now / c.run_in-run.result =
+    omega (arith, there, starts_many a.order a.outer.now a.inner.now c.requires.valid c.requires.within run.ensures.dims starts are, ap (λ m. cells_of a.inner.now / m) run.ensures.value) in
     omega (
       arith,
       c.requires.long,
-      run_fits a.order a.outer.now a.inner.now c.requires.valid c.requires.within run.ensures.dims run.result l.row c.position_of-from.result c.coords_at-first.result run.ensures.value run.ensures.some within c.coords_at-first.ensures.place c.position_of-from.ensures.place,
+      run_fits a.order a.outer.now a.inner.now c.requires.valid c.requires.within run.ensures.dims run.result row (get_or starts row 0) run.ensures.value run.ensures.some within (starts_at a.order a.outer.now a.inner.now c.requires.valid c.requires.within run.ensures.dims starts row 0 are there),
     )
-
-pub loop-row-preserved : goal.loop-row-preserved
-loop-row-preserved c =
-    let a = c.args in
-    let l = c.loop-row in
-    let run = c.run_in-run in
-    let less = fewer a.order a.outer.now a.inner.now c.requires.valid c.requires.within in
-    let cells : c.cells-count.result ≡ cells_of c.args.inner.now = omega (arith, c.cells-count.ensures.capped, less, c.requires.few) in
-    let within : c.loop-row.row < cells_of c.args.inner.now / c.run_in-run.result = omega (arith, c.loop-row-test.true, ap (λ n. n / run.result) cells) in
-    run_more a.order a.outer.now a.inner.now c.requires.valid c.requires.within run.ensures.dims run.result l.row c.position_of-from.result c.coords_at-first.result run.ensures.value run.ensures.some within c.coords_at-first.ensures.place c.position_of-from.ensures.place
-    a.column.now c.requires.long l.part c.append_part.new.self l.invariant c.in_ok-append_part.ensures
 
 pub returns : goal.returns
 returns c =
     let a = c.args in
-    let l = c.loop-row in
     let run = c.run_in-run in
-    let less = fewer a.order a.outer.now a.inner.now c.requires.valid c.requires.within in
-    let cells : c.cells-count.result ≡ cells_of c.args.inner.now = omega (arith, c.cells-count.ensures.capped, less, c.requires.few) in
-    let over : cells_of c.args.inner.now / c.run_in-run.result ≤ c.loop-row.row = omega (arith, c.loop-row-test.false, ap (λ n. n / run.result) cells) in
-    runs_all a.order a.outer.now a.inner.now c.requires.valid c.requires.within run.ensures.dims run.result l.row a.column.now l.part run.ensures.value run.ensures.some over l.invariant
+    let row = c.loop-from.from-index in
+    let starts = c.as_slice-from-items.result.now in
+    let are = c.as_slice-from-items.ensures.value ∙ c.in_ok-starts.ensures in
+    let many = starts_many a.order a.outer.now a.inner.now c.requires.valid c.requires.within run.ensures.dims starts are in
+    let over : length c.as_slice-from-items.result.now ≤ c.loop-from.from-index = omega (arith, c.loop-from-test.false) in
+    let most : c.loop-from.from-index ≤ length c.as_slice-from-items.result.now = omega (arith, c.loop-from.auto.from-index-end) in
+    let all : cells_of c.args.inner.now / c.run_in-run.result ≤ c.loop-from.from-index = omega (arith, over, many, ap (λ m. cells_of a.inner.now / m) run.ensures.value) in
+    runs_all a.order a.outer.now a.inner.now c.requires.valid c.requires.within run.ensures.dims run.result row a.column.now c.loop-from.part run.ensures.value run.ensures.some all
+    (c.loop-from.invariant ∙ runs_joined a.order a.outer.now a.inner.now c.requires.valid c.requires.within run.ensures.dims run.result starts a.column.now run.ensures.value run.ensures.some are c.requires.long row most)

@@ -1,7 +1,7 @@
 -- The values of the runs so far.
-use Rattle.std.proofs.Common.{◌≡◌, ◌*◌, take}
-use Rattle.ts_gather.specs.Parts.{vals_over}
+use Rattle.std.proofs.Common.{◌≡◌, take, drop}
+use Rattle.std.specs.List.{flat_map}
 use Rattle.ts_gather.proofs.parts.part_over.Given as goal
 
-abbrev pub invariant-loop-row : goal.invariant-loop-row
-invariant-loop-row l = l.part ≡ take (l.row * l.run) (vals_over l.order l.outer l.inner l.column)
+abbrev pub invariant-loop-from : goal.invariant-loop-from
+invariant-loop-from l = l.part ≡ flat_map (λ from. take l.run (drop from l.column)) (take l.from-index l.from-items)
