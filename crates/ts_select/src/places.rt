@@ -102,13 +102,33 @@ fn found_places(alloc: Global, found: &[bool]) -> Result<IndexList, OutOfMemory>
     requires { length found.now < 2 ^ 32 }
     ensures { IfOk result (λ places. places ≡ filter (λ place. get_or found.now place false) (range_with_len 0 (length found.now))) }
 {
-    let mut places = IndexList::new(alloc);
+    let count = found_count(found);
+    if count == 0 {
+        return Ok(IndexList::new(alloc));
+    }
+    let mut places = IndexList::from_vec(Vec::with_capacity(alloc, count as usize)?);
     for place in 0..found.len() {
         if found[place] {
             places.push(place as u32)?;
         }
     }
     Ok(places)
+}
+
+// How many places are found.
+#[tactic(auto, using(crate::proofs::Ranges::steps))]
+fn found_count(found: &[bool]) -> u64
+    requires { length found.now < 2 ^ 32 }
+    ensures { result ≡ length (filter (λ place. get_or found.now place false) (range_with_len 0 (length found.now))) }
+{
+    let mut count = 0;
+    for place in 0..found.len() {
+        let is_found = found[place];
+        if is_found {
+            count += 1;
+        }
+    }
+    count
 }
 
 // Whether the cell at a place passes the filter, whose values are found so.
