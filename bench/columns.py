@@ -5,26 +5,38 @@
 
 It builds `crates/speed`, which it has to prove first, and `bench/columns.rs` by rustc. It prints nanoseconds for each
 cell, the least of five runs of each, and how many times plain Rust's the first is. Then it does so for a column of 64
-tiles that is decoded on all processors, and on one of them.
+tiles that is decoded on all processors, and on one of them, each of them in turn: medians of forty runs, since how
+long the system takes to hand out memory differs from run to run and from processor to processor.
 """
 import os
+import statistics
 import subprocess
 import tempfile
 
 TOP = os.path.dirname(os.path.dirname(os.path.abspath(__file__)))
 SPEED = os.path.join(TOP, "crates", "speed")
 RUNS = 5
+RUNS_OF_MANY = 40
+
+
+def times(runs):
+    """The times of each work in these runs, in nanoseconds for each cell."""
+    took = {}
+    for words in runs:
+        for line in subprocess.run(words, capture_output=True, check=True, text=True).stdout.splitlines():
+            name, time, _ = line.split("\t")
+            took.setdefault(name, []).append(int(time.removesuffix(" ps")) / 1000)
+    return took
 
 
 def least(words):
     """The least time of each work over some runs, in nanoseconds for each cell."""
-    took = {}
-    for _ in range(RUNS):
-        for line in subprocess.run(words, capture_output=True, check=True, text=True).stdout.splitlines():
-            name, time, _ = line.split("\t")
-            now = int(time.removesuffix(" ps")) / 1000
-            took[name] = min(now, took.get(name, now))
-    return took
+    return {name: min(took) for name, took in times([words] * RUNS).items()}
+
+
+def medians(runs):
+    """The median time of each work over these runs, in nanoseconds for each cell."""
+    return {name: statistics.median(took) for name, took in times(runs).items()}
 
 
 def main():
@@ -40,7 +52,8 @@ def main():
     print("work\town\tplain Rust\ttimes")
     for name, took in own.items():
         print("%s\t%.2f\t%.2f\t%.1f" % (name, took, others[name], took / others[name]))
-    at_once, alone = least([program, "many"]), least(["taskset", "-c", "0", program, "many"])
+    at_once = medians([[program, "many"]] * RUNS_OF_MANY)
+    alone = medians([["taskset", "-c", str(run % os.cpu_count()), program, "many"] for run in range(RUNS_OF_MANY)])
     print("work\tall processors\tone\ttimes")
     for name, took in at_once.items():
         print("%s\t%.2f\t%.2f\t%.1f" % (name, took, alone[name], alone[name] / took))

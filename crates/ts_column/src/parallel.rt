@@ -18,11 +18,11 @@ pub type ColumnList = Sequence<Column>;
 /// So many cells are worth a thread of their own.
 const LEAST_CELLS: u64 = 65536;
 
-/// The columns of many tiles, decoded in as many threads as there are processors: those that
-/// [`decode_column`] gives for one tile after the other, or the fault of the first that has one.
+/// The columns of many tiles, decoded in several threads: those that [`decode_column`] gives for one
+/// tile after the other, or the fault of the first that has one. No clause says how many threads.
 ///
-/// There is a count of cells for each tile. A thread takes tiles of at least 65,536 cells, by the
-/// count of the first tile.
+/// There is a count of cells for each tile. A column of many tiles is decoded in up to two parts for each
+/// processor. A part has at least the tiles that fit into 65,536 cells, by the count of the first tile.
 pub fn decode_all<R: Threads + Sync>(
     rt: &R,
     alloc: Global,
@@ -50,7 +50,7 @@ pub fn decode_all<R: Threads + Sync>(
     }
 }
 
-// How many tiles a thread takes at least.
+// How many tiles a part has at least.
 fn least_tiles(counts: &[u64]) -> usize {
     match counts.first() {
         Some(count) if *count > 0 => (LEAST_CELLS / *count).max(1) as usize,
