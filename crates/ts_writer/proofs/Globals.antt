@@ -1,5 +1,5 @@
 -- Versions in global order by their places: each once, and no two at one cell.
-use Rattle.std.proofs.Common.{◌≡◌, ℕ, zero, suc, ◌+◌, ◌<◌, ℤ, Bool, true, false, not, cond, nat_eq, inl, inr, ◌⊎◌, List, [], ◌∷◌, ◌++◌, length, get_or, take, drop, map, Some, None, Option, refl, sym, ap, ◌∙◌, subst, arith, add-one}
+use Rattle.std.proofs.Common.{◌≡◌, ℕ, zero, suc, ◌+◌, ◌<◌, ℤ, Bool, true, false, cond, nat_eq, inl, inr, ◌⊎◌, List, [], ◌∷◌, ◌++◌, length, get_or, take, drop, map, Some, None, Option, refl, sym, ap, ◌∙◌, subst, arith, add-one}
 use Rattle.std.specs.Prelude.{Contains, is_some}
 use Rattle.std.specs.List.{All, AllByRecursion, range_with_len, swap}
 use Rattle.std.specs.List.Sorted.{IsPermutation, IsStrictlySortedBy}
@@ -8,7 +8,7 @@ use Rattle.std.specs.FinMap as finite
 use Rattle.std.specs.Ordering.{is_eq, is_gt, is_lt, nat_cmp, ordering_then, ordering_reverse}
 use Rattle.std.specs.declared.cmp.Ordering.{Ordering}
 use Rattle.std.specs.declared.cmp.Ordering.TheVariants.{Less, Equal, Greater}
-use Rattle.std.proofs.lemmas.Bool.{true≢false, and_parts, eqb-true, eqb-false}
+use Rattle.std.proofs.lemmas.Bool.{true≢false, eqb-true, eqb-false}
 use Rattle.std.proofs.lemmas.Option.{same_Some}
 use Rattle.std.proofs.lemmas.List.{drop_all, length-take, drop_more, take_more, get_or-map, get_or-take, length-map, same_lists, get_or_default}
 use Rattle.std.proofs.lemmas.List.Edits.{length-swap, swapped_from_swap}
@@ -27,7 +27,7 @@ use Rattle.ts_table.specs.Picks.{picked}
 use Rattle.ts_table.specs.Tables.{no_version, version_or}
 use Rattle.ts_model.specs.declared.answers.Refusal.TheVariants as refusal
 use Rattle.ts_model.specs.declared.deeds.Written.{Written}
-use Rattle.ts_model.specs.Deeds.{row_at, are_apart}
+use Rattle.ts_model.specs.Deeds.{row_at}
 use Rattle.ts_model.specs.Commands.{again_in, global_order, in_global_order, piece_of, version_in}
 use Rattle.ts_model.proofs.Laying.{coords_decide}
 use Rattle.ts_writer.specs.Heads.{head_in}
@@ -184,27 +184,6 @@ twins_not_new vs twins new =
     let there : get_or (take j (cells_in vs)) i (cell_in no_version) ≡ cell_in (version_or vs i) = get_or-take j (cells_in vs) i (cell_in no_version) twins.before ∙ cell_there vs i (cell_in no_version) low in
     true≢false (sym (found_some (version_or vs j).coords (take j (cells_in vs)) i (cell_in no_version) within (ap (λ (c : Cell). c.coords) there ∙ twins.same)) ∙ new j twins.within)
 
--- cells that are apart differ in their coordinates
-apart_differ : (cells : List Cell) → are_apart cells ≡ true → (i j : ℕ) (d : Cell) → i < j → j < length cells → (get_or cells i d).coords ≡ (get_or cells j d).coords → ⊥
-apart_differ [] apart i j d lt within e = omega (arith, within)
-apart_differ (c ∷ cells) apart i zero d lt within e = omega (arith, lt)
-apart_differ (c ∷ cells) apart zero (suc j) d lt within e =
-    let parts = and_parts (not (is_some (row_at c.coords cells))) (are_apart cells) apart in
-    true≢false (sym parts.0 ∙ ap not (found_some c.coords cells j d (omega (arith, within)) (sym e)))
-apart_differ (c ∷ cells) apart (suc i) (suc j) d lt within e =
-    let parts = and_parts (not (is_some (row_at c.coords cells))) (are_apart cells) apart in
-    apart_differ cells parts.1 i j d (omega (arith, lt)) (omega (arith, within)) e
-
--- versions whose cells are apart have no two at one cell
-pub no_twins : (vs : List Version) → are_apart (cells_in vs) ≡ true → HasTwins vs → ⊥
-no_twins vs apart twins =
-    let d = cell_in no_version in
-    let low : twins.first < length vs = omega (arith, twins.before, twins.within) in
-    let first = cell_there vs twins.first d low in
-    let second = cell_there vs twins.second d twins.within in
-    apart_differ (cells_in vs) apart twins.first twins.second d twins.before (omega (arith, twins.within, length-cells_in vs))
-    (ap (λ (c : Cell). c.coords) first ∙ twins.same ∙ sym (ap (λ (c : Cell). c.coords) second))
-
 -- cells of which no two have the same coordinates come once
 again_clear : (cells : List Cell) → ((i j : ℕ) (d : Cell) → i < j → j < length cells → (get_or cells i d).coords ≡ (get_or cells j d).coords → ⊥) → (k more : ℕ) → k + more ≡ length cells
     → again_in (take k cells) k (drop k cells) ≡ None
@@ -306,25 +285,26 @@ module _ (frame : Frame) where
       ]
 
   -- the same cells in another order, in which they ascend, are found alike
-  found_alike : (xs ys : List Cell) → IsPermutation xs ys → IsStrictlySortedBy by_cells ys → (c : List ℤ) → finite.find (global_order frame) c (map entry xs) ≡ finite.find (global_order frame) c (map entry ys)
-  found_alike xs ys moved sorted c = by (finite.find (global_order frame) c (map entry xs)) (finite.find (global_order frame) c (map entry ys)) refl refl
+  found_alike : (xs ys : List Cell) → ((x : Cell) → Contains xs x → Contains ys x) → ((x : Cell) → Contains ys x → Contains xs x) → IsStrictlySortedBy by_cells ys
+      → (c : List ℤ) → finite.find (global_order frame) c (map entry xs) ≡ finite.find (global_order frame) c (map entry ys)
+  found_alike xs ys to from sorted c = by (finite.find (global_order frame) c (map entry xs)) (finite.find (global_order frame) c (map entry ys)) refl refl
     where
       by : (p q : Option Cell) → finite.find (global_order frame) c (map entry xs) ≡ p → finite.find (global_order frame) c (map entry ys) ≡ q → finite.find (global_order frame) c (map entry xs) ≡ finite.find (global_order frame) c (map entry ys)
       by None None e f = e ∙ sym f
       by (Some x) q e f =
           let there = found_there c xs x e in
-          e ∙ sym (sorted_found c ys x sorted (Contains-permutation xs ys x moved there.0) there.1)
+          e ∙ sym (sorted_found c ys x sorted (to x there.0) there.1)
       by None (Some y) e f =
           let there = found_there c ys y f in
-          absurd (tied_found c xs y (Contains-permutation ys xs y (IsPermutation-sym xs ys moved) there.0) there.1 e)
+          absurd (tied_found c xs y (from y there.0) there.1 e)
 
-  -- cells in another order, in which they ascend, are the cells in global order
-  pub global_alike : (xs ys : List Cell) → IsPermutation xs ys → IsStrictlySortedBy by_cells ys → in_global_order frame xs ≡ ys
+  -- the same cells in another order, in which they ascend, are the cells in global order
+  pub global_same : (xs ys : List Cell) → ((x : Cell) → Contains xs x → Contains ys x) → ((x : Cell) → Contains ys x → Contains xs x) → IsStrictlySortedBy by_cells ys → in_global_order frame xs ≡ ys
   unfolding in_global_order
-  global_alike xs ys moved sorted =
+  global_same xs ys to from sorted =
       ap finite.values
       (finite.same_map by_total exact (finite.from_entries (map entry xs)) (finite.from_entries (map entry ys)) (λ c.
-      finite.get-from_entries by_total (map entry xs) c ∙ found_alike xs ys moved sorted c ∙ sym (finite.get-from_entries by_total (map entry ys) c)))
+      finite.get-from_entries by_total (map entry xs) c ∙ found_alike xs ys to from sorted c ∙ sym (finite.get-from_entries by_total (map entry ys) c)))
       ∙ in_global_order_same frame ys sorted
 
   -- ---- the versions of a table
@@ -400,7 +380,9 @@ module _ (frame : Frame) where
 
     -- the cells at the places are the cells in global order
     pub cells_global : in_global_order frame (cells_in vs) ≡ ordered
-    cells_global = global_alike (cells_in vs) ordered cells_moved cells_ascend
+    cells_global =
+        global_same (cells_in vs) ordered (λ x. Contains-permutation (cells_in vs) ordered x cells_moved)
+        (λ x. Contains-permutation ordered (cells_in vs) x (IsPermutation-sym (cells_in vs) ordered cells_moved)) cells_ascend
 
     -- and the versions there are theirs
     pub versions_global : (key schema : Key) → AreOf key schema vs → picked vs places ≡ map (version_in key schema) (in_global_order frame (cells_in vs))

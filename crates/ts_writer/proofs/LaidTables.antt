@@ -1,12 +1,10 @@
 -- Tables of the versions of cells: what they hold, and one version after another.
-use Rattle.std.proofs.Common.{◌≡◌, ℕ, zero, suc, ◌+◌, ◌<◌, ◌≤◌, ℤ, pos, List, [], ◌∷◌, ◌++◌, length, get_or, drop, take, map, Option, Some, None, refl, sym, ap, ◌∙◌, arith}
-use Rattle.std.specs.Prelude.{IsTrue, slice_get, replicate, option_map}
-use Rattle.std.specs.List.{All, cons_option, range_with_len}
+use Rattle.std.proofs.Common.{◌≡◌, ℕ, zero, suc, ◌+◌, ◌<◌, ◌≤◌, ℤ, List, [], ◌∷◌, length, get_or, drop, map, Option, Some, None, refl, sym, ap, ◌∙◌, arith}
+use Rattle.std.specs.Prelude.{IsTrue, replicate, option_map}
+use Rattle.std.specs.List.{All}
 use Rattle.std.specs.Option.{option_or}
-use Rattle.std.proofs.lemmas.List.{drop_more, take_more, take_all, map-append, length-map, get_or-map, same_lists, length-replicate, get_or_default}
-use Rattle.std.proofs.lemmas.List.FromFn.{length-range_with_len, get_or-map-range_with_len, map-range_with_len_more}
+use Rattle.std.proofs.lemmas.List.{drop_more, length-map, get_or-map, length-replicate}
 use Rattle.std.proofs.lemmas.List.Elements.{All-nil, All-cons, All-head, All-tail, All-map, All-replicate}
-use Rattle.std.proofs.lemmas.Option.{slice_get-map, get_or_from_slice_get}
 use Rattle.ts_base.specs.declared.heads.Cell.{Cell}
 use Rattle.ts_base.specs.declared.heads.Version.{Version}
 use Rattle.ts_base.specs.declared.keys.Key.{Key}
@@ -14,14 +12,13 @@ use Rattle.ts_base.specs.declared.values.Val.{Val}
 use Rattle.ts_domain.specs.declared.dims.Dim.{Dim}
 use Rattle.ts_domain.specs.Domains.{first_outside, is_in_domain}
 use Rattle.ts_domain.proofs.DomainLemmas.{is_in_domain-first_outside}
-use Rattle.ts_order.proofs.OrderedCoords.{length-coords_in_order}
 use Rattle.ts_table.specs.declared.origins.Origin.{Origin}
 use Rattle.ts_table.specs.Tables.{no_version, version_or, versions_from, IsTable}
 use Rattle.ts_model.specs.declared.answers.Refusal.{Refusal}
 use Rattle.ts_model.specs.declared.answers.Refusal.TheVariants as refusal
-use Rattle.ts_model.specs.Commands.{across, cells_at, cells_from, outside_in, version_in}
+use Rattle.ts_model.specs.Commands.{across, cells_from, outside_in, version_in}
 use Rattle.ts_model.proofs.Spelled.{neither, none_before}
-use Rattle.ts_writer.specs.Tables.{cell_in, cells_in, IsOf, AreOf, box_column, box_columns}
+use Rattle.ts_writer.specs.Tables.{cell_in, cells_in, IsOf, AreOf}
 
 -- ---- versions of cells
 
@@ -106,46 +103,3 @@ all_inside dims (v ∷ vs) long none =
     let inside = none_before (λ o. refusal.Domain o.dim o.value) (first_outside dims v.coords) parts.0 in
     let here = is_in_domain-first_outside 0 dims v.coords (All-head (λ (v : Version). length v.coords ≡ length dims) v vs long) inside in
     All-cons (λ (v : Version). IsTrue (is_in_domain dims v.coords)) v vs here (all_inside dims vs (All-tail (λ (v : Version). length v.coords ≡ length dims) v vs long) parts.1)
-
--- ---- the cells of a box
-
--- the coordinates of a cell, each found by its dimension
-each_coord : (c : List ℤ) → map (λ dim. get_or c dim (pos 0)) (range_with_len 0 (length c)) ≡ c
-each_coord c =
-    let long : length (map (λ dim. get_or c dim (pos 0)) (range_with_len 0 (length c))) ≡ length c = length-map (range_with_len 0 (length c)) (λ dim. get_or c dim (pos 0)) ∙ length-range_with_len 0 (length c) in
-    same_lists (map (λ dim. get_or c dim (pos 0)) (range_with_len 0 (length c))) c long (λ k d lt.
-    let below : k < length c = omega (arith, lt, long) in
-    get_or-map-range_with_len (λ dim. get_or c dim (pos 0)) 0 (length c) k k d below (omega arith) ∙ get_or_default c k (pos 0) d below)
-
--- what stands across the columns of coordinates at a place is what they are there
-across_each : (coords : List (List ℤ)) (place : ℕ) (c : List ℤ) → slice_get coords place ≡ Some c → (dims : List ℕ) → across place (map (λ dim. box_column dim coords) dims) ≡ map (λ dim. get_or c dim (pos 0)) dims
-across_each coords place c there [] = refl
-across_each coords place c there (dim ∷ dims) =
-    let found : slice_get (box_column dim coords) place ≡ Some (get_or c dim (pos 0)) = slice_get-map (λ x. get_or x dim (pos 0)) coords place ∙ ap (option_map (λ x. get_or x dim (pos 0))) there in
-    ap (λ o. cons_option o (across place (map (λ k. box_column k coords) dims))) found ∙ ap (λ xs. get_or c dim (pos 0) ∷ xs) (across_each coords place c there dims)
-
--- the cells of the columns of coordinates, from a place on
-box_cells_from : (all : List (List ℤ)) (rows : List (List Val)) (count place : ℕ) (coords : List (List ℤ)) → ((k : ℕ) (c : List ℤ) → slice_get coords k ≡ Some c → slice_get all (place + k) ≡ Some c) → All (λ (c : List ℤ). length c ≡ count) coords
-    → cells_from (box_columns count all) rows place (length coords) ≡ cells_at coords rows place
-box_cells_from all rows count place [] there long = refl
-box_cells_from all rows count place (c ∷ coords) there long =
-    let begin : place + 0 ≡ place = omega arith in
-    let first : slice_get all place ≡ Some c = ap (slice_get all) (sym begin) ∙ there 0 c refl in
-    let wide : length c ≡ count = All-head (λ (c : List ℤ). length c ≡ count) c coords long in
-    let here : across place (box_columns count all) ≡ c = across_each all place c first (range_with_len 0 count) ∙ ap (λ n. map (λ dim. get_or c dim (pos 0)) (range_with_len 0 n)) (sym wide) ∙ each_coord c in
-    let rest = box_cells_from all rows count (suc place) coords (λ k x e.
-    let next : suc place + k ≡ place + suc k = omega arith in
-    ap (slice_get all) next ∙ there (suc k) x e) (All-tail (λ (c : List ℤ). length c ≡ count) c coords long) in
-    λ i. record { coords = here i; row = across place rows } ∷ rest i
-
--- the cells of the columns of the coordinates of a box are its cells
-pub box_cells : (coords : List (List ℤ)) (rows : List (List Val)) (count : ℕ) → All (λ (c : List ℤ). length c ≡ count) coords → cells_from (box_columns count coords) rows 0 (length coords) ≡ cells_at coords rows 0
-box_cells coords rows count long = box_cells_from coords rows count 0 coords (λ k c e. let same : 0 + k ≡ k = omega arith in ap (slice_get coords) same ∙ e) long
-
--- each column has a coordinate of each cell
-pub box_columns_long : (count : ℕ) (coords : List (List ℤ)) → All (λ (numbers : List ℤ). length numbers ≡ length coords) (box_columns count coords)
-box_columns_long count coords = All-map (λ (numbers : List ℤ). length numbers ≡ length coords) (λ dim. box_column dim coords) (range_with_len 0 count) (λ k d lt. length-map coords (λ c. get_or c (get_or (range_with_len 0 count) k d) (pos 0)))
-
--- there are so many columns
-pub length-box_columns : (count : ℕ) (coords : List (List ℤ)) → length (box_columns count coords) ≡ count
-length-box_columns count coords = length-map (range_with_len 0 count) (λ dim. box_column dim coords) ∙ length-range_with_len 0 count

@@ -4,8 +4,11 @@ pub mod Again
 pub mod Hulls
 pub mod Lengths
 pub mod LaidTables
-pub mod BoxColumns
 pub mod Globals
 pub mod Said
+pub mod BoxCells
+pub mod SpotLists
+pub mod SpotRuns
+pub mod BoxSpots
 pub mod Pieced
 pub mod Written

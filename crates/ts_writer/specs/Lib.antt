@@ -6,3 +6,4 @@ pub mod Laying
 pub mod Heads
 pub mod Tables
 pub mod Writers
+pub mod Spots

@@ -1,5 +1,5 @@
 -- Tables of the versions that a write makes: their cells, and their places in global order.
-use Rattle.std.specs.Prelude.{◌≡◌, ℕ, ◌+◌, ◌<◌, ℤ, pos, List, map, length, All, slice_index_or}
+use Rattle.std.specs.Prelude.{◌≡◌, ℕ, ◌+◌, ◌<◌, List, map, length, All, slice_index_or}
 use Rattle.std.specs.List.{range_with_len, AllAdjacentBelow}
 use Rattle.std.specs.List.Sorted.{IsPermutation}
 use Rattle.std.specs.declared.cmp.Ordering.TheVariants.{Less}
@@ -25,14 +25,6 @@ IsOf key schema v = (v.key ≡ key) × (v.schema ≡ schema)
 -- all versions are
 abbrev pub AreOf : Key → Key → List Version → Type 0
 AreOf key schema vs = All (IsOf key schema) vs
-
--- the coordinates of cells along a dimension, 0 where one has none
-abbrev pub box_column : ℕ → List (List ℤ) → List ℤ
-box_column dim coords = map (λ c. slice_index_or c dim (pos 0)) coords
-
--- those along each of so many dimensions
-abbrev pub box_columns : ℕ → List (List ℤ) → List (List ℤ)
-box_columns count coords = map (λ dim. box_column dim coords) (range_with_len 0 count)
 
 -- two versions stand at one cell
 pub record HasTwins (vs : List Version) : Type 0 where

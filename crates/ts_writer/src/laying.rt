@@ -14,9 +14,9 @@ ghost use Rattle.ts_writer.specs.Laying.{LaysOr, pieced};
 ghost use Rattle.ts_writer.specs.Tables.{AreOf, cells_in};
 
 use crate::columns::{attr_columns, clash, count_of, dim_columns, stray};
-use crate::pieces::piece_of;
+use crate::pieces::{piece_of, piece_over};
 use crate::places::{again, global_places};
-use crate::tables::{box_columns, outside_in, table_of};
+use crate::tables::{outside_in, table_of};
 use std::alloc::Global;
 use ts_base::OutOfMemory;
 use ts_domain::{Domain, SubBox};
@@ -95,12 +95,7 @@ fn lay_box(
     if let Some(refusal) = box_refusal(&frame.domain, attrs, write, &sub) {
         return Err(LayFault::Refused(refusal));
     }
-    let coords = box_columns(alloc, &sub, write.layout)?;
-    let table = table_of(alloc, origin, coords, rows, count)?;
-    match global_places(alloc, frame, &table)? {
-        Some(places) => Ok(piece_of(alloc, frame, origin, table, places)?),
-        None => unreachable!(),
-    }
+    Ok(piece_over(alloc, frame, origin, write.layout, sub, rows)?)
 }
 
 // Why a write to a box of a dense array is refused, whose attributes have their columns.

@@ -14,6 +14,8 @@ mod making;
 mod pieces;
 mod places;
 mod puts;
+mod runs;
+mod spots;
 mod tables;
 mod values;
 mod writer;

@@ -1,18 +1,24 @@
 //! The piece of a write: its versions in global order, between their corners.
-ghost use Rattle.std.specs.Prelude.{◌≡◌, ◌≤◌, length, IfOk, IsTrue, All};
+ghost use Rattle.std.specs.Prelude.{◌≡◌, ◌≤◌, ◌<◌, ◌^◌, List, length, IfOk, IsTrue, All};
 ghost use Rattle.ts_base.specs.declared.heads.Version.{Version as AnyVersion};
-ghost use Rattle.ts_domain.specs.Boxes.{IsBox};
-ghost use Rattle.ts_domain.specs.Domains.{is_in_domain};
-ghost use Rattle.ts_model.specs.Commands.{low_of_cells, high_of_cells, piece_of};
-ghost use Rattle.ts_writer.specs.Heads.{head_in};
+ghost use Rattle.ts_base.specs.declared.values.Val.{Val as AnyVal};
+ghost use Rattle.ts_domain.specs.Boxes.{IsBox, cells_of};
+ghost use Rattle.ts_domain.specs.Domains.{is_in_domain, LiesInDomain};
+ghost use Rattle.ts_order.specs.Orders.{coords_in_order};
+ghost use Rattle.ts_schema.specs.FrameTexts.{IsFrame};
+ghost use Rattle.ts_model.specs.Commands.{cells_at, low_of_cells, high_of_cells, piece_of};
+ghost use Rattle.ts_writer.specs.Heads.{head_in, head_over};
 ghost use Rattle.ts_writer.specs.Tables.{AreGlobal, AreOf, cells_in};
 
+use crate::columns::ColumnList;
+use crate::spots::spots_of;
 use std::alloc::Global;
 use ts_base::{Coords, FragKey, Head, IndexList, KeyList, OutOfMemory};
-use ts_domain::{Domain, SubBox};
+use ts_batch::Batch;
+use ts_domain::{Domain, Order, SubBox};
 use ts_piece::BatchPiece;
 use ts_schema::Frame;
-use ts_table::{Origin, Table};
+use ts_table::{BoxTable, Origin, Table};
 
 /// The piece of a write of this origin, whose versions are those of a table.
 pub(crate) fn piece_of(
@@ -32,6 +38,31 @@ pub(crate) fn piece_of(
     BatchPiece::of_table(alloc, head, table, places)
 }
 
+/// The piece of a write of this origin to a box. There is a column for each attribute, with a value for
+/// each cell of the box in the order of the layout.
+pub(crate) fn piece_over(
+    alloc: Global,
+    frame: &Frame,
+    origin: Origin,
+    layout: Order,
+    sub: SubBox,
+    rows: ColumnList,
+) -> Result<BatchPiece, OutOfMemory>
+    requires frame { IsFrame frame.now }
+    requires valid { IsBox sub }
+    requires inside { LiesInDomain frame.now.domain sub }
+    requires few { cells_of sub < 2 ^ 32 }
+    requires long { All (λ (vals : List AnyVal). length vals ≡ cells_of sub) rows }
+    ensures { IfOk result (λ p. p ≡ piece_of frame.now (record { key = origin.key; schema = origin.schema; cells = cells_at (coords_in_order layout sub) rows 0 })) }
+{
+    let count = sub.cells();
+    let head = head_over(alloc, frame, origin, &sub, count)?;
+    let spots = spots_of(alloc, frame, layout, &sub)?;
+    let table = BoxTable::of(sub, layout, origin, rows.into_vec());
+    let batches = vec![in alloc; Batch::of_box(table)]?;
+    Ok(BatchPiece::of(head, batches, spots))
+}
+
 // The head of the piece.
 fn head_of(alloc: Global, frame: &Frame, origin: Origin, table: &Table) -> Result<Head, OutOfMemory>
     requires some { 1 ≤ length table.now }
@@ -39,6 +70,19 @@ fn head_of(alloc: Global, frame: &Frame, origin: Origin, table: &Table) -> Resul
     ensures { IfOk result (λ head. head ≡ head_in frame.now (record { key = origin.key; schema = origin.schema; cells = cells_in table.now })) }
 {
     let hull = hull_of(&frame.domain, table);
+    head_over(alloc, frame, origin, &hull, table.len())
+}
+
+// The head of a piece of so many cells in this hull.
+fn head_over(
+    alloc: Global,
+    frame: &Frame,
+    origin: Origin,
+    hull: &SubBox,
+    cells: u64,
+) -> Result<Head, OutOfMemory>
+    ensures { IfOk result (λ head. head ≡ head_over frame.now origin hull.now cells) }
+{
     let mut origins = KeyList::new(alloc);
     origins.push(origin.key)?;
     Ok(Head {
@@ -53,7 +97,7 @@ fn head_of(alloc: Global, frame: &Frame, origin: Origin, table: &Table) -> Resul
         consolidated: false,
         low: hull.low,
         high: hull.high,
-        cells: table.len(),
+        cells,
         origins,
     })
 }

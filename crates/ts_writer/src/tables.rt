@@ -1,19 +1,16 @@
 //! The versions that a write makes, field by field, and what can be wrong with their cells.
-ghost use Rattle.std.specs.Prelude.{◌≡◌, ◌≤◌, ◌<◌, ◌-◌, ◌^◌, ℤ, List, [], pos, slice_index_or, length, map, option_map, IfOk, All};
+ghost use Rattle.std.specs.Prelude.{◌≡◌, ◌≤◌, ℤ, List, length, map, option_map, IfOk, All};
 ghost use Rattle.ts_base.specs.declared.values.Val.{Val as AnyVal};
 ghost use Rattle.ts_base.specs.declared.heads.Version.{Version as AnyVersion};
-ghost use Rattle.ts_domain.specs.Boxes.{IsBox, cells_of};
 ghost use Rattle.ts_domain.specs.Domains.{first_outside};
-ghost use Rattle.ts_order.specs.Orders.{coords_in_order};
 ghost use Rattle.ts_model.specs.declared.answers.Refusal.TheVariants as refusal;
 ghost use Rattle.ts_model.specs.Commands.{cells_from, outside_in, version_in};
-ghost use Rattle.ts_writer.specs.Tables.{box_column, box_columns, cells_in};
+ghost use Rattle.ts_writer.specs.Tables.{cells_in};
 
 use crate::columns::{ColumnList, NumberLists};
 use std::alloc::Global;
 use ts_base::{Coords, OutOfMemory};
-use ts_domain::{Domain, Order, SubBox};
-use ts_gather::coords_columns;
+use ts_domain::Domain;
 use ts_model::Refusal;
 use ts_table::{Origin, Table};
 
@@ -35,19 +32,6 @@ pub(crate) fn table_of(
     let cells = vec![in alloc; 0u32; count as usize]?;
     let origins = vec![in alloc; origin]?;
     Ok(Table::of(origins, coords.into_vec(), rows.into_vec(), cells))
-}
-
-/// The coordinates of all cells of a box along each dimension, in the order of a layout.
-pub(crate) fn box_columns(
-    alloc: Global,
-    sub: &SubBox,
-    layout: Order,
-) -> Result<NumberLists, OutOfMemory>
-    requires valid { IsBox sub.now }
-    requires few_cells { cells_of sub.now < 2 ^ 64 - 1 }
-    ensures { IfOk result (λ columns. columns ≡ box_columns (length sub.now.low) (coords_in_order layout sub.now)) }
-{
-    Ok(NumberLists::from_vec(coords_columns(alloc, sub, layout)?))
 }
 
 /// The first coordinate outside the domain, cell by cell.
