@@ -1,12 +1,12 @@
 //! Ends that no script shows; those that one shows stand in tests/cases.
 use std::alloc::Global;
 use std::test::Fail;
-use ts_base::{CommitKind, FragKey, Key, LabelList, LeaseMode, Name, Place, Prefix};
+use ts_base::{CommitKind, FragKey, Key, LabelList, LeaseMode, Name, OutOfMemory, Place, Prefix};
 use ts_commit::Limits;
 use ts_cond::{CondFault, NamedBoxList, Query};
 use ts_domain::Layout;
 use ts_model::{Command, Outcome, Refusal};
-use ts_query::print_outcome;
+use ts_query::{Printed, print_outcome};
 use ts_schema::SchemaFault;
 
 fn read(alloc: Global) -> Command {
@@ -23,12 +23,30 @@ fn read(alloc: Global) -> Command {
     }
 }
 
+fn text_of(
+    alloc: Global,
+    lane: u32,
+    number: u32,
+    command: &Command,
+    outcome: Option<&Outcome>,
+) -> Result<Vec<u8>, OutOfMemory> {
+    let mut text = Printed::new(alloc);
+    print_outcome(alloc, &mut text, lane, number, command, outcome)?;
+    let parts = text.parts();
+    let mut bytes = Vec::new(alloc);
+    for piece in parts.full {
+        bytes.extend_from_slice(piece.as_slice())?;
+    }
+    bytes.extend_from_slice(parts.last)?;
+    Ok(bytes)
+}
+
 #[test]
 fn prints_the_lane_and_how_a_command_broke_off(rt: HostRuntime) -> Result<(), Fail> {
     let alloc = rt.alloc();
-    let stopped = print_outcome(alloc, 0, 1, &read(alloc), None)?;
+    let stopped = text_of(alloc, 0, 1, &read(alloc), None)?;
     assert_eq!(rt; stopped.as_slice(), b"0.1\tread\tstopped\n".as_slice());
-    let short = print_outcome(
+    let short = text_of(
         alloc,
         7,
         u32::MAX,
@@ -47,13 +65,13 @@ fn prints_how_many_leases_or_fragments_are_gone(rt: HostRuntime) -> Result<(), F
     let alloc = rt.alloc();
     let unlock = Command::Unlock { seed: 0, lane: 7 };
     let end = Outcome::Unlocked(u64::MAX);
-    let printed = print_outcome(alloc, 7, 1, &unlock, Some(&end))?;
+    let printed = text_of(alloc, 7, 1, &unlock, Some(&end))?;
     assert_eq!(rt;
         printed.as_slice(),
         b"7.1\tunlock\tok\t18446744073709551615\n".as_slice()
     );
     let end = Outcome::Vacuumed(u64::MAX);
-    let printed = print_outcome(alloc, 0, 2, &Command::Vacuum, Some(&end))?;
+    let printed = text_of(alloc, 0, 2, &Command::Vacuum, Some(&end))?;
     assert_eq!(rt;
         printed.as_slice(),
         b"0.2\tvacuum\tok\t18446744073709551615\n".as_slice()
@@ -106,7 +124,7 @@ fn prints_where_the_store_failed(rt: HostRuntime) -> Result<(), Fail> {
     ] {
         let end = Outcome::Refused(refusal);
         let wanted = format!(in alloc; "0.1\tread\trefused\t{why}\n")?;
-        let printed = print_outcome(alloc, 0, 1, &read(alloc), Some(&end))?;
+        let printed = text_of(alloc, 0, 1, &read(alloc), Some(&end))?;
         assert_eq!(rt; printed.as_slice(), wanted.as_bytes(), "{why}");
     }
     Ok(())
@@ -137,7 +155,7 @@ fn prints_what_a_consolidation_merged(rt: HostRuntime) -> Result<(), Fail> {
         ),
     ] {
         let wanted = format!(in alloc; "0.3\tconsolidate\t{how}\n")?;
-        let printed = print_outcome(alloc, 0, 3, &merge, Some(&end))?;
+        let printed = text_of(alloc, 0, 3, &merge, Some(&end))?;
         assert_eq!(rt; printed.as_slice(), wanted.as_bytes(), "{how}");
     }
     Ok(())

@@ -1,41 +1,43 @@
 //! The printed text of ends: a line for each; behind that of a read a line for each clipped fragment
 //! and then for each row, and behind that of a listing a line for each name.
-ghost use Rattle.std.specs.Prelude.{◌≡◌, ◌++◌, string_bytes, IfOk, OnOk, option_map};
+ghost use Rattle.std.specs.Prelude.{◌≡◌, ◌++◌, string_bytes, OnOk, option_map};
 ghost use Rattle.ts_query.specs.Ends.{clipped_line, clipped_text, command_name, end_text, name_line, names_text, outcome_text, result_text, text_of};
 
+use crate::printed::Printed;
 use crate::refusals::print_refusal;
 use crate::rows::print_rows;
 use std::alloc::Global;
-use ts_base::{ByteList, FragKey, Name, OutOfMemory};
+use ts_base::{FragKey, Name, OutOfMemory};
 use ts_model::{Command, Outcome};
 
-/// The text of one end, each line of it with its line feed.
+/// Appends the text of one end, each line of it with its line feed.
 ///
 /// `lane` and `number` are those of the command, which is counted in its lane. No outcome stands for
-/// a command that was stopped before its end.
+/// a command that was stopped before its end. `OutOfMemory` comes where there is no room for the text.
+/// What is printed then no clause says: a caller drops it.
 pub fn print_outcome(
     alloc: Global,
+    printed: &mut Printed,
     lane: u32,
     number: u32,
     command: &Command,
     outcome: Option<&Outcome>,
-) -> Result<ByteList, OutOfMemory>
-    ensures { IfOk result (λ text. text ≡ text_of lane number command.now (option_map (λ outcome. outcome.now) outcome.entry)) }
+) -> Result<(), OutOfMemory>
+    ensures { OnOk result (printed.new ≡ printed.old ++ text_of lane number command.now (option_map (λ outcome. outcome.now) outcome.entry)) }
 {
     let mut text = String::new(alloc);
     print_end(&mut text, lane, number, command, outcome)?;
     match outcome {
         Some(Outcome::Read(answer)) => {
             print_clipped(&mut text, answer.clipped.as_slice())?;
-            let mut bytes = text.into_bytes();
-            print_rows(&mut bytes, answer.types.as_slice(), &answer.rows)?;
-            Ok(ByteList::from_vec(bytes))
+            printed.add(alloc, text.as_bytes())?;
+            print_rows(alloc, printed, answer.types.as_slice(), &answer.rows)
         }
         Some(Outcome::Listed(names)) => {
             print_names(&mut text, names.as_slice())?;
-            Ok(ByteList::from_vec(text.into_bytes()))
+            printed.add(alloc, text.as_bytes())
         }
-        _ => Ok(ByteList::from_vec(text.into_bytes())),
+        _ => printed.add(alloc, text.as_bytes()),
     }
 }
 

@@ -3,8 +3,10 @@
 #![tactic(auto)]
 
 mod ends;
+mod printed;
 mod refusals;
 mod rows;
 
 pub use ends::print_outcome;
+pub use printed::{Printed, PrintedParts};
 pub use ts_model::{QueryFault, Ready, Shown, ShownList, check_query, rows_of};

@@ -6,27 +6,30 @@ ghost use Rattle.ts_base.specs.declared.values.Val.TheVariants.{Bytes};
 ghost use Rattle.ts_table.specs.Columns.{val_seen};
 ghost use Rattle.ts_query.specs.Rows.{row_text, rows_text, vals_text, val_text, escaped};
 
+use crate::printed::Printed;
+use std::alloc::Global;
 use ts_base::{OutOfMemory, ValType};
 use ts_batch::RowBatch;
 use ts_table::Seen;
 
-/// Adds the rows that a read shows, a line for each, to the bytes before.
+/// Appends the rows that a read shows, a line for each.
 pub(crate) fn print_rows(
-    bytes: &mut Vec<u8>,
+    alloc: Global,
+    text: &mut Printed,
     types: &[ValType],
     rows: &RowBatch,
 ) -> Result<(), OutOfMemory>
-    ensures { OnOk result (bytes.new.items ≡ bytes.old.items ++ rows_text types.now rows.now) }
+    ensures { OnOk result (text.new ≡ text.old ++ rows_text types.now rows.now) }
 {
     for row in 0..rows.len() {
-        print_row(bytes, types, rows, row)?;
+        text.add_row(alloc, types, rows, row)?;
     }
     Ok(())
 }
 
 /// Adds the row at a place: its values with tabs between them.
 #[tactic(auto, unfolding(crate::specs::Rows::row_text))]
-fn print_row(
+pub(crate) fn print_row(
     bytes: &mut Vec<u8>,
     types: &[ValType],
     rows: &RowBatch,
@@ -77,17 +80,17 @@ fn print_val(bytes: &mut Vec<u8>, ty: ValType, val: Seen) -> Result<(), OutOfMem
     ensures { OnOk result (bytes.new.items ≡ bytes.old.items ++ val_text ty (val_seen val.entry)) }
 {
     match val {
-        Seen::Null => add(bytes, b"null"),
+        Seen::Null => add_bytes(bytes, b"null"),
         Seen::Int(number) => {
             let mut buffer = itoa::Buffer::new();
-            add(bytes, buffer.format(number).as_bytes())
+            add_bytes(bytes, buffer.format(number).as_bytes())
         }
         Seen::Bytes(own) => print_bytes(bytes, ty, own),
     }
 }
 
 /// Adds bytes behind others.
-fn add(bytes: &mut Vec<u8>, more: &[u8]) -> Result<(), OutOfMemory>
+fn add_bytes(bytes: &mut Vec<u8>, more: &[u8]) -> Result<(), OutOfMemory>
     ensures { OnOk result (bytes.new.items ≡ bytes.old.items ++ more.now) }
 {
     bytes.extend_from_slice(more)?;
@@ -115,7 +118,7 @@ fn print_text(bytes: &mut Vec<u8>, own: &[u8]) -> Result<(), OutOfMemory>
     ensures { OnOk result (bytes.new.items ≡ bytes.old.items ++ flat_map escaped own.now) }
 {
     if is_plain(own) {
-        add(bytes, own)
+        add_bytes(bytes, own)
     } else {
         print_each(bytes, own)
     }
@@ -155,15 +158,15 @@ fn print_escaped(bytes: &mut Vec<u8>, byte: u8) -> Result<(), OutOfMemory>
     ensures { OnOk result (bytes.new.items ≡ bytes.old.items ++ escaped byte) }
 {
     match byte {
-        b'"' => add(bytes, b"\\\""),
-        b'\\' => add(bytes, b"\\\\"),
-        8 => add(bytes, b"\\b"),
-        12 => add(bytes, b"\\f"),
-        b'\n' => add(bytes, b"\\n"),
-        b'\r' => add(bytes, b"\\r"),
-        b'\t' => add(bytes, b"\\t"),
+        b'"' => add_bytes(bytes, b"\\\""),
+        b'\\' => add_bytes(bytes, b"\\\\"),
+        8 => add_bytes(bytes, b"\\b"),
+        12 => add_bytes(bytes, b"\\f"),
+        b'\n' => add_bytes(bytes, b"\\n"),
+        b'\r' => add_bytes(bytes, b"\\r"),
+        b'\t' => add_bytes(bytes, b"\\t"),
         0..=31 => {
-            add(bytes, b"\\u00")?;
+            add_bytes(bytes, b"\\u00")?;
             print_digits(bytes, &[byte])
         }
         _ => {
@@ -190,5 +193,5 @@ fn print_pair(bytes: &mut Vec<u8>, byte: u8) -> Result<(), OutOfMemory>
 {
     let mut digits = [0u8; 2];
     let _ = hex::encode_to_slice([byte].as_slice(), &mut digits);
-    add(bytes, &digits)
+    add_bytes(bytes, &digits)
 }

@@ -30,5 +30,6 @@ pub mod LinesDone
 pub mod Promised
 pub mod FewListed
 pub mod FewReads
+pub mod Fronts
 pub mod LinesRan
 mod Refusing

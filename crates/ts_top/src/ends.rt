@@ -1,43 +1,43 @@
 //! The printed text of all ends of a script.
-ghost use Rattle.std.specs.Prelude.{◌≡◌, length, IfOk, option_map};
+ghost use Rattle.std.specs.Prelude.{◌≡◌, ◌++◌, length, IfOk, OnOk, option_map};
 ghost use Rattle.ts_top.specs.Ends.{end_of, ends_text};
 ghost use Rattle.ts_query.specs.Ends.{text_of};
 ghost use Rattle.ts_top.specs.Items.{numbered};
 
 use crate::items::Item;
 use std::alloc::Global;
-use ts_base::{ByteList, OutOfMemory};
+use ts_base::OutOfMemory;
 use ts_model::{Driven, Outcome};
-use ts_query::print_outcome;
+use ts_query::{Printed, print_outcome};
 
 /// Prints how the commands of these lines came out, each with its lane and its number there.
 pub(crate) fn print_ends(
     alloc: Global,
     items: &[Item],
     results: &[Driven<Outcome>],
-) -> Result<ByteList, OutOfMemory>
+) -> Result<Printed, OutOfMemory>
     requires count { length items.now ≡ length results.now }
     ensures { IfOk result (λ text. text ≡ ends_text (numbered items.now) results.now) }
 {
-    let mut bytes = ByteList::new(alloc);
+    let mut text = Printed::new(alloc);
     for (index, result) in results.iter().enumerate() {
-        let text = print_one(alloc, &items[index], result)?;
-        bytes.append(text.as_slice())?;
+        print_one(alloc, &mut text, &items[index], result)?;
     }
-    Ok(bytes)
+    Ok(text)
 }
 
-/// Prints how the command of a line came out.
+/// Appends how the command of a line came out.
 pub(crate) fn print_one(
     alloc: Global,
+    text: &mut Printed,
     item: &Item,
     came: &Driven<Outcome>,
-) -> Result<ByteList, OutOfMemory>
-    ensures { IfOk result (λ text. text ≡ text_of (item.now.line.now).lane item.now.number (item.now.line.now).command (end_of came.now)) }
+) -> Result<(), OutOfMemory>
+    ensures { OnOk result (text.new ≡ text.old ++ text_of (item.now.line.now).lane item.now.number (item.now.line.now).command (end_of came.now)) }
 {
     let line = item.line;
     let end = end_of(came);
-    print_outcome(alloc, line.lane, item.number, &line.command, end)
+    print_outcome(alloc, text, line.lane, item.number, &line.command, end)
 }
 
 /// The end of a command, or None where it was stopped before.

@@ -10,6 +10,7 @@ mod notices;
 mod queues;
 mod results;
 mod summaries;
+mod texts;
 mod tiled;
 mod top;
 

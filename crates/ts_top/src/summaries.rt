@@ -10,9 +10,10 @@ use crate::ends::print_one;
 use crate::items::Item;
 use itoa::Buffer;
 use std::alloc::Global;
-use ts_base::{ByteList, OutOfMemory};
+use ts_base::OutOfMemory;
 use ts_batch::RowBatch;
 use ts_model::{Driven, Outcome, Refusal};
+use ts_query::Printed;
 use ts_table::Seen;
 
 // The least number that is too large to be counted.
@@ -41,12 +42,12 @@ pub(crate) fn print_summary(
     alloc: Global,
     items: &[Item],
     results: &[Driven<Outcome>],
-) -> Result<ByteList, OutOfMemory>
+) -> Result<Printed, OutOfMemory>
     requires count { length items.now ≡ length results.now }
     ensures { IfOk result (λ text. text ≡ generated_text (numbered items.now) results.now) }
 {
     if is_short(results) {
-        Ok(ByteList::new(alloc))
+        Ok(Printed::new(alloc))
     } else if is_refused(results) {
         print_refusal(alloc, items, results)
     } else {
@@ -106,21 +107,23 @@ fn print_refusal(
     alloc: Global,
     items: &[Item],
     results: &[Driven<Outcome>],
-) -> Result<ByteList, OutOfMemory>
+) -> Result<Printed, OutOfMemory>
     requires count { length items.now ≡ length results.now }
     ensures { IfOk result (λ text. text ≡ refusal_text (numbered items.now) results.now) }
 {
     for (index, result) in results.iter().enumerate() {
         if was_refused(result) {
-            return print_one(alloc, &items[index], result);
+            let mut text = Printed::new(alloc);
+            print_one(alloc, &mut text, &items[index], result)?;
+            return Ok(text);
         }
     }
-    Ok(ByteList::new(alloc))
+    Ok(Printed::new(alloc))
 }
 
 // Prints the summary, a line for each number.
 #[tactic(auto, unfolding(crate::specs::Summaries::sums_text))]
-fn print_sums(alloc: Global, sums: &Sums) -> Result<ByteList, OutOfMemory>
+fn print_sums(alloc: Global, sums: &Sums) -> Result<Printed, OutOfMemory>
     ensures { IfOk result (λ text. text ≡ sums_text sums.now) }
 {
     let mut text = String::new(alloc);
@@ -129,7 +132,9 @@ fn print_sums(alloc: Global, sums: &Sums) -> Result<ByteList, OutOfMemory>
     add_line(&mut text, "removed", u128::from(sums.removed))?;
     add_line(&mut text, "rows", u128::from(sums.rows))?;
     add_line(&mut text, "sum", sums.sum)?;
-    Ok(ByteList::from_vec(text.into_bytes()))
+    let mut printed = Printed::new(alloc);
+    printed.add(alloc, text.as_bytes())?;
+    Ok(printed)
 }
 
 // Adds a line of the summary.

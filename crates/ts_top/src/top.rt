@@ -19,12 +19,14 @@ use crate::ends::print_ends;
 use crate::items::{Item, in_lane_order};
 use crate::notices::{bad_script_notice, usage_notice};
 use crate::summaries::{print_summary, status_generated};
+use crate::texts::write_text;
 use std::alloc::Global;
 use std::sync::Wait;
 use std::thread::Threads;
 use ts_base::{ByteList, OutOfMemory};
 use ts_lanes::Gate;
 use ts_model::{Driven, Line, LineList, Outcome};
+use ts_query::Printed;
 use ts_script::{FormFault, Report, ScriptFault, read_lines, read_words};
 use ts_store::{Clock, InputFault, Journal, Sink, Source, Store, read_input, write_all};
 use ts_turnstile::Closed;
@@ -148,7 +150,7 @@ fn print_all<O: Sink>(
     let Ok(text) = print_report(alloc, report, items, results) else {
         return 7;
     };
-    match write_all(out, text.as_slice()) {
+    match write_text(out, &text) {
         Ok(()) => status_printed(report, results),
         Err(_) => 5,
     }
@@ -160,7 +162,7 @@ fn print_report(
     report: Report,
     items: &[Item],
     results: &[Driven<Outcome>],
-) -> Result<ByteList, OutOfMemory>
+) -> Result<Printed, OutOfMemory>
     requires count { length items.now ≡ length results.now }
     ensures { IfOk result (λ text. text ≡ report_text report (numbered items.now) results.now) }
 {
