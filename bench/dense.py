@@ -12,11 +12,15 @@ not have is left out; Debian's are `python3-h5py` and `python3-zarr`, for its ow
 JSON and text are left out. What the writes take is what their script takes, less what the same script takes where each write is stopped before its first
 call. Reads have a condition that no cell meets, so that they fetch and test all cells and print none. A window is read in a process that makes a hundred
 such reads, each of another window, less one that makes a single one.
+
+Where there is `rustc`, the last line is `bench/scatter.rs`: plain Rust copies the tiles of a read of all from memory, and their rows into place.
 """
 import argparse
 import os
 import random
+import shutil
 import statistics
+import subprocess
 import sys
 import tempfile
 import time
@@ -122,6 +126,13 @@ def peers(side, folder):
         pass
 
 
+def scatter_ms(side, folder):
+    """How long plain Rust takes to copy the tiles of a read of all, and their rows into place."""
+    program = os.path.join(folder, "scatter")
+    subprocess.run(["rustc", "--edition", "2021", "-O", "-o", program, os.path.join(play.TOP, "bench", "scatter.rs")], check=True)
+    return float(subprocess.run([program, str(side // 2)], capture_output=True, check=True, text=True).stdout.split("\t")[0])
+
+
 def main():
     parser = argparse.ArgumentParser(description=__doc__, formatter_class=argparse.RawDescriptionHelpFormatter)
     parser.add_argument("--program", default=play.PROGRAM)
@@ -139,6 +150,9 @@ def main():
         medians = [statistics.median(run[stage] for run in found[name]) for name in names]
         times = "".join("\t(%.1f times %s)" % (medians[0] / other, name) for name, other in zip(names[1:], medians[1:]))
         print("%s\t%s%s" % (stage, "\t".join("%.2f" % it for it in medians), times))
+    if shutil.which("rustc"):
+        with tempfile.TemporaryDirectory() as folder:
+            print("read of all, copied and put into place by plain Rust\t%.2f" % scatter_ms(chosen.side, folder))
 
 
 if __name__ == "__main__":
