@@ -19,24 +19,28 @@ RUNS = 5
 RUNS_OF_MANY = 40
 
 
-def times(runs):
-    """The times of each work in these runs, in nanoseconds for each cell."""
-    took = {}
-    for words in runs:
-        for line in subprocess.run(words, capture_output=True, check=True, text=True).stdout.splitlines():
-            name, time, _ = line.split("\t")
-            took.setdefault(name, []).append(int(time.removesuffix(" ps")) / 1000)
-    return took
+def add_times(took, words):
+    """Adds the time of each work in one run, in nanoseconds for each cell."""
+    for line in subprocess.run(words, capture_output=True, check=True, text=True).stdout.splitlines():
+        name, time, _ = line.split("\t")
+        took.setdefault(name, []).append(int(time.removesuffix(" ps")) / 1000)
 
 
 def least(words):
     """The least time of each work over some runs, in nanoseconds for each cell."""
-    return {name: min(took) for name, took in times([words] * RUNS).items()}
+    took = {}
+    for _ in range(RUNS):
+        add_times(took, words)
+    return {name: min(each) for name, each in took.items()}
 
 
-def medians(runs):
-    """The median time of each work over these runs, in nanoseconds for each cell."""
-    return {name: statistics.median(took) for name, took in times(runs).items()}
+def medians_in_turn(program):
+    """The median time of each work over some runs on all processors, and over as many on one: a run of each in turn."""
+    at_once, alone = {}, {}
+    for run in range(RUNS_OF_MANY):
+        add_times(at_once, [program, "many"])
+        add_times(alone, ["taskset", "-c", str(run % os.cpu_count()), program, "many"])
+    return tuple({name: statistics.median(each) for name, each in took.items()} for took in (at_once, alone))
 
 
 def main():
@@ -52,8 +56,7 @@ def main():
     print("work\town\tplain Rust\ttimes")
     for name, took in own.items():
         print("%s\t%.2f\t%.2f\t%.1f" % (name, took, others[name], took / others[name]))
-    at_once = medians([[program, "many"]] * RUNS_OF_MANY)
-    alone = medians([["taskset", "-c", str(run % os.cpu_count()), program, "many"] for run in range(RUNS_OF_MANY)])
+    at_once, alone = medians_in_turn(program)
     print("work\tall processors\tone\ttimes")
     for name, took in at_once.items():
         print("%s\t%.2f\t%.2f\t%.1f" % (name, took, alone[name], alone[name] / took))
