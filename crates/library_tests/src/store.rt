@@ -9,8 +9,8 @@ use ts_base::{
 };
 use ts_store::{
     Call, Entry, Failed, Fate, Fault, FaultList, InputFault, Journal, Made, MemSink, MemSource,
-    MemStore, Recorder, Reply, Sink, Source, Store, StoreError, apply, enter_call, read_input,
-    write_all,
+    MemStore, Recorder, Reply, SharedBytes, Sink, Source, Store, StoreError, apply, enter_call,
+    read_input, write_all,
 };
 
 // The fragment of one write, with a small number as its identifier.
@@ -50,8 +50,14 @@ fn a_store_answers_each_call(rt: HostRuntime) -> Result<(), Fail> {
     let alloc = rt.alloc();
     let mut store = MemStore::new(alloc, FaultList::new(alloc));
     let name = plain(3);
-    assert_eq!(rt; store.put(alloc, name, b"abcde")?, Made::New);
-    assert_eq!(rt; store.put(alloc, name, b"other")?, Made::Taken);
+    assert_eq!(rt;
+        store.put(alloc, name, &SharedBytes::of_bytes(alloc, b"abcde")?)?,
+        Made::New
+    );
+    assert_eq!(rt;
+        store.put(alloc, name, &SharedBytes::of_bytes(alloc, b"other")?)?,
+        Made::Taken
+    );
     assert_eq!(rt; store.size(alloc, name)?, Some(5));
     for (from, len, want) in [
         (0, 9, "abcde"),
@@ -92,8 +98,11 @@ fn the_planned_calls_fail_and_no_others(rt: HostRuntime) -> Result<(), Fail> {
         },
     ];
     let mut store = MemStore::new(alloc, plan_of(alloc, &faults)?);
-    assert_eq!(rt; store.put(alloc, plain(1), b"a")?, Made::New);
-    assert!(rt; store.put(alloc, wrt(1), b"") == Err(StoreError::Failed));
+    assert_eq!(rt;
+        store.put(alloc, plain(1), &SharedBytes::of_bytes(alloc, b"a")?)?,
+        Made::New
+    );
+    assert!(rt; store.put(alloc, wrt(1), &SharedBytes::new()) == Err(StoreError::Failed));
     assert_eq!(rt; store.fate(), Fate::FailedDone);
     assert_eq!(rt; store.size(alloc, wrt(1))?, Some(0));
     assert_eq!(rt; store.fate(), Fate::Done);
@@ -113,13 +122,23 @@ fn a_forced_fate_is_that_of_the_next_call_alone(rt: HostRuntime) -> Result<(), F
     };
     let mut store = MemStore::new(alloc, plan_of(alloc, &[planned])?);
     store.force(Fate::Done);
-    assert_eq!(rt; store.put(alloc, plain(1), b"a")?, Made::New);
+    assert_eq!(rt;
+        store.put(alloc, plain(1), &SharedBytes::of_bytes(alloc, b"a")?)?,
+        Made::New
+    );
     store.force(Fate::FailedDone);
     assert!(rt; store.remove(alloc, plain(1)).is_err());
     assert_eq!(rt; store.size(alloc, plain(1))?, None);
     store.force(Fate::FailedSkipped);
-    assert!(rt; store.put(alloc, plain(1), b"a").is_err());
-    assert_eq!(rt; store.put(alloc, plain(1), b"b")?, Made::New);
+    assert!(rt;
+        store
+            .put(alloc, plain(1), &SharedBytes::of_bytes(alloc, b"a")?)
+            .is_err()
+    );
+    assert_eq!(rt;
+        store.put(alloc, plain(1), &SharedBytes::of_bytes(alloc, b"b")?)?,
+        Made::New
+    );
     Ok(())
 }
 
@@ -161,7 +180,7 @@ fn a_call_is_entered_with_its_fate(rt: HostRuntime) -> Result<(), Fail> {
     let alloc = rt.alloc();
     let mut store = MemStore::new(alloc, FaultList::new(alloc));
     let mut journal = Journal::new(alloc);
-    let put = Call::Put(plain(1), ByteList::of_bytes(alloc, b"ab")?);
+    let put = Call::Put(plain(1), SharedBytes::of_bytes(alloc, b"ab")?);
     assert_eq!(rt;
         enter_call(alloc, &mut store, &mut journal, 4, put.copy(alloc)?),
         Reply::Made
@@ -264,8 +283,14 @@ fn a_recorder_enters_each_call_with_its_lane_and_fate(rt: HostRuntime) -> Result
     };
     let store = MemStore::new(alloc, plan_of(alloc, &[fault])?);
     let mut recorder = Recorder::new(store, Journal::new(alloc), 4);
-    assert_eq!(rt; recorder.put(alloc, plain(1), b"ab")?, Made::New);
-    assert_eq!(rt; recorder.put(alloc, plain(1), b"cd")?, Made::Taken);
+    assert_eq!(rt;
+        recorder.put(alloc, plain(1), &SharedBytes::of_bytes(alloc, b"ab")?)?,
+        Made::New
+    );
+    assert_eq!(rt;
+        recorder.put(alloc, plain(1), &SharedBytes::of_bytes(alloc, b"cd")?)?,
+        Made::Taken
+    );
     assert_eq!(rt;
         recorder
             .list(alloc, Prefix::Fragment(frag(1, 7)))?
@@ -280,8 +305,8 @@ fn a_recorder_enters_each_call_with_its_lane_and_fate(rt: HostRuntime) -> Result
     let (store, journal) = recorder.into_parts();
     assert_eq!(rt; (store.asked(), store.faults()), (1, 1));
     let calls = [
-        Call::Put(plain(1), ByteList::of_bytes(alloc, b"ab")?),
-        Call::Put(plain(1), ByteList::of_bytes(alloc, b"cd")?),
+        Call::Put(plain(1), SharedBytes::of_bytes(alloc, b"ab")?),
+        Call::Put(plain(1), SharedBytes::of_bytes(alloc, b"cd")?),
         Call::List(Prefix::Fragment(frag(1, 7))),
         Call::Get(plain(1), 0, 1),
         Call::Size(plain(1)),

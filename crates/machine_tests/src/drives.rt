@@ -6,8 +6,8 @@ use std::alloc::Global;
 use std::test::Fail;
 use std::thread::Threads;
 use ts_actor::{Actor, Driven, Step, drive};
-use ts_base::{ByteList, CommitKind, FragKey, Name, Part, Point, Stop};
-use ts_store::{Call, Fault, FaultList, MemStore, Reply, Store};
+use ts_base::{CommitKind, FragKey, Name, Part, Point, Stop};
+use ts_store::{Call, Fault, FaultList, MemStore, Reply, SharedBytes, Store};
 
 // Puts a part, puts the `.wrt` of its fragment, removes the part, and ends with the number of calls
 // that did so.
@@ -37,8 +37,8 @@ impl Actor for Passing {
         let turn = self.turn;
         self.turn = turn.saturating_add(1);
         match turn {
-            0 => Step::Ask(Call::Put(part(), ByteList::new(alloc))),
-            1 => Step::Ask(Call::Put(wrt(), ByteList::new(alloc))),
+            0 => Step::Ask(Call::Put(part(), SharedBytes::new())),
+            1 => Step::Ask(Call::Put(wrt(), SharedBytes::new())),
             2 => Step::Ask(Call::Remove(part())),
             _ => Step::Done(self.good),
         }

@@ -3,7 +3,7 @@ use std::fs;
 use std::test::Fail;
 use ts_base::{CommitKind, FragKey, Name, Part, Prefix};
 use ts_folder::{FolderStore, PathText};
-use ts_store::{Fate, Made, Store};
+use ts_store::{Fate, Made, SharedBytes, Store};
 
 /// The folder that the test works in. It is made anew, and taken away at the end.
 const FOLDER: &str = "ts_folder_test";
@@ -32,10 +32,16 @@ fn objects_are_files_that_are_put_once(rt: HostRuntime) -> Result<(), Fail> {
     let later = Name::Commit(LATER, CommitKind::Wrt);
     assert!(rt; store.list(alloc, Prefix::Commits)?.is_empty());
     assert!(rt; store.get(alloc, name, 0, 9)?.is_none());
-    assert!(rt; store.put(alloc, later, b"")? == Made::New);
-    assert!(rt; store.put(alloc, name, b"whole")? == Made::New);
-    assert!(rt; store.put(alloc, name, b"other")? == Made::Taken);
-    assert!(rt; store.put(alloc, Name::Part(FIRST, Part::Plain), b"part")? == Made::New);
+    assert!(rt; store.put(alloc, later, &SharedBytes::new())? == Made::New);
+    assert!(rt; store.put(alloc, name, &SharedBytes::of_bytes(alloc, b"whole")?)? == Made::New);
+    assert!(rt; store.put(alloc, name, &SharedBytes::of_bytes(alloc, b"other")?)? == Made::Taken);
+    assert!(rt;
+        store.put(
+            alloc,
+            Name::Part(FIRST, Part::Plain),
+            &SharedBytes::of_bytes(alloc, b"part")?
+        )? == Made::New
+    );
 
     // The file of an object is all that a put leaves; what is none is passed over.
     let file = "ts_folder_test/store/__commits/__9_9_00000000000000000000000000000002_1.del";
@@ -75,7 +81,11 @@ fn objects_are_files_that_are_put_once(rt: HostRuntime) -> Result<(), Fail> {
     // Where a file stands in the folder's place, every call fails.
     let mut broken = FolderStore::at(rt, PathText::new(alloc, file)?);
     fs::write(&rt, file, b"".as_slice())?;
-    assert!(rt; broken.put(alloc, name, b"whole").is_err());
+    assert!(rt;
+        broken
+            .put(alloc, name, &SharedBytes::of_bytes(alloc, b"whole")?)
+            .is_err()
+    );
     assert!(rt; broken.list(alloc, Prefix::Commits).is_err());
     assert!(rt; broken.fate() == Fate::Unknown && broken.faults() == 2);
     fs::remove_dir_all(&rt, FOLDER)?;

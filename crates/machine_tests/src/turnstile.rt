@@ -11,7 +11,7 @@ use std::sync::Wait;
 use std::test::Fail;
 use std::thread::{Threads, join};
 use ts_base::{ByteList, Key, Name, NameList, Prefix};
-use ts_store::{Call, Fault, FaultList, Journal, MemStore, Reply, enter_call};
+use ts_store::{Call, Fault, FaultList, Journal, MemStore, Reply, SharedBytes, enter_call};
 use ts_turnstile::{Closed, Pass, Turnstile};
 
 // The lane that is split off.
@@ -89,6 +89,10 @@ fn text(alloc: Global, text: &str) -> Option<ByteList> {
     ByteList::of_bytes(alloc, text.as_bytes()).ok()
 }
 
+fn object(alloc: Global, text: &str) -> Option<SharedBytes> {
+    SharedBytes::of_bytes(alloc, text.as_bytes()).ok()
+}
+
 // Whether two passes in turn are answered so; each call is one of a lane, with the reply wanted.
 fn plays_in_turn<R: Wait>(
     rt: &R,
@@ -104,9 +108,9 @@ fn plays_in_turn<R: Wait>(
     ensures other { claim_of (pass_view other.new) ≡ claim_of (pass_view other.old) }
 {
     let abc = text(alloc, "abc")?;
-    let put = Call::Put(Name::Domain, text(alloc, "abc")?);
-    let again = Call::Put(Name::Domain, text(alloc, "other")?);
-    let schema = Call::Put(Name::Schema(Key { t: 1, id: 2 }), ByteList::new(alloc));
+    let put = Call::Put(Name::Domain, object(alloc, "abc")?);
+    let again = Call::Put(Name::Domain, object(alloc, "other")?);
+    let schema = Call::Put(Name::Schema(Key { t: 1, id: 2 }), SharedBytes::new());
     let get = Call::Get(Name::Domain, 0, 9);
     let bytes = Reply::Bytes(abc);
     let size = Call::Size(Name::Domain);
@@ -180,8 +184,8 @@ fn plays_alone<R: Wait>(
     ensures own { Belongs turnstile.now pass.new }
     ensures same { claim_of (pass_view pass.new) ≡ claim_of (pass_view pass.old) }
 {
-    let put = Call::Put(Name::Domain, text(alloc, "a")?);
-    let again = Call::Put(Name::Domain, text(alloc, "a")?);
+    let put = Call::Put(Name::Domain, object(alloc, "a")?);
+    let again = Call::Put(Name::Domain, object(alloc, "a")?);
     let list = Call::List(Prefix::Schemas);
     let none = Reply::Names(NameList::new(alloc));
     let get = Call::Get(Name::Domain, 0, 9);
@@ -205,8 +209,8 @@ fn plays_after_a_fault<R: Wait>(
     ensures own { Belongs turnstile.now pass.new }
     ensures same { claim_of (pass_view pass.new) ≡ claim_of (pass_view pass.old) }
 {
-    let put = Call::Put(Name::Domain, text(alloc, "a")?);
-    let again = Call::Put(Name::Domain, text(alloc, "a")?);
+    let put = Call::Put(Name::Domain, object(alloc, "a")?);
+    let again = Call::Put(Name::Domain, object(alloc, "a")?);
     let a = is_placed(rt, alloc, turnstile, pass, put, &Reply::Failed, 0);
     let b = is_placed(rt, alloc, turnstile, pass, again, &Reply::Taken, 1);
     Some(a && b)
@@ -268,7 +272,7 @@ fn puts<R: Wait>(
     let mut pass = pass;
     let mut made = 0;
     for t in 0..COUNT {
-        let call = Call::Put(Name::Schema(Key { t, id }), ByteList::new(alloc));
+        let call = Call::Put(Name::Schema(Key { t, id }), SharedBytes::new());
         let reply = turnstile.call_as(rt, alloc, &mut pass, call);
         if reply == Reply::Made && made < COUNT {
             made += 1;
@@ -320,7 +324,7 @@ fn two_threads_lose_no_call(rt: HostRuntime) -> Result<(), Fail> {
         let mut t = 0;
         for entry in shared.journal.as_slice() {
             if entry.lane == lane && t < COUNT {
-                let want = Call::Put(Name::Schema(Key { t, id }), ByteList::new(alloc));
+                let want = Call::Put(Name::Schema(Key { t, id }), SharedBytes::new());
                 assert_eq!(rt; entry.call, want, "of lane {lane}");
                 t += 1;
             }

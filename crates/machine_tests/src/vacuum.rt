@@ -13,7 +13,7 @@ use ts_base::{
 };
 use ts_commit::encode_vac;
 use ts_model::{Outcome, Refusal};
-use ts_store::{Fault, FaultList, MemStore, Store};
+use ts_store::{Fault, FaultList, MemStore, SharedBytes, Store};
 use ts_vacuum::{Lister, Unlocker, Vacuum};
 
 // The shared lease of the command with a number, in a lane of a run with a seed.
@@ -130,7 +130,7 @@ fn leases_of_other_runs_and_of_the_own_lane_go(rt: HostRuntime) -> Result<(), Fa
     ];
     let mut store = MemStore::new(alloc, FaultList::new(alloc));
     for (name, _) in rows {
-        store.put(alloc, name, &[])?;
+        store.put(alloc, name, &SharedBytes::new())?;
     }
     let end = unlock(&rt, alloc, 5, 1, &mut store, &Stop::Never);
     assert!(rt; end == Driven::Done(Outcome::Unlocked(4)));
@@ -145,7 +145,7 @@ fn a_stopped_unlock_leaves_the_rest(rt: HostRuntime) -> Result<(), Fail> {
     let alloc = rt.alloc();
     let mut store = MemStore::new(alloc, FaultList::new(alloc));
     for number in 1..4 {
-        store.put(alloc, lease(4, 0, number), &[])?;
+        store.put(alloc, lease(4, 0, number), &SharedBytes::new())?;
     }
     let end = unlock(&rt, alloc, 5, 0, &mut store, &Stop::Calls(2));
     assert!(rt; end == Driven::Stopped);
@@ -164,9 +164,9 @@ fn every_commit_is_listed(rt: HostRuntime) -> Result<(), Fail> {
     ];
     let mut store = MemStore::new(alloc, FaultList::new(alloc));
     for name in names {
-        store.put(alloc, name, &[])?;
+        store.put(alloc, name, &SharedBytes::new())?;
     }
-    store.put(alloc, lease(4, 0, 1), &[])?;
+    store.put(alloc, lease(4, 0, 1), &SharedBytes::new())?;
     let mut listed = NameList::new(alloc);
     for name in names {
         listed.push(name)?;

@@ -157,7 +157,7 @@ fn the_journal_has_each_call(rt: HostRuntime) -> Result<(), Fail> {
         match &shown.journal.at(place).call {
             Call::Put(_, bytes) => {
                 assert_eq!(rt; bytes.len(), size, "{place}");
-                assert_eq!(rt; *bytes.at(6), follow, "{place}");
+                assert_eq!(rt; bytes.as_slice()[6], follow, "{place}");
             }
             _ => assert!(rt; false, "the call puts a part of the fragment"),
         }

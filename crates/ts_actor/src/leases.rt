@@ -6,11 +6,10 @@ ghost use Rattle.ts_model.specs.declared.states.Stage.TheVariants.{Works, Releas
 ghost use Rattle.ts_model.specs.Stages.{after_lease, after_leases, lease_of, put_lease, released, settled};
 
 use crate::ends::end_by;
-use std::alloc::Global;
-use ts_base::{ByteList, Key, LeaseMode, Name, NameList, Place, Prefix};
+use ts_base::{Key, LeaseMode, Name, NameList, Place, Prefix};
 use ts_lease::{Verdict, decide};
 use ts_model::{Command, Job, Outcome, Refusal, Stage, State};
-use ts_store::{Call, Reply};
+use ts_store::{Call, Reply, SharedBytes};
 
 /// The lease of a job, if it has one: reads and consolidations share the store with one another, and a
 /// vacuum with nobody who has one.
@@ -31,10 +30,10 @@ pub(crate) fn lease_of(job: &Job) -> Option<Name>
 }
 
 /// The put of a lease. It takes no memory.
-pub(crate) fn put_lease(alloc: Global, lease: Name) -> Call
+pub(crate) fn put_lease(lease: Name) -> Call
     ensures { result ≡ put_lease lease }
 {
-    Call::Put(lease, ByteList::new(alloc))
+    Call::Put(lease, SharedBytes::new())
 }
 
 /// Where a state of the work leads: a job that has a lease removes it before it is over.

@@ -265,7 +265,7 @@ fn ask_stage<K: Automaton>(
     ensures spelled { IfOk result (λ call. IfSome call IsSpelledCall) }
 {
     match stage {
-        Stage::PutsLease(lease) => Ok(Some(put_lease(alloc, *lease))),
+        Stage::PutsLease(lease) => Ok(Some(put_lease(*lease))),
         Stage::ListsLeases(_) => Ok(Some(Call::List(Prefix::Leases))),
         Stage::Works(state) => K::ask(alloc, job, state),
         Stage::Releases { lease, end: _ } => Ok(Some(Call::Remove(*lease))),

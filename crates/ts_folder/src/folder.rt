@@ -11,7 +11,7 @@ use std::alloc::Global;
 use std::rt::Files;
 use std::time::Clock;
 use ts_base::{ByteList, Name, NameList, Prefix};
-use ts_store::{Fate, Made, Store, StoreError};
+use ts_store::{Fate, Made, SharedBytes, Store, StoreError};
 
 /// A store in a folder of the file system, which may be shared by processes and by machines.
 ///
@@ -95,8 +95,8 @@ impl<R: Files + Clock + Send + Drop> Store for FolderStore<R> {
 
     ghost notes = { λ before call said now. Told before.tally now.tally call said };
 
-    fn put(&mut self, alloc: Global, name: Name, bytes: &[u8]) -> Result<Made, StoreError> {
-        let made = files::put(alloc, &self.rt, &self.root, name, bytes);
+    fn put(&mut self, alloc: Global, name: Name, bytes: &SharedBytes) -> Result<Made, StoreError> {
+        let made = files::put(alloc, &self.rt, &self.root, name, bytes.as_slice());
         self.tally.end(made)
     }
 

@@ -2,6 +2,7 @@
 ghost use Rattle.std.specs.Prelude.{◌≡◌};
 ghost use Rattle.ts_store.specs.Calls.{is_no_memory};
 
+use crate::bytes::SharedBytes;
 use std::alloc::Global;
 use thiserror::Error;
 use ts_base::{ByteList, Duplicate, Name, NameList, OutOfMemory, Prefix};
@@ -10,7 +11,7 @@ use ts_base::{ByteList, Duplicate, Name, NameList, OutOfMemory, Prefix};
 #[derive(Clone, Debug, Drop, PartialEq, Eq)]
 pub enum Call {
     /// Puts an object with these bytes, unless its name is held.
-    Put(Name, ByteList),
+    Put(Name, SharedBytes),
     /// Removes an object.
     Remove(Name),
     /// Lists the names under a prefix.

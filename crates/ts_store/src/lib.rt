@@ -2,6 +2,7 @@
 //! that are read and written, each with an implementation in memory.
 #![tactic(auto)]
 
+mod bytes;
 mod call;
 mod clock;
 mod enter;
@@ -13,6 +14,7 @@ mod recorder;
 mod store;
 mod streams;
 
+pub use bytes::SharedBytes;
 pub use call::{Call, Made, Reply, StoreError};
 pub use clock::{Clock, FixedClock};
 pub use enter::enter_call;

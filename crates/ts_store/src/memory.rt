@@ -11,6 +11,7 @@ ghost use Rattle.ts_store.specs.Stores.{Answers, HasCause};
 ghost use Rattle.ts_store.specs.Streams.{StreamCause};
 ghost use Rattle.ts_store.specs.Memory.{held_in, next_fate, IsFresh, GoesByPlan};
 
+use crate::bytes::SharedBytes;
 use crate::call::{Call, Made, StoreError};
 use crate::fate::{Fate, FaultList, planned_fate};
 use crate::objects::Objects;
@@ -85,7 +86,7 @@ impl MemStore {
         ensures ok { OnOk result (self.new ≡ record self.old { objects = map.insert (held_in self.old) name bytes }) }
         ensures err { OnErr result (self.new ≡ self.old) }
     {
-        self.objects.insert(name, bytes)
+        self.objects.insert(name, SharedBytes::of_list(bytes)?)
     }
 
     /// Whether an object of this name is held. It is no call.
@@ -170,12 +171,12 @@ impl Store for MemStore {
 
     ghost notes = { λ before _ said now. GoesByPlan before now said };
 
-    fn put(&mut self, alloc: Global, name: Name, bytes: &[u8]) -> Result<Made, StoreError> {
+    fn put(&mut self, _alloc: Global, name: Name, bytes: &SharedBytes) -> Result<Made, StoreError> {
         let fate = self.begin();
         if !fate.took_effect() {
             return Err(self.fail(fate));
         }
-        let made = self.objects.put(alloc, name, bytes)?;
+        let made = self.objects.put(name, bytes)?;
         self.end(fate, made)
     }
 

@@ -10,6 +10,7 @@ ghost use Rattle.ts_store.specs.declared.fate.Fate.TheVariants.{Done};
 ghost use Rattle.ts_store.specs.Ranges.{start_of, end_of};
 ghost use Rattle.ts_store.specs.Calls.{after, answer, made_reply, names_under, part_of};
 
+use crate::bytes::SharedBytes;
 use crate::call::{Call, Made};
 use std::alloc::{AllocError, Global};
 use std::collections::BTreeMap;
@@ -30,7 +31,7 @@ const LEAST: FragKey = FragKey {
 /// Objects in memory, by name. Contracts see them as the map from each name to its bytes.
 #[derive(Debug, Drop)]
 pub(crate) struct Objects {
-    by_name: BTreeMap<Name, ByteList>,
+    by_name: BTreeMap<Name, SharedBytes>,
 }
 
 impl Model for Objects {
@@ -60,7 +61,7 @@ impl Objects {
     }
 
     /// The bytes of an object.
-    pub(crate) fn get(&self, name: Name) -> Option<&ByteList>
+    pub(crate) fn get(&self, name: Name) -> Option<&SharedBytes>
         ensures { option_copied result ≡ finite.get self.now name }
     {
         self.by_name.get(&name)
@@ -74,7 +75,7 @@ impl Objects {
     }
 
     /// Makes an object held, in place of one of that name.
-    pub(crate) fn insert(&mut self, name: Name, bytes: ByteList) -> Result<(), OutOfMemory>
+    pub(crate) fn insert(&mut self, name: Name, bytes: SharedBytes) -> Result<(), OutOfMemory>
         requires { IsSpelled name }
         ensures ok { OnOk result (self.new ≡ finite.insert self.old name bytes) }
         ensures err { OnErr result (self.new ≡ self.old) }
@@ -84,12 +85,7 @@ impl Objects {
     }
 
     /// Makes an object held, unless one of that name is.
-    pub(crate) fn put(
-        &mut self,
-        alloc: Global,
-        name: Name,
-        bytes: &[u8],
-    ) -> Result<Made, OutOfMemory>
+    pub(crate) fn put(&mut self, name: Name, bytes: &SharedBytes) -> Result<Made, OutOfMemory>
         requires { IsSpelled name }
         ensures ok { IfOk result (λ made. (made_reply made ≡ answer self.old (Call.Put name bytes.now)) × (self.new ≡ after self.old (Call.Put name bytes.now) Done)) }
         ensures err { OnErr result (self.new ≡ self.old) }
@@ -97,7 +93,7 @@ impl Objects {
         if self.contains(name) {
             return Ok(Made::Taken);
         }
-        self.insert(name, ByteList::of_bytes(alloc, bytes)?)?;
+        self.insert(name, bytes.clone()?)?;
         Ok(Made::New)
     }
 
@@ -152,7 +148,7 @@ impl Objects {
 }
 
 // All keys, ascending.
-fn all_keys(alloc: Global, objects: &BTreeMap<Name, ByteList>) -> Result<Vec<Name>, AllocError>
+fn all_keys(alloc: Global, objects: &BTreeMap<Name, SharedBytes>) -> Result<Vec<Name>, AllocError>
     ensures found { IfOk result (λ names. names.items ≡ keys objects.now) }
     ensures ordered { IsOrdered name_cmp objects.now }
 {
@@ -162,7 +158,7 @@ fn all_keys(alloc: Global, objects: &BTreeMap<Name, ByteList>) -> Result<Vec<Nam
 // The keys under a prefix, ascending.
 fn keys_under(
     alloc: Global,
-    objects: &BTreeMap<Name, ByteList>,
+    objects: &BTreeMap<Name, SharedBytes>,
     prefix: Prefix,
 ) -> Result<Vec<Name>, AllocError>
     ensures found { IfOk result (λ names. names.items ≡ filter (is_under prefix) (keys objects.now)) }
@@ -176,7 +172,7 @@ fn keys_under(
 // The keys between two bounds, ascending.
 fn keys_between(
     alloc: Global,
-    objects: &BTreeMap<Name, ByteList>,
+    objects: &BTreeMap<Name, SharedBytes>,
     start: Bound<Name>,
     end: Bound<Name>,
 ) -> Result<Vec<Name>, AllocError>

@@ -5,18 +5,19 @@ ghost use Rattle.ts_store.specs.declared.journal.Entry.{Entry as An_entry};
 ghost use Rattle.ts_store.specs.Journals.{entry, EntersIf};
 ghost use Rattle.ts_store.specs.Recorders.{Recorded, found_none, vacant};
 
+use crate::bytes::SharedBytes;
 use crate::call::{Call, Made, StoreError};
 use crate::fate::Fate;
 use crate::journal::{Entry, Journal};
 use crate::store::Store;
 use std::alloc::Global;
-use ts_base::{ByteList, Name, NameList, OutOfMemory, Prefix};
+use ts_base::{ByteList, Duplicate, Name, NameList, OutOfMemory, Prefix};
 
 /// A store over another that enters each call in a journal, under one lane.
 ///
 /// The memory for an entry is taken before the call, so that a call that was made is always
 /// entered. For want of it the call answers `OutOfMemory`: nothing was done, and nothing is entered.
-/// A put copies its bytes for its entry.
+/// The entry of a put has its bytes together with whoever put them.
 #[derive(Debug, Drop)]
 pub struct Recorder<S: Store> {
     store: S,
@@ -108,8 +109,8 @@ impl<S: Store> Store for Recorder<S> {
 
     ghost notes = { λ before call said now. Recorded S.faults S.asked S.last S.notes before now call said };
 
-    fn put(&mut self, alloc: Global, name: Name, bytes: &[u8]) -> Result<Made, StoreError> {
-        let Ok(copied) = ByteList::of_bytes(alloc, bytes) else {
+    fn put(&mut self, alloc: Global, name: Name, bytes: &SharedBytes) -> Result<Made, StoreError> {
+        let Ok(copied) = bytes.copy(alloc) else {
             self.book.last = Fate::Done;
             return Err(StoreError::OutOfMemory);
         };

@@ -9,6 +9,7 @@ ghost use Rattle.ts_store.specs.Counts.{one_more};
 ghost use Rattle.ts_store.specs.Calls.{put_reply, remove_reply, list_reply, get_reply, size_reply, asked_after, error_reply, FitsCall, IsSpelledCall, IsSpelledReply};
 ghost use Rattle.ts_store.specs.Stores.{Answers, HasCause};
 
+use crate::bytes::SharedBytes;
 use crate::call::{Call, Made, Reply, StoreError};
 use crate::fate::Fate;
 use std::alloc::Global;
@@ -37,7 +38,7 @@ pub trait Store: Send {
     ghost notes: { Self → Call → Reply → Self → Type 0 } = { λ _ _ _ _. Unit {0} };
 
     /// Puts an object, unless its name is held: then the answer is `Taken`, and nothing changed.
-    fn put(&mut self, alloc: Global, name: Name, bytes: &[u8]) -> Result<Made, StoreError>
+    fn put(&mut self, alloc: Global, name: Name, bytes: &SharedBytes) -> Result<Made, StoreError>
         requires { IsSpelled name }
         ensures answers { Answers (held self.old) (held self.new) (last self.new) (Call.Put name bytes.now) (put_reply result) }
         ensures cause { HasCause (faults self.old) (faults self.new) (put_reply result) }
@@ -99,7 +100,7 @@ pub fn apply<S: Store>(alloc: Global, store: &mut S, call: &Call) -> Reply
     ensures asked { S.asked store.new ≡ asked_after (S.asked store.old) call.now }
 {
     match call {
-        Call::Put(name, bytes) => match store.put(alloc, *name, bytes.as_slice()) {
+        Call::Put(name, bytes) => match store.put(alloc, *name, bytes) {
             Ok(Made::New) => Reply::Made,
             Ok(Made::Taken) => Reply::Taken,
             Err(error) => refusal(error),

@@ -20,7 +20,7 @@ use ts_base::{ByteList, Duplicate, Name, OutOfMemory, Prefix};
 use ts_domain::Domain;
 use ts_model::{Command, Creating, FrameIn, Job, Outcome, Refusal, State};
 use ts_schema::{Frame, Schema, schema_fault};
-use ts_store::{Call, Reply};
+use ts_store::{Call, Reply, SharedBytes};
 
 /// The automaton of creates.
 #[derive(Drop)]
@@ -100,7 +100,10 @@ fn ask_creating(alloc: Global, job: &Job, creating: &Creating) -> Result<Option<
     ensures spelled { IfOk result (λ call. IfSome call IsWorkCall) }
 {
     match creating {
-        Creating::PutsFrame => Ok(Some(Call::Put(Name::Domain, own_object(alloc, job)?))),
+        Creating::PutsFrame => {
+            let bytes = SharedBytes::of_list(own_object(alloc, job)?)?;
+            Ok(Some(Call::Put(Name::Domain, bytes)))
+        }
         Creating::ComparesFrame => Ok(Some(Call::Get(Name::Domain, 0, u64::MAX))),
         Creating::ListsDeclared => Ok(Some(Call::List(Prefix::Schemas))),
     }

@@ -9,10 +9,10 @@ ghost use Rattle.ts_writer.specs.Writing.{AreSpelled, IsPutState, calls_left};
 
 use crate::ends::put_ended;
 use std::alloc::Global;
-use ts_base::{Duplicate, FragKey, Key, Name, OutOfMemory};
+use ts_base::{FragKey, Key, Name, OutOfMemory};
 use ts_model::{Job, NewObject, NewObjectList, Outcome, State};
 use ts_schema::Schema;
-use ts_store::{Call, Reply};
+use ts_store::{Call, Reply, SharedBytes};
 
 /// The key of what a job makes.
 pub(crate) fn key_of(job: &Job) -> Key
@@ -69,7 +69,7 @@ pub(crate) fn next_put(
 {
     if next < objects.len() {
         let object = objects.at(next);
-        let bytes = object.bytes.copy(alloc)?;
+        let bytes = SharedBytes::of_bytes(alloc, object.bytes.as_slice())?;
         Ok(Some(Call::Put(object.name, bytes)))
     } else {
         Ok(None)
