@@ -1,10 +1,11 @@
 -- Many numbers are read at once as one after the other.
-use Rattle.std.proofs.Common.{◌≡◌, ℕ, zero, suc, ◌+◌, ◌-◌, ◌*◌, ◌/◌, ◌%◌, ◌^◌, ◌<◌, ◌≤◌, ℤ, pos, negsuc, ◌-ℤ◌, ⊎_elim, Bool, true, false, nat_lt, nat_eq, ◌&&◌, if◌then◌else◌, List, [], ◌∷◌, ◌++◌, length, take, drop, map, Result, Ok, Err, refl, sym, ap, ◌∙◌, arith, length-drop}
+use Rattle.std.proofs.Common.{◌≡◌, ℕ, zero, suc, ◌+◌, ◌-◌, ◌*◌, ◌/◌, ◌%◌, ◌^◌, ◌<◌, ◌≤◌, ℤ, pos, negsuc, ◌-ℤ◌, ⊎_elim, Bool, true, false, nat_lt, nat_eq, ◌&&◌, if◌then◌else◌, List, [], ◌∷◌, ◌++◌, length, get_or, take, drop, map, Result, Ok, Err, refl, sym, ap, ◌∙◌, arith, length-drop}
 use Rattle.std.specs.Int.{w8, w16, w32, w64, cast_signed}
 use Rattle.std.proofs.lemmas.Bool.{cases_lt, lt-ltb, le-ltb, ne_eqb}
 use Rattle.std.proofs.lemmas.Int.{ints}
-use Rattle.std.proofs.lemmas.List.{drop-drop, drop_all}
-use Rattle.std.specs.Prelude.{int_le}
+use Rattle.std.proofs.lemmas.List.{drop-drop, drop_all, take_all}
+use Rattle.std.proofs.lemmas.List.Elements.{All-more, All-same}
+use Rattle.std.specs.Prelude.{int_le, All, IsTrue}
 use Rattle.std.specs.List.{list_all}
 use Rattle.std.proofs.Math.Nat.{mul-le-mul_right}
 use Rattle.std.specs.Simd.{first_chunks}
@@ -194,3 +195,15 @@ same_unsigned count bytes numbers bytes_are is all = is ∙ by count bytes bytes
         let top = little_from-lt 0 8 (take 8 bytes) (IsBytes-take 8 bytes are) in
         let first = nonneg_same (little_number 8 (take 8 bytes)) top two.0 in
         ap (λ z. z ∷ map (int_of 8 true) (first_chunks 8 count (drop 8 bytes))) first ∙ ap (λ zs. int_of 8 false (take 8 bytes) ∷ zs) (by count (drop 8 bytes) (IsBytes-drop 8 bytes are) two.1)
+
+-- ---- chunks that all pass a test
+
+-- one chunk more, while the answer stays yes
+pub passed_more : (P : List ℕ → Type 0) (chunks : List (List ℕ)) (i : ℕ) (all one : Bool) → i < length chunks → (IsTrue all → All P (take i chunks)) → (IsTrue one → P (get_or chunks i [])) → IsTrue (all && one) → All P (take (i + 1) chunks)
+passed_more P chunks i true true more before now passed = All-more P chunks i [] more (before passed) (now passed)
+passed_more P chunks i true false more before now passed = cc
+passed_more P chunks i false one more before now passed = cc
+
+-- the chunks that were tried are all of them
+pub passed_all : (P : List ℕ → Type 0) (chunks : List (List ℕ)) (i : ℕ) → length chunks ≤ i → All P (take i chunks) → All P chunks
+passed_all P chunks i over passed = All-same P chunks (take i chunks) (sym (take_all i chunks over)) passed

@@ -12,7 +12,7 @@ use crate::bulk;
 use byteorder::{ByteOrder, LittleEndian};
 use std::alloc::Global;
 use ts_base::{OutOfMemory, ValType};
-use ts_table::Numbers;
+use ts_table::{Integers, Numbers};
 use ts_wire::{Damaged, ReadFault};
 
 /// The integers of a type that bytes hold, all at once.
@@ -49,12 +49,34 @@ fn read_all(alloc: Global, ty: ValType, bytes: &[u8]) -> Result<Numbers, OutOfMe
         ValType::I8 => Ok(Numbers::from_short(bulk::read_i8s(alloc, bytes)?)),
         ValType::I16 => Ok(Numbers::from_short(bulk::read_i16s(alloc, bytes)?)),
         ValType::I32 => Ok(Numbers::from_short(bulk::read_i32s(alloc, bytes)?)),
-        ValType::I64 => Ok(Numbers::from_long(alloc, bulk::read_i64s(alloc, bytes)?)),
+        ValType::I64 => read_i64s(alloc, bytes),
         ValType::U8 => Ok(Numbers::from_short(bulk::read_u8s(alloc, bytes)?)),
         ValType::U16 => Ok(Numbers::from_short(bulk::read_u16s(alloc, bytes)?)),
-        ValType::U32 => Ok(Numbers::from_long(alloc, bulk::read_u32s(alloc, bytes)?)),
+        ValType::U32 => read_u32s(alloc, bytes),
         ValType::U64 => read_u64s(alloc, bytes),
         ValType::Text | ValType::Blob => unreachable!(),
+    }
+}
+
+// The signed integers of 8 bytes that stand in the bytes one after the other. They take 4 each where all
+// fit 32 bits.
+fn read_i64s(alloc: Global, bytes: &[u8]) -> Result<Numbers, OutOfMemory>
+    ensures { IfOk result (λ numbers. numbers ≡ map (int_of 8 true) (first_chunks 8 (length bytes.now / 8) bytes.now)) }
+{
+    match bulk::read_short_i64s(alloc, bytes)? {
+        Some(short) => Ok(Numbers::from_short(short)),
+        None => Ok(Numbers::from_long(alloc, bulk::read_i64s(alloc, bytes)?)),
+    }
+}
+
+// The unsigned integers of 4 bytes that stand in the bytes one after the other. They take 4 each where all
+// are below 2^31, and otherwise 8.
+fn read_u32s(alloc: Global, bytes: &[u8]) -> Result<Numbers, OutOfMemory>
+    ensures { IfOk result (λ numbers. numbers ≡ map (int_of 4 false) (first_chunks 4 (length bytes.now / 4) bytes.now)) }
+{
+    match bulk::read_short_u32s(alloc, bytes)? {
+        Some(short) => Ok(Numbers::from_short(short)),
+        None => Ok(Numbers::from_long(alloc, bulk::read_u32s(alloc, bytes)?)),
     }
 }
 
@@ -64,15 +86,32 @@ fn read_all(alloc: Global, ty: ValType, bytes: &[u8]) -> Result<Numbers, OutOfMe
 fn read_u64s(alloc: Global, bytes: &[u8]) -> Result<Numbers, OutOfMemory>
     ensures { IfOk result (λ numbers. numbers ≡ map (int_of 8 false) (first_chunks 8 (length bytes.now / 8) bytes.now)) }
 {
-    let narrow = bulk::read_i64s(alloc, bytes)?;
-    if has_no_negative(narrow.as_slice()) {
-        return Ok(Numbers::from_long(alloc, narrow));
+    let signed = read_i64s(alloc, bytes)?;
+    if has_no_negative(&signed) {
+        return Ok(signed);
     }
     let (chunks, _) = bytes.as_chunks::<8>();
     read_wide(alloc, chunks)
 }
 
-fn has_no_negative(numbers: &[i64]) -> bool
+// Whether no integer is negative. Where it says no, there may be none all the same.
+fn has_no_negative(numbers: &Numbers) -> bool
+    ensures { IsTrue result → IsTrue (list_all (λ x. int_le (pos 0) x) numbers.now) }
+{
+    match numbers.as_slice() {
+        Some(Integers::Short(short)) => has_no_short_negative(short),
+        Some(Integers::Long(long)) => has_no_long_negative(long),
+        None => false,
+    }
+}
+
+fn has_no_short_negative(numbers: &[i32]) -> bool
+    ensures { result ≡ list_all (λ x. int_le (pos 0) x) numbers.now }
+{
+    numbers.iter().all(|x| *x >= 0)
+}
+
+fn has_no_long_negative(numbers: &[i64]) -> bool
     ensures { result ≡ list_all (λ x. int_le (pos 0) x) numbers.now }
 {
     numbers.iter().all(|x| *x >= 0)

@@ -11,7 +11,7 @@ ghost use Rattle.ts_column.specs.Tiles.{last_of, may_follow, start_at, starts_in
 ghost use Rattle.ts_column.specs.Starts.{AreStarts};
 
 use std::alloc::Global;
-use ts_base::{CountList, ValType};
+use ts_base::{CountList, OutOfMemory, ValType};
 use ts_value::is_text;
 use ts_wire::{Cursor, Damaged, ReadFault};
 
@@ -42,12 +42,22 @@ fn read_all_starts(
     ensures reads { ReadsOr (λ starts. starts) (items_at (start_at end) count []) cursor.old cursor.new result }
     ensures rise { IfOk result (λ starts. AreStarts starts end count) }
 {
-    let mut starts = CountList::new(alloc);
+    let mut starts = room_for(alloc, count, cursor.rest())?;
     for place in 0..count {
         let start = read_start(end, starts.as_slice(), cursor)?;
         starts.push(start)?;
     }
     Ok(starts)
+}
+
+// The list of no starts, with room for so many, but for no more than the bytes can hold. No clause says
+// how much room there is.
+fn room_for(alloc: Global, count: u64, bytes: &[u8]) -> Result<CountList, OutOfMemory>
+    ensures { IfOk result (λ starts. starts ≡ []) }
+{
+    let most = bytes.len() as u64 / 8;
+    let starts = Vec::with_capacity(alloc, count.min(most) as usize)?;
+    Ok(CountList::from_vec(starts))
 }
 
 #[tactic(auto, unfolding(ts_wire::specs::Numbers::number_at))]
