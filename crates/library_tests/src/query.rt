@@ -6,7 +6,7 @@ use ts_commit::Limits;
 use ts_cond::{CondFault, NamedBoxList, Query};
 use ts_domain::Layout;
 use ts_model::{Command, Outcome, Refusal};
-use ts_query::{Printed, print_outcome};
+use ts_query::{Printed, command_name, print_outcome};
 use ts_schema::SchemaFault;
 
 fn read(alloc: Global) -> Command {
@@ -31,7 +31,8 @@ fn text_of(
     outcome: Option<&Outcome>,
 ) -> Result<Vec<u8>, OutOfMemory> {
     let mut text = Printed::new(alloc);
-    print_outcome(alloc, &mut text, lane, number, command, outcome)?;
+    let name = command_name(command);
+    print_outcome(alloc, &mut text, lane, number, name, outcome)?;
     let parts = text.parts();
     let mut bytes = Vec::new(alloc);
     for piece in parts.full {

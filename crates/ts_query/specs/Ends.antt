@@ -65,10 +65,14 @@ unfoldable pub result_text : Option Outcome → List ℕ
 result_text (Some end) = outcome_text end
 result_text None = codes "stopped\n"
 
--- how the command with this number in its lane came out, but for what it shows
-unfoldable pub end_text : ℕ → ℕ → Command → Option Outcome → List ℕ
-end_text lane number command result = decimal lane ++ codes "." ++ decimal number ++ codes "\t" ++ command_name command ++ codes "\t" ++ result_text result
+-- the line of how a command came out: its lane and its number there, its name, and the result
+unfoldable pub end_text : ℕ → ℕ → List ℕ → Option Outcome → List ℕ
+end_text lane number name result = decimal lane ++ codes "." ++ decimal number ++ codes "\t" ++ name ++ codes "\t" ++ result_text result
 
--- how it came out, with what it shows
+-- how a command of this name came out: its line, and behind it the lines of what it shows
+abbrev pub named_text : ℕ → ℕ → List ℕ → Option Outcome → List ℕ
+named_text lane number name result = end_text lane number name result ++ shown_text result
+
+-- the same of a command, under its own name
 abbrev pub text_of : ℕ → ℕ → Command → Option Outcome → List ℕ
-text_of lane number command result = end_text lane number command result ++ shown_text result
+text_of lane number command result = named_text lane number (command_name command) result

@@ -1,7 +1,7 @@
 //! The printed text of ends: a line for each; behind that of a read a line for each clipped fragment
 //! and then for each row, and behind that of a listing a line for each name.
 ghost use Rattle.std.specs.Prelude.{◌≡◌, ◌++◌, string_bytes, OnOk, option_map};
-ghost use Rattle.ts_query.specs.Ends.{clipped_line, clipped_text, command_name, end_text, name_line, names_text, outcome_text, result_text, text_of};
+ghost use Rattle.ts_query.specs.Ends.{clipped_line, clipped_text, command_name, end_text, name_line, named_text, names_text, outcome_text, result_text};
 
 use crate::printed::Printed;
 use crate::refusals::print_refusal;
@@ -12,21 +12,21 @@ use ts_model::{Command, Outcome};
 
 /// Appends the text of one end, each line of it with its line feed.
 ///
-/// `lane` and `number` are those of the command, which is counted in its lane. No outcome stands for
-/// a command that was stopped before its end. `OutOfMemory` comes where there is no room for the text.
+/// `lane` and `number` are those of the command, which is counted in its lane. `name` is printed as it is;
+/// [`command_name`] gives that of a command. No outcome stands for a command that was stopped before its end. `OutOfMemory` comes where there is no room for the text.
 /// What is printed then no clause says: a caller drops it.
 pub fn print_outcome(
     alloc: Global,
     printed: &mut Printed,
     lane: u32,
     number: u32,
-    command: &Command,
+    name: &str,
     outcome: Option<&Outcome>,
 ) -> Result<(), OutOfMemory>
-    ensures { OnOk result (printed.new ≡ printed.old ++ text_of lane number command.now (option_map (λ outcome. outcome.now) outcome.entry)) }
+    ensures { OnOk result (printed.new ≡ printed.old ++ named_text lane number name.now (option_map (λ outcome. outcome.now) outcome.entry)) }
 {
     let mut text = String::new(alloc);
-    print_end(&mut text, lane, number, command, outcome)?;
+    print_end(&mut text, lane, number, name, outcome)?;
     match outcome {
         Some(Outcome::Read(answer)) => {
             print_clipped(&mut text, answer.clipped.as_slice())?;
@@ -89,19 +89,18 @@ fn print_end(
     text: &mut String,
     lane: u32,
     number: u32,
-    command: &Command,
+    name: &str,
     outcome: Option<&Outcome>,
 ) -> Result<(), OutOfMemory>
     ensures { OnOk result (string_bytes text.new
-        ≡ string_bytes text.old ++ end_text lane number command.now (option_map (λ outcome. outcome.now) outcome.entry)) }
+        ≡ string_bytes text.old ++ end_text lane number name.now (option_map (λ outcome. outcome.now) outcome.entry)) }
 {
-    let name = command_name(command);
     write!(text, "{lane}.{number}\t{name}\t")?;
     print_result(text, outcome)
 }
 
 /// The name of a command, as scripts and answers have it.
-fn command_name(command: &Command) -> &'static str
+pub fn command_name(command: &Command) -> &'static str
     ensures { result.now ≡ command_name command.now }
 {
     match command {

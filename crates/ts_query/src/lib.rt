@@ -7,6 +7,6 @@ mod printed;
 mod refusals;
 mod rows;
 
-pub use ends::print_outcome;
+pub use ends::{command_name, print_outcome};
 pub use printed::{Printed, PrintedParts};
 pub use ts_model::{QueryFault, Ready, Shown, ShownList, check_query, rows_of};
