@@ -1,5 +1,5 @@
 //! Lanes on threads: the calls of two lanes in one journal, and how their commands came out.
-ghost use Rattle.std.specs.Prelude.{◌≡◌, ◌-◌};
+ghost use Rattle.std.specs.Prelude.{◌≡◌, ◌+◌, ◌-◌};
 ghost use Rattle.ts_base.specs.Names.{IsSpelled};
 ghost use Rattle.ts_base.specs.declared.heads.Stop.TheVariants.{Calls};
 
@@ -7,10 +7,10 @@ use std::alloc::Global;
 use std::test::Fail;
 use std::thread::Threads;
 use ts_actor::{Driven, Step};
-use ts_base::{ByteList, Key, Name, OutOfMemory, Stop};
-use ts_lanes::{Crew, OpenGate, run_together};
+use ts_base::{Key, Name, OutOfMemory, Stop};
+use ts_lanes::{Begun, Crew, OpenGate, run_together};
 use ts_model::Outcome;
-use ts_store::{Call, Entry, FaultList, MemStore, Reply};
+use ts_store::{Call, Entry, FaultList, MemStore, Reply, SharedBytes};
 use ts_turnstile::Closed;
 
 // How many lanes there are, and how many commands each has.
@@ -37,7 +37,7 @@ fn name_of(lane: u32, number: u32, turn: u32) -> Name
     })
 }
 
-// Each command is stopped where it would make its third call.
+// Each command is stopped where it would make its third call. A lane's queue is how many commands it has left.
 struct Clerks;
 
 impl Crew for Clerks {
@@ -45,11 +45,15 @@ impl Crew for Clerks {
 
     type Task = u8;
 
+    type Queue = u32;
+
     ghost lane_count = { λ _. 2 };
 
     ghost command_count = { λ _ _. 3 };
 
     ghost stop_of = { λ _ _ _. Calls 2 };
+
+    ghost waits = { λ _ _ number left. number + left ≡ 4 };
 
     ghost offers = { λ _ _ _ _. Unit {0} };
 
@@ -61,25 +65,26 @@ impl Crew for Clerks {
 
     ghost measure = { λ filing. filing.number - filing.turn };
 
-    fn lanes(&self) -> u32 {
-        LANES
+    fn count(&self, _lane: u32, left: &u32) -> u32 {
+        *left
     }
 
-    fn count(&self, _lane: u32) -> u32 {
-        COMMANDS
-    }
-
-    fn actor(&self, _alloc: Global, lane: u32, number: u32) -> Result<Filing, OutOfMemory> {
-        Ok(Filing {
+    fn begin(
+        &self,
+        _alloc: Global,
+        lane: u32,
+        number: u32,
+        left: &mut u32,
+    ) -> Result<Begun<Filing>, OutOfMemory> {
+        *left -= 1;
+        let actor = Filing {
             lane,
             number,
             turn: 0,
             made: 0,
-        })
-    }
-
-    fn stop(&self, _lane: u32, _number: u32) -> Stop {
-        Stop::Calls(2)
+        };
+        let stop = Stop::Calls(2);
+        Ok(Begun { actor, stop })
     }
 
     fn next<R: Threads + Sync>(
@@ -97,7 +102,7 @@ impl Crew for Clerks {
         }
         actor.turn += 1;
         let name = name_of(actor.lane, actor.number, actor.turn);
-        Step::Ask(Call::Put(name, ByteList::new(alloc)))
+        Step::Ask(Call::Put(name, SharedBytes::new()))
     }
 
     fn dismiss(&self, _actor: Filing) {}
@@ -122,7 +127,10 @@ fn agree(entries: &[Entry], lane: u32) -> usize {
 fn two_lanes_have_one_journal_and_their_own_ends(rt: HostRuntime) -> Result<(), Fail> {
     let alloc = rt.alloc();
     let store = MemStore::new(alloc, FaultList::new(alloc));
-    let (closed, ends) = run_together(&rt, alloc, store, &Clerks, &OpenGate);
+    let mut queues = Vec::new(alloc);
+    queues.push(COMMANDS)?;
+    queues.push(COMMANDS)?;
+    let (closed, ends) = run_together(&rt, alloc, store, &Clerks, queues, &OpenGate);
     let Closed { store, journal } = closed;
     assert_eq!(rt; journal.len(), 10);
     assert_eq!(rt; store.names(alloc)?.len(), 10);

@@ -1,6 +1,6 @@
 -- The passes of lanes: split off the first one, and joined again once their commands are done.
-use Rattle.std.proofs.Common.{◌≡◌, ◌⊎◌, ⊎_elim, inl, inr, ℕ, zero, suc, ◌+◌, ◌-◌, ◌<◌, ◌≤◌, ◌==◌, ◌||◌, Bool, true, false, Some, None, List, [], ◌∷◌, ◌++◌, length, length-append, slice_get, vec_capacity, refl, sym, ap, ◌∙◌, subst, arith, ne_eqb, eq-eqb, ◌≢◌}
-use Rattle.std.proofs.lemmas.Option.{slice_get_within}
+use Rattle.std.proofs.Common.{◌≡◌, ◌⊎◌, ⊎_elim, inl, inr, ℕ, zero, suc, ◌+◌, ◌-◌, ◌<◌, ◌≤◌, ◌==◌, ◌||◌, Bool, true, false, Some, None, List, [], ◌∷◌, ◌++◌, length, length-append, slice_get, slice_index_or, vec_capacity, refl, sym, ap, ◌∙◌, subst, arith, ne_eqb, eq-eqb, ◌≢◌}
+use Rattle.std.proofs.lemmas.Option.{slice_get_within, slice_get_read}
 use Rattle.std.specs.declared.alloc.Global.{Global}
 use Rattle.std.specs.declared.vec.Vec.{Vec}
 use Rattle.ts_model.specs.declared.answers.Driven.{Driven}
@@ -12,7 +12,7 @@ use Rattle.ts_turnstile.specs.Turns.{turns_by}
 use Rattle.ts_turnstile.specs.Views.{lanes_of, lanes_if, naming, left_of, right_of, joined_view}
 use Rattle.ts_turnstile.specs.Rule.{Claim, claim_of}
 use Rattle.ts_turnstile.proofs.Truths.{both_of, off, or_left, or_right, or_split, has_append, has_here, has_one}
-use Rattle.ts_lanes.specs.Lanes.{LaneDid, MaySplit, IsNewLane, AreRooms, DidDown, LanesDid}
+use Rattle.ts_lanes.specs.Lanes.{LaneDid, MaySplit, IsNewLane, AreRooms, AreQueues, DidDown, LanesDid}
 
 -- ---- lists
 
@@ -38,6 +38,24 @@ slice_get-last (z ∷ xs) y = slice_get-last xs y
 pub no_rooms : {X : Type 0} (xs : List X) → length xs ≡ 0 → xs ≡ []
 no_rooms [] none = refl
 no_rooms (x ∷ xs) none = absurd (omega arith)
+
+-- ---- queues
+
+-- the queue of a lane is among them
+pub queue_there : {Q : Type 0} (waits : ℕ → ℕ → Q → Type 0) (lanes lane : ℕ) (queues : List Q) (queue : Q) → AreQueues lanes waits queues → lane < lanes → queue ≡ slice_index_or queues lane queue → waits lane 1 queue
+queue_there waits lanes lane queues queue queued below is = queued.all lane queue (slice_get_read queues lanes lane queue (sym queued.one_each) below is)
+
+-- the queue of the highest lane is taken, and those below it are left
+pub queue_taken : {Q : Type 0} (waits : ℕ → ℕ → Q → Type 0) (lane : ℕ) (queues front : List Q) (queue : Q) → AreQueues (lane + 1) waits queues → queues ≡ front ++ queue ∷ []
+    → (length front ≡ lane) × ((n : ℕ) (own : Q) → slice_get front n ≡ Some own → waits n 1 own) × waits lane 1 queue
+queue_taken waits lane queues front queue queued parts =
+    let both : length queues ≡ length front + 1 = ap length parts ∙ length-append front (queue ∷ []) in
+    let many = queued.one_each in
+    let place : length front ≡ lane = omega arith in (
+      place,
+      (λ n own at. queued.all n own (subst (λ l. slice_get l n ≡ Some own) (sym parts) (slice_get-front front (queue ∷ []) n own at))),
+      subst (λ n. waits n 1 queue) place (queued.all (length front) queue (subst (λ l. slice_get l (length front) ≡ Some queue) (sym parts) (slice_get-last front queue))),
+    )
 
 -- ---- splitting
 

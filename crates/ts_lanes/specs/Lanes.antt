@@ -36,19 +36,26 @@ pub record IsNewLane (lane : ℕ) (v : View) : Type 0 where
 abbrev pub AreRooms : (ℕ → ℕ) → List (Vec (Driven Outcome) Global) → Type 0
 AreRooms count rooms = (n : ℕ) (room : Vec (Driven Outcome) Global) → slice_get rooms n ≡ Some room → (room.items ≡ []) × (count n ≤ vec_capacity room)
 
--- the lanes up to one can be run: there are so many, their passes may be split off, and each has its room
-pub record IsReady (lanes : ℕ) (count : ℕ → ℕ) (top lane : ℕ) (v : View) (rooms : List (Vec (Driven Outcome) Global)) : Type 0 where
+-- each lane has a queue of all its commands
+pub record AreQueues {Q : Type 0} (lanes : ℕ) (waits : ℕ → ℕ → Q → Type 0) (queues : List Q) : Type 0 where
+  pub one_each : length queues ≡ lanes
+  pub all : (lane : ℕ) (queue : Q) → slice_get queues lane ≡ Some queue → waits lane 1 queue
+
+-- the lanes up to one can be run: there are so many, their passes may be split off, and each has its room and its queue
+pub record IsReady {Q : Type 0} (lanes : ℕ) (count : ℕ → ℕ) (waits : ℕ → ℕ → Q → Type 0) (top lane : ℕ) (v : View) (rooms : List (Vec (Driven Outcome) Global)) (queues : List Q) : Type 0 where
   pub below : lane < lanes
   pub may : MaySplit top lane v
   pub many : length rooms ≡ lane + 1
   pub empty : AreRooms count rooms
+  pub queued : AreQueues (lane + 1) waits queues
 
--- the lane can be run: it is one of so many, its pass is new, and it has room for its results
-pub record IsReadyLane (lanes : ℕ) (count : ℕ → ℕ) (lane : ℕ) (v : View) (room : Vec (Driven Outcome) Global) : Type 0 where
+-- the lane can be run: it is one of so many, its pass is new, it has room for its results, and a queue of all its commands
+pub record IsReadyLane {Q : Type 0} (lanes : ℕ) (count : ℕ → ℕ) (waits : ℕ → ℕ → Q → Type 0) (lane : ℕ) (v : View) (room : Vec (Driven Outcome) Global) (queue : Q) : Type 0 where
   pub below : lane < lanes
   pub new : IsNewLane lane v
   pub empty : room.items ≡ []
   pub holds : count lane ≤ vec_capacity room
+  pub queued : waits lane 1 queue
 
 -- the first pass, into which the lanes up to one were joined: each has done its commands
 pub record DidDown (came : ℕ → ℕ → List Exchange → Driven Outcome → Type 0) (count : ℕ → ℕ) (top lane : ℕ) (results : List (Vec (Driven Outcome) Global)) (w : View) : Type 0 where

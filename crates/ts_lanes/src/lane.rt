@@ -21,8 +21,8 @@ use ts_turnstile::{Pass, Turnstile};
 /// How the commands of a lane came out, in order.
 pub type EndList = Vec<Driven<Outcome>>;
 
-/// Does the commands of a lane through its pass, one after the other, each once the gate lets it, and gives how
-/// each came out.
+/// Does the commands of a lane's queue through its pass, one after the other, each once the gate lets it, and
+/// gives how each came out. What is left of the queue is dropped.
 pub(crate) fn run_lane<R: Threads + Wait + Sync, S: Store, C: Crew, G: Gate>(
     rt: &R,
     alloc: Global,
@@ -32,19 +32,23 @@ pub(crate) fn run_lane<R: Threads + Wait + Sync, S: Store, C: Crew, G: Gate>(
     pass: Pass,
     room: EndList,
     lane: u32,
+    queue: C::Queue,
 ) -> (Pass, EndList)
     requires own { Belongs turnstile.now pass }
-    requires ready { IsReadyLane (C.lane_count crew.now) (C.command_count crew.now) lane (pass_view pass) room }
+    requires ready { IsReadyLane (C.lane_count crew.now) (C.command_count crew.now) (C.waits crew.now) lane (pass_view pass) room queue }
     ensures own { Belongs turnstile.now result.0 }
     ensures same { claim_of (pass_view result.0) ≡ claim_of (pass_view pass) }
     ensures did { LaneDid (CameOut (C.stop_of crew.now) (C.offers crew.now) C.task C.follows C.ends) (C.command_count crew.now lane) lane result.1.items (turns_by lane (pass_view result.0).seen) }
 {
     let mut pass = pass;
     let mut ends = room;
-    for before in 0..crew.count(lane) {
+    let mut queue = queue;
+    for before in 0..crew.count(lane, &queue) {
         let number = before + 1;
         gate.at(lane, number);
-        let end = do_command(rt, alloc, turnstile, crew, &mut pass, lane, number);
+        let end = do_command(
+            rt, alloc, turnstile, crew, &mut pass, lane, number, &mut queue,
+        );
         ends.push_reserved(end);
     }
     (pass, ends)

@@ -10,7 +10,7 @@ mod lane;
 mod lanes;
 mod together;
 
-pub use crew::Crew;
+pub use crew::{Begun, Crew};
 pub use gate::{Gate, OpenGate};
 pub use lane::EndList;
 pub use lanes::{Lanes, run_lanes};

@@ -19,6 +19,7 @@ mod view;
 
 pub use closed::Closed;
 pub use pass::Pass;
+pub use told::Told;
 pub use turn::Turn;
 pub use turnstile::Turnstile;
 pub use view::{Opening, View};

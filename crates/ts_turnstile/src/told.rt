@@ -16,7 +16,7 @@ impl<T> Model for Told<T> {
 
 impl<T> Told<T> {
     /// What clauses see of this value now.
-    pub(crate) fn of(x: &T) -> Told<T>
+    pub fn of(x: &T) -> Told<T>
         ensures { result.value ≡ x.now }
     {
         let _ = x;

@@ -27,4 +27,5 @@ loop-before-preserved g c =
       (let same = c.push_reserved.ensures.capacity in omega arith),
       subst (λ (rs : List (Driven Outcome)). Did came c.args.lane 1 rs after) (sym items)
           (did_next came c.args.lane 1 old before after c.do_command-end.result i.5 (subst (λ n. DidCommand came c.args.lane n before after c.do_command-end.result) place c.do_command-end.ensures.did)),
+      c.do_command-end.ensures.waits,
     )
