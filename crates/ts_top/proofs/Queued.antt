@@ -1,20 +1,133 @@
--- The lines of a script in queues: how many lanes there are, and the line of a lane's command.
-use Rattle.std.proofs.Common.{◌≡◌, ℕ, zero, suc, ◌+◌, ◌-◌, ◌<◌, ◌≤◌, List, [], ◌∷◌, Some, length, nat_eq, arith, sym, ◌∙◌, ap, subst}
-use Rattle.std.specs.Prelude.{All, Contains, slice_get}
-use Rattle.std.specs.declared.alloc.Global.{Global}
-use Rattle.std.specs.declared.vec.Vec.{Vec}
-use Rattle.std.proofs.lemmas.Bool.{cond_both, eqb-true}
-use Rattle.std.proofs.lemmas.Option.{same_Some}
-use Rattle.std.proofs.lemmas.List.{length-map}
-use Rattle.std.proofs.lemmas.List.Elements.{All-nil, All-cons, All-head, All-tail, All-contains}
-use Rattle.ts_model.proofs.ListLemmas.{Contains-here, Contains-there}
-use Rattle.ts_top.specs.declared.items.Item.{Item}
+-- The lines of a script in queues: how many lanes there are, and the line that a lane takes.
+use Rattle.std.proofs.Common.{◌≡◌, ℕ, zero, suc, ◌+◌, ◌-◌, ◌<◌, ◌≤◌, ◌^◌, List, [], ◌∷◌, ◌++◌, Some, Result, Ok, Err, length, nat_eq, arith, refl, sym, ◌∙◌, ap, subst, append-nil, append_assoc, length-drop}
+use Rattle.std.specs.Prelude.{All, Contains, OnOk, drop, slice_get, slice_set}
+use Rattle.std.proofs.lemmas.Bool.{cond_both, eqb-true, eqb-false}
+use Rattle.std.proofs.lemmas.Option.{same_Some, slice_get_within}
+use Rattle.std.proofs.lemmas.List.{length-set}
+use Rattle.std.proofs.lemmas.List.Elements.{All-nil, All-cons, All-head, All-tail, All-contains, Contains-append_right, filter-append}
+use Rattle.ts_model.proofs.ListLemmas.{Contains-here}
 use Rattle.ts_model.specs.declared.commands.Line.{Line}
 use Rattle.ts_model.specs.Jobs.{IsFitLine}
-use Rattle.ts_law.specs.Fresh.{Numbered, lines_in}
+use Rattle.ts_law.specs.Fresh.{lines_in}
+use Rattle.ts_lanes.specs.Lanes.{AreQueues}
 use Rattle.ts_script.specs.Script.{AreLimited}
 use Rattle.ts_top.specs.Crews.{count_of, item_of}
-use Rattle.ts_top.specs.Items.{AreQueued, lanes_in, numbered, numbered_line}
+use Rattle.ts_top.specs.Items.{lanes_in}
+use Rattle.ts_top.specs.Queues.{AreLaid, IsQueued, Waits, of_lane}
+
+-- the lines of a lane are those of the lane among them
+pub of_lane_same : (lane number : ℕ) (lines : List Line) → lines_in lane number (of_lane lane lines) ≡ lines_in lane number lines
+of_lane_same lane number [] = refl
+of_lane_same lane number (line ∷ lines) =
+    cond_both (nat_eq line.lane lane) (line ∷ of_lane lane lines) (of_lane lane lines) (λ q. lines_in lane number q ≡ lines_in lane number (line ∷ lines))
+    (λ is. rw (is) (ap (λ xs. record { number = number; line = line } ∷ xs) (of_lane_same lane (number + 1) lines)))
+    (λ is. rw (is) (of_lane_same lane number lines))
+
+-- they are of the lane, and there can be such
+pub of_lane_queued : (lane : ℕ) (lines : List Line) → All IsFitLine lines → All (IsQueued lane) (of_lane lane lines)
+of_lane_queued lane [] fit = All-nil (IsQueued lane)
+of_lane_queued lane (line ∷ lines) fit =
+    cond_both (nat_eq line.lane lane) (line ∷ of_lane lane lines) (of_lane lane lines) (All (IsQueued lane))
+    (λ is. All-cons (IsQueued lane) line (of_lane lane lines) (eqb-true line.lane lane is, All-head IsFitLine line lines fit) (of_lane_queued lane lines (All-tail IsFitLine line lines fit)))
+    (λ is. of_lane_queued lane lines (All-tail IsFitLine line lines fit))
+
+-- and there are no more of them than lines
+of_lane_few : (lane : ℕ) (lines : List Line) → length (of_lane lane lines) ≤ length lines
+of_lane_few lane [] = omega arith
+of_lane_few lane (line ∷ lines) =
+    cond_both (nat_eq line.lane lane) (line ∷ of_lane lane lines) (of_lane lane lines) (λ q. length q ≤ suc (length lines))
+    (λ is. omega (arith, of_lane_few lane lines))
+    (λ is. omega (arith, of_lane_few lane lines))
+
+-- at first the queue of a lane has all its lines
+pub waits_first : (lines : List Line) (lane : ℕ) → All IsFitLine lines → length lines < 2 ^ 32 → Waits lines lane 1 (of_lane lane lines)
+waits_first lines lane fit few = record { from = of_lane_same lane 1 lines; own = of_lane_queued lane lines fit; few = omega (arith, of_lane_few lane lines, few) }
+
+-- as many as there are
+long : (lane number : ℕ) (queue : List Line) → All (IsQueued lane) queue → length (lines_in lane number queue) ≡ length queue
+long lane number [] own = refl
+long lane number (line ∷ queue) own =
+    cond_both (nat_eq line.lane lane) (record { number = number; line = line } ∷ lines_in lane (number + 1) queue) (lines_in lane number queue) (λ xs. length xs ≡ suc (length queue))
+    (λ is. ap suc (long lane (number + 1) queue (All-tail (IsQueued lane) line queue own)))
+    (λ is. absurd (eqb-false line.lane lane is (All-head (IsQueued lane) line queue own).0))
+
+-- the first of a list from a place on stands there, and behind it comes the list from the next place on
+first_there : {X : Type 0} (xs : List X) (n : ℕ) (x : X) (rest : List X) → drop n xs ≡ x ∷ rest → (slice_get xs n ≡ Some x) × (drop (suc n) xs ≡ rest)
+first_there [] zero x rest is = cc
+first_there [] (suc n) x rest is = cc
+first_there (y ∷ xs) zero x rest is = (ap (λ l. slice_get l 0) is, ap (drop 1) is)
+first_there (y ∷ xs) (suc n) x rest is = first_there xs n x rest is
+
+-- the line that a lane takes off its queue, and what is left there
+pub record Taken (lines : List Line) (lane number : ℕ) (line : Line) (queue : List Line) : Type 0 where
+  pub at : item_of lines lane number ≡ Some (record { number = number; line = line })
+  pub lane_is : line.lane ≡ lane
+  pub fit : IsFitLine line
+  pub left : Waits lines lane (number + 1) queue
+
+-- the first line of a queue is that of the next command, and behind it the queue has those from the command after it on
+pub taken : (lines : List Line) (lane number : ℕ) (line : Line) (queue : List Line) → 1 ≤ number → Waits lines lane number (line ∷ queue) → Taken lines lane number line queue
+taken lines lane number line queue some waits =
+    let own = All-head (IsQueued lane) line queue waits.own in
+    let is : lines_in lane number (line ∷ queue) ≡ record { number = number; line = line } ∷ lines_in lane (number + 1) queue =
+    cond_both (nat_eq line.lane lane) (record { number = number; line = line } ∷ lines_in lane (number + 1) queue) (lines_in lane number queue) (λ xs. xs ≡ record { number = number; line = line } ∷ lines_in lane (number + 1) queue)
+    (λ is. refl)
+    (λ is. absurd (eqb-false line.lane lane is own.0)) in
+    let first = first_there (lines_in lane 1 lines) (number - 1) (record { number = number; line = line }) (lines_in lane (number + 1) queue) (sym waits.from ∙ is) in
+    let next : suc (number - 1) ≡ (number + 1) - 1 = omega (arith, some) in
+    record {
+      at = first.0;
+      lane_is = own.0;
+      fit = own.1;
+      left = record { from = sym first.1 ∙ ap (λ n. drop n (lines_in lane 1 lines)) next; own = All-tail (IsQueued lane) line queue waits.own; few = omega (arith, waits.few) };
+    }
+
+-- the queue of a lane that has commands left is not empty
+pub some_left : (lines : List Line) (lane number : ℕ) → 1 ≤ number → number ≤ count_of lines lane → Waits lines lane number [] → ⊥
+some_left lines lane number some most waits =
+    let none : 0 ≡ length (lines_in lane 1 lines) - (number - 1) = ap length waits.from ∙ length-drop (number - 1) (lines_in lane 1 lines) in
+    omega (arith, none, some, most)
+
+-- at first it has as many as the lane
+pub all_wait : (lines : List Line) (lane : ℕ) (queue : List Line) → Waits lines lane 1 queue → length queue ≡ count_of lines lane
+all_wait lines lane queue waits = sym (long lane 1 queue waits.own) ∙ ap length waits.from
+
+-- the queues with one more line, which stands behind those of its lane
+set_same : {X : Type 0} (xs : List X) (i : ℕ) (x : X) → i < length xs → slice_get (slice_set xs i x) i ≡ Some x
+set_same [] i x less = absurd (omega (arith, less))
+set_same (y ∷ xs) zero x less = refl
+set_same (y ∷ xs) (suc i) x less = set_same xs i x (omega (arith, less))
+
+set_other : {X : Type 0} (xs : List X) (i k : ℕ) (x : X) → (i ≡ k → ⊥) → slice_get (slice_set xs i x) k ≡ slice_get xs k
+set_other [] i k x apart = refl
+set_other (y ∷ xs) zero zero x apart = absurd (apart refl)
+set_other (y ∷ xs) zero (suc k) x apart = refl
+set_other (y ∷ xs) (suc i) zero x apart = refl
+set_other (y ∷ xs) (suc i) (suc k) x apart = set_other xs i k x (λ same. apart (ap suc same))
+
+-- and each lane but that has what it had
+pub laid_more : (before : List Line) (queues : List (List Line)) (line : Line) (had queue : List Line) → slice_get queues line.lane ≡ Some had → queue ≡ had ++ line ∷ [] → AreLaid (length queues) before queues
+    → AreLaid (length queues) (before ++ line ∷ []) (slice_set queues line.lane queue)
+laid_more before queues line had queue at is are = record { count = length-set queues line.lane queue; each = each }
+  where
+    less : line.lane < length queues
+    less = slice_get_within queues line.lane had at
+
+    each : (lane : ℕ) (own : List Line) → slice_get (slice_set queues line.lane queue) lane ≡ Some own → own ≡ of_lane lane (before ++ line ∷ [])
+    each lane own there =
+        cond_both (nat_eq line.lane lane) (line ∷ []) [] (λ xs. own ≡ of_lane lane before ++ xs)
+        (λ same.
+        let there_is : slice_get (slice_set queues line.lane queue) line.lane ≡ Some own = subst (λ n. slice_get (slice_set queues line.lane queue) n ≡ Some own) (sym (eqb-true line.lane lane same)) there in
+        let is_own : queue ≡ own = same_Some queue own (sym (set_same queues line.lane queue less) ∙ there_is) in
+        let had_is : had ≡ of_lane line.lane before = are.each line.lane had at in
+        sym is_own ∙ is ∙ ap (λ xs. xs ++ line ∷ []) had_is ∙ ap (λ n. of_lane n before ++ line ∷ []) (eqb-true line.lane lane same))
+        (λ other. are.each lane own (sym (set_other queues line.lane lane queue (eqb-false line.lane lane other)) ∙ there) ∙ sym (append-nil (of_lane lane before)))
+        ∙ sym (filter-append (λ (l : Line). nat_eq l.lane lane) before (line ∷ []))
+
+-- what follows from what holds where a result is none of want of memory
+pub on_ok : {A E : Type 0} (r : Result A E) (P Q : Type 0) → OnOk r P → (P → Q) → OnOk r Q
+on_ok (Ok x) P Q holds so = so holds
+on_ok (Err e) P Q holds so = tt
 
 -- lines that there can be are of eight lanes
 pub few_lanes : (lines : List Line) → All IsFitLine lines → lanes_in lines ≤ 8
@@ -29,58 +142,14 @@ in_lanes lines = within lines (lanes_in lines) (omega arith)
     within [] lanes most = All-nil (λ line. line.lane < lanes)
     within (line ∷ ls) lanes most = All-cons (λ line. line.lane < lanes) line ls (omega (arith, most)) (within ls lanes (omega (arith, most)))
 
--- a lane has no more lines than the script
-few_of_lane : (lane number : ℕ) (lines : List Line) → length (lines_in lane number lines) ≤ length lines
-few_of_lane lane number [] = omega arith
-few_of_lane lane number (line ∷ lines) =
-    cond_both (nat_eq line.lane lane) (record { number = number; line = line } ∷ lines_in lane (number + 1) lines) (lines_in lane number lines) (λ xs. length xs ≤ suc (length lines))
-    (λ is. omega (arith, few_of_lane lane (number + 1) lines))
-    (λ is. omega (arith, few_of_lane lane number lines))
+-- a line behind others has a queue
+pub has_queue : (lines front rest : List Line) (line : Line) → lines ≡ (front ++ line ∷ []) ++ rest → line.lane < lanes_in lines
+has_queue lines front rest line are =
+    All-contains (λ (l : Line). l.lane < lanes_in lines) lines line (in_lanes lines) (subst (λ ls. Contains ls line) (sym (are ∙ append_assoc front (line ∷ []) rest)) (Contains-append_right front (line ∷ rest) line (Contains-here line rest)))
 
--- a queue has the lines of its lane
-pub long : (lines : List Line) (lanes : List (Vec Item Global)) → AreQueued lines lanes → (lane : ℕ) (own : Vec Item Global) → slice_get lanes lane ≡ Some own → length own.items ≡ count_of lines lane
-long lines lanes are lane own at = sym (length-map own.items numbered_line) ∙ ap length (are.each lane own at)
-
-pub few : (lines : List Line) (lanes : List (Vec Item Global)) → AreQueued lines lanes → (lane : ℕ) (own : Vec Item Global) → slice_get lanes lane ≡ Some own → length own.items ≤ length lines
-few lines lanes are lane own at = omega (arith, long lines lanes are lane own at, few_of_lane lane 1 lines)
-
--- the line at a place
-numbered_at : (items : List Item) (i : ℕ) (item : Item) → slice_get items i ≡ Some item → slice_get (numbered items) i ≡ Some (numbered_line item)
-numbered_at [] i item at = cc
-numbered_at (x ∷ items) zero item at = cc
-numbered_at (x ∷ items) (suc i) item at = numbered_at items i item at
-
--- a line of a lane, at a place
-record IsAt (lane number : ℕ) (lines : List Line) (item : Numbered) : Type 0 where
-  pub number_is : item.number ≡ number
-  pub lane_is : (item.line).lane ≡ lane
-  pub among : Contains lines item.line
-
--- so it is of the lines of a longer script
-is_later : (lane number : ℕ) (line : Line) (lines : List Line) (item : Numbered) → IsAt lane number lines item → IsAt lane number (line ∷ lines) item
-is_later lane number line lines item is = record { number_is = is.number_is; lane_is = is.lane_is; among = Contains-there line lines item.line is.among }
-
--- the first line of a lane, and those behind it
-placed_behind : (lane number : ℕ) (line : Line) (lines : List Line) (xs : List Numbered) → line.lane ≡ lane → ((i : ℕ) (item : Numbered) → slice_get xs i ≡ Some item → IsAt lane ((number + 1) + i) lines item)
-    → (i : ℕ) (item : Numbered) → slice_get (record { number = number; line = line } ∷ xs) i ≡ Some item → IsAt lane (number + i) (line ∷ lines) item
-placed_behind lane number line lines xs is behind zero item at =
-    subst (IsAt lane (number + 0) (line ∷ lines)) (same_Some (record { number = number; line = line }) item at) (record { number_is = omega arith; lane_is = is; among = Contains-here line lines })
-placed_behind lane number line lines xs is behind (suc i) item at =
-    is_later lane (number + suc i) line lines item (subst (λ n. IsAt lane n lines item) (let same : (number + 1) + i ≡ number + suc i = omega arith in same) (behind i item at))
-
--- the lines of a lane are numbered one after the other
-placed : (lane number : ℕ) (lines : List Line) (i : ℕ) (item : Numbered) → slice_get (lines_in lane number lines) i ≡ Some item → IsAt lane (number + i) lines item
-placed lane number [] i item at = cc
-placed lane number (line ∷ lines) i item at =
-    cond_both (nat_eq line.lane lane) (record { number = number; line = line } ∷ lines_in lane (number + 1) lines) (lines_in lane number lines) (λ xs. slice_get xs i ≡ Some item → IsAt lane (number + i) (line ∷ lines) item)
-    (λ is found. placed_behind lane number line lines (lines_in lane (number + 1) lines) (eqb-true line.lane lane is) (placed lane (number + 1) lines) i item found)
-    (λ is found. is_later lane (number + i) line lines item (placed lane number lines i item found)) at
-
--- the line of a lane's command is in the queue, at its place
-pub line_at : (lines : List Line) (lanes : List (Vec Item Global)) → AreQueued lines lanes → AreLimited lines → (lane number : ℕ) (own : Vec Item Global) (item : Item) → slice_get lanes lane ≡ Some own → 1 ≤ number → slice_get own.items (number - 1) ≡ Some item
-    → (item_of lines lane number ≡ Some (record { number = number; line = item.line.now })) × (item.line.now.lane ≡ lane) × IsFitLine item.line.now
-line_at lines lanes are limited lane number own item own_at some at =
-    let is : item_of lines lane number ≡ Some (numbered_line item) = ap (λ xs. slice_get xs (number - 1)) (sym (are.each lane own own_at)) ∙ numbered_at own.items (number - 1) item at in
-    let place = placed lane 1 lines (number - 1) (numbered_line item) is in
-    let same : item.number ≡ number = omega (arith, place.number_is, some) in
-    (is ∙ ap (λ n. Some (record { number = n; line = item.line.now })) same, place.lane_is, All-contains IsFitLine lines item.line.now limited.fit place.among)
+-- so each lane has a queue of all its commands
+pub all_queued : (lines : List Line) (queues : List (List Line)) → AreLimited lines → AreLaid (lanes_in lines) lines queues → AreQueues (lanes_in lines) (Waits lines) queues
+all_queued lines queues limited laid = record {
+  one_each = laid.count;
+  all = λ lane queue at. subst (Waits lines lane 1) (sym (laid.each lane queue at)) (waits_first lines lane limited.fit (let few = limited.few in omega (arith, few)));
+}

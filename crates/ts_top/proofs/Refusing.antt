@@ -5,7 +5,7 @@ use Rattle.std.proofs.lemmas.List.{drop_more}
 use Rattle.ts_base.specs.declared.values.Val.{Val}
 use Rattle.ts_model.specs.declared.answers.Driven.{Driven}
 use Rattle.ts_model.specs.declared.answers.Outcome.{Outcome}
-use Rattle.ts_top.specs.declared.items.Item.{Item}
+use Rattle.ts_top.specs.declared.item.Item.{Item}
 use Rattle.ts_top.specs.Items.{numbered}
 use Rattle.ts_top.specs.Summaries.{number_in, refusal_text, sum_of, was_refused, writes_in, written_in}
 

@@ -8,46 +8,51 @@ ghost use Rattle.ts_script.specs.Script.{AreLimited};
 ghost use Rattle.ts_commands.specs.Actors.{Follows, calls_left, job_of};
 ghost use Rattle.ts_top.specs.Crews.{IsTaskOf, count_of, stop_of};
 ghost use Rattle.ts_top.specs.Items.{lanes_in};
+ghost use Rattle.ts_top.specs.Queues.{AreLaid, Waits};
 ghost use Rattle.ts_top.specs.Runners.{JustMade, RanLines, run_codec, run_left};
 
 use crate::jobs::{job_of, stamp_of};
-use crate::queues::Queues;
+use crate::queues::{Queue, queues_of};
 use crate::results::in_one;
 use crate::tiled::Tiled;
 use std::alloc::Global;
 use std::sync::Wait;
 use std::thread::Threads;
 use ts_actor::{Actor, Step};
-use ts_base::{OutOfMemory, Stop};
+use ts_base::OutOfMemory;
 use ts_commands::AnyActor;
-use ts_lanes::{Crew, EndList, Gate, run_together};
-use ts_model::{Job, Line, Outcome};
+use ts_lanes::{Begun, Crew, EndList, Gate, run_together};
+use ts_model::{Job, LineList, Outcome};
 use ts_store::{Clock, Journal, Reply, Store};
-use ts_turnstile::Closed;
+use ts_turnstile::{Closed, Told};
 
 /// Who does the commands of a script. Each becomes a job as it starts.
 #[derive(Drop)]
-struct LineCrew<'c, 'q, 'l, C: Clock> {
+struct LineCrew<'c, C: Clock> {
     // What gives stamps to lines that have none.
     clock: &'c C,
     // The seed of the run.
     seed: u64,
-    // The lines, lane by lane.
-    queues: &'q Queues<'l>,
+    // The lines of the script, in its order. Clauses alone see them: the lines themselves are in the queues.
+    lines: Told<LineList>,
 }
 
-impl<C: Clock> Crew for LineCrew<'_, '_, '_, C> {
+impl<C: Clock> Crew for LineCrew<'_, C> {
     type A = AnyActor<Tiled>;
 
     type Task = Job;
 
-    ghost lane_count = { λ crew. lanes_in crew.queues.now };
+    type Queue = Queue;
 
-    ghost command_count = { λ crew. count_of crew.queues.now };
+    ghost lane_count = { λ crew. lanes_in crew.lines.value };
 
-    ghost stop_of = { λ crew. stop_of crew.queues.now };
+    ghost command_count = { λ crew. count_of crew.lines.value };
 
-    ghost offers = { λ crew. IsTaskOf (C.gives crew.clock.now) crew.seed crew.queues.now };
+    ghost stop_of = { λ crew. stop_of crew.lines.value };
+
+    ghost waits = { λ crew. Waits crew.lines.value };
+
+    ghost offers = { λ crew. IsTaskOf (C.gives crew.clock.now) crew.seed crew.lines.value };
 
     ghost task = { job_of };
 
@@ -57,25 +62,24 @@ impl<C: Clock> Crew for LineCrew<'_, '_, '_, C> {
 
     ghost measure = { calls_left run_left };
 
-    fn lanes(&self) -> u32 {
-        self.queues.lanes()
+    fn count(&self, _lane: u32, queue: &Queue) -> u32 {
+        queue.len() as u32
     }
 
-    fn count(&self, lane: u32) -> u32 {
-        self.queues.count(lane)
-    }
-
-    fn actor(&self, alloc: Global, lane: u32, number: u32) -> Result<AnyActor<Tiled>, OutOfMemory> {
-        let line = self.queues.line(lane, number);
-        let at = stamp_of(line, self.clock.now());
-        let Ok(job) = job_of(alloc, self.seed, number, line, at) else {
-            return Err(OutOfMemory);
+    fn begin(
+        &self,
+        _alloc: Global,
+        _lane: u32,
+        number: u32,
+        queue: &mut Queue,
+    ) -> Result<Begun<AnyActor<Tiled>>, OutOfMemory> {
+        let Some(line) = queue.take() else {
+            unreachable!();
         };
-        Ok(AnyActor::of(job))
-    }
-
-    fn stop(&self, lane: u32, number: u32) -> Stop {
-        self.queues.line(lane, number).stop
+        let at = stamp_of(&line, self.clock.now());
+        let stop = line.stop;
+        let actor = AnyActor::of(job_of(self.seed, number, line, at));
+        Ok(Begun { actor, stop })
     }
 
     fn next<R: Threads + Sync>(
@@ -94,31 +98,32 @@ impl<C: Clock> Crew for LineCrew<'_, '_, '_, C> {
 /// Does the commands of these lines over a store, those of each lane in a thread of its own, and gives the
 /// store with the journal of its calls, and how each command came out, in lane order.
 ///
-/// The memory for all results is taken first: for want of it nothing is done.
+/// The memory for all results and for the queues is taken first: for want of it nothing is done. A line is let
+/// go as soon as its command is done.
 pub(crate) fn run_lines<R: Threads + Wait + Sync, S: Store, C: Clock, G: Gate>(
     rt: &R,
     alloc: Global,
     seed: u64,
     store: S,
-    lines: &[Line],
+    lines: LineList,
     clock: &C,
     gate: &G,
 ) -> (Closed<S>, Result<EndList, OutOfMemory>)
-    requires { AreLimited lines.now }
-    ensures ran { IfOk result.1 (λ results. RanLines S.held (JustMade S.held S.last S.faults S.asked S.notes) (C.gives clock.now) seed (in_lane_order lines.now) store result.0.store result.0.journal results.items) }
+    requires { AreLimited lines }
+    ensures ran { IfOk result.1 (λ results. RanLines S.held (JustMade S.held S.last S.faults S.asked S.notes) (C.gives clock.now) seed (in_lane_order lines) store result.0.store result.0.journal results.items) }
     ensures counted { capped (S.faults store + failures result.0.journal) ≤ S.faults result.0.store }
     ensures short { OnErr result.1 ((result.0.store ≡ store) × (result.0.journal ≡ [])) }
 {
+    let crew = LineCrew {
+        clock,
+        seed,
+        lines: Told::of(&lines),
+    };
     let Ok((queues, room)) = prepare(alloc, lines) else {
         let journal = Journal::new(alloc);
         return (Closed { store, journal }, Err(OutOfMemory));
     };
-    let crew = LineCrew {
-        clock,
-        seed,
-        queues: &queues,
-    };
-    let (closed, ends) = run_together(rt, alloc, store, &crew, gate);
+    let (closed, ends) = run_together(rt, alloc, store, &crew, queues, gate);
     match ends {
         Ok(ends) => (closed, Ok(in_one(room, ends))),
         Err(OutOfMemory) => (closed, Err(OutOfMemory)),
@@ -126,13 +131,13 @@ pub(crate) fn run_lines<R: Threads + Wait + Sync, S: Store, C: Clock, G: Gate>(
 }
 
 // The lines in queues, and room for how their commands come out.
-fn prepare(alloc: Global, lines: &[Line]) -> Result<(Queues<'_>, EndList), OutOfMemory>
-    requires { AreLimited lines.now }
-    ensures queues { IfOk result (λ both. both.0 ≡ lines.now) }
+fn prepare(alloc: Global, lines: LineList) -> Result<(Vec<Queue>, EndList), OutOfMemory>
+    requires { AreLimited lines }
+    ensures queues { IfOk result (λ both. AreLaid (lanes_in lines) lines both.0.items) }
     ensures empty { IfOk result (λ both. both.1.items ≡ []) }
-    ensures room { IfOk result (λ both. vec_capacity both.1 ≡ length lines.now) }
+    ensures room { IfOk result (λ both. vec_capacity both.1 ≡ length lines) }
 {
-    let queues = Queues::new(alloc, lines)?;
-    let room = Vec::with_capacity(alloc, lines.len())?;
+    let room = Vec::with_capacity(alloc, lines.len() as usize)?;
+    let queues = queues_of(alloc, lines)?;
     Ok((queues, room))
 }

@@ -4,7 +4,7 @@ ghost use Rattle.ts_top.specs.Ends.{end_of, ends_text};
 ghost use Rattle.ts_query.specs.Ends.{text_of};
 ghost use Rattle.ts_top.specs.Items.{numbered};
 
-use crate::items::Item;
+use crate::item::Item;
 use std::alloc::Global;
 use ts_base::OutOfMemory;
 use ts_model::{Driven, Outcome};
@@ -33,11 +33,9 @@ pub(crate) fn print_one(
     item: &Item,
     came: &Driven<Outcome>,
 ) -> Result<(), OutOfMemory>
-    ensures { OnOk result (text.new ≡ text.old ++ text_of (item.now.line.now).lane item.now.number (item.now.line.now).command (end_of came.now)) }
+    ensures { OnOk result (text.new ≡ text.old ++ text_of item.now.line.value.lane item.now.number item.now.line.value.command (end_of came.now)) }
 {
-    let line = item.line;
-    let end = end_of(came);
-    print_outcome(alloc, text, line.lane, item.number, &line.command, end)
+    print_outcome(alloc, text, item.lane, item.number, item.name, end_of(came))
 }
 
 /// The end of a command, or None where it was stopped before.

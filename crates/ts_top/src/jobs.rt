@@ -1,11 +1,9 @@
 //! The jobs of lines.
-ghost use Rattle.std.specs.Prelude.{◌≡◌, ℕ, Bool, IfOk, IsTrue};
+ghost use Rattle.std.specs.Prelude.{◌≡◌, ℕ, Bool, IsTrue};
 ghost use Rattle.ts_law.specs.Fresh.{IsStampOf, ends_at, id_of, job_from, seeded};
 ghost use Rattle.ts_model.specs.Commands.{fits};
 ghost use Rattle.ts_model.specs.Jobs.{IsFit, IsFitLine};
 
-use std::alloc::Global;
-use ts_base::{Duplicate, OutOfMemory};
 use ts_model::{Command, Job, Line};
 
 /// The stamp of a line's command that starts now: the line's own, or this number of the clock.
@@ -19,25 +17,21 @@ pub(crate) fn stamp_of(line: &Line, now: u64) -> u64
 }
 
 /// The job of a line at a stamp: its identifier is made of the seed, the lane and the number of the
-/// command, and it is stopped where the line says.
-pub(crate) fn job_of(
-    alloc: Global,
-    seed: u64,
-    number: u32,
-    line: &Line,
-    at: u64,
-) -> Result<Job, OutOfMemory>
-    requires fit { IsFitLine line.now }
-    ensures is { IfOk result (λ job. job ≡ job_from (id_of seed line.now.lane number) line.now at) }
-    ensures fit { IfOk result IsFit }
+/// command, and it is stopped where the line says. It takes no memory.
+pub(crate) fn job_of(seed: u64, number: u32, line: Line, at: u64) -> Job
+    requires fit { IsFitLine line }
+    ensures is { result ≡ job_from (id_of seed line.lane number) line at }
+    ensures fit { IsFit result }
 {
-    let command = ending_at(line.command.copy(alloc)?, line.to_stamp, at);
-    Ok(Job {
-        command: in_run(command, seed, line.lane),
+    let id = (u128::from(seed) << 64) + (u128::from(line.lane) << 32) + u128::from(number);
+    let (lane, stop) = (line.lane, line.stop);
+    let command = ending_at(line.command, line.to_stamp, at);
+    Job {
+        command: in_run(command, seed, lane),
         at,
-        id: (u128::from(seed) << 64) + (u128::from(line.lane) << 32) + u128::from(number),
-        stop: line.stop,
-    })
+        id,
+        stop,
+    }
 }
 
 // The command, whose interval ends at the stamp where that is asked for, as it can be of a read and of

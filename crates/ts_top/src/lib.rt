@@ -4,6 +4,7 @@
 
 mod crew;
 mod ends;
+mod item;
 mod items;
 mod jobs;
 mod notices;

@@ -1,100 +1,94 @@
 //! The lines of a script in queues, one for each lane.
-ghost use Rattle.std.specs.Prelude.{◌≡◌, ◌<◌, ◌≤◌, All, IfOk, Some, length};
-ghost use Rattle.ts_law.specs.Fresh.{lines_in};
+ghost use Rattle.std.specs.Prelude.{◌≡◌, ◌<◌, ◌++◌, ◌∷◌, [], All, IfOk, List, MatchOption, OnOk, length, replicate};
 ghost use Rattle.ts_model.specs.Jobs.{IsFitLine};
-ghost use Rattle.ts_script.specs.Script.{AreLimited};
-ghost use Rattle.ts_lanes.specs.Commands.{IsCommand};
-ghost use Rattle.ts_top.specs.Crews.{count_of, item_of};
-ghost use Rattle.ts_top.specs.Items.{AreQueued, lanes_in, numbered};
+ghost use Rattle.ts_model.specs.declared.commands.Line.{Line as A_line};
+ghost use Rattle.ts_top.specs.Items.{lanes_in};
+ghost use Rattle.ts_top.specs.Queues.{AreLaid};
 
-use crate::items::{Item, push_lane};
 use std::alloc::Global;
+use std::collections::VecDeque;
 use std::marker::Model;
 use ts_base::OutOfMemory;
-use ts_model::Line;
+use ts_model::{Line, LineList};
 
-/// The lines of a script in queues, one for each lane up to the highest that has a line.
-///
-/// It is seen as the lines.
+/// The lines of a lane that are still to be done, the next one first. Contracts see them as a list.
 #[derive(Drop)]
-pub(crate) struct Queues<'a> {
-    // The lines, in the order of the script.
-    lines: &'a [Line],
-    // Those of each lane, numbered from 1.
-    lanes: Vec<Vec<Item<'a>>>,
+pub(crate) struct Queue {
+    lines: VecDeque<Line>,
 }
 
-impl<'a> Model for Queues<'a> {
+impl Model for Queue {
     ghost use Rattle.std.specs.Prelude.{List};
     ghost use Rattle.ts_model.specs.declared.commands.Line.{Line};
 
     ghost Value = { List Line };
 
-    ghost use Rattle.ts_top.specs.Queues.{AreQueues};
-
-    ghost view = { λ queues. queues.lines.now };
-
-    ghost invariant = { AreQueues };
+    ghost view = { λ queue. queue.lines.items };
 }
 
-impl<'a> Queues<'a> {
-    /// The lines of a script in queues.
-    pub(crate) fn new(alloc: Global, lines: &'a [Line]) -> Result<Queues<'a>, OutOfMemory>
-        requires { AreLimited lines.now }
-        ensures { IfOk result (λ queues. queues ≡ lines.now) }
+impl Queue {
+    // No lines. It takes no memory.
+    fn new(alloc: Global) -> Queue
+        ensures { result ≡ [] }
     {
-        let lanes = queues_of(alloc, lines)?;
-        Ok(Queues { lines, lanes })
+        Queue {
+            lines: VecDeque::new(alloc),
+        }
     }
 
-    /// How many lanes there are: the highest that has a line, and one more.
-    pub(crate) fn lanes(&self) -> u32
-        ensures { result ≡ lanes_in self.now }
+    // Puts a line behind the others.
+    fn push(&mut self, line: Line) -> Result<(), OutOfMemory>
+        ensures { OnOk result (self.new ≡ self.old ++ line ∷ []) }
     {
-        self.lanes.len() as u32
+        self.lines.push_back(line)?;
+        Ok(())
     }
 
-    /// How many lines a lane has.
-    pub(crate) fn count(&self, lane: u32) -> u32
-        requires { lane < lanes_in self.now }
-        ensures { result ≡ count_of self.now lane }
+    /// How many lines there are.
+    pub(crate) fn len(&self) -> usize
+        ensures { result ≡ length self.now }
     {
-        self.lanes[lane as usize].len() as u32
+        self.lines.len()
     }
 
-    /// The line of a lane with a number.
-    pub(crate) fn line(&self, lane: u32, number: u32) -> &'a Line
-        requires { IsCommand (lanes_in self.now) (count_of self.now) lane number }
-        ensures is { item_of self.now lane number ≡ Some (record { number = number; line = result.now }) }
-        ensures lane { result.now.lane ≡ lane }
-        ensures fit { IsFitLine result.now }
+    /// Takes the next line.
+    pub(crate) fn take(&mut self) -> Option<Line>
+        ensures { MatchOption result ((self.old ≡ []) × (self.new ≡ [])) (λ line. self.old ≡ line ∷ self.new) }
     {
-        let item = self.lanes[lane as usize][number as usize - 1];
-        item.line
+        self.lines.pop_front()
     }
 }
 
-// The queues of all lanes.
-fn queues_of(alloc: Global, lines: &[Line]) -> Result<Vec<Vec<Item<'_>>>, OutOfMemory>
-    requires { AreLimited lines.now }
-    ensures { IfOk result (λ lanes. AreQueued lines.now lanes.items) }
+/// The lines of a script in queues, one for each lane up to the highest that has a line.
+pub(crate) fn queues_of(alloc: Global, lines: LineList) -> Result<Vec<Queue>, OutOfMemory>
+    requires { All IsFitLine lines }
+    ensures { IfOk result (λ queues. AreLaid (lanes_in lines) lines queues.items) }
 {
-    let count = lanes_in(lines);
-    let mut lanes = Vec::with_capacity(alloc, count as usize)?;
-    for lane in 0..count {
-        lanes.push(queue_of(alloc, lane, lines)?)?;
+    let mut queues = no_lines(alloc, lanes_in(lines.as_slice()))?;
+    for line in lines.into_vec() {
+        push_line(&mut queues, line)?;
     }
-    Ok(lanes)
+    Ok(queues)
 }
 
-// The queue of a lane.
-fn queue_of(alloc: Global, lane: u32, lines: &[Line]) -> Result<Vec<Item<'_>>, OutOfMemory>
-    requires few { length lines.now ≤ 4096 }
-    ensures { IfOk result (λ queue. numbered queue.items ≡ lines_in lane 1 lines.now) }
+// Puts a line behind those of its lane.
+fn push_line(queues: &mut Vec<Queue>, line: Line) -> Result<(), OutOfMemory>
+    requires { line.lane < length queues.old.items }
+    ensures { (before : List A_line) → AreLaid (length queues.old.items) before queues.old.items → OnOk result (AreLaid (length queues.old.items) (before ++ line ∷ []) queues.new.items) }
 {
-    let mut queue = Vec::new(alloc);
-    push_lane(&mut queue, lane, lines)?;
-    Ok(queue)
+    let lane = line.lane as usize;
+    queues[lane].push(line)
+}
+
+// So many queues without a line.
+fn no_lines(alloc: Global, lanes: u32) -> Result<Vec<Queue>, OutOfMemory>
+    ensures { IfOk result (λ queues. queues.items ≡ replicate lanes []) }
+{
+    let mut queues = Vec::with_capacity(alloc, lanes as usize)?;
+    for _lane in 0..lanes {
+        queues.push(Queue::new(alloc))?;
+    }
+    Ok(queues)
 }
 
 // The highest lane that has a line, and one more.

@@ -7,7 +7,7 @@ ghost use Rattle.ts_top.specs.Items.{numbered};
 ghost use Rattle.ts_top.specs.Summaries.{first_in, generated_text, lacks_memory, line_text, number_in, refusal_text, removed_in, rows_in, sources_in, status_generated, sum_of, sums_of, sums_text, was_refused, writes_in, written_in};
 
 use crate::ends::print_one;
-use crate::items::Item;
+use crate::item::Item;
 use itoa::Buffer;
 use std::alloc::Global;
 use ts_base::OutOfMemory;

@@ -16,7 +16,8 @@ ghost use Rattle.ts_top.specs.Seen.{Stream, stream, AskFor, HasReason, IsPrepare
 
 use crate::crew::run_lines;
 use crate::ends::print_ends;
-use crate::items::{Item, in_lane_order};
+use crate::item::Item;
+use crate::items::in_lane_order;
 use crate::notices::{bad_script_notice, usage_notice};
 use crate::summaries::{print_summary, status_generated};
 use crate::texts::write_text;
@@ -211,16 +212,16 @@ fn play<R: Threads + Wait + Sync, S: Store, O: Sink, C: Clock, G: Gate>(
     seed: u64,
     store: S,
     out: &mut O,
-    lines: &[Line],
+    lines: LineList,
     report: Report,
     clock: &C,
     gate: &G,
 ) -> Ran<S>
-    requires { AreLimited lines.now }
-    ensures plays { (words : List (List ℕ)) (input : Stream) → Plays S.held (JustMade S.held S.last S.faults S.asked S.notes) (record { words = words; seed = seed; gives = C.gives clock.now; input = input; out = stream O.contents O.faults out.old out.new; store = store; later = result.store; status = result.status; journal = result.journal }) report lines.now }
+    requires { AreLimited lines }
+    ensures plays { (words : List (List ℕ)) (input : Stream) → Plays S.held (JustMade S.held S.last S.faults S.asked S.notes) (record { words = words; seed = seed; gives = C.gives clock.now; input = input; out = stream O.contents O.faults out.old out.new; store = store; later = result.store; status = result.status; journal = result.journal }) report lines }
     ensures counted { capped (S.faults store + failures result.journal) ≤ S.faults result.store }
 {
-    let Ok(items) = in_lane_order(alloc, lines) else {
+    let Ok(items) = in_lane_order(alloc, lines.as_slice()) else {
         let journal = Journal::new(alloc);
         return left_by(Closed { store, journal }, 7);
     };
@@ -346,18 +347,8 @@ pub fn run<R: Threads + Wait + Sync, S: Store, I: Source, O: Sink, C: Clock, G: 
 {
     match prepare(alloc, words, input) {
         Ok(prepared) => {
-            let lines = prepared.lines.as_slice();
-            play(
-                rt,
-                alloc,
-                seed,
-                store,
-                out,
-                lines,
-                prepared.report,
-                clock,
-                gate,
-            )
+            let Prepared { lines, report } = prepared;
+            play(rt, alloc, seed, store, out, lines, report, clock, gate)
         }
         Err(stop) => {
             print_stop(out, stop);

@@ -4,7 +4,6 @@ use Rattle.ts_script.specs.declared.words.Report.{Report}
 use Rattle.ts_store.specs.declared.journal.Entry.{Entry}
 use Rattle.ts_store.specs.Counts.{capped}
 use Rattle.ts_store.specs.Journals.{failures}
-use Rattle.ts_model.specs.declared.commands.Line.{Line}
 use Rattle.ts_top.specs.Runners.{JustMade}
 use Rattle.ts_top.specs.Seen.{Seen, Stream, stream, Plays, Stopped, IsRunOf, stopped, played}
 use Rattle.ts_script.specs.Words.{word_texts}
@@ -22,9 +21,8 @@ returns-in-Ok g c =
     let seen : Seen g.row.S.Denot = record { words = words; seed = c.args.seed; gives = g.C.Clock.gives c.args.clock.now; input = input; out = out; store = c.args.store; later = c.play.result.store; status = c.play.result.status; journal = c.play.result.journal } in
     let lines = c.in-Ok.prepared.lines in
     let (job, read, same) = c.in-Ok.ensures.read in
-    let P : List Line → Type 0 = λ ls. Plays held made seen c.in-Ok.prepared.report ls in
     let Q : Report → Type 0 = λ report. Plays held made seen report lines in
-    let plays = subst Q same (subst P c.as_slice-lines.ensures (c.play.ensures.plays words input)) in
+    let plays = subst Q same (c.play.ensures.plays words input) in
     let is : IsRunOf held made seen = played job lines (record { read = read; plays = plays }) in
     record {
       run = is;
