@@ -35,7 +35,7 @@ fn fault(
     parts: (&[u8], &[u8], &[u8]),
 ) -> Result<Option<TileFault>, OutOfMemory> {
     let tile = tile(alloc, parts.0, parts.1, parts.2)?;
-    Ok(decode_column(alloc, ty, true, count, &tile).err())
+    Ok(decode_column(alloc, ty, true, count, &tile.view()).err())
 }
 
 #[test]
@@ -59,7 +59,7 @@ fn texts_stand_one_after_another_with_their_marks(rt: HostRuntime) -> Result<(),
         .ok()
         .ok_or("damaged")?;
     assert_eq!(rt; row.len(), 3);
-    let column = decode_column(alloc, ValType::Text, true, 3, &texts)
+    let column = decode_column(alloc, ValType::Text, true, 3, &texts.view())
         .ok()
         .ok_or("damaged")?;
     let again = encode_column(alloc, ValType::Text, true, &column)?;

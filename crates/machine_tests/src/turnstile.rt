@@ -10,7 +10,7 @@ use std::alloc::Global;
 use std::sync::Wait;
 use std::test::Fail;
 use std::thread::{Threads, join};
-use ts_base::{ByteList, Key, Name, NameList, Prefix};
+use ts_base::{Key, Name, NameList, Prefix};
 use ts_store::{Call, Fault, FaultList, Journal, MemStore, Reply, SharedBytes, enter_call};
 use ts_turnstile::{Closed, Pass, Turnstile};
 
@@ -85,10 +85,6 @@ fn agrees<R: Wait>(
     reply == *want && plain == *want
 }
 
-fn text(alloc: Global, text: &str) -> Option<ByteList> {
-    ByteList::of_bytes(alloc, text.as_bytes()).ok()
-}
-
 fn object(alloc: Global, text: &str) -> Option<SharedBytes> {
     SharedBytes::of_bytes(alloc, text.as_bytes()).ok()
 }
@@ -107,7 +103,7 @@ fn plays_in_turn<R: Wait>(
     ensures first { claim_of (pass_view first.new) ≡ claim_of (pass_view first.old) }
     ensures other { claim_of (pass_view other.new) ≡ claim_of (pass_view other.old) }
 {
-    let abc = text(alloc, "abc")?;
+    let abc = object(alloc, "abc")?;
     let put = Call::Put(Name::Domain, object(alloc, "abc")?);
     let again = Call::Put(Name::Domain, object(alloc, "other")?);
     let schema = Call::Put(Name::Schema(Key { t: 1, id: 2 }), SharedBytes::new());
@@ -189,7 +185,7 @@ fn plays_alone<R: Wait>(
     let list = Call::List(Prefix::Schemas);
     let none = Reply::Names(NameList::new(alloc));
     let get = Call::Get(Name::Domain, 0, 9);
-    let bytes = Reply::Bytes(text(alloc, "a")?);
+    let bytes = Reply::Bytes(object(alloc, "a")?);
     let new = pass.place().is_none();
     let a = is_placed(rt, alloc, turnstile, pass, put, &Reply::Made, 0);
     let b = is_placed(rt, alloc, turnstile, pass, again, &Reply::Taken, 1);

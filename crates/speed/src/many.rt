@@ -6,7 +6,7 @@ use std::rt::Clock;
 use std::thread::Threads;
 use std::time::Instant;
 use ts_base::{OutOfMemory, ValType};
-use ts_column::{Tile, decode_all};
+use ts_column::{Tile, TileView, decode_all};
 
 /// How many tiles the column has.
 const TILES: u64 = 64;
@@ -38,14 +38,17 @@ fn time_column<R: Clock + Print + AllocGlobal + Threads + Sync>(
     let Ok(counts) = vec![in alloc; CELLS; TILES as usize] else {
         return Ok(());
     };
-    if tiles.len() != counts.len() {
+    let Ok(views) = views_of(alloc, tiles.as_slice()) else {
+        return Ok(());
+    };
+    if views.len() != counts.len() {
         return Ok(());
     }
     let mut sum = 0u64;
     let mut nanoseconds = 0u128;
     for _ in 0..ROUNDS {
         let start = Instant::now(rt)?;
-        let decoded = decode_all(rt, alloc, ty, nullable, counts.as_slice(), tiles.as_slice());
+        let decoded = decode_all(rt, alloc, ty, nullable, counts.as_slice(), views.as_slice());
         nanoseconds = nanoseconds.saturating_add(start.elapsed(rt)?.as_nanos());
         // What was decoded is let go behind that.
         if let Ok(columns) = decoded {
@@ -63,4 +66,13 @@ fn tiles_of(alloc: Global, ty: ValType, nullable: bool) -> Result<Vec<Tile>, Out
         tiles.push(made(alloc, ty, nullable, nth.wrapping_mul(CELLS), CELLS)?)?;
     }
     Ok(tiles)
+}
+
+// The tiles with their parts borrowed.
+fn views_of(alloc: Global, tiles: &[Tile]) -> Result<Vec<TileView<'_>>, OutOfMemory> {
+    let mut views = Vec::with_capacity(alloc, tiles.len())?;
+    for tile in tiles {
+        views.push(tile.view())?;
+    }
+    Ok(views)
 }

@@ -80,7 +80,7 @@ fn time_tile<R: Clock + AllocGlobal>(
 ) -> io::Result<()> {
     let alloc = rt.alloc();
     let start = Instant::now(rt)?;
-    let Ok(column) = decode_column(alloc, ty, nullable, count, tile) else {
+    let Ok(column) = decode_column(alloc, ty, nullable, count, &tile.view()) else {
         return Ok(());
     };
     let decoding = start.elapsed(rt)?.as_nanos();

@@ -16,11 +16,11 @@ ghost use Rattle.ts_actor.specs.PieceLaws.{SpellsOne, RefusesBroken, OpensUnbrok
 
 use std::alloc::Global;
 use std::thread::Threads;
-use ts_base::{ByteList, FragKey, Head, OutOfMemory, Part, PartList, VersionList, VersionLists};
+use ts_base::{FragKey, Head, OutOfMemory, Part, PartList, VersionList, VersionLists};
 use ts_batch::Batches;
 use ts_piece::BatchPiece;
 use ts_schema::{Frame, Schema, Spelling, Want};
-use ts_store::{Call, Reply};
+use ts_store::{Call, Reply, SharedBytes};
 use ts_wire::ReadFault;
 
 /// What a fetch does with a reply.
@@ -90,7 +90,7 @@ pub trait Pieces: Spelling {
         frame: &Frame,
         schema: &Schema,
         frag: FragKey,
-        object: &ByteList,
+        object: &SharedBytes,
         want: &Want,
     ) -> Result<Self::Fetch, ReadFault>
         requires frag { IsSpelledFrag frag }

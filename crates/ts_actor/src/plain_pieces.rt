@@ -9,14 +9,12 @@ use crate::pieces::{Fetched, Pieces};
 use std::alloc::Global;
 use std::mem;
 use std::thread::Threads;
-use ts_base::{
-    ByteList, FragKey, Head, OutOfMemory, Part, PartBytes, PartList, VersionList, VersionLists,
-};
+use ts_base::{FragKey, Head, OutOfMemory, Part, PartBytes, PartList, VersionList, VersionLists};
 use ts_batch::{Batch, Batches};
 use ts_piece::BatchPiece;
 use ts_plain::{merge_all, read_head, read_plain, write_plain};
 use ts_schema::{Frame, Schema, Spelling, Want, taken};
-use ts_store::Reply;
+use ts_store::{Reply, SharedBytes};
 use ts_wire::ReadFault;
 
 /// The whole fragment in the one part `plain.tdb`.
@@ -100,7 +98,7 @@ impl Pieces for PlainPieces {
         frame: &Frame,
         schema: &Schema,
         frag: FragKey,
-        object: &ByteList,
+        object: &SharedBytes,
         want: &Want,
     ) -> Result<Batches, ReadFault> {
         let piece = read_plain(alloc, frame, schema, frag, object.as_slice())?;

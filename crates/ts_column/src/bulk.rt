@@ -62,7 +62,8 @@ pub(crate) fn read_i64s(alloc: Global, bytes: &[u8]) -> Result<Vec<i64>, AllocEr
     chunks.iter().map(i64_of).collect(alloc)
 }
 
-/// The signed integers of 8 bytes that stand in the bytes one after the other, if each fits 32 bits.
+/// The signed integers of 8 bytes that stand in the bytes one after the other, or `None` if one does not
+/// fit 32 bits.
 pub(crate) fn read_short_i64s(alloc: Global, bytes: &[u8]) -> Result<Option<Vec<i32>>, AllocError>
     ensures { IfOk result (λ short. IfSome short (λ v. v.items ≡ map (int_of 8 true) (first_chunks 8 (length bytes.now / 8) bytes.now))) }
 {
@@ -148,7 +149,8 @@ pub(crate) fn read_u32s(alloc: Global, bytes: &[u8]) -> Result<Vec<i64>, AllocEr
     chunks.iter().map(u32_of).collect(alloc)
 }
 
-/// The unsigned integers of 4 bytes that stand in the bytes one after the other, if each is below 2^31.
+/// The unsigned integers of 4 bytes that stand in the bytes one after the other, or `None` if one is not
+/// below 2^31.
 pub(crate) fn read_short_u32s(alloc: Global, bytes: &[u8]) -> Result<Option<Vec<i32>>, AllocError>
     ensures { IfOk result (λ short. IfSome short (λ v. v.items ≡ map (int_of 4 false) (first_chunks 4 (length bytes.now / 4) bytes.now))) }
 {

@@ -9,7 +9,7 @@ use crate::bytes::has_bytes;
 use crate::numbers::read_numbers;
 use crate::stored::{Stored, read_kinds};
 use crate::texts::{check_texts, read_starts};
-use crate::tiles::{Tile, TileFault};
+use crate::tiles::{TileFault, TileView};
 use std::alloc::Global;
 use ts_base::ValType;
 use ts_table::{Column, Texts};
@@ -26,7 +26,7 @@ pub fn decode_column(
     ty: ValType,
     nullable: bool,
     count: u64,
-    tile: &Tile,
+    tile: &TileView<'_>,
 ) -> Result<Column, TileFault>
     ensures decodes { DecodesTile (λ column. column) (tile_vals ty nullable count tile.now) result }
     ensures spelled { IfOk result (IsSpelled ty nullable count tile.now) }
@@ -42,12 +42,12 @@ fn decode_parts(
     ty: ValType,
     nullable: bool,
     count: u64,
-    tile: &Tile,
+    tile: &TileView<'_>,
 ) -> Result<Column, TileFault>
     ensures { DecodesTile (λ column. column) (tile_vals ty nullable count tile.now) result }
 {
     let stored = read_stored(alloc, ty, count, tile)?;
-    match read_kinds(alloc, nullable, &stored, tile.validity.as_slice()) {
+    match read_kinds(alloc, nullable, &stored, tile.validity) {
         Ok(kinds) => Ok(stored.into_column(alloc, kinds)),
         Err(ReadFault::Damaged(damaged)) => Err(TileFault::Validity(damaged)),
         Err(ReadFault::OutOfMemory) => Err(TileFault::OutOfMemory),
@@ -55,7 +55,7 @@ fn decode_parts(
 }
 
 // The stored values.
-fn read_stored(alloc: Global, ty: ValType, count: u64, tile: &Tile) -> Result<Stored, TileFault>
+fn read_stored(alloc: Global, ty: ValType, count: u64, tile: &TileView<'_>) -> Result<Stored, TileFault>
     ensures { DecodesTile stored_vals (stored_in (is_integer ty) ty count tile.now) result }
 {
     if ty.is_integer() {
@@ -67,11 +67,11 @@ fn read_stored(alloc: Global, ty: ValType, count: u64, tile: &Tile) -> Result<St
 
 // The stored integers.
 #[tactic(auto, unfolding(crate::specs::Tiles::numbers_in))]
-fn stored_numbers(alloc: Global, ty: ValType, count: u64, tile: &Tile) -> Result<Stored, TileFault>
+fn stored_numbers(alloc: Global, ty: ValType, count: u64, tile: &TileView<'_>) -> Result<Stored, TileFault>
     requires { IsTrue (is_integer ty) }
     ensures { DecodesTile stored_vals (numbers_in ty count tile.now) result }
 {
-    let numbers = match read_numbers(alloc, ty, count, tile.fixed.as_slice()) {
+    let numbers = match read_numbers(alloc, ty, count, tile.fixed) {
         Ok(numbers) => numbers,
         Err(ReadFault::Damaged(damaged)) => return Err(TileFault::Fixed(damaged)),
         Err(ReadFault::OutOfMemory) => return Err(TileFault::OutOfMemory),
@@ -85,12 +85,12 @@ fn stored_numbers(alloc: Global, ty: ValType, count: u64, tile: &Tile) -> Result
 
 // The stored texts or blobs.
 #[tactic(auto, unfolding(crate::specs::Tiles::byte_lists_in))]
-fn stored_texts(alloc: Global, ty: ValType, count: u64, tile: &Tile) -> Result<Stored, TileFault>
+fn stored_texts(alloc: Global, ty: ValType, count: u64, tile: &TileView<'_>) -> Result<Stored, TileFault>
     requires { is_integer ty ≡ false }
     ensures { DecodesTile stored_vals (byte_lists_in ty count tile.now) result }
 {
-    let bytes = tile.var.as_slice();
-    let starts = match read_starts(alloc, bytes.len() as u64, count, tile.fixed.as_slice()) {
+    let bytes = tile.var;
+    let starts = match read_starts(alloc, bytes.len() as u64, count, tile.fixed) {
         Ok(starts) => starts,
         Err(ReadFault::Damaged(damaged)) => return Err(TileFault::Fixed(damaged)),
         Err(ReadFault::OutOfMemory) => return Err(TileFault::OutOfMemory),

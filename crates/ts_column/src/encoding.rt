@@ -29,7 +29,7 @@ pub fn encode_column(
     ensures back { IfOk result (λ tile. tile_vals ty nullable (length column.now) tile ≡ Ok column.now) }
 {
     let tile = encode_parts(alloc, ty, nullable, column)?;
-    has_bytes(&tile);
+    has_bytes(&tile.view());
     Ok(tile)
 }
 

@@ -5,7 +5,7 @@ ghost use Rattle.ts_column.specs.declared.tiles.Tile.{Tile as AnyTile};
 ghost use Rattle.ts_column.specs.declared.tiles.TileFault.TheVariants as fault;
 
 use crate::decoding::decode_column;
-use crate::tiles::{Tile, TileFault};
+use crate::tiles::{TileFault, TileView};
 use rayon::prelude::*;
 use std::alloc::Global;
 use std::thread::Threads;
@@ -29,7 +29,7 @@ pub fn decode_all<R: Threads + Sync>(
     ty: ValType,
     nullable: bool,
     counts: &[u64],
-    tiles: &[Tile],
+    tiles: &[TileView<'_>],
 ) -> Result<ColumnList, TileFault>
     requires { length tiles.now ≡ length counts.now }
     ensures { DecodesTile (λ columns. columns) (tiles_vals ty nullable counts.now tiles.now) result }

@@ -57,7 +57,7 @@ pub fn decode_tile(
     ensures decodes { DecodesTile (λ row. row) (tile_vals ty nullable count tile.now) result }
     ensures spelled { IfOk result (IsSpelled ty nullable count tile.now) }
 {
-    let column = decode_column(alloc, ty, nullable, count, tile)?;
+    let column = decode_column(alloc, ty, nullable, count, &tile.view())?;
     match row_of(alloc, &column) {
         Ok(row) => Ok(row),
         Err(OutOfMemory) => Err(TileFault::OutOfMemory),

@@ -2,11 +2,11 @@
 ghost use Rattle.ts_schema.specs.Parts.{IsShort};
 ghost use Rattle.ts_wire.specs.Exact.{IsBytes};
 
-use ts_base::ByteList;
+use ts_store::SharedBytes;
 
 /// The items of a list of bytes are bytes, of which there are fewer than 2^64. The call itself changes
 /// nothing.
-pub(crate) fn has_object(object: &ByteList)
+pub(crate) fn has_object(object: &SharedBytes)
     ensures bytes { IsBytes object.now }
     ensures short { IsShort object.now }
 {

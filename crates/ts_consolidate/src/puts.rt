@@ -6,9 +6,9 @@ ghost use Rattle.ts_consolidate.specs.Merges.{HaveNames, IsMergeState, merges_le
 
 use std::alloc::Global;
 use ts_actor::Pieces;
-use ts_base::{Name, OutOfMemory, Place};
+use ts_base::{Duplicate, Name, OutOfMemory, Place};
 use ts_model::{NewObjectList, Outcome, Refusal, State};
-use ts_store::{Call, Reply, SharedBytes};
+use ts_store::{Call, Reply};
 
 /// A job puts objects from a place on, and ends after the last.
 pub(crate) fn put<P: Pieces>(objects: NewObjectList, next: u64, end: Outcome) -> State<P::Fetch>
@@ -37,7 +37,7 @@ pub(crate) fn next_put(
 {
     if next < objects.len() {
         let object = objects.at(next);
-        let bytes = SharedBytes::of_bytes(alloc, object.bytes.as_slice())?;
+        let bytes = object.bytes.copy(alloc)?;
         Ok(Some(Call::Put(object.name, bytes)))
     } else {
         Ok(None)

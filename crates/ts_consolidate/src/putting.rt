@@ -17,6 +17,7 @@ use ts_commit::{encode_vac, names_merged};
 use ts_model::{Job, NewObject, NewObjectList, Opened, Outcome, State, Survey};
 use ts_piece::BatchPiece;
 use ts_schema::{Frame, Schema};
+use ts_store::SharedBytes;
 
 /// A consolidation puts what its sources are merged into, of which it has got all versions. Sources
 /// that have too many origins or versions together are not merged.
@@ -149,11 +150,11 @@ fn objects_of(
     let mut objects = part_objects(alloc, frag, parts)?;
     objects.push(NewObject {
         name: Name::Commit(frag, CommitKind::Vac),
-        bytes: vac,
+        bytes: SharedBytes::of_list(vac)?,
     })?;
     objects.push(NewObject {
         name: Name::Commit(frag, CommitKind::Wrt),
-        bytes: ByteList::new(alloc),
+        bytes: SharedBytes::new(),
     })?;
     Ok(NewObjectList::from_vec(objects))
 }
@@ -169,20 +170,20 @@ fn part_objects(
     let parts = parts.into_vec();
     let mut objects = Vec::with_capacity(alloc, parts.len())?;
     for part in parts {
-        objects.push(part_object(frag, part))?;
+        objects.push(part_object(frag, part)?)?;
     }
     Ok(objects)
 }
 
 // The object of a part of a fragment.
-fn part_object(frag: FragKey, part: PartBytes) -> NewObject
-    ensures { result ≡ record { name = Name.Part frag part.part; bytes = part.bytes } }
+fn part_object(frag: FragKey, part: PartBytes) -> Result<NewObject, OutOfMemory>
+    ensures { IfOk result (λ object. object ≡ record { name = Name.Part frag part.part; bytes = part.bytes }) }
 {
     let PartBytes { part, bytes } = part;
-    NewObject {
+    Ok(NewObject {
         name: Name::Part(frag, part),
-        bytes,
-    }
+        bytes: SharedBytes::of_list(bytes)?,
+    })
 }
 
 // The names of a first source and others.

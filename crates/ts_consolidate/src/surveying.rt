@@ -19,13 +19,13 @@ use crate::planning::{Surveyed, merge_planned};
 use std::alloc::Global;
 use std::thread::Threads;
 use ts_actor::{Pieces, get_all, schemas_in};
-use ts_base::{Boxed, ByteList, CommitKind, FragKey, FragList, KeyList, Name, OutOfMemory, Prefix};
+use ts_base::{Boxed, CommitKind, FragKey, FragList, KeyList, Name, OutOfMemory, Prefix};
 use ts_commit::{VacList, VacOf, decode_vac};
 use ts_model::{
     Candidates, Command, Job, Merging, Opened, OpenedList, Outcome, Refusal, State, Survey,
 };
 use ts_schema::{Frame, Schema, SchemaList, schema_at};
-use ts_store::{Call, Reply};
+use ts_store::{Call, Reply, SharedBytes};
 use ts_wire::ReadFault;
 
 /// Where the reply to the listing of the commits leads.
@@ -182,7 +182,7 @@ fn after_names<P: Pieces, R: Threads + Sync>(
     job: &Job,
     survey: Survey,
     frag: FragKey,
-    bytes: ByteList,
+    bytes: SharedBytes,
 ) -> Result<State<P::Fetch>, OutOfMemory>
     requires known { IsSurvey survey }
     requires within { length survey.vacs < length survey.counting }
@@ -273,7 +273,7 @@ fn after_opened<P: Pieces, R: Threads + Sync>(
     survey: Survey,
     opened: OpenedList,
     frag: FragKey,
-    bytes: ByteList,
+    bytes: SharedBytes,
 ) -> Result<State<P::Fetch>, OutOfMemory>
     requires survey { IsSurvey survey }
     requires opened { AreOpened P.codec survey.frame opened }

@@ -8,10 +8,11 @@ use crate::opened::Opened;
 use crate::reading::take_tile;
 use std::alloc::Global;
 use std::thread::Threads;
-use ts_base::{ByteList, OutOfMemory};
+use ts_base::OutOfMemory;
 use ts_batch::Batches;
 use ts_fetch::{Judge, Verdict};
 use ts_sparse_read::{CellFault, MOST_ATTRS, decode_tiles, told};
+use ts_store::SharedBytes;
 
 impl Judge for Opened {
     ghost judge = { space_judge };
@@ -20,7 +21,7 @@ impl Judge for Opened {
         &self,
         rt: &R,
         alloc: Global,
-        got: &[ByteList],
+        got: &[SharedBytes],
     ) -> Result<Verdict, OutOfMemory> {
         match take_tiles(rt, alloc, self, got) {
             Ok(found) => Ok(Verdict::Whole(found)),
@@ -36,7 +37,7 @@ fn take_tiles<R: Threads + Sync>(
     rt: &R,
     alloc: Global,
     opened: &Opened,
-    got: &[ByteList],
+    got: &[SharedBytes],
 ) -> Result<Batches, CellFault>
     ensures { DecodesFault (λ found. found) (tiles_taken opened.now opened.now.tiles got.now) result }
 {

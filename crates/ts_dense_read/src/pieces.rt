@@ -21,7 +21,7 @@ use std::alloc::Global;
 use std::marker::PhantomData;
 use std::thread::Threads;
 use ts_actor::{Fetched, Pieces};
-use ts_base::{ByteList, FragKey, Head, OutOfMemory, Part, PartList, VersionList, VersionLists};
+use ts_base::{FragKey, Head, OutOfMemory, Part, PartList, VersionList, VersionLists};
 use ts_dense::build;
 use ts_fetch::TileFetch;
 use ts_footer::read_dense_head;
@@ -29,7 +29,7 @@ use ts_kinds::EitherFetch;
 use ts_piece::BatchPiece;
 use ts_plain::merge_all;
 use ts_schema::{Frame, Schema, Spelling, Want};
-use ts_store::Reply;
+use ts_store::{Reply, SharedBytes};
 use ts_wire::ReadFault;
 
 /// Dense fragments in space tiles, each column in an object of its own, and metadata that says where they
@@ -123,7 +123,7 @@ impl<S: Pieces> Pieces for DensePieces<S> {
         frame: &Frame,
         schema: &Schema,
         frag: FragKey,
-        object: &ByteList,
+        object: &SharedBytes,
         want: &Want,
     ) -> Result<BoxedFetch<EitherFetch<TileFetch<Opened>, S::Fetch>>, ReadFault> {
         if frame.dense {

@@ -10,11 +10,11 @@ use crate::origins::read_origins;
 use crate::slots::TileSlots;
 use crate::versions::take_slots;
 use std::alloc::Global;
-use ts_base::ByteList;
 use ts_batch::Batches;
 use ts_column::ColumnList;
 use ts_domain::SubBox;
 use ts_sparse_read::{CellFault, Ranges, WantedTile, are_bounds, vals_or_read};
+use ts_store::SharedBytes;
 
 /// Takes what is wanted of the slots of a space tile, behind those of the tiles before it, from the bytes
 /// that were got of its spans. Its values may be decoded already.
@@ -24,7 +24,7 @@ pub(crate) fn take_tile(
     alloc: Global,
     opened: &Opened,
     tile: &WantedTile,
-    got: &[ByteList],
+    got: &[SharedBytes],
     decoded: Option<ColumnList>,
     found: &mut Batches,
 ) -> Result<(), CellFault>

@@ -11,8 +11,8 @@ use std::collections::VecDeque;
 use std::marker::Model;
 use std::thread::Threads;
 use ts_actor::Fetched;
-use ts_base::{ByteList, FragKey};
-use ts_store::Reply;
+use ts_base::FragKey;
+use ts_store::{Reply, SharedBytes};
 
 /// How far a fetch of a fragment in tiles has come: what it knows from the metadata, the call that it
 /// waits for, the calls that are left, and the ranges that it got so far.
@@ -22,7 +22,7 @@ pub struct TileFetch<J> {
     frag: FragKey,
     waits: Option<Planned>,
     left: VecDeque<Planned>,
-    got: Vec<ByteList>,
+    got: Vec<SharedBytes>,
 }
 
 impl<J> Model for TileFetch<J> {

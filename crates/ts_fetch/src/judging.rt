@@ -5,8 +5,9 @@ ghost use Rattle.ts_fetch.specs.declared.judging.Verdict.{Verdict as AnyVerdict}
 
 use std::alloc::Global;
 use std::thread::Threads;
-use ts_base::{ByteList, OutOfMemory, Part};
+use ts_base::{OutOfMemory, Part};
 use ts_batch::Batches;
+use ts_store::SharedBytes;
 
 /// What the ranges of a fragment hold.
 #[derive(Debug, Drop)]
@@ -30,7 +31,7 @@ pub trait Judge: Drop {
         &self,
         rt: &R,
         alloc: Global,
-        got: &[ByteList],
+        got: &[SharedBytes],
     ) -> Result<Verdict, OutOfMemory>
         requires { IsSync R.row }
         ensures { IfOk result (λ verdict. verdict ≡ judge self.now got.now) };

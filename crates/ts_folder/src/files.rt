@@ -13,7 +13,7 @@ use std::rt::Files;
 use std::time::Clock;
 use std::{fs, io};
 use ts_base::{ByteList, Name};
-use ts_store::Made;
+use ts_store::{Made, SharedBytes};
 
 /// How many names are tried for a temporary file.
 const TRIES: u32 = 100;
@@ -184,7 +184,7 @@ pub(crate) fn get<R: Files>(
     name: Name,
     from: u64,
     len: u64,
-) -> Result<Option<ByteList>, Trouble>
+) -> Result<Option<SharedBytes>, Trouble>
     ensures { IfOk result (λ got. IfSome got (λ bytes. length bytes ≤ len)) }
 {
     let path = root.file(alloc, name)?;
@@ -199,7 +199,7 @@ pub(crate) fn get<R: Files>(
         file.seek(SeekFrom::Start(from))?;
     }
     let bytes = read_front(alloc, &mut file, count as usize)?;
-    Ok(Some(ByteList::from_vec(bytes)))
+    Ok(Some(SharedBytes::of_list(ByteList::from_vec(bytes))?))
 }
 
 /// Reads so many bytes. A file that has fewer left is an error.

@@ -10,7 +10,7 @@ use crate::trouble::Trouble;
 use std::alloc::Global;
 use std::rt::Files;
 use std::time::Clock;
-use ts_base::{ByteList, Name, NameList, Prefix};
+use ts_base::{Name, NameList, Prefix};
 use ts_store::{Fate, Made, SharedBytes, Store, StoreError};
 
 /// A store in a folder of the file system, which may be shared by processes and by machines.
@@ -116,7 +116,7 @@ impl<R: Files + Clock + Send + Drop> Store for FolderStore<R> {
         name: Name,
         from: u64,
         len: u64,
-    ) -> Result<Option<ByteList>, StoreError> {
+    ) -> Result<Option<SharedBytes>, StoreError> {
         self.tally.asked = self.tally.asked.saturating_add(1);
         let bytes = files::get(alloc, &self.rt, &self.root, name, from, len);
         self.tally.end(bytes)

@@ -4,6 +4,7 @@ ghost use Rattle.ts_folder.specs.declared.trouble.Trouble.TheVariants.{Device, M
 
 use std::alloc::AllocError;
 use std::io;
+use ts_base::OutOfMemory;
 
 /// Why work on files was not done.
 #[derive(Clone, Copy, Debug)]
@@ -26,6 +27,14 @@ impl From<AllocError> for Trouble {
     ghost from_gives = { λ _ trouble. trouble ≡ Memory };
 
     fn from(_error: AllocError) -> Trouble {
+        Trouble::Memory
+    }
+}
+
+impl From<OutOfMemory> for Trouble {
+    ghost from_gives = { λ _ trouble. trouble ≡ Memory };
+
+    fn from(_error: OutOfMemory) -> Trouble {
         Trouble::Memory
     }
 }

@@ -5,13 +5,12 @@ use crate::deeds::DeletionList;
 use crate::queries::Ready;
 use std::alloc::Global;
 use ts_base::{
-    Boxed, ByteList, Duplicate, FragKey, FragList, Head, Key, KeyList, Name, NameList, OutOfMemory,
-    Sequence,
+    Boxed, Duplicate, FragKey, FragList, Head, Key, KeyList, Name, NameList, OutOfMemory, Sequence,
 };
 use ts_batch::{Batches, BatchesList};
 use ts_commit::{Limits, VacList};
 use ts_schema::{Frame, Schema, SchemaList};
-use ts_store::Call;
+use ts_store::{Call, SharedBytes};
 
 /// An object that a job is to put.
 #[derive(Clone, Debug, Drop, PartialEq, Eq)]
@@ -19,7 +18,7 @@ pub struct NewObject {
     /// Its name.
     pub name: Name,
     /// Its bytes.
-    pub bytes: ByteList,
+    pub bytes: SharedBytes,
 }
 
 /// Objects in the order in which a job puts them.
@@ -39,7 +38,7 @@ pub struct Opened {
     /// The head.
     pub head: Head,
     /// The object of the part that has the head.
-    pub object: ByteList,
+    pub object: SharedBytes,
 }
 
 /// Fragments whose heads were read.

@@ -8,11 +8,11 @@ use crate::fetching::{Gathered, fetch_from};
 use std::alloc::Global;
 use std::thread::Threads;
 use ts_actor::{Pieces, get_all};
-use ts_base::{Boxed, ByteList, CommitKind, FragKey, Key, Name, OutOfMemory};
+use ts_base::{Boxed, CommitKind, FragKey, Key, Name, OutOfMemory};
 use ts_batch::Batches;
 use ts_cond::Cond;
 use ts_model::{Deletion, Outcome, State};
-use ts_store::Reply;
+use ts_store::{Reply, SharedBytes};
 use ts_wire::ReadFault;
 
 /// A read gets the next delete, or begins to fetch.
@@ -67,7 +67,7 @@ fn after_delete<P: Pieces, R: Threads + Sync>(
     alloc: Global,
     gathered: Gathered,
     frag: FragKey,
-    bytes: ByteList,
+    bytes: SharedBytes,
 ) -> Result<State<P::Fetch>, OutOfMemory>
     requires known { IsKnown gathered.reading gathered.opened gathered.schemas }
     requires within { length gathered.reading.deletions < length gathered.reading.delete_names }

@@ -8,10 +8,10 @@ use crate::opening::open_next;
 use std::alloc::Global;
 use std::thread::Threads;
 use ts_actor::{Pieces, get_all};
-use ts_base::{Boxed, ByteList, CommitKind, FragKey, FragList, Name, OutOfMemory};
+use ts_base::{Boxed, CommitKind, FragKey, FragList, Name, OutOfMemory};
 use ts_commit::{VacOf, decode_vac};
 use ts_model::{Collecting, OpenedList, Outcome, Reading, State};
-use ts_store::Reply;
+use ts_store::{Reply, SharedBytes};
 use ts_wire::ReadFault;
 
 /// A read gets the next `.vac`, or opens its fragments.
@@ -66,7 +66,7 @@ fn after_vac<P: Pieces, R: Threads + Sync>(
     alloc: Global,
     reading: Boxed<Reading>,
     frag: FragKey,
-    bytes: ByteList,
+    bytes: SharedBytes,
 ) -> Result<State<P::Fetch>, OutOfMemory>
     requires known { IsReading reading }
     requires within { length reading.vacs < length reading.counting }

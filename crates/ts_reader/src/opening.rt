@@ -20,7 +20,7 @@ use crate::named::keys_named;
 use std::alloc::Global;
 use std::thread::Threads;
 use ts_actor::{Pieces, get_all};
-use ts_base::{Boxed, ByteList, FragKey, FragList, KeyList, Name, OutOfMemory};
+use ts_base::{Boxed, FragKey, FragList, KeyList, Name, OutOfMemory};
 use ts_commit::VacList;
 use ts_cond::Query;
 use ts_model::{
@@ -28,7 +28,7 @@ use ts_model::{
     Reading, State, check_query,
 };
 use ts_schema::{Frame, Schema, SchemaList};
-use ts_store::Reply;
+use ts_store::{Reply, SharedBytes};
 use ts_wire::ReadFault;
 
 /// A read that has the schema that holds and the frame opens its first fragment, or is refused.
@@ -198,7 +198,7 @@ fn after_head<P: Pieces, R: Threads + Sync>(
     reading: Boxed<Reading>,
     opened: OpenedList,
     frag: FragKey,
-    bytes: ByteList,
+    bytes: SharedBytes,
 ) -> Result<State<P::Fetch>, OutOfMemory>
     requires reading { IsReading reading }
     requires spelled { AreSpelled opened }

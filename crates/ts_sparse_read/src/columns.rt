@@ -19,8 +19,8 @@ use crate::opened::Opened;
 use crate::ranges::Ranges;
 use crate::used::is_among;
 use std::alloc::Global;
-use ts_base::{ByteList, Coords, IndexList, OutOfMemory, Part, Sequence, ValType};
-use ts_column::{ColumnList, Tile, TileFault, decode_column, decode_coords, decode_origins};
+use ts_base::{Coords, IndexList, OutOfMemory, Part, Sequence, ValType};
+use ts_column::{ColumnList, TileFault, TileView, decode_column, decode_coords, decode_origins};
 use ts_domain::{Dim, Domain, SubBox};
 use ts_schema::Attr;
 use ts_table::{Column, Numbers};
@@ -232,22 +232,22 @@ fn vals_of(
     if !read {
         return Ok(Column::nulls(alloc, count)?);
     }
-    let tile = tile_in(alloc, ranges, place)?;
+    let tile = tile_in(ranges, place);
     match decode_column(alloc, attr.ty, attr.nullable, count, &tile) {
         Ok(column) => Ok(column),
         Err(fault) => Err(fault_of(ranges, place, fault)),
     }
 }
 
-/// The tile of the attribute at a place.
-pub(crate) fn tile_in(alloc: Global, ranges: &Ranges, place: u8) -> Result<Tile, OutOfMemory>
-    ensures { IfOk result (λ tile. tile ≡ tile_in ranges.now place) }
+/// The tile of the attribute at a place, whose bytes stay where they were got.
+pub(crate) fn tile_in<'a>(ranges: &Ranges<'a>, place: u8) -> TileView<'a>
+    ensures { result ≡ tile_in ranges.now place }
 {
-    Ok(Tile {
-        fixed: ByteList::of_bytes(alloc, ranges.bytes_of(Part::Attr(place)))?,
-        var: ByteList::of_bytes(alloc, ranges.bytes_of(Part::Var(place)))?,
-        validity: ByteList::of_bytes(alloc, ranges.bytes_of(Part::Validity(place)))?,
-    })
+    TileView {
+        fixed: ranges.bytes_of(Part::Attr(place)),
+        var: ranges.bytes_of(Part::Var(place)),
+        validity: ranges.bytes_of(Part::Validity(place)),
+    }
 }
 
 // What is broken in the tile of the attribute at a place.

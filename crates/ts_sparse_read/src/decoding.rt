@@ -9,9 +9,10 @@ use crate::used::is_among;
 use std::alloc::Global;
 use std::collections::VecDeque;
 use std::thread::Threads;
-use ts_base::{ByteList, CountList, OutOfMemory};
-use ts_column::{ColumnList, TileFault, TileList, decode_all};
+use ts_base::{CountList, OutOfMemory};
+use ts_column::{ColumnList, TileFault, TileViewList, decode_all};
 use ts_schema::Attr;
+use ts_store::SharedBytes;
 use ts_table::Column;
 
 /// The columns of some tiles: of each tile one column for each attribute.
@@ -29,7 +30,7 @@ pub fn decode_tiles<R: Threads + Sync>(
     places: &[u32],
     attrs: &[Attr],
     tiles: &[WantedTile],
-    got: &[ByteList],
+    got: &[SharedBytes],
 ) -> Result<TileColumns, OutOfMemory>
     requires few { length attrs.now ≤ 64 }
     ensures { IfOk result (λ decoded. AreDecoded places.now attrs.now tiles.now got.now decoded.items) }
@@ -88,7 +89,7 @@ fn columns_of<R: Threads + Sync>(
     attr: &Attr,
     counts: &[u64],
     tiles: &[WantedTile],
-    got: &[ByteList],
+    got: &[SharedBytes],
 ) -> Result<Option<ColumnList>, OutOfMemory>
     requires { counts.now ≡ counts_of tiles.now }
     ensures { IfOk result (λ found. IfSome found (AreOfAttr read place attr.now tiles.now got.now)) }
@@ -116,19 +117,19 @@ fn null_columns(alloc: Global, counts: &[u64]) -> Result<ColumnList, OutOfMemory
 }
 
 // The tile of the attribute at a place, of each of the tiles.
-fn attr_tiles(
+fn attr_tiles<'a>(
     alloc: Global,
     place: u8,
-    tiles: &[WantedTile],
-    got: &[ByteList],
-) -> Result<TileList, OutOfMemory>
+    tiles: &'a [WantedTile],
+    got: &'a [SharedBytes],
+) -> Result<TileViewList<'a>, OutOfMemory>
     ensures { IfOk result (λ parts. parts ≡ attr_tiles place tiles.now got.now) }
 {
-    let mut parts = TileList::new(alloc);
+    let mut parts = TileViewList::new(alloc);
     let mut next = 0;
     for tile in tiles {
         let ranges = Ranges::new(tile.spans.as_slice(), &got[next..]);
-        parts.push(tile_in(alloc, &ranges, place)?)?;
+        parts.push(tile_in(&ranges, place))?;
         next += (got.len() - next).min(tile.spans.as_slice().len());
     }
     Ok(parts)

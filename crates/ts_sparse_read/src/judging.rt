@@ -11,9 +11,10 @@ use crate::reading::sift_tile;
 use crate::sifted::Sifted;
 use std::alloc::Global;
 use std::thread::Threads;
-use ts_base::{ByteList, OutOfMemory};
+use ts_base::OutOfMemory;
 use ts_batch::Batches;
 use ts_fetch::{Judge, Verdict};
+use ts_store::SharedBytes;
 
 impl Judge for Opened {
     ghost judge = { sparse_judge };
@@ -22,7 +23,7 @@ impl Judge for Opened {
         &self,
         rt: &R,
         alloc: Global,
-        got: &[ByteList],
+        got: &[SharedBytes],
     ) -> Result<Verdict, OutOfMemory> {
         match sift_tiles(rt, alloc, self, got) {
             Ok(sifted) => Ok(Verdict::Whole(sifted.found)),
@@ -48,7 +49,7 @@ fn sift_tiles<R: Threads + Sync>(
     rt: &R,
     alloc: Global,
     opened: &Opened,
-    got: &[ByteList],
+    got: &[SharedBytes],
 ) -> Result<Sifted, CellFault>
     ensures { DecodesFault (λ sifted. sifted) (sift_tiles opened.now nothing_sifted opened.now.tiles got.now) result }
 {

@@ -14,14 +14,14 @@ use crate::opening::open;
 use std::alloc::Global;
 use std::thread::Threads;
 use ts_actor::{Fetched, Pieces};
-use ts_base::{ByteList, FragKey, Head, OutOfMemory, Part, PartList, VersionList, VersionLists};
+use ts_base::{FragKey, Head, OutOfMemory, Part, PartList, VersionList, VersionLists};
 use ts_fetch::TileFetch;
 use ts_footer::read_head;
 use ts_piece::BatchPiece;
 use ts_plain::merge_all;
 use ts_schema::{Frame, Schema, Spelling, Want};
 use ts_sparse::build;
-use ts_store::Reply;
+use ts_store::{Reply, SharedBytes};
 use ts_wire::ReadFault;
 
 /// Each column of a fragment in an object of its own, in tiles, and metadata that says where they stand.
@@ -101,7 +101,7 @@ impl Pieces for SparsePieces {
         frame: &Frame,
         schema: &Schema,
         frag: FragKey,
-        object: &ByteList,
+        object: &SharedBytes,
         want: &Want,
     ) -> Result<TileFetch<Opened>, ReadFault> {
         open(alloc, frame, schema, frag, object.as_slice(), want)

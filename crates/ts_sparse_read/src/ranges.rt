@@ -7,7 +7,8 @@ ghost use Rattle.ts_sparse_read.specs.Reads.{IsCellFault};
 use crate::faults::CellFault;
 use crate::opened::Span;
 use std::marker::Model;
-use ts_base::{ByteList, Part};
+use ts_base::Part;
+use ts_store::SharedBytes;
 
 /// The bytes that were got of spans, one list for each span in their order. Of spans behind the last
 /// list there are none.
@@ -16,7 +17,7 @@ use ts_base::{ByteList, Part};
 #[derive(Drop)]
 pub struct Ranges<'a> {
     spans: &'a [Span],
-    got: &'a [ByteList],
+    got: &'a [SharedBytes],
 }
 
 impl<'a> Model for Ranges<'a> {
@@ -31,7 +32,7 @@ impl<'a> Model for Ranges<'a> {
 
 impl<'a> Ranges<'a> {
     /// The bytes that were got of these spans.
-    pub fn new(spans: &'a [Span], got: &'a [ByteList]) -> Ranges<'a>
+    pub fn new(spans: &'a [Span], got: &'a [SharedBytes]) -> Ranges<'a>
         ensures { result ≡ ranged spans.now got.now }
     {
         Ranges { spans, got }
@@ -78,7 +79,7 @@ impl<'a> Ranges<'a> {
 }
 
 // The bytes at a place, none behind the last.
-fn bytes_at(got: &[ByteList], place: usize) -> &[u8]
+fn bytes_at(got: &[SharedBytes], place: usize) -> &[u8]
     ensures { result.now ≡ get_or got.now place [] }
 {
     match got.get(place) {

@@ -17,10 +17,10 @@ use crate::ranges::Ranges;
 use crate::sifted::{Sifted, Spot};
 use crate::versions::{add_rows, push_wanted};
 use std::alloc::Global;
-use ts_base::ByteList;
 use ts_column::ColumnList;
 use ts_domain::SubBox;
 use ts_schema::Frame;
+use ts_store::SharedBytes;
 
 /// Takes what is wanted of the cells of a tile, behind those of the tiles before it, from the bytes that
 /// were got of its spans. Its values may be decoded already.
@@ -30,7 +30,7 @@ pub(crate) fn sift_tile(
     alloc: Global,
     opened: &Opened,
     tile: &WantedTile,
-    got: &[ByteList],
+    got: &[SharedBytes],
     decoded: Option<ColumnList>,
     sifted: &mut Sifted,
 ) -> Result<(), CellFault>

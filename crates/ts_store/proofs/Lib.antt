@@ -3,3 +3,4 @@ pub mod JournalLemmas
 pub mod RangeLemmas
 pub mod Trees
 pub mod RecorderLemmas
+pub mod Shares

@@ -5,7 +5,7 @@ ghost use Rattle.ts_store.specs.Calls.{is_no_memory};
 use crate::bytes::SharedBytes;
 use std::alloc::Global;
 use thiserror::Error;
-use ts_base::{ByteList, Duplicate, Name, NameList, OutOfMemory, Prefix};
+use ts_base::{Duplicate, Name, NameList, OutOfMemory, Prefix};
 
 /// A call to a store.
 #[derive(Clone, Debug, Drop, PartialEq, Eq)]
@@ -36,7 +36,7 @@ pub enum Reply {
     /// A listing: the names, ascending.
     Names(NameList),
     /// A get: the bytes.
-    Bytes(ByteList),
+    Bytes(SharedBytes),
     /// A get or a size: the name is not held.
     Absent,
     /// A size: the length of the object in bytes.

@@ -197,14 +197,14 @@ impl Store for MemStore {
 
     fn get(
         &mut self,
-        alloc: Global,
+        _alloc: Global,
         name: Name,
         from: u64,
         len: u64,
-    ) -> Result<Option<ByteList>, StoreError> {
+    ) -> Result<Option<SharedBytes>, StoreError> {
         let fate = self.begin();
         self.asked = self.asked.saturating_add(1);
-        let bytes = self.objects.part(alloc, name, from, len)?;
+        let bytes = self.objects.part(name, from, len)?;
         self.end(fate, bytes)
     }
 

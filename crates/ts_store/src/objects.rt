@@ -16,9 +16,7 @@ use std::alloc::{AllocError, Global};
 use std::collections::BTreeMap;
 use std::marker::Model;
 use std::ops::Bound;
-use ts_base::{
-    ByteList, CommitKind, FragKey, Key, LeaseMode, Name, NameList, OutOfMemory, Part, Prefix,
-};
+use ts_base::{CommitKind, FragKey, Key, LeaseMode, Name, NameList, OutOfMemory, Part, Prefix};
 
 /// The least key of a fragment.
 const LEAST: FragKey = FragKey {
@@ -100,18 +98,16 @@ impl Objects {
     /// The bytes of an object from a place on, at most `len` of them.
     pub(crate) fn part(
         &self,
-        alloc: Global,
         name: Name,
         from: u64,
         len: u64,
-    ) -> Result<Option<ByteList>, OutOfMemory>
+    ) -> Result<Option<SharedBytes>, OutOfMemory>
         ensures { IfOk result (λ part. part ≡ option_map (part_of from len) (finite.get self.now name)) }
     {
-        let Some(bytes) = self.get(name) else {
-            return Ok(None);
-        };
-        let part = part_of(bytes.as_slice(), from, len);
-        Ok(Some(ByteList::of_bytes(alloc, part)?))
+        match self.get(name) {
+            Some(bytes) => Ok(Some(bytes.part(from, len)?)),
+            None => Ok(None),
+        }
     }
 
     /// The length of an object in bytes.
@@ -203,14 +199,4 @@ fn bounds_of(prefix: Prefix) -> (Bound<Name>, Bound<Name>)
             Bound::Included(Name::Part(frag, Part::Plain)),
         ),
     }
-}
-
-// The bytes from a place on, at most `len` of them and none past the end.
-fn part_of(bytes: &[u8], from: u64, len: u64) -> &[u8]
-    ensures { result.now ≡ part_of from len bytes.now }
-{
-    let end = bytes.len() as u64;
-    let start = from.min(end);
-    let count = len.min(end - start);
-    &bytes[start as usize..(start + count) as usize]
 }

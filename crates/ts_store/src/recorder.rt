@@ -11,7 +11,7 @@ use crate::fate::Fate;
 use crate::journal::{Entry, Journal};
 use crate::store::Store;
 use std::alloc::Global;
-use ts_base::{ByteList, Duplicate, Name, NameList, OutOfMemory, Prefix};
+use ts_base::{Duplicate, Name, NameList, OutOfMemory, Prefix};
 
 /// A store over another that enters each call in a journal, under one lane.
 ///
@@ -146,7 +146,7 @@ impl<S: Store> Store for Recorder<S> {
         name: Name,
         from: u64,
         len: u64,
-    ) -> Result<Option<ByteList>, StoreError> {
+    ) -> Result<Option<SharedBytes>, StoreError> {
         self.book.asked = self.book.asked.saturating_add(1);
         self.book.open()?;
         let answer = self.store.get(alloc, name, from, len);

@@ -13,7 +13,7 @@ use crate::bytes::SharedBytes;
 use crate::call::{Call, Made, Reply, StoreError};
 use crate::fate::Fate;
 use std::alloc::Global;
-use ts_base::{ByteList, Name, NameList, Prefix};
+use ts_base::{Name, NameList, Prefix};
 
 /// A place where objects are kept by name.
 ///
@@ -69,7 +69,7 @@ pub trait Store: Send {
         name: Name,
         from: u64,
         len: u64,
-    ) -> Result<Option<ByteList>, StoreError>
+    ) -> Result<Option<SharedBytes>, StoreError>
         requires { IsSpelled name }
         ensures answers { Answers (held self.old) (held self.new) (last self.new) (Call.Get name from len) (get_reply result) }
         ensures cause { HasCause (faults self.old) (faults self.new) (get_reply result) }

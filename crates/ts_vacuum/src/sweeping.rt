@@ -14,11 +14,11 @@ use crate::removals::remove;
 use crate::removed::names_removed;
 use std::alloc::Global;
 use ts_actor::{counting_in, end_by, end_damaged, frags_in, get_all, schemas_in};
-use ts_base::{ByteList, CommitKind, FragKey, FragList, Name, NameList, OutOfMemory, Prefix};
+use ts_base::{CommitKind, FragKey, FragList, Name, NameList, OutOfMemory, Prefix};
 use ts_commit::{VacList, VacOf, decode_vac, removal_set};
 use ts_model::{NameLists, Outcome, Refusal, State, Sweep, Sweeping};
 use ts_schema::schema_at;
-use ts_store::{Call, Reply};
+use ts_store::{Call, Reply, SharedBytes};
 use ts_wire::ReadFault;
 
 /// Where the reply to the listing of the commits leads.
@@ -121,7 +121,7 @@ fn after_vac<F: Drop>(
     alloc: Global,
     sweep: Sweep,
     frag: FragKey,
-    bytes: ByteList,
+    bytes: SharedBytes,
 ) -> Result<State<F>, OutOfMemory>
     requires known { IsSweep sweep }
     requires spelled { IsSpelledVac frag }

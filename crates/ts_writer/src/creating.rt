@@ -16,7 +16,7 @@ use std::alloc::Global;
 use std::marker::PhantomData;
 use std::thread::Threads;
 use ts_actor::{Automaton, Pieces};
-use ts_base::{ByteList, Duplicate, Name, OutOfMemory, Prefix};
+use ts_base::{Duplicate, Name, OutOfMemory, Prefix};
 use ts_domain::Domain;
 use ts_model::{Command, Creating, FrameIn, Job, Outcome, Refusal, State};
 use ts_schema::{Frame, Schema, schema_fault};
@@ -101,7 +101,7 @@ fn ask_creating(alloc: Global, job: &Job, creating: &Creating) -> Result<Option<
 {
     match creating {
         Creating::PutsFrame => {
-            let bytes = SharedBytes::of_list(own_object(alloc, job)?)?;
+            let bytes = own_object(alloc, job)?;
             Ok(Some(Call::Put(Name::Domain, bytes)))
         }
         Creating::ComparesFrame => Ok(Some(Call::Get(Name::Domain, 0, u64::MAX))),
@@ -173,12 +173,12 @@ fn frame_of(frame: &FrameIn) -> Frame
 }
 
 // The object of the frame that a create makes.
-fn own_object(alloc: Global, job: &Job) -> Result<ByteList, OutOfMemory>
+fn own_object(alloc: Global, job: &Job) -> Result<SharedBytes, OutOfMemory>
     requires serves { IsCreateJob job.now }
     requires sound { refused_before job.now.command ≡ None }
     ensures { IfOk result (λ bytes. option_map frame_put (made_by job.now.command) ≡ Some (Call.Put Name.Domain bytes)) }
 {
-    frame_of(frame_in(job)).encode(alloc)
+    SharedBytes::of_list(frame_of(frame_in(job)).encode(alloc)?)
 }
 
 // A create puts its first schema.

@@ -18,6 +18,7 @@ use ts_model::{
     Command, Job, Listed, NewObject, NewObjectList, Outcome, QueryFault, State, check_delete,
 };
 use ts_schema::{Frame, Schema};
+use ts_store::SharedBytes;
 
 /// What deletes put: the object of their condition.
 #[derive(Drop)]
@@ -96,7 +97,7 @@ fn put_delete<F>(alloc: Global, job: &Job, condition: &Cond) -> Result<State<F>,
     let mut objects = NewObjectList::new(alloc);
     objects.push(NewObject {
         name: Name::Commit(frag_of(job), CommitKind::Del),
-        bytes: condition.encode(alloc)?,
+        bytes: SharedBytes::of_list(condition.encode(alloc)?)?,
     })?;
     Ok(put(objects, 0, Outcome::Deleted(frag_of(job))))
 }

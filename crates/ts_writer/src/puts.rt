@@ -9,7 +9,7 @@ ghost use Rattle.ts_writer.specs.Writing.{AreSpelled, IsPutState, calls_left};
 
 use crate::ends::put_ended;
 use std::alloc::Global;
-use ts_base::{FragKey, Key, Name, OutOfMemory};
+use ts_base::{Duplicate, FragKey, Key, Name, OutOfMemory};
 use ts_model::{Job, NewObject, NewObjectList, Outcome, State};
 use ts_schema::Schema;
 use ts_store::{Call, Reply, SharedBytes};
@@ -69,7 +69,7 @@ pub(crate) fn next_put(
 {
     if next < objects.len() {
         let object = objects.at(next);
-        let bytes = SharedBytes::of_bytes(alloc, object.bytes.as_slice())?;
+        let bytes = object.bytes.copy(alloc)?;
         Ok(Some(Call::Put(object.name, bytes)))
     } else {
         Ok(None)
@@ -112,7 +112,7 @@ pub(crate) fn put_schema<F>(
     let mut objects = NewObjectList::new(alloc);
     objects.push(NewObject {
         name: Name::Schema(key_of(job)),
-        bytes: schema.encode(alloc)?,
+        bytes: SharedBytes::of_list(schema.encode(alloc)?)?,
     })?;
     Ok(State::Puts {
         objects,

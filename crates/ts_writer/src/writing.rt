@@ -19,10 +19,11 @@ use crate::puts::{frag_of, key_of, key_with, put};
 use std::alloc::Global;
 use std::marker::PhantomData;
 use ts_actor::Pieces;
-use ts_base::{ByteList, CommitKind, FragKey, Key, Name, OutOfMemory, PartBytes, PartList};
+use ts_base::{CommitKind, FragKey, Key, Name, OutOfMemory, PartBytes, PartList};
 use ts_model::{Command, Job, Listed, NewObject, NewObjectList, Outcome, State, WriteIn};
 use ts_piece::BatchPiece;
 use ts_schema::{Frame, Schema};
+use ts_store::SharedBytes;
 use ts_table::Origin;
 
 /// What writes put: the parts of their fragments, written the way of `P`, and the `.wrt` objects.
@@ -143,7 +144,7 @@ fn objects_of(alloc: Global, frag: FragKey, parts: PartList) -> Result<NewObject
     let mut objects = part_objects(alloc, frag, parts)?;
     objects.push(NewObject {
         name: Name::Commit(frag, CommitKind::Wrt),
-        bytes: ByteList::new(alloc),
+        bytes: SharedBytes::new(),
     })?;
     Ok(NewObjectList::from_vec(objects))
 }
@@ -159,18 +160,18 @@ fn part_objects(
     let parts = parts.into_vec();
     let mut objects = Vec::with_capacity(alloc, parts.len())?;
     for part in parts {
-        objects.push(part_object(frag, part))?;
+        objects.push(part_object(frag, part)?)?;
     }
     Ok(objects)
 }
 
 // The object of a part of a fragment.
-fn part_object(frag: FragKey, part: PartBytes) -> NewObject
-    ensures { result ≡ record { name = Name.Part frag part.part; bytes = part.bytes } }
+fn part_object(frag: FragKey, part: PartBytes) -> Result<NewObject, OutOfMemory>
+    ensures { IfOk result (λ object. object ≡ record { name = Name.Part frag part.part; bytes = part.bytes }) }
 {
     let PartBytes { part, bytes } = part;
-    NewObject {
+    Ok(NewObject {
         name: Name::Part(frag, part),
-        bytes,
-    }
+        bytes: SharedBytes::of_list(bytes)?,
+    })
 }

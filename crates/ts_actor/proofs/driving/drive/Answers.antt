@@ -27,14 +27,6 @@ asks-preserved-else-is_cut g c =
     (record { fits = c.apply-reply.ensures.fits; short = c.measure.ensures; spelled = c.apply-reply.ensures.spelled; answers = c.apply-reply.ensures.answers; cause = c.apply-reply.ensures.cause; noted = (c.apply-reply.ensures.notes, c.apply-reply.ensures.asked) })
     c.saturating_add-made.ensures
 
-pub asks-preserved-else-is_cut-2 : goal.asks-preserved-else-is_cut-2
-asks-preserved-else-is_cut-2 g c =
-    one_more _ _ g.A.Actor.ends _ _ _ _ _ _ _ _ c.asks.invariant _ _ c.in-Ask.call _ _ c.is_cut.result
-    (c.in-Ask.ensures.goes_on c.asks.invariant.trace c.asks.invariant.due c.asks.invariant.can_come) c.in-Ask.ensures.task
-    c.is_cut.ensures c.if-is_cut.false c.apply-reply.ensures.fits c.apply-reply.ensures.spelled
-    (record { fits = c.apply-reply.ensures.fits; short = c.measure.ensures; spelled = c.apply-reply.ensures.spelled; answers = c.apply-reply.ensures.answers; cause = c.apply-reply.ensures.cause; noted = (c.apply-reply.ensures.notes, c.apply-reply.ensures.asked) })
-    c.saturating_add-made.ensures
-
 pub asks-preserved : goal.asks-preserved
 asks-preserved g c =
     one_more _ _ g.A.Actor.ends _ _ _ _ _ _ _ _ c.asks.invariant _ _ c.in-Ask.call _ _ c.is_cut.result

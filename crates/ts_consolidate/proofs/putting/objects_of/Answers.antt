@@ -9,5 +9,5 @@ use Rattle.ts_consolidate.proofs.putting.objects_of.Goals as goal
 pub returns-clause-spelled : goal.returns-clause-spelled
 returns-clause-spelled c =
     subst HaveNames (sym (c.from_vec.ensures ∙ c.in_ok-push-2.ensures.items
-    ∙ ap (λ objects. objects ++ record { name = wrt_of c.args.frag; bytes = c.new.result } ∷ []) (c.in_ok-push.ensures.items ∙ ap (λ objects. objects ++ record { name = vac_of c.args.frag; bytes = c.args.vac } ∷ []) c.in_ok-objects.ensures)))
-    (objects_spelled c.args.frag c.args.parts c.args.vac c.new.result c.requires.frag c.requires.parts)
+    ∙ ap (λ objects. objects ++ record { name = wrt_of c.args.frag; bytes = c.new.result } ∷ []) (c.in_ok-push.ensures.items ∙ ap (λ objects. objects ++ record { name = vac_of c.args.frag; bytes = c.in_ok-of_list.field-0 } ∷ []) c.in_ok-objects.ensures)))
+    (objects_spelled c.args.frag c.args.parts c.in_ok-of_list.field-0 c.new.result c.requires.frag c.requires.parts)
