@@ -17,8 +17,8 @@ use ts_batch::{BatchCell, BatchCellList};
 
 /// The newest of these versions of each cell, in row order.
 ///
-/// Those that ascend as they stand are taken so. Others are sorted, and then each is compared with the
-/// next: no tree is made of them, and no version is copied.
+/// Those that ascend as they stand are taken so. Others are sorted, and taken so where no cell has two.
+/// Else each is compared with the next: no tree is made of them, and no version is copied.
 pub(crate) fn newest_in_order<'a>(
     alloc: Global,
     got: BatchCellList<'a>,
@@ -28,8 +28,21 @@ pub(crate) fn newest_in_order<'a>(
     if ascend(got.as_slice()) {
         return Ok(got);
     }
-    let sorted = sorted(got)?;
-    newest_alone(alloc, sorted.as_slice())
+    newest_of_sorted(alloc, sorted(got)?)
+}
+
+// Of versions in row order the newest one of each cell: all of them, where no cell has two.
+fn newest_of_sorted<'a>(
+    alloc: Global,
+    versions: BatchCellList<'a>,
+) -> Result<BatchCellList<'a>, OutOfMemory>
+    requires { IsSortedBy (λ (a b : AnyVersion). is_lt (slice_cmp int_cmp a.coords b.coords)) versions }
+    ensures { IfOk result (λ newest. newest ≡ finite.values (newest_of versions.entry)) }
+{
+    if ascend(versions.as_slice()) {
+        return Ok(versions);
+    }
+    newest_alone(alloc, versions.as_slice())
 }
 
 // The versions in row order, those of one cell in their own order.
