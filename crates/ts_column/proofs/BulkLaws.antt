@@ -79,20 +79,19 @@ no_int : (n : ℕ) (signed : Bool) (bytes : List ℕ) (at : ℕ) → length byte
 unfolding int_at
 no_int n signed bytes at short = let is : nat_lt (length bytes) n ≡ true = lt-ltb (length bytes) n short in rw is refl
 
--- one number, and then more
-items_one : (n : ℕ) (signed : Bool) (count : ℕ) (front : List ℤ) (bytes : List ℕ) (at : ℕ) (x : ℤ) (q : Place) (more : Read (List ℤ)) → int_at n signed (place bytes at) ≡ Ok (x, q)
-    → items_at (λ _. int_at n signed) count (front ++ x ∷ []) q ≡ more
-    → items_at (λ _. int_at n signed) (suc count) front (place bytes at) ≡ (more >>= λ y. Ok (x ∷ y.0, y.1))
+-- one item, and then more
+pub items_one : {A : Type 0} (item : List A → Place → Read A) (count : ℕ) (front : List A) (p : Place) (x : A) (q : Place) (more : Read (List A)) → item front p ≡ Ok (x, q) → items_at item count (front ++ x ∷ []) q ≡ more
+    → items_at item (suc count) front p ≡ (more >>= λ y. Ok (x ∷ y.0, y.1))
 unfolding items_at
-items_one n signed count front bytes at x q more first rest = rw (first, rest) (by more)
+items_one {A} item count front p x q more first rest = rw (first, rest) (by more)
   where
-    second : List ℤ × Place → Result ((ℤ × List ℤ) × Place) ℕ
+    second : List A × Place → Result ((A × List A) × Place) ℕ
     second b = Ok ((x, b.0), b.1)
 
-    last : (ℤ × List ℤ) × Place → Read (List ℤ)
+    last : (A × List A) × Place → Read (List A)
     last y = Ok (y.0.0 ∷ y.0.1, y.1)
 
-    by : (more : Read (List ℤ)) → ((more >>= second) >>= last) ≡ (more >>= λ y. Ok (x ∷ y.0, y.1))
+    by : (more : Read (List A)) → ((more >>= second) >>= last) ≡ (more >>= λ y. Ok (x ∷ y.0, y.1))
     by (Ok y) = refl
     by (Err at) = refl
 
@@ -107,7 +106,7 @@ items_bulk n signed (suc count) front bytes at room =
     let split : n + count * n ≡ suc count * n = omega arith in
     let rest : count * n ≤ length (drop n bytes) = omega (arith, length-drop n bytes) in
     let x = int_of n signed (take n bytes) in
-    items_one n signed count front bytes at x _ _ (one_int n signed bytes at (omega arith)) (items_bulk n signed count (front ++ x ∷ []) (drop n bytes) (at + n) rest)
+    items_one (λ _. int_at n signed) count front (place bytes at) x _ _ (one_int n signed bytes at (omega arith)) (items_bulk n signed count (front ++ x ∷ []) (drop n bytes) (at + n) rest)
     ∙ ap (λ text. Ok (x ∷ map (int_of n signed) (first_chunks n count (drop n bytes)), place text (at + n + count * n))) (drop-drop (count * n) n bytes ∙ ap (λ i. drop i bytes) split)
     ∙ ap (λ i. Ok (x ∷ map (int_of n signed) (first_chunks n count (drop n bytes)), place (drop (suc count * n) bytes) i)) (omega arith)
 
@@ -121,7 +120,7 @@ items_short n signed (suc count) (suc whole) front bytes at left long rest few =
     let split : suc whole * n ≡ n + whole * n = omega arith in
     let behind : length (drop n bytes) ≡ whole * n + left = omega (arith, length-drop n bytes) in
     let x = int_of n signed (take n bytes) in
-    items_one n signed count front bytes at x _ _ (one_int n signed bytes at (omega arith)) (items_short n signed count whole (front ++ x ∷ []) (drop n bytes) (at + n) left behind rest (omega arith))
+    items_one (λ _. int_at n signed) count front (place bytes at) x _ _ (one_int n signed bytes at (omega arith)) (items_short n signed count whole (front ++ x ∷ []) (drop n bytes) (at + n) left behind rest (omega arith))
     ∙ ap Err (omega arith)
 
 -- ---- a whole part of a tile

@@ -1,4 +1,5 @@
 pub mod BulkLaws
+pub mod BulkStarts
 pub mod CellLaws
 pub mod IntLaws
 pub mod TextLaws

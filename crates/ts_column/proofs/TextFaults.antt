@@ -1,17 +1,24 @@
 -- The texts that bytes hold, once it is known where each starts.
 use Rattle.std.proofs.Common.{◌≡◌, ℕ, zero, suc, ◌+◌, ◌-◌, ◌<◌, ◌≤◌, Bool, true, false, nat_eq, nat_lt, if◌then◌else◌, List, [], ◌∷◌, length, map, take, drop, get_or, Option, Some, None, Ok, Err, refl, sym, ap, ◌∙◌, arith, length-drop, add-one}
+use Rattle.std.specs.List.{list_all}
+use Rattle.std.specs.Str.{IsAscii}
 use Rattle.std.proofs.lemmas.Bool.{le-ltb, ne_eqb}
+use Rattle.std.proofs.lemmas.Bool.Decides.{nat_tests}
+use Rattle.std.proofs.lemmas.Str.{IsUtf8-from_ascii, IsAscii-take, IsAscii-drop}
 use Rattle.std.proofs.lemmas.List.{drop-drop, drop_all}
 use Rattle.std.proofs.lemmas.Grind.{get_or_default_zero}
 use Rattle.ts_base.specs.declared.values.Val.{Val}
 use Rattle.ts_base.specs.declared.values.Val.TheVariants.{Bytes}
 use Rattle.ts_base.specs.declared.values.ValType.{ValType}
+use Rattle.ts_base.specs.declared.values.ValType.TheVariants.{Text}
 use Rattle.ts_value.specs.Fits.{fits_of}
+use Rattle.ts_value.proofs.Texts.{is_utf8_true}
 use Rattle.ts_wire.specs.Place.{Place, Read, place, ◌>>=◌, each_at}
 use Rattle.ts_table.specs.Texts.{first_or, texts_in, RisesTo, IsTexts, end_at}
 use Rattle.ts_table.proofs.Spans.{first_below, start_low, end_low}
 use Rattle.ts_column.specs.Tiles.{lengths_to, text_at, texts_of}
 use Rattle.ts_column.specs.Faults.{text_fault}
+use Rattle.ts_column.proofs.BulkLaws.{both_true}
 
 -- what is read of texts whose first faulty one begins here, if there is one
 abbrev Told : List Val → Place → Option ℕ → Read (List Val)
@@ -98,6 +105,25 @@ fault_here ty starts bytes i within fits = fault_next ty starts bytes i within �
 
 pub fault_none : (ty : ValType) (starts bytes : List ℕ) (i : ℕ) → length starts ≤ i → text_fault ty (drop i starts) bytes ≡ None
 fault_none ty starts bytes i past = rw (drop_all i starts past) refl
+
+-- ---- where each part of the bytes is allowed
+
+pub all_allowed : (ty : ValType) (starts bytes : List ℕ) → ((start count : ℕ) → fits_of ty false (Bytes (take count (drop start bytes))) ≡ true) → text_fault ty starts bytes ≡ None
+all_allowed ty [] bytes all = refl
+all_allowed ty (s ∷ starts) bytes all = rw (all s (first_or starts (length bytes) - s)) (all_allowed ty starts bytes all)
+
+are_ascii : (bytes : List ℕ) → list_all (λ b. nat_lt b 128) bytes ≡ true → IsAscii bytes
+are_ascii [] all i = omega arith
+are_ascii (b ∷ bytes) all zero = let two = both_true (nat_lt b 128) _ all in grind (arith, nat_tests, two.0)
+are_ascii (b ∷ bytes) all (suc i) = are_ascii bytes (both_true (nat_lt b 128) _ all).1 i
+
+-- each part of ASCII is a text
+pub ascii_part : (bytes : List ℕ) (start count : ℕ) → list_all (λ b. nat_lt b 128) bytes ≡ true → fits_of Text false (Bytes (take count (drop start bytes))) ≡ true
+ascii_part bytes start count all = is_utf8_true _ (IsUtf8-from_ascii _ (IsAscii-take _ count (IsAscii-drop bytes start (are_ascii bytes all))))
+
+pub ruleset allowed = (all_allowed)
+
+pub ruleset ascii_parts = (ascii_part)
 
 pub ruleset faults = (fault_on, fault_here, fault_none)
 

@@ -28,10 +28,10 @@ both_true true true h = (refl, refl)
 both_true true false h = absurd (cc)
 both_true false b h = absurd (cc)
 
-true_both : (a b : Bool) → a ≡ true → b ≡ true → (a && b) ≡ true
+pub true_both : (a b : Bool) → a ≡ true → b ≡ true → (a && b) ≡ true
 true_both a b h k = rw (h, k) refl
 
-last_pushed : (front : List ℕ) (s : ℕ) → last_of (front ++ s ∷ []) ≡ Some s
+pub last_pushed : (front : List ℕ) (s : ℕ) → last_of (front ++ s ∷ []) ≡ Some s
 last_pushed [] s = refl
 last_pushed (t ∷ []) s = refl
 last_pushed (t ∷ u ∷ front) s = last_pushed (u ∷ front) s

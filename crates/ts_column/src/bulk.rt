@@ -2,6 +2,7 @@
 ghost use Rattle.std.specs.Prelude.{◌≡◌, ◌/◌, ◌≤◌, ℤ, ◌≤ℤ◌, ◌↔◌, FitsSigned, pos, map, length, true, false, IfOk, IfSome, IsTrue, All};
 ghost use Rattle.std.specs.Int.{w32};
 ghost use Rattle.std.specs.Simd.{first_chunks};
+ghost use Rattle.byteorder.specs.Endian.{little_number};
 ghost use Rattle.ts_base.specs.Values.{is_integer, width_of};
 ghost use Rattle.ts_column.specs.Tiles.{is_signed};
 ghost use Rattle.ts_wire.specs.Numbers.{int_of};
@@ -111,6 +112,20 @@ fn i64_of(bytes: &[u8; 8]) -> i64
     ensures { result ≡ int_of 8 true bytes.now }
 {
     LittleEndian::read_i64(bytes)
+}
+
+/// The unsigned integers of 8 bytes that stand in the bytes one after the other.
+pub(crate) fn read_u64s(alloc: Global, bytes: &[u8]) -> Result<Vec<u64>, AllocError>
+    ensures { IfOk result (λ v. v.items ≡ map (little_number 8) (first_chunks 8 (length bytes.now / 8) bytes.now)) }
+{
+    let (chunks, _) = bytes.as_chunks::<8>();
+    chunks.iter().map(u64_of).collect(alloc)
+}
+
+fn u64_of(bytes: &[u8; 8]) -> u64
+    ensures { result ≡ little_number 8 bytes.now }
+{
+    LittleEndian::read_u64(bytes)
 }
 
 /// The unsigned integers of one byte that stand in the bytes one after the other.

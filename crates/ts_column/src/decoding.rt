@@ -55,7 +55,12 @@ fn decode_parts(
 }
 
 // The stored values.
-fn read_stored(alloc: Global, ty: ValType, count: u64, tile: &TileView<'_>) -> Result<Stored, TileFault>
+fn read_stored(
+    alloc: Global,
+    ty: ValType,
+    count: u64,
+    tile: &TileView<'_>,
+) -> Result<Stored, TileFault>
     ensures { DecodesTile stored_vals (stored_in (is_integer ty) ty count tile.now) result }
 {
     if ty.is_integer() {
@@ -67,7 +72,12 @@ fn read_stored(alloc: Global, ty: ValType, count: u64, tile: &TileView<'_>) -> R
 
 // The stored integers.
 #[tactic(auto, unfolding(crate::specs::Tiles::numbers_in))]
-fn stored_numbers(alloc: Global, ty: ValType, count: u64, tile: &TileView<'_>) -> Result<Stored, TileFault>
+fn stored_numbers(
+    alloc: Global,
+    ty: ValType,
+    count: u64,
+    tile: &TileView<'_>,
+) -> Result<Stored, TileFault>
     requires { IsTrue (is_integer ty) }
     ensures { DecodesTile stored_vals (numbers_in ty count tile.now) result }
 {
@@ -85,7 +95,12 @@ fn stored_numbers(alloc: Global, ty: ValType, count: u64, tile: &TileView<'_>) -
 
 // The stored texts or blobs.
 #[tactic(auto, unfolding(crate::specs::Tiles::byte_lists_in))]
-fn stored_texts(alloc: Global, ty: ValType, count: u64, tile: &TileView<'_>) -> Result<Stored, TileFault>
+fn stored_texts(
+    alloc: Global,
+    ty: ValType,
+    count: u64,
+    tile: &TileView<'_>,
+) -> Result<Stored, TileFault>
     requires { is_integer ty ≡ false }
     ensures { DecodesTile stored_vals (byte_lists_in ty count tile.now) result }
 {

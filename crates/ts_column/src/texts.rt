@@ -1,5 +1,6 @@
 //! The texts and blobs of a tile.
-ghost use Rattle.std.specs.Prelude.{◌≡◌, ◌≤◌, ◌-◌, ◌&&◌, nat_le, true, [], map, length, take, drop, slice_index_or, false, ◌<◌, IsTrue, IfOk};
+ghost use Rattle.std.specs.Prelude.{◌≡◌, ℕ, ◌≤◌, ◌-◌, ◌&&◌, nat_le, nat_lt, true, [], Ok, map, length, take, drop, slice_index_or, false, ◌<◌, IsTrue, IfOk, IfSome};
+ghost use Rattle.std.specs.List.{list_all};
 ghost use Rattle.ts_base.specs.Values.{is_integer};
 ghost use Rattle.ts_base.specs.declared.values.Val.TheVariants as val;
 ghost use Rattle.ts_value.specs.Fits.{fits_of};
@@ -10,14 +11,76 @@ ghost use Rattle.ts_column.specs.Faults.{text_fault};
 ghost use Rattle.ts_column.specs.Tiles.{last_of, may_follow, start_at, starts_in, texts_of};
 ghost use Rattle.ts_column.specs.Starts.{AreStarts};
 
+use crate::bulk;
 use std::alloc::Global;
 use ts_base::{CountList, OutOfMemory, ValType};
 use ts_value::is_text;
 use ts_wire::{Cursor, Damaged, ReadFault};
 
 /// Where each of so many byte lists starts, of those that end here.
-#[tactic(auto, unfolding(crate::specs::Tiles::starts_in))]
 pub(crate) fn read_starts(
+    alloc: Global,
+    end: u64,
+    count: u64,
+    bytes: &[u8],
+) -> Result<CountList, ReadFault>
+    ensures reads { DecodesOr (λ starts. starts) (starts_in end count bytes.now) result }
+    ensures rise { IfOk result (λ starts. AreStarts starts end count) }
+{
+    match read_sound_starts(alloc, end, count, bytes)? {
+        Some(starts) => Ok(starts),
+        None => read_each_start(alloc, end, count, bytes),
+    }
+}
+
+// The starts, read all at once, or None if something about them is broken.
+#[tactic(auto, using(crate::proofs::BulkStarts::bulk_starts))]
+fn read_sound_starts(
+    alloc: Global,
+    end: u64,
+    count: u64,
+    bytes: &[u8],
+) -> Result<Option<CountList>, OutOfMemory>
+    ensures reads { IfOk result (λ sound. IfSome sound (λ starts. starts_in end count bytes.now ≡ Ok starts)) }
+    ensures rise { IfOk result (λ sound. IfSome sound (λ starts. AreStarts starts end count)) }
+{
+    let length = bytes.len() as u64;
+    if length % 8 != 0 || length / 8 != count {
+        return Ok(None);
+    }
+    let starts = bulk::read_u64s(alloc, bytes)?;
+    if is_first_zero(&starts) && do_rise(end, &starts) {
+        Ok(Some(CountList::from_vec(starts)))
+    } else {
+        Ok(None)
+    }
+}
+
+// Whether the first start is 0, if there is one.
+fn is_first_zero(starts: &[u64]) -> bool
+    ensures { IsTrue result → first_or starts.now 0 ≡ 0 }
+{
+    starts.is_empty() || starts[0] == 0
+}
+
+// Whether no start is above the next, nor the last above the end. It goes on behind one that is, so that
+// several are tried in one step.
+#[tactic(auto, using(crate::proofs::BulkStarts::rising))]
+fn do_rise(end: u64, starts: &[u64]) -> bool
+    ensures { IsTrue result → RisesTo starts.now end }
+{
+    let mut all = true;
+    let mut before = 0;
+    for start in starts {
+        all &= before <= *start;
+        before = *start;
+    }
+    all && before <= end
+}
+
+// The starts, read one by one.
+#[tactic(auto, unfolding(crate::specs::Tiles::starts_in))]
+fn read_each_start(
     alloc: Global,
     end: u64,
     count: u64,
@@ -105,8 +168,45 @@ pub(crate) fn check_texts(ty: ValType, starts: &[u64], bytes: &[u8]) -> Result<(
 }
 
 // Where the first byte list begins that the type does not allow.
-#[tactic(auto, using(crate::proofs::TextFaults::faults))]
+#[tactic(auto, using(crate::proofs::TextFaults::allowed))]
 fn first_fault(ty: ValType, starts: &[u64], bytes: &[u8]) -> Option<u64>
+    requires kind { is_integer ty ≡ false }
+    requires rise { RisesTo starts.now (length bytes.now) }
+    ensures { result ≡ text_fault ty starts.now bytes.now }
+{
+    if allows_every_part(ty, bytes) {
+        None
+    } else {
+        sought_fault(ty, starts, bytes)
+    }
+}
+
+// Whether each part of the bytes may stand under the type. Where it says no, each may all the same.
+#[tactic(auto, using(crate::proofs::TextFaults::ascii_parts))]
+fn allows_every_part(ty: ValType, bytes: &[u8]) -> bool
+    ensures { IsTrue result → (start count : ℕ) → IsTrue (fits_of ty false (val.Bytes (take count (drop start bytes.now)))) }
+{
+    match ty {
+        ValType::Text => are_ascii(bytes),
+        ValType::Blob => true,
+        _ => false,
+    }
+}
+
+// Whether all bytes are ASCII. It goes on behind one that is not, so that several are tried in one step.
+fn are_ascii(bytes: &[u8]) -> bool
+    ensures { result ≡ list_all (λ b. nat_lt b 128) bytes.now }
+{
+    let mut all = true;
+    for byte in bytes {
+        all &= *byte < 128;
+    }
+    all
+}
+
+// Where the first byte list begins that the type does not allow, sought one by one.
+#[tactic(auto, using(crate::proofs::TextFaults::faults))]
+fn sought_fault(ty: ValType, starts: &[u64], bytes: &[u8]) -> Option<u64>
     requires kind { is_integer ty ≡ false }
     requires rise { RisesTo starts.now (length bytes.now) }
     ensures { result ≡ text_fault ty starts.now bytes.now }
