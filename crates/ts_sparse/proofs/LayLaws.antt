@@ -1,5 +1,5 @@
 -- The steps of the loops that lay objects.
-use Rattle.std.proofs.Common.{◌≡◌, ℕ, suc, ◌+◌, ◌<◌, ◌≤◌, ◌^◌, ℤ, pos, true, List, [], ◌∷◌, ◌++◌, length, get_or, map, drop, refl, sym, ap, ◌∙◌, arith, append_assoc}
+use Rattle.std.proofs.Common.{◌≡◌, ℕ, suc, ◌+◌, ◌<◌, ◌≤◌, ℤ, pos, true, List, [], ◌∷◌, ◌++◌, length, get_or, map, drop, refl, sym, ap, ◌∙◌, arith, append_assoc}
 use Rattle.std.specs.List.{flat_map}
 use Rattle.std.proofs.lemmas.List.{drop_more, drop_all, append-nil}
 use Rattle.std.proofs.lemmas.Simd.{map-map}
@@ -111,22 +111,16 @@ numbers_laid old new k a piece bytes spelled push =
     push ∙ ap (λ b. with_part old (record { part = part.Attr k; bytes = b }) []) spelled
     ∙ ap (λ vals. with_objects old (numbers_object k a.ty vals ∷ [])) (sym (values_same k piece))
 
--- an object of all texts leaves room for where its tiles start
-pub texts_room : (size : ℕ) (bytes : List ℕ) (texts : List (List ℕ)) → size < 2 ^ 64 → size ≡ length bytes → bytes ≡ wrapped kind.Column (joined texts) → 14 + length (joined texts) < 2 ^ 64
-texts_room size bytes texts small sized spelled =
-    let long : length bytes ≡ 14 + length (joined texts) = ap length spelled ∙ length-wrapped kind.Column (joined texts) in
-    omega arith
-
-pub texts_laid : (n : ℕ) (old mid new : Laid) (k : ℕ) (piece : Piece) (texts : List (List ℕ)) (inner outer starts : List ℕ) → texts ≡ map text_of (values_along k piece.versions)
-    → inner ≡ wrapped kind.Column (flat_map (number_bytes 8) (starts_in (tiles_of n texts))) → mid ≡ with_part old (record { part = part.Attr k; bytes = inner }) []
-    → outer ≡ wrapped kind.Column (joined texts) → starts ≡ tile_starts 14 (tiles_of n texts) → new ≡ with_part mid (record { part = part.Var k; bytes = outer }) starts
+pub texts_laid : (n : ℕ) (old mid new : Laid) (k : ℕ) (piece : Piece) (inner outer starts : List ℕ) → inner ≡ wrapped kind.Column (flat_map (number_bytes 8) (starts_in (tiles_of n (map text_of (values_along k piece.versions)))))
+    → outer ≡ wrapped kind.Column (joined (map text_of (values_along k piece.versions))) → starts ≡ tile_starts 14 (tiles_of n (map text_of (values_along k piece.versions)))
+    → mid ≡ with_part old (record { part = part.Attr k; bytes = inner }) [] → new ≡ with_part mid (record { part = part.Var k; bytes = outer }) starts
     → new ≡ with_objects old (starts_object n k (value_column k (cells_of piece)) ∷ bytes_object n k (value_column k (cells_of piece)) ∷ [])
-texts_laid n old mid new k piece texts inner outer starts are first push all begun more =
+texts_laid n old mid new k piece inner outer starts first all begun push more =
+    let texts = map text_of (values_along k piece.versions) in
     more
     ∙ ap (λ b. with_part mid (record { part = part.Var k; bytes = b }) starts) all
     ∙ ap (λ s. with_part mid (record { part = part.Var k; bytes = wrapped kind.Column (joined texts) }) s) begun
     ∙ ap (λ l. with_part l (record { part = part.Var k; bytes = wrapped kind.Column (joined texts) }) (tile_starts 14 (tiles_of n texts))) (push ∙ ap (λ b. with_part old (record { part = part.Attr k; bytes = b }) []) first)
-    ∙ ap (λ ts. with_part (with_part old (record { part = part.Attr k; bytes = wrapped kind.Column (flat_map (number_bytes 8) (starts_in (tiles_of n ts))) }) []) (record { part = part.Var k; bytes = wrapped kind.Column (joined ts) }) (tile_starts 14 (tiles_of n ts))) are
     ∙ ap (λ vals. with_objects old (starts_object n k vals ∷ bytes_object n k vals ∷ [])) (sym (values_same k piece))
 
 pub validity_laid : (old new : Laid) (k : ℕ) (piece : Piece) (bytes : List ℕ) → bytes ≡ wrapped kind.Column (flat_map bool_bytes (map is_there (values_along k piece.versions)))

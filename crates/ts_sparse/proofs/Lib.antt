@@ -10,6 +10,7 @@ pub mod OrderLaws
 pub mod HullLaws
 pub mod WorkedSizes
 pub mod StartLaws
+pub mod TextLaws
 pub mod TopLaws
 pub mod OnceLaws
 pub mod RangeLaws

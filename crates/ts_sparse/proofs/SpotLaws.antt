@@ -1,7 +1,7 @@
 -- The versions at spots, and what is written of them one after another.
-use Rattle.std.proofs.Common.{◌≡◌, ℕ, zero, suc, ◌+◌, ◌<◌, ℤ, List, [], ◌∷◌, ◌++◌, length, map, take, get_or, refl, sym, ap, ◌∙◌, subst, arith}
+use Rattle.std.proofs.Common.{◌≡◌, ℕ, zero, suc, ◌+◌, ◌<◌, ◌≤◌, ℤ, List, [], ◌∷◌, ◌++◌, length, map, take, get_or, refl, sym, ap, ◌∙◌, subst, arith}
 use Rattle.std.specs.List.{All, flat_map}
-use Rattle.std.proofs.lemmas.List.{length-map}
+use Rattle.std.proofs.lemmas.List.{length-map, map-append, take_more, take_all}
 use Rattle.ts_base.specs.declared.heads.Version.{Version}
 use Rattle.ts_base.specs.declared.keys.Key.{Key}
 use Rattle.ts_base.specs.declared.values.Val.TheVariants.{Null}
@@ -9,12 +9,14 @@ use Rattle.ts_base.specs.declared.values.ValType.{ValType}
 use Rattle.ts_base.specs.Values.{width_of}
 use Rattle.ts_wire.specs.Numbers.{FitsInt, int_bytes}
 use Rattle.ts_plain.specs.Writes.{HasPlace}
-use Rattle.ts_column.specs.Spelled.{number_of}
+use Rattle.ts_column.specs.Spelled.{number_of, text_of}
 use Rattle.ts_column.specs.Tiles.{is_signed}
 use Rattle.ts_column.proofs.Written.{spelled_more}
 use Rattle.ts_piece.specs.declared.spots.Spot.{Spot}
 use Rattle.ts_piece.specs.Spots.{version_in, spotted}
+use Rattle.ts_sparse.specs.declared.text_objects.TextScribe.{TextScribe}
 use Rattle.ts_sparse.specs.Laying.{values_along}
+use Rattle.ts_sparse.specs.TextObjects.{HasWritten}
 
 -- ---- versions at spots
 
@@ -73,3 +75,29 @@ pub number_next : (attr n w : ℕ) (batches : List (List Version)) (spots : List
 number_next attr n w batches spots i d y z was next so_far within is width same push =
     integer_next (λ (v : Version). number_of (get_or v.row attr Null)) n w batches spots i d y z was next (so_far ∙ ap (flat_map (int_bytes n)) (sym (stored attr (spotted batches (take i spots))))) within is width same push
     ∙ ap (flat_map (int_bytes n)) (stored attr (spotted batches (take (i + 1) spots)))
+
+-- ---- the texts one after another
+
+-- one text more of those that are stored for values
+texts_more : (attr : ℕ) (batches : List (List Version)) (spots : List Spot) (i : ℕ) (d : Spot) → i < length spots
+    → map text_of (values_along attr (spotted batches (take (i + 1) spots))) ≡ map text_of (values_along attr (spotted batches (take i spots))) ++ text_of (get_or (version_in batches (get_or spots i d)).row attr Null) ∷ []
+texts_more attr batches spots i d within =
+    let v = version_in batches (get_or spots i d) in
+    ap (λ front. map text_of (values_along attr (spotted batches front))) (take_more spots i d within)
+    ∙ ap (λ versions. map text_of (values_along attr versions)) (map-append (version_in batches) (take i spots) (get_or spots i d ∷ []))
+    ∙ ap (map text_of) (map-append (λ (v : Version). get_or v.row attr Null) (spotted batches (take i spots)) (v ∷ []))
+    ∙ map-append text_of (values_along attr (spotted batches (take i spots))) (get_or v.row attr Null ∷ [])
+
+-- one text more is written
+pub text_next : (attr n : ℕ) (batches : List (List Version)) (spots : List Spot) (i : ℕ) (d : Spot) (x : List ℕ) (was next : TextScribe) → HasWritten n (map text_of (values_along attr (spotted batches (take i spots)))) was → i < length spots
+    → x ≡ text_of (get_or (version_in batches (get_or spots i d)).row attr Null) → ((m : ℕ) (texts : List (List ℕ)) → HasWritten m texts was → HasWritten m (texts ++ x ∷ []) next)
+    → HasWritten n (map text_of (values_along attr (spotted batches (take (i + 1) spots)))) next
+text_next attr n batches spots i d x was next so_far within is push =
+    let texts = map text_of (values_along attr (spotted batches (take i spots))) in
+    subst (λ ts. HasWritten n ts next) (ap (λ y. texts ++ y ∷ []) is ∙ sym (texts_more attr batches spots i d within)) (push n texts so_far)
+
+-- and at the end those of all versions are
+pub text_last : (attr n : ℕ) (batches : List (List Version)) (spots : List Spot) (versions : List Version) (i : ℕ) (all : TextScribe) → HasWritten n (map text_of (values_along attr (spotted batches (take i spots)))) all → length spots ≤ i
+    → spotted batches spots ≡ versions → HasWritten n (map text_of (values_along attr versions)) all
+text_last attr n batches spots versions i all so_far past same =
+    subst (λ vs. HasWritten n (map text_of (values_along attr vs)) all) (ap (spotted batches) (take_all i spots past) ∙ same) so_far

@@ -4,3 +4,4 @@ pub mod Cuts
 pub mod Laying
 pub mod Told
 pub mod Seen
+pub mod TextObjects

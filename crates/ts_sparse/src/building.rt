@@ -10,16 +10,15 @@ ghost use Rattle.ts_plain.specs.Writes.{stored_for, CountsCells, NamesWrites};
 ghost use Rattle.ts_sparse.specs.Sparse.{value_column, dim_objects, numbers_object, starts_object, bytes_object, fixed_objects, validity_objects, attr_objects, origin_objects, objects_of, parts_of, FitsSparse, IsSparse};
 ghost use Rattle.ts_sparse.specs.Laying.{with_objects, none_laid, cells_of, CoordsFit, ValuesFit};
 
-use crate::columns::{coords_object, numbers_object, origins_object, texts_of, validity_object};
+use crate::columns::{coords_object, numbers_object, origins_object, validity_object};
 use crate::laying::Laid;
 use crate::metadata::meta_object;
-use crate::starts::{starts_object, tile_starts};
+use crate::text_objects::text_objects;
 use std::alloc::Global;
 use ts_base::{LengthList, OutOfMemory, Part, PartBytes, PartList};
 use ts_domain::Dim;
 use ts_piece::BatchPiece;
 use ts_schema::{Attr, Frame, Schema};
-use ts_wire::{Kind, wrap};
 
 /// The parts of a sparse fragment, in the order in which they are put and in the layout of FORMATS.md,
 /// "The sparse fragment in tiles". See the TileDB format specification, "Fragment".
@@ -175,7 +174,7 @@ fn lay_numbers(
 }
 
 // Lays the values of an attribute that are byte lists: where each starts, and then all bytes.
-#[tactic(auto, using(crate::proofs::LayLaws::texts_laid, crate::proofs::LayLaws::texts_room))]
+#[tactic(auto, using(crate::proofs::LayLaws::texts_laid))]
 fn lay_texts(
     alloc: Global,
     laid: &mut Laid,
@@ -186,16 +185,13 @@ fn lay_texts(
     requires tile { 1 ≤ tile }
     ensures { OnOk result (laid.new ≡ with_objects laid.old (starts_object tile place (value_column place (cells_of piece.now)) ∷ bytes_object tile place (value_column place (cells_of piece.now)) ∷ [])) }
 {
-    let texts = texts_of(alloc, place, piece)?;
-    let bytes = starts_object(alloc, tile, &texts)?;
+    let objects = text_objects(alloc, tile, place, piece)?;
     let part = Part::Attr(place);
+    let bytes = objects.starts;
     laid.lay(PartBytes { part, bytes }, &[])?;
-    let bytes = wrap(alloc, Kind::Column, texts.bytes())?;
-    // No object has 2^64 bytes, so where its tiles start has room in eight.
-    let _size = bytes.len();
-    let starts = tile_starts(alloc, tile, &texts)?;
     let part = Part::Var(place);
-    laid.lay(PartBytes { part, bytes }, starts.as_slice())
+    let bytes = objects.bytes;
+    laid.lay(PartBytes { part, bytes }, objects.tiles.as_slice())
 }
 
 // Lays which values of an attribute are there, where there may be nulls.

@@ -29,8 +29,8 @@ use ts_plain::place_of;
 use ts_table::{Seen, Texts};
 use ts_wire::{Kind, Scribe};
 
-// A scribe with room for so many bytes for each cell.
-fn room_for(alloc: Global, piece: &BatchPiece, width: u8) -> Result<Scribe, OutOfMemory>
+/// A scribe with room for so many bytes for each cell.
+pub(crate) fn room_for(alloc: Global, piece: &BatchPiece, width: u8) -> Result<Scribe, OutOfMemory>
     ensures { IfOk result (λ scribe. scribe ≡ []) }
 {
     let mut scribe = Scribe::new(alloc);
@@ -164,8 +164,13 @@ pub fn text_of<'a>(version: &BatchCell<'a>, attr: u8) -> &'a [u8]
     bytes_in(value_of(version, attr))
 }
 
-// The bytes that are stored for the value of an attribute at a spot: none for a null.
-fn text_at<'a>(batches: &'a [Batch], sources: &[Source<'a>], attr: u8, spot: Spot) -> &'a [u8]
+/// The bytes that are stored for the value of an attribute at a spot: none for a null.
+pub(crate) fn text_at<'a>(
+    batches: &'a [Batch],
+    sources: &[Source<'a>],
+    attr: u8,
+    spot: Spot,
+) -> &'a [u8]
     requires there { IsSpot batches.now spot }
     requires sources { AreSources attr batches.now sources.now }
     ensures { result.now ≡ text_of (get_or (version_in batches.now spot).row attr val.Null) }

@@ -8,7 +8,7 @@ mod coords;
 mod laws;
 mod laying;
 mod metadata;
-mod starts;
+mod text_objects;
 mod values;
 
 pub use building::build;
