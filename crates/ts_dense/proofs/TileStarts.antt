@@ -2,11 +2,20 @@
 use Rattle.std.proofs.Common.{◌≡◌, ℕ, zero, suc, ◌+◌, ◌-◌, ◌<◌, ◌≤◌, ◌^◌, min, List, [], ◌∷◌, ◌++◌, length, take, drop, Some, sym, ap, ◌∙◌, arith, append_assoc, length-append, get_or}
 use Rattle.std.specs.List.{flat_map, slice_get}
 use Rattle.std.proofs.lemmas.List.{drop-drop, take_min, length-drop, drop_more, take-append-drop}
+use Rattle.ts_wire.specs.declared.kinds.Kind.TheVariants as kind
+use Rattle.ts_wire.specs.Envelope.{wrapped}
 use Rattle.ts_wire.specs.Numbers.{number_bytes}
+use Rattle.ts_wire.proofs.Objects.{length-wrapped}
 use Rattle.ts_table.specs.Texts.{joined, starts_from}
 use Rattle.ts_sparse.specs.Tilings.{tile_starts, starts_in}
 use Rattle.ts_sparse.proofs.StartLaws.{its_rest}
 use Rattle.ts_dense.specs.Slots.{tiles_by}
+
+-- an object of all texts leaves room for where its tiles start
+pub texts_room : (size : ℕ) (bytes : List ℕ) (texts : List (List ℕ)) → size < 2 ^ 64 → size ≡ length bytes → bytes ≡ wrapped kind.Column (joined texts) → 14 + length (joined texts) < 2 ^ 64
+texts_room size bytes texts small sized spelled =
+    let long : length bytes ≡ 14 + length (joined texts) = ap length spelled ∙ length-wrapped kind.Column (joined texts) in
+    omega arith
 
 -- ---- one tile
 

@@ -141,7 +141,7 @@ fn lay_numbers(
 }
 
 // Lays the values of an attribute that are byte lists: where each starts, and then all bytes.
-#[tactic(auto, using(ts_sparse::proofs::LayLaws::texts_room))]
+#[tactic(auto, using(crate::proofs::TileStarts::texts_room))]
 fn lay_texts(
     alloc: Global,
     laid: &mut Laid,

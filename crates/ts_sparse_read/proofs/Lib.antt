@@ -4,8 +4,11 @@ pub mod SpanLaws
 pub mod CellSteps
 pub mod ColumnSteps
 pub mod TileSteps
+pub mod NearLaws
 pub mod SiftLaws
 pub mod PickLaws
+pub mod PickStepLaws
+pub mod WantedLaws
 pub mod TileSifts
 pub mod TileCounts
 pub mod DecodeSteps

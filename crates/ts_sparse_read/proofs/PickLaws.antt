@@ -1,23 +1,17 @@
 -- Taking the places of the wanted cells of a tile, and then the versions there.
-use Rattle.std.proofs.Common.{◌≡◌, ℕ, zero, suc, ◌+◌, ◌<◌, ◌≤◌, Bool, true, false, cond, List, [], ◌∷◌, ◌++◌, length, map, Option, Some, None, refl, sym, ap, subst, ◌∙◌, arith}
-use Rattle.std.specs.Prelude.{Ok, Err}
+use Rattle.std.proofs.Common.{◌≡◌, ℕ, zero, suc, ◌+◌, ◌<◌, ◌≤◌, Bool, true, false, cond, List, [], ◌∷◌, ◌++◌, length, map, take, refl, sym, ap, subst, ◌∙◌, arith}
 use Rattle.std.specs.List.{All, range_with_len}
-use Rattle.std.proofs.lemmas.List.{append-nil, map-append, length-append}
+use Rattle.std.proofs.lemmas.List.{append-nil, map-append, length-append, take_more, take_all}
 use Rattle.std.proofs.lemmas.List.Elements.{All-nil, All-cons, All-append, All-weaker}
 use Rattle.ts_schema.specs.Wants.{is_wanted, cut}
+use Rattle.ts_plain.specs.declared.stored.StoredCell.{StoredCell}
 use Rattle.ts_plain.specs.Pieces.{version_in}
 use Rattle.ts_gather.specs.Rows.{version_there, AreRows}
 use Rattle.ts_sparse_read.specs.declared.columns.Columns.{Columns}
-use Rattle.ts_sparse_read.specs.declared.faults.CellFault.{CellFault}
-use Rattle.ts_sparse_read.specs.declared.faults.CellFault.TheVariants as fault
 use Rattle.ts_sparse_read.specs.declared.opened.Opened.{Opened}
-use Rattle.ts_sparse_read.specs.declared.sifted.Sifted.{Sifted}
-use Rattle.ts_sparse_read.specs.declared.sifted.Spot.{Spot}
-use Rattle.ts_sparse_read.specs.Faults.{Fault, and_then, Ranged}
-use Rattle.ts_sparse_read.specs.TileReads.{place_fault, order_fault, unless}
-use Rattle.ts_sparse_read.specs.Reads.{DecodesFault}
-use Rattle.ts_sparse_read.specs.Sifts.{spot_of, bare, bare_if, cells_in, cell_in, is_spot_wanted, place_if, versions_at, picked, wanted_of, sifted, sift_cell, sift_cells}
-use Rattle.ts_sparse_read.proofs.SiftLaws.{Sifting, cells_more, cells_done}
+use Rattle.ts_sparse_read.specs.Sifts.{spot_of, cells_in, cell_in, AreSound, is_spot_wanted, place_if, versions_at, wanted_of}
+use Rattle.ts_sparse_read.proofs.CellSteps.{cells_long, cell_there}
+use Rattle.ts_sparse_read.proofs.SiftLaws.{wanted_join}
 
 -- ---- the places
 
@@ -80,43 +74,44 @@ module _ (opened : Opened) (c : Columns) where
       go false = refl
 
   -- one place more, if its cell is wanted
-  versions_more : (old new : List ℕ) (k : ℕ) (spot : Spot) → spot ≡ spot_of (cell_in c k) → new ≡ old ++ place_if (is_spot_wanted opened.want opened.head spot) k
+  versions_more : (old new : List ℕ) (k : ℕ) → new ≡ old ++ place_if (is_spot_wanted opened.want opened.head (spot_of (cell_in c k))) k
       → versions_at opened c new ≡ versions_at opened c old ++ wanted_of opened.want opened.head (cell_in c k ∷ [])
-  versions_more old new k spot at is =
+  versions_more old new k is =
       let F = version_there (opened.head).origins (opened.head).schema (opened.want).attrs c.coords c.origins c.vals in
-      ap (versions_at opened c) (is ∙ ap (λ (s : Spot). old ++ place_if (is_spot_wanted opened.want opened.head s) k) at)
+      ap (versions_at opened c) is
       ∙ map-append F old (place_if (is_spot_wanted opened.want opened.head (spot_of (cell_in c k))) k)
       ∙ ap (λ vs. versions_at opened c old ++ vs) (one_version k)
 
   -- ---- cell by cell
 
-  module _ (ranges : List Ranged) where
-    -- one cell is taken, if it may stand behind the last one
-    pub pick_done : (old new : List ℕ) (last : Option Spot) (k : ℕ) (spot : Spot) → spot ≡ spot_of (cell_in c k)
-        → place_fault opened.frame (opened.head).consolidated ranges k (bare_if last) (bare spot) ≡ None → new ≡ old ++ place_if (is_spot_wanted opened.want opened.head spot) k
-        → sift_cell opened ranges k (picked opened c old last) (cell_in c k) ≡ Ok (picked opened c new (Some spot))
-    pick_done old new last k spot at clear is =
-        let good : place_fault opened.frame (opened.head).consolidated ranges k (bare_if last) (cell_in c k) ≡ None =
-        ap (λ (s : Spot). place_fault opened.frame (opened.head).consolidated ranges k (bare_if last) (bare s)) (sym at) ∙ clear in
-        let found = sym (versions_more old new k spot at is) in
-        let there = sym at in
-        ap (λ (o : Option Fault). and_then (unless (cell_in c k ∷ []) o) (λ cells. Ok (sifted opened (picked opened c old last) cells))) good
-        ∙ (λ i. Ok (record { found = found i; last = Some (there i) }))
+  -- so far what is wanted of the cells is at these places
+  pub record AreTaken (k : ℕ) (places : List ℕ) : Type 0 where
+    pub versions : versions_at opened c places ≡ wanted_of opened.want opened.head (take k (cells_in c))
+    pub rows : ArePicked k places
 
-    -- before the first cell none is taken
-    pub picking_none : (places : List ℕ) (last : Option Spot) → places ≡ [] → Sifting opened ranges (picked opened c [] last) (cells_in c) (picked opened c places last) 0
-    picking_none places last is = ap (λ ps. sift_cells opened ranges 0 (picked opened c ps last) (cells_in c)) (sym is)
+  -- before the first cell nothing is
+  pub taken_none : (places : List ℕ) → places ≡ [] → AreTaken 0 places
+  taken_none places is = record { versions = ap (versions_at opened c) is; rows = picked_none places is }
 
-    -- what is broken is so whatever was found before the tile
-    pub picks_stop : {A B : Type 0} (seen : A → Sifted) (also : B → Sifted) (s : Sifted) (f : CellFault) → DecodesFault seen (sift_cells opened ranges 0 (picked opened c [] s.last) (cells_in c)) (Err f)
-        → DecodesFault also (sift_cells opened ranges 0 s (cells_in c)) (Err f)
-    picks_stop seen also s fault.OutOfMemory e = tt
-    picks_stop seen also s (fault.Broken part at) e = go (order_fault opened.frame (opened.head).consolidated ranges 0 (bare_if s.last) (cells_in c)) e
-      where
-        go : (o : Option Fault) → and_then (unless (cells_in c) o) (λ cells. Ok (sifted opened (picked opened c [] s.last) cells)) ≡ Err (record { part = part; at = at })
-            → and_then (unless (cells_in c) o) (λ cells. Ok (sifted opened s cells)) ≡ Err (record { part = part; at = at })
-        go None e = absurd (cc)
-        go (Some g) e = e
+  -- one cell more
+  pub taken_more : (old new : List ℕ) (k : ℕ) → AreSound opened.frame c → k < c.count → AreTaken k old → new ≡ old ++ place_if (is_spot_wanted opened.want opened.head (spot_of (cell_in c k))) k → AreTaken (k + 1) new
+  taken_more old new k sound within sofar is =
+      let d = cell_in c k in
+      let long = cells_long c.count c.coords c.origins c.vals sound.coords sound.origins sound.vals in
+      let there = cell_there c.count c.coords c.origins c.vals k d sound.coords sound.origins sound.vals within in
+      let one = take_more (cells_in c) k d (omega (arith, long)) ∙ ap (λ (e : StoredCell). take k (cells_in c) ++ e ∷ []) there in
+      record {
+        versions =
+            versions_more old new k is ∙ ap (λ vs. vs ++ wanted_of opened.want opened.head (d ∷ [])) sofar.versions
+            ∙ sym (wanted_join opened (take k (cells_in c)) (d ∷ [])) ∙ ap (wanted_of opened.want opened.head) (sym one);
+        rows = picked_more old new k (is_spot_wanted opened.want opened.head (spot_of (cell_in c k))) sofar.rows is;
+      }
 
--- how the loop over the cells begins and ends
-pub ruleset pick_steps = (picked_none, picked_all, picking_none, cells_done)
+  -- behind the last cell all is taken that is wanted
+  pub taken_all : (k : ℕ) (places : List ℕ) → AreSound opened.frame c → AreTaken k places → c.count ≤ k → versions_at opened c places ≡ wanted_of opened.want opened.head (cells_in c)
+  taken_all k places sound sofar over =
+      let long = cells_long c.count c.coords c.origins c.vals sound.coords sound.origins sound.vals in
+      sofar.versions ∙ ap (wanted_of opened.want opened.head) (take_all k (cells_in c) (omega (arith, long)))
+
+-- the steps of the loop over the cells
+pub ruleset pick_steps = (taken_none, taken_more, taken_all, picked_all)

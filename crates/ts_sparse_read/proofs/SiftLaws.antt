@@ -1,7 +1,7 @@
 -- Taking what is wanted, cell by cell and tile by tile.
-use Rattle.std.proofs.Common.{◌≡◌, ℕ, suc, ◌+◌, ◌<◌, ◌≤◌, Bool, true, false, ℤ, List, [], ◌∷◌, ◌++◌, length, map, drop, Option, Some, None, refl, sym, ap, subst, ◌∙◌, arith, add-one, append_assoc}
-use Rattle.std.specs.Prelude.{if◌then◌else◌, Result, Ok, Err}
-use Rattle.std.proofs.lemmas.List.{drop_more, drop_all, append-nil, map-append}
+use Rattle.std.proofs.Common.{◌≡◌, ℕ, ◌+◌, ◌<◌, Bool, ℤ, List, [], ◌∷◌, ◌++◌, length, map, Option, Some, None, refl, sym, ap, subst, ◌∙◌, arith, append_assoc}
+use Rattle.std.specs.Prelude.{Result, Ok, Err}
+use Rattle.std.proofs.lemmas.List.{append-nil, map-append}
 use Rattle.std.proofs.lemmas.List.Elements.{All-get_or, filter-append}
 use Rattle.ts_base.specs.declared.heads.Version.{Version}
 use Rattle.ts_base.specs.declared.values.Val.{Val}
@@ -12,7 +12,6 @@ use Rattle.ts_schema.specs.Wants.{is_wanted, cut, taken}
 use Rattle.ts_plain.specs.declared.stored.StoredCell.{StoredCell}
 use Rattle.ts_plain.specs.Insides.{IsInside}
 use Rattle.ts_plain.specs.Pieces.{version_in}
-use Rattle.ts_plain.specs.Rules.{coords_rise, origin_rises}
 use Rattle.ts_sparse.specs.Cuts.{last_or}
 use Rattle.ts_sparse_read.specs.declared.columns.Columns.{Columns}
 use Rattle.ts_sparse_read.specs.declared.opened.Opened.{Opened}
@@ -21,9 +20,9 @@ use Rattle.ts_sparse_read.specs.declared.sifted.Spot.{Spot}
 use Rattle.ts_sparse_read.specs.declared.faults.CellFault.{CellFault}
 use Rattle.ts_sparse_read.specs.declared.faults.CellFault.TheVariants as fault
 use Rattle.ts_sparse_read.specs.Faults.{Fault, and_then, Ranged}
-use Rattle.ts_sparse_read.specs.TileReads.{coords_of_tile, vals_of_tile, origins_if, coords_fault, origin_fault, order_fault, unless, cells_of_tile}
+use Rattle.ts_sparse_read.specs.TileReads.{coords_of_tile, vals_of_tile, origins_if, order_fault, unless, cells_of_tile}
 use Rattle.ts_sparse_read.specs.Reads.{DecodesFault}
-use Rattle.ts_sparse_read.specs.Sifts.{spot_of, bare_if, last_spot, IsSpotInside, columns_of_tile, cells_in, cell_in, AreSound, wanted_of, sifted, sift_cell, sift_cells, sift_part}
+use Rattle.ts_sparse_read.specs.Sifts.{spot_of, bare_if, last_spot, IsSpotInside, columns_of_tile, cells_in, cell_in, AreSound, wanted_of, sifted, sift_cells, sift_part}
 use Rattle.ts_sparse_read.proofs.CellSteps.{cells_long, cell_there}
 
 -- ---- faults
@@ -82,7 +81,8 @@ pub taken_join : (want : Want) (xs ys : List Version) → taken want (xs ++ ys) 
 taken_join want xs ys = ap (map (cut want)) (filter-append (is_wanted want) xs ys) ∙ map-append (cut want) _ _
 
 module _ (opened : Opened) where
-  wanted_join : (xs ys : List StoredCell) → wanted_of opened.want opened.head (xs ++ ys) ≡ wanted_of opened.want opened.head xs ++ wanted_of opened.want opened.head ys
+  -- what is wanted of two lists is what is wanted of each
+  pub wanted_join : (xs ys : List StoredCell) → wanted_of opened.want opened.head (xs ++ ys) ≡ wanted_of opened.want opened.head xs ++ wanted_of opened.want opened.head ys
   wanted_join xs ys =
       ap (taken opened.want) (map-append (version_in opened.head) xs ys) ∙ taken_join opened.want (map (version_in opened.head) xs) (map (version_in opened.head) ys)
 
@@ -97,62 +97,6 @@ module _ (opened : Opened) where
   -- nothing is taken of no cells
   pub sifted_none : (s : Sifted) → sifted opened s [] ≡ s
   sifted_none s = let found = append-nil s.found in λ i. record { found = found i; last = s.last }
-
-  -- ---- cell by cell
-
-  module _ (ranges : List Ranged) where
-    behind_one : (s : Sifted) (c : StoredCell) (cells : List StoredCell) (o : Option Fault)
-        → and_then (unless (c ∷ cells) o) (λ cs. Ok (sifted opened s cs)) ≡ and_then (unless cells o) (λ cs. Ok (sifted opened (sifted opened s (c ∷ [])) cs))
-    behind_one s c cells None = ap Ok (sifted_join s (c ∷ []) cells)
-    behind_one s c cells (Some f) = refl
-
-    -- behind one cell come all others
-    cells_step : (k : ℕ) (s : Sifted) (c : StoredCell) (cells : List StoredCell) → sift_cells opened ranges k s (c ∷ cells) ≡ and_then (sift_cell opened ranges k s c) (λ n. sift_cells opened ranges (suc k) n cells)
-    cells_step k s c cells = go (coords_rise opened.frame (bare_if s.last) c.coords) (origin_rises (opened.frame).dense (bare_if s.last) c.coords c.origin)
-      where
-        go : (a b : Bool)
-            → and_then (unless (c ∷ cells) (if a then (if b then order_fault opened.frame (opened.head).consolidated ranges (suc k) (Some c) cells else Some (origin_fault opened.frame (opened.head).consolidated ranges k)) else Some (coords_fault opened.frame ranges k))) (λ cs. Ok (sifted opened s cs))
-            ≡ and_then (and_then (unless (c ∷ []) (if a then (if b then None else Some (origin_fault opened.frame (opened.head).consolidated ranges k)) else Some (coords_fault opened.frame ranges k))) (λ cs. Ok (sifted opened s cs))) (λ n. sift_cells opened ranges (suc k) n cells)
-        go true true =
-            behind_one s c cells (order_fault opened.frame (opened.head).consolidated ranges (suc k) (Some c) cells)
-            ∙ ap (λ o. and_then (unless cells o) (λ cs. Ok (sifted opened (sifted opened s (c ∷ [])) cs))) (order_bare opened.frame (opened.head).consolidated ranges (suc k) (Some c) cells)
-        go true false = refl
-        go false b = refl
-
-    -- what was taken so far, and behind it what is taken of the cells that are left, is what is taken of all
-    abbrev pub Sifting : Sifted → List StoredCell → Sifted → ℕ → Type 0
-    Sifting first cells s k = sift_cells opened ranges 0 first cells ≡ sift_cells opened ranges k s (drop k cells)
-
-    there : (columns : Columns) (k : ℕ) → AreSound opened.frame columns → k < columns.count → drop k (cells_in columns) ≡ cell_in columns k ∷ drop (k + 1) (cells_in columns)
-    there columns k sound within =
-        let c = cell_in columns k in
-        let long = cells_long columns.count columns.coords columns.origins columns.vals sound.coords sound.origins sound.vals in
-        drop_more (cells_in columns) k c (omega (arith, long))
-        ∙ ap (λ (d : StoredCell). d ∷ drop (k + 1) (cells_in columns)) (cell_there columns.count columns.coords columns.origins columns.vals k c sound.coords sound.origins sound.vals within)
-
-    -- one cell more
-    pub cells_more : (first s other : Sifted) (columns : Columns) (k : ℕ) → Sifting first (cells_in columns) s k → AreSound opened.frame columns → k < columns.count
-        → sift_cell opened ranges k s (cell_in columns k) ≡ Ok other → Sifting first (cells_in columns) other (k + 1)
-    cells_more first s other columns k sofar sound within is =
-        let rest = drop (k + 1) (cells_in columns) in
-        sofar ∙ ap (sift_cells opened ranges k s) (there columns k sound within) ∙ cells_step k s (cell_in columns k) rest
-        ∙ ap (λ (r : Result Sifted Fault). and_then r (λ n. sift_cells opened ranges (suc k) n rest)) is
-        ∙ ap (λ i. sift_cells opened ranges i other rest) (sym (add-one k))
-
-    -- what is broken at a cell is what is broken at all
-    pub cells_stop : {A B : Type 0} (seen : A → Sifted) (also : B → Sifted) (first s : Sifted) (columns : Columns) (k : ℕ) (f : CellFault) → Sifting first (cells_in columns) s k → AreSound opened.frame columns → k < columns.count
-        → DecodesFault seen (sift_cell opened ranges k s (cell_in columns k)) (Err f) → DecodesFault also (sift_cells opened ranges 0 first (cells_in columns)) (Err f)
-    cells_stop seen also first s columns k f sofar sound within is =
-        let rest = drop (k + 1) (cells_in columns) in
-        told_same also (sift_cells opened ranges 0 first (cells_in columns)) (and_then (sift_cell opened ranges k s (cell_in columns k)) (λ n. sift_cells opened ranges (suc k) n rest)) (Err f)
-        (sofar ∙ ap (sift_cells opened ranges k s) (there columns k sound within) ∙ cells_step k s (cell_in columns k) rest)
-        (fault_stays seen also (sift_cell opened ranges k s (cell_in columns k)) (λ n. sift_cells opened ranges (suc k) n rest) f is)
-
-    -- behind the last cell all are taken
-    pub cells_done : (first s : Sifted) (columns : Columns) (k : ℕ) → Sifting first (cells_in columns) s k → AreSound opened.frame columns → columns.count ≤ k → sift_cells opened ranges 0 first (cells_in columns) ≡ Ok s
-    cells_done first s columns k sofar sound over =
-        let long = cells_long columns.count columns.coords columns.origins columns.vals sound.coords sound.origins sound.vals in
-        sofar ∙ ap (sift_cells opened ranges k s) (drop_all k (cells_in columns) (omega (arith, long))) ∙ ap Ok (sifted_none s)
 
   -- ---- the columns of a tile
 

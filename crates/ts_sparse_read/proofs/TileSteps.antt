@@ -1,5 +1,5 @@
 -- The columns of a tile whose leaf lies in the domain.
-use Rattle.std.proofs.Common.{◌≡◌, ℕ, ◌≤◌, true, ◌&&◌, ℤ, int_le, List, [], ◌∷◌, length, map, refl, sym, subst, ◌∙◌, arith}
+use Rattle.std.proofs.Common.{◌≡◌, ℕ, ◌≤◌, true, ◌&&◌, ℤ, int_le, List, [], ◌∷◌, length, map, refl, sym, ◌∙◌, arith}
 use Rattle.std.specs.Prelude.{IsTrue}
 use Rattle.std.specs.List.{All}
 use Rattle.std.proofs.lemmas.Int.{ints}
@@ -20,6 +20,7 @@ use Rattle.ts_plain.specs.Insides.{IsInside}
 use Rattle.ts_sparse_read.specs.TileReads.{rows_in, cells_from}
 use Rattle.ts_sparse_read.specs.ReadRows.{AreSides, rows_between, cells_all}
 use Rattle.ts_sparse_read.specs.Sifts.{AreSound}
+use Rattle.ts_sparse_read.specs.Picks.{LieInLeaf}
 use Rattle.ts_sparse_read.proofs.ColumnSteps.{sides_long}
 
 -- ---- the domain
@@ -28,7 +29,7 @@ le_on : (x y z : ℤ) → int_le x y ≡ true → int_le y z ≡ true → int_le
 le_on x y z a b = grind (arith, ints)
 
 -- what lies between corners that lie between others lies between those
-between_on : (lows highs ls hs xs : List ℤ) → IsTrue (is_between lows highs ls) → IsTrue (is_between lows highs hs) → IsTrue (is_between ls hs xs) → IsTrue (is_between lows highs xs)
+pub between_on : (lows highs ls hs xs : List ℤ) → IsTrue (is_between lows highs ls) → IsTrue (is_between lows highs hs) → IsTrue (is_between ls hs xs) → IsTrue (is_between lows highs xs)
 between_on [] [] ls hs [] a b c = refl
 between_on [] [] [] [] (x ∷ xs) a b c = absurd (cc)
 between_on [] [] [] (h ∷ hs) (x ∷ xs) a b c = absurd (cc)
@@ -47,15 +48,19 @@ between_on (low ∷ lows) (high ∷ highs) (l ∷ ls) (h ∷ hs) (x ∷ xs) a b 
     let r1 = and_parts (int_le l x) (int_le x h) r.0 in
     and_from (int_le low x && int_le x high) (is_between lows highs xs) (and_from (int_le low x) (int_le x high) (le_on low l x p1.0 r1.0) (le_on x h high r1.1 q1.1)) (between_on lows highs ls hs xs p.1 q.1 r.1)
 
--- cells of columns that span the sides of a leaf in the domain lie in the domain
-pub cells_inside : (frame : Frame) (leaf : SubBox) (count : ℕ) (coords : List (List ℤ)) (origins : List ℕ) (vals : List (List Val)) (cells : List StoredCell) → LiesInDomain frame.domain leaf
-    → AreSides count leaf.low leaf.high coords → cells ≡ cells_from (rows_in count coords) origins (rows_in count vals) → All (IsInside frame) cells
-cells_inside frame leaf count coords origins vals cells lies are is =
+-- cells of columns that span the sides of a leaf lie in the leaf
+pub cells_in_leaf : (leaf : SubBox) (count : ℕ) (coords : List (List ℤ)) (origins : List ℕ) (vals : List (List Val)) → AreSides count leaf.low leaf.high coords
+    → LieInLeaf leaf (record { count = count; coords = coords; origins = origins; vals = vals })
+cells_in_leaf leaf count coords origins vals are =
     let I = λ (row : List ℤ). IsTrue (is_between leaf.low leaf.high row) in
-    subst (λ (cs : List StoredCell). All (IsInside frame) cs) (sym is)
-    (cells_all (IsInside frame) I (λ _. Unit {0}) (λ _. Unit {0})
-    (λ x o r inside _ _. between_on (map (λ (d : Dim). d.low) frame.domain) (map (λ (d : Dim). d.high) frame.domain) leaf.low leaf.high x lies.0 lies.1 inside)
-    (rows_in count coords) origins (rows_in count vals) (rows_between count leaf.low leaf.high coords are).fits (λ _ _ _. tt) (λ _ _ _. tt))
+    cells_all (λ (c : StoredCell). I c.coords) I (λ _. Unit {0}) (λ _. Unit {0}) (λ x o r inside _ _. inside) (rows_in count coords) origins (rows_in count vals) (rows_between count leaf.low leaf.high coords are).fits (λ _ _ _. tt)
+    (λ _ _ _. tt)
+
+-- and in the domain, where the leaf does
+cells_inside : (frame : Frame) (leaf : SubBox) (cells : List StoredCell) → LiesInDomain frame.domain leaf → All (λ (c : StoredCell). IsTrue (is_between leaf.low leaf.high c.coords)) cells → All (IsInside frame) cells
+cells_inside frame leaf cells lies inside =
+    All-weaker (λ (c : StoredCell). IsTrue (is_between leaf.low leaf.high c.coords)) (IsInside frame)
+    (λ c t. between_on (map (λ (d : Dim). d.low) frame.domain) (map (λ (d : Dim). d.high) frame.domain) leaf.low leaf.high c.coords lies.0 lies.1 t) cells inside
 
 -- a box in the domain has as many sides
 pub lies_long : (dims : List Dim) (leaf : SubBox) → LiesInDomain dims leaf → (length leaf.low ≡ length dims) × (length leaf.high ≡ length dims)
@@ -81,5 +86,5 @@ columns_sound frame leaf count coords origins vals some few lies sides many_orig
       coords = long.0;
       origins = many_origins;
       vals = many;
-      inside = cells_inside frame leaf count coords origins vals (cells_from (rows_in count coords) origins (rows_in count vals)) lies sides refl;
+      inside = cells_inside frame leaf (cells_from (rows_in count coords) origins (rows_in count vals)) lies (cells_in_leaf leaf count coords origins vals sides);
     }

@@ -16,6 +16,7 @@ pub mod SparseGets
 pub mod Reads
 pub mod Fits
 pub mod Sifts
+pub mod Picks
 pub mod SparseWrites
 pub mod SparseMerges
 pub mod SparseLaws

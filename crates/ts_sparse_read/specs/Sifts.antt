@@ -19,7 +19,7 @@ use Rattle.ts_sparse_read.specs.declared.sifted.Sifted.{Sifted}
 use Rattle.ts_sparse_read.specs.declared.sifted.Spot.{Spot}
 use Rattle.ts_sparse_read.specs.Faults.{Fault, and_then, Ranged}
 use Rattle.ts_sparse_read.specs.Judges.{ranged, cells_of_tiles}
-use Rattle.ts_sparse_read.specs.TileReads.{rows_in, cells_from, cell_of, coords_of_tile, vals_of_tile, origins_if, place_fault, order_fault, unless, cells_of_tile}
+use Rattle.ts_sparse_read.specs.TileReads.{rows_in, cells_from, cell_of, coords_of_tile, vals_of_tile, origins_if, order_fault, unless, cells_of_tile}
 
 -- ---- where cells stand
 
@@ -105,12 +105,7 @@ sifted opened s cells = record { found = s.found ++ wanted_of opened.want opened
 abbrev pub nothing_sifted : Sifted
 nothing_sifted = record { found = []; last = None }
 
--- what was taken so far, and behind it what is wanted of the cell at a place of the tile, unless that may not stand behind the last one
-abbrev pub sift_cell : Opened → List Ranged → ℕ → Sifted → StoredCell → Result Sifted Fault
-sift_cell opened ranges place s c =
-    and_then (unless (c ∷ []) (place_fault opened.frame (opened.head).consolidated ranges place (bare_if s.last) c)) (λ cells. Ok (sifted opened s cells))
-
--- so of all cells from this place of the tile on
+-- what was taken so far, and behind it what is wanted of all cells from this place of the tile on, unless one may not stand behind the one before it
 abbrev pub sift_cells : Opened → List Ranged → ℕ → Sifted → List StoredCell → Result Sifted Fault
 sift_cells opened ranges place s cells =
     and_then (unless cells (order_fault opened.frame (opened.head).consolidated ranges place (bare_if s.last) cells)) (λ cells. Ok (sifted opened s cells))

@@ -1,6 +1,7 @@
 //! Cells from the columns of a tile.
 ghost use Rattle.std.specs.Prelude.{◌≡◌, ◌≤◌, ◌<◌, pos, length, map, get_or};
-ghost use Rattle.ts_sparse_read.specs.Sifts.{spot_of, cell_in};
+ghost use Rattle.ts_gather.specs.Rows.{AreColumns};
+ghost use Rattle.ts_sparse_read.specs.Sifts.{spot_of, last_spot, cells_in, cell_in};
 
 use crate::columns::{Columns, NumberLists};
 use crate::sifted::Spot;
@@ -17,6 +18,17 @@ pub(crate) fn spot_at(columns: &Columns, place: u64) -> Spot
     Spot {
         coords: coords_at(&columns.coords, place),
         origin: *columns.origins.at(place),
+    }
+}
+
+/// Moves to where the last of the cells stands that columns hold. Where they hold none, nothing changes.
+#[tactic(auto, using(crate::proofs::PickStepLaws::last_steps))]
+pub(crate) fn move_to_last(columns: &Columns, last: &mut Option<Spot>)
+    requires { AreColumns columns.now.count columns.now.coords columns.now.origins columns.now.vals }
+    ensures { last.new ≡ last_spot last.old (cells_in columns.now) }
+{
+    if let Some(end) = columns.count.checked_sub(1) {
+        *last = Some(spot_at(columns, end));
     }
 }
 

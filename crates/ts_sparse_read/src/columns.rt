@@ -13,6 +13,7 @@ ghost use Rattle.ts_sparse_read.specs.TileReads.{coords_of_tile, tile_in, vals_i
 ghost use Rattle.ts_sparse_read.specs.Reads.{DecodesFault, TellsTile};
 ghost use Rattle.ts_sparse_read.specs.ReadRows.{IsSide, AreSides};
 ghost use Rattle.ts_sparse_read.specs.Sifts.{columns_of_tile, AreSound};
+ghost use Rattle.ts_sparse_read.specs.Picks.{LieInLeaf};
 
 use crate::faults::CellFault;
 use crate::opened::Opened;
@@ -62,6 +63,7 @@ pub(crate) fn read_columns(
     requires decoded { IfSome decoded (λ vals. vals_of_tile opened.now.want.attrs count ranges.now 0 opened.now.attrs ≡ Ok vals) }
     ensures decodes { DecodesFault (λ columns. columns) (columns_of_tile opened.now leaf.now count ranges.now) result }
     ensures sound { IfOk result (AreSound opened.now.frame) }
+    ensures within { IfOk result (LieInLeaf leaf.now) }
 {
     let places = opened.want.attrs.as_slice();
     let consolidated = opened.head.consolidated;

@@ -9,6 +9,7 @@ mod faults;
 mod forms;
 mod judging;
 mod laws;
+mod near;
 mod opened;
 mod opening;
 mod ordering;

@@ -1,21 +1,22 @@
 //! Reading a tile.
-ghost use Rattle.std.specs.Prelude.{◌≡◌, ◌≤◌, ◌<◌, [], ◌++◌, Ok, length, IfOk, IfSome, IsTrue, OnOk};
+ghost use Rattle.std.specs.Prelude.{◌≡◌, ◌≤◌, [], Ok, length, IfOk, IfSome, IsTrue};
 ghost use Rattle.std.specs.Option.{option_copied};
 ghost use Rattle.ts_domain.specs.Domains.{LiesInDomain};
 ghost use Rattle.ts_gather.specs.Rows.{AreRows};
 ghost use Rattle.ts_sparse_read.specs.Judges.{ranged};
 ghost use Rattle.ts_sparse_read.specs.TileReads.{vals_of_tile};
 ghost use Rattle.ts_sparse_read.specs.Reads.{DecodesFault};
-ghost use Rattle.ts_sparse_read.specs.Sifts.{spot_of, IsSpotInside, cells_in, cell_in, AreSound, is_spot_wanted, place_if, picked, sift_cell, sift_cells, sift_tile, sift_part};
+ghost use Rattle.ts_sparse_read.specs.Sifts.{IsSpotInside, cells_in, AreSound, picked, sift_cells, sift_tile, sift_part};
+ghost use Rattle.ts_sparse_read.specs.Picks.{LieInLeaf};
 
-use crate::cells::spot_at;
+use crate::cells::move_to_last;
 use crate::columns::{Columns, read_columns};
 use crate::faults::CellFault;
 use crate::opened::{Opened, WantedTile};
-use crate::ordering::check_place;
+use crate::ordering::check_order;
 use crate::ranges::Ranges;
 use crate::sifted::{Sifted, Spot};
-use crate::versions::{add_rows, push_wanted};
+use crate::versions::{add_rows, wanted_places};
 use std::alloc::Global;
 use ts_column::ColumnList;
 use ts_domain::SubBox;
@@ -75,70 +76,50 @@ fn sift_part(
     ensures { DecodesFault (λ _. sifted.new) (sift_part opened.now sifted.old leaf.now count ranges.now) result }
 {
     let columns = read_columns(alloc, opened, entries, leaf, count, ranges, decoded)?;
-    sift_cells(alloc, opened, ranges, columns, sifted)
+    sift_cells(alloc, opened, ranges, leaf, columns, sifted)
 }
 
-// Takes what is wanted of the cells that columns hold.
+// Takes what is wanted of the cells that columns hold, which lie in a leaf.
 fn sift_cells(
     alloc: Global,
     opened: &Opened,
     ranges: &Ranges,
+    leaf: &SubBox,
     columns: Columns,
     sifted: &mut Sifted,
 ) -> Result<(), CellFault>
     requires sound { AreSound opened.now.frame columns }
+    requires leaf { LiesInDomain opened.now.frame.domain leaf.now }
+    requires within { LieInLeaf leaf.now columns }
     requires last { IfSome sifted.old.last (IsSpotInside opened.now.frame) }
     ensures { DecodesFault (λ _. sifted.new) (sift_cells opened.now ranges.now 0 sifted.old (cells_in columns)) result }
 {
-    let places = pick_cells(alloc, opened, ranges, &columns, &mut sifted.last)?;
+    let places = pick_cells(alloc, opened, ranges, leaf, &columns, &mut sifted.last)?;
     add_rows(alloc, opened, columns, places.as_slice(), &mut sifted.found)?;
     Ok(())
 }
 
 // The places of the cells that are wanted. The last cell is then that of these columns.
-#[tactic(auto, using(crate::proofs::PickLaws::pick_steps))]
 fn pick_cells(
     alloc: Global,
     opened: &Opened,
     ranges: &Ranges,
+    leaf: &SubBox,
     columns: &Columns,
     last: &mut Option<Spot>,
 ) -> Result<Vec<u32>, CellFault>
     requires sound { AreSound opened.now.frame columns.now }
+    requires leaf { LiesInDomain opened.now.frame.domain leaf.now }
+    requires within { LieInLeaf leaf.now columns.now }
     requires inside { IfSome last.old (IsSpotInside opened.now.frame) }
     ensures picks { DecodesFault (λ places. picked opened.now columns.now places.items last.new) (sift_cells opened.now ranges.now 0 (picked opened.now columns.now [] last.old) (cells_in columns.now)) result }
     ensures rows { IfOk result (λ places. AreRows columns.now.count places.items) }
 {
-    let mut places = Vec::new(alloc);
-    for place in 0..columns.count {
-        pick_cell(opened, ranges, columns, place, last, &mut places)?;
-    }
+    let (frame, consolidated) = (&opened.frame, opened.head.consolidated);
+    check_order(frame, consolidated, ranges, leaf, columns, last.as_ref())?;
+    let places = wanted_places(alloc, opened, leaf, columns)?;
+    move_to_last(columns, last);
     Ok(places)
-}
-
-// Appends the place of a cell, if the cell is wanted. The last cell is then that one.
-fn pick_cell(
-    opened: &Opened,
-    ranges: &Ranges,
-    columns: &Columns,
-    place: u64,
-    last: &mut Option<Spot>,
-    places: &mut Vec<u32>,
-) -> Result<(), CellFault>
-    requires sound { AreSound opened.now.frame columns.now }
-    requires within { place < columns.now.count }
-    requires inside { IfSome last.old (IsSpotInside opened.now.frame) }
-    ensures picks { DecodesFault (λ _. picked opened.now columns.now places.new.items last.new) (sift_cell opened.now ranges.now place (picked opened.now columns.now places.old.items last.old) (cell_in columns.now place)) result }
-    ensures inside { OnOk result (IfSome last.new (IsSpotInside opened.now.frame)) }
-    ensures rows { OnOk result (places.new.items ≡ places.old.items ++ place_if (is_spot_wanted opened.now.want opened.now.head (spot_of (cell_in columns.now place))) place) }
-{
-    let spot = spot_at(columns, place);
-    let consolidated = opened.head.consolidated;
-    let before = last.as_ref();
-    check_place(&opened.frame, consolidated, ranges, place, before, &spot)?;
-    push_wanted(opened, place, &spot, places)?;
-    *last = Some(spot);
-    Ok(())
 }
 
 // Whether the box has as many dimensions as the domain, and lies in it.

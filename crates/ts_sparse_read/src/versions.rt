@@ -1,38 +1,105 @@
 //! The versions that are wanted of the cells of a tile.
-ghost use Rattle.std.specs.Prelude.{◌≡◌, ◌&&◌, [], ◌∷◌, ◌++◌, IfOk, OnOk};
+ghost use Rattle.std.specs.Prelude.{◌≡◌, ◌<◌, [], ◌∷◌, ◌++◌, length, IfOk, IsTrue, OnOk};
+ghost use Rattle.std.specs.List.{All};
 ghost use Rattle.ts_base.specs.Keys.{is_within};
 ghost use Rattle.ts_domain.specs.Boxes.{is_in_box};
 ghost use Rattle.ts_plain.specs.Pieces.{origin_key};
 ghost use Rattle.ts_gather.specs.Rows.{AreRows};
-ghost use Rattle.ts_sparse_read.specs.Sifts.{AreSound, is_spot_wanted, place_if, versions_at};
+ghost use Rattle.ts_sparse_read.specs.Sifts.{spot_of, cells_in, cell_in, AreSound, is_spot_wanted, place_if, versions_at, wanted_of};
+ghost use Rattle.ts_sparse_read.specs.Picks.{LieInLeaf, AreAllWanted};
 
 use crate::columns::Columns;
+use crate::near::is_cell_in;
 use crate::opened::Opened;
-use crate::sifted::Spot;
 use std::alloc::Global;
-use ts_base::{Coords, Key, KeyList, OutOfMemory};
+use ts_base::{Key, KeyList, OutOfMemory};
 use ts_batch::{Batch, Batches};
+use ts_domain::SubBox;
 use ts_gather::table_of;
-use ts_schema::Want;
 use ts_table::Table;
 
 // What stands for the key of an origin that is not there.
 const NO_KEY: Key = Key { t: 0, id: 0 };
 
-/// Appends a place of the tile, whose cell stands at this spot, if the cell is wanted.
-pub(crate) fn push_wanted(
+/// The places of the cells that are wanted of a tile, which all lie in its leaf.
+#[tactic(auto, using(crate::proofs::PickLaws::pick_steps))]
+pub(crate) fn wanted_places(
+    alloc: Global,
     opened: &Opened,
+    leaf: &SubBox,
+    columns: &Columns,
+) -> Result<Vec<u32>, OutOfMemory>
+    requires sound { AreSound opened.now.frame columns.now }
+    requires within { LieInLeaf leaf.now columns.now }
+    ensures versions { IfOk result (λ places. versions_at opened.now columns.now places.items ≡ wanted_of opened.now.want opened.now.head (cells_in columns.now)) }
+    ensures rows { IfOk result (λ places. AreRows columns.now.count places.items) }
+{
+    let all = are_all_wanted(opened, leaf, columns);
+    let mut places = Vec::new(alloc);
+    for place in 0..columns.count {
+        push_wanted(opened, columns, all, place, &mut places)?;
+    }
+    Ok(places)
+}
+
+// Appends a place, if its cell is wanted, as all of the tile may be.
+fn push_wanted(
+    opened: &Opened,
+    columns: &Columns,
+    all: bool,
     place: u64,
-    spot: &Spot,
     places: &mut Vec<u32>,
 ) -> Result<(), OutOfMemory>
-    ensures { OnOk result (places.new.items ≡ places.old.items ++ place_if (is_spot_wanted opened.now.want opened.now.head spot.now) place) }
+    requires all { IsTrue all → AreAllWanted opened.now columns.now }
+    requires within { place < columns.now.count }
+    requires origins { length columns.now.origins ≡ columns.now.count }
+    ensures { OnOk result (places.new.items ≡ places.old.items ++ place_if (is_spot_wanted opened.now.want opened.now.head (spot_of (cell_in columns.now place))) place) }
 {
-    let key = origin_key(&opened.head.origins, spot.origin);
-    if !is_wanted(&opened.want, key, &spot.coords) {
-        return Ok(());
+    if all || is_cell_wanted(opened, columns, place) {
+        return push_place(places, place);
     }
-    push_place(places, place)
+    Ok(())
+}
+
+// Whether the cell at a place is wanted.
+fn is_cell_wanted(opened: &Opened, columns: &Columns, place: u64) -> bool
+    requires { place < length columns.now.origins }
+    ensures { result ≡ is_spot_wanted opened.now.want opened.now.head (spot_of (cell_in columns.now place)) }
+{
+    let origin = *columns.origins.at(place);
+    is_origin_wanted(opened, origin) && is_cell_in(&opened.want.sub, &columns.coords, place)
+}
+
+// Whether the write at a place among the origins is stamped in the interval that is wanted.
+fn is_origin_wanted(opened: &Opened, origin: u32) -> bool
+    ensures { result ≡ is_within opened.now.want.a opened.now.want.b (origin_key opened.now.head.origins origin) }
+{
+    origin_key(&opened.head.origins, origin).is_within(opened.want.a, opened.want.b)
+}
+
+// Whether the box that is wanted has the leaf of a tile, and the interval all its writes.
+fn are_all_wanted(opened: &Opened, leaf: &SubBox, columns: &Columns) -> bool
+    requires sound { AreSound opened.now.frame columns.now }
+    requires within { LieInLeaf leaf.now columns.now }
+    ensures { IsTrue result → AreAllWanted opened.now columns.now }
+{
+    has_leaf(&opened.want.sub, leaf) && are_origins_wanted(opened, columns.origins.as_slice())
+}
+
+// Whether a box has both corners of a leaf, and so all of it.
+fn has_leaf(sub: &SubBox, leaf: &SubBox) -> bool
+    ensures { IsTrue result → IsTrue (is_in_box sub.now leaf.now.low) × IsTrue (is_in_box sub.now leaf.now.high) }
+{
+    sub.contains(&leaf.low) && sub.contains(&leaf.high)
+}
+
+// Whether the writes at these places among the origins are all stamped in the interval that is wanted.
+fn are_origins_wanted(opened: &Opened, origins: &[u32]) -> bool
+    ensures { IsTrue result → All (λ o. IsTrue (is_within opened.now.want.a opened.now.want.b (origin_key opened.now.head.origins o))) origins.now }
+{
+    origins
+        .iter()
+        .all(|origin| is_origin_wanted(opened, *origin))
 }
 
 // Appends a place.
@@ -92,13 +159,6 @@ fn table_at(
     table_of(
         alloc, keys, schema, attrs, count, coords, &origins, vals, places,
     )
-}
-
-/// Whether the write of this key is stamped in the interval that is wanted, and the cell lies in the box.
-pub(crate) fn is_wanted(want: &Want, key: Key, coords: &Coords) -> bool
-    ensures { result ≡ (is_within want.now.a want.now.b key && is_in_box want.now.sub coords.now) }
-{
-    key.is_within(want.a, want.b) && want.sub.contains(coords)
 }
 
 /// The key at a place among the origins, or that of no write where there is none.

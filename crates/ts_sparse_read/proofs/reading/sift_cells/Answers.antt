@@ -3,7 +3,7 @@ use Rattle.std.proofs.Common.{rules, ◌≡◌, ℕ, Err}
 use Rattle.std.specs.declared.alloc.Global.{Global}
 use Rattle.std.specs.declared.vec.Vec.{Vec}
 use Rattle.ts_sparse_read.specs.Sifts.{picked}
-use Rattle.ts_sparse_read.proofs.PickLaws.{picks_stop}
+use Rattle.ts_sparse_read.proofs.PickStepLaws.{picks_stop}
 use Rattle.ts_sparse_read.proofs.reading.sift_cells.Goals as goal
 
 pub returns-in_err-places : goal.returns-in_err-places
