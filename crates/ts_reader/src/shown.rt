@@ -67,7 +67,10 @@ fn cells_left(
     let versions = left.as_slice();
     let dims = coords_of(alloc, reading.frame.domain.count(), versions)?;
     let vals = vals_of(alloc, reading, schemas, bindings, versions)?;
-    batch_of(alloc, reading.current.key, dims, vals, left.len())
+    let cells = left.len();
+    // What is shown needs the memory of the list.
+    drop(left);
+    batch_of(alloc, reading.current.key, dims, vals, cells)
 }
 
 // The cells of the box of a dense array, in row order: each with what is left of its newest version,

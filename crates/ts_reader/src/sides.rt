@@ -39,7 +39,8 @@ fn columns_of(alloc: Global, count: u8, versions: &[BatchCell]) -> Result<Vec<Nu
 fn column_along(alloc: Global, versions: &[BatchCell], dim: u8) -> Result<Numbers, OutOfMemory>
     ensures { IfOk result (λ column. column ≡ column_of versions.now dim) }
 {
-    let mut column = Numbers::new(alloc);
+    let room = Vec::with_capacity(alloc, versions.len())?;
+    let mut column = Numbers::from_short(room);
     for version in versions {
         push_coord(&mut column, version, dim)?;
     }

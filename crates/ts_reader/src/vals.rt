@@ -8,11 +8,11 @@ ghost use Rattle.ts_reader.specs.Sources.{source_of, val_there};
 use crate::bindings::Bindings;
 use crate::sources::{Source, place_at, source_of};
 use std::alloc::Global;
-use ts_base::OutOfMemory;
+use ts_base::{OutOfMemory, ValType};
 use ts_batch::BatchCell;
 use ts_model::Reading;
 use ts_schema::{Attr, SchemaList};
-use ts_table::Column;
+use ts_table::{Column, Kinds, Numbers, Seen, Texts};
 
 /// The values of versions as they show through the schema that holds: of each of its attributes one
 /// column.
@@ -48,11 +48,61 @@ fn column_of(
     requires are { source.now ≡ source_of (bindings_of reading.now schemas.now) attr.now }
     ensures { IfOk result (λ column. column ≡ version_vals reading.now schemas.now versions.now attr.now) }
 {
-    let mut column = Column::new(alloc);
+    let bytes = bytes_of(reading, schemas, source, attr, versions);
+    let mut column = with_room(alloc, attr.ty, versions.len(), bytes)?;
     for version in versions {
         push_version(&mut column, reading, schemas, source, attr, version)?;
     }
     Ok(column)
+}
+
+// How many bytes the values of an attribute of byte lists have together, but for fills. No clause says so:
+// it is for room alone.
+fn bytes_of(
+    reading: &Reading,
+    schemas: &SchemaList,
+    source: &Source,
+    attr: &Attr,
+    versions: &[BatchCell],
+) -> usize
+    requires rise { AreRising schemas.now }
+    requires are { source.now ≡ source_of (bindings_of reading.now schemas.now) attr.now }
+{
+    if attr.ty.is_integer() {
+        return 0;
+    }
+    let mut bytes = 0usize;
+    for version in versions {
+        let place = place_at(reading, schemas, source, attr, version.schema());
+        bytes = bytes.saturating_add(size_there(version, place));
+    }
+    bytes
+}
+
+// How many bytes the value at a place of a version's row has, 0 where it is no byte list.
+fn size_there(version: &BatchCell, place: Option<u64>) -> usize {
+    let Some(place) = place else {
+        return 0;
+    };
+    match version.val(place) {
+        Some(Seen::Bytes(bytes)) => bytes.len(),
+        _ => 0,
+    }
+}
+
+// The column of no values, with room for so many of a type, an integer in 4 bytes, and for so many bytes of
+// byte lists. No clause says how much room there is.
+fn with_room(alloc: Global, ty: ValType, count: usize, bytes: usize) -> Result<Column, OutOfMemory>
+    ensures { IfOk result (λ column. column ≡ []) }
+{
+    let kinds = Kinds::new(alloc);
+    if ty.is_integer() {
+        let numbers = Numbers::from_short(Vec::with_capacity(alloc, count)?);
+        return Ok(Column::of(kinds, numbers, Texts::new(alloc)));
+    }
+    let starts = Vec::with_capacity(alloc, count)?;
+    let texts = Texts::of(starts, Vec::with_capacity(alloc, bytes)?);
+    Ok(Column::of(kinds, Numbers::new(alloc), texts))
 }
 
 /// The values of versions in slots as they show through the schema that holds, and the fills where none

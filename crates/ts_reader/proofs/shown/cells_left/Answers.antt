@@ -23,7 +23,7 @@ pub batch_of-requires : goal.batch_of-requires
 batch_of-requires c =
     let r = c.args.reading.now in
     let versions = c.as_slice-versions.result.now in
-    let count = c.len.ensures ∙ ap length (sym c.as_slice-versions.ensures) in
+    let count = c.len-cells.ensures ∙ ap length (sym c.as_slice-versions.ensures) in
     subst (λ n. AreShown n c.in_ok-dims.dims.items c.in_ok-vals.vals.items) (sym count)
     (columns_shown (version_val r c.args.schemas.now) versions (map (λ (v : Version). v.coords) versions) c.in_ok-dims.dims.items (r.current).attrs c.in_ok-vals.vals.items c.in_ok-dims.ensures (length-map versions (λ (v : Version). v.coords)) c.in_ok-vals.ensures)
 
@@ -34,7 +34,7 @@ returns c =
     let versions = c.as_slice-versions.result.now in
     let dims = c.in_ok-dims.dims.items in
     let vals = c.in_ok-vals.vals.items in
-    let count = c.len.ensures ∙ ap length (sym c.as_slice-versions.ensures) in
+    let count = c.len-cells.ensures ∙ ap length (sym c.as_slice-versions.ensures) in
     let left = c.as_slice-versions.ensures ∙ c.in_ok-left.ensures ∙ ap (versions_left r schemas) c.in_ok-newest.ensures in
     let are = ap (cells_across dims vals) count ∙ versions_cells r schemas versions (map (λ (v : Version). v.coords) versions) dims vals c.in_ok-dims.ensures refl c.in_ok-vals.ensures ∙ ap (map (cell_shown r schemas)) left in
     IfOk-weaker c.batch_of.result _ _ (λ cells is. is ∙ are) c.batch_of.ensures
