@@ -1,5 +1,5 @@
 //! Which slots of a space tile have a cell that is wanted.
-ghost use Rattle.std.specs.Prelude.{◌≡◌, ◌<◌, ◌&&◌, ℤ, pos, [], ◌∷◌, ◌++◌, cond, List, length, map, get_or, slice_index_or, int_le, All, IfOk, OnOk, IsTrue};
+ghost use Rattle.std.specs.Prelude.{◌≡◌, ◌<◌, ◌&&◌, [], ◌∷◌, ◌++◌, cond, length, get_or, All, IfOk, OnOk, IsTrue};
 ghost use Rattle.ts_domain.specs.Boxes.{IsBox, is_in_box, cells_of, Covers};
 ghost use Rattle.ts_order.specs.Orders.{coords_in_order};
 ghost use Rattle.ts_gather.specs.Sides.{AreCoords};
@@ -11,7 +11,7 @@ use std::alloc::Global;
 use ts_base::{IndexList, OutOfMemory};
 use ts_domain::SubBox;
 use ts_gather::does_cover;
-use ts_sparse_read::origin_key;
+use ts_sparse_read::{is_cell_in, origin_key};
 use ts_table::Numbers;
 
 /// The places of the slots of a space tile that have a cell which is wanted, ascending. The slots have
@@ -115,39 +115,5 @@ fn is_inside(opened: &Opened, leaf: &SubBox, coords: &[Numbers], covered: bool, 
     requires within { place < cells_of leaf.now }
     ensures { result ≡ is_in_box opened.now.want.sub (get_or (coords_in_order opened.now.frame.cell leaf.now) place []) }
 {
-    covered || is_between(&opened.want.sub, coords, place)
-}
-
-// Whether what columns of coordinates hold at a place lies in a box.
-#[tactic(auto, using(crate::proofs::InsideLaws::along_steps))]
-fn is_between(sub: &SubBox, coords: &[Numbers], place: u64) -> bool
-    requires { All (λ (column : List ℤ). place < length column) coords.now }
-    ensures { result ≡ is_in_box sub.now (map (λ column. get_or column place (pos 0)) coords.now) }
-{
-    let (low, high) = (sub.low.as_slice(), sub.high.as_slice());
-    if high.len() != low.len() {
-        return false;
-    }
-    if coords.len() != low.len() {
-        return false;
-    }
-    for dim in 0..low.len() {
-        if !is_along(low, high, coords, dim, place) {
-            return false;
-        }
-    }
-    true
-}
-
-// Whether what a column holds at a place lies between the bounds of its dimension.
-#[tactic(auto, using(std::proofs::lemmas::Option::get_or_from_slice_get))]
-fn is_along(low: &[i128], high: &[i128], coords: &[Numbers], dim: usize, place: u64) -> bool
-    requires lows { dim < length low.now }
-    requires highs { dim < length high.now }
-    requires columns { dim < length coords.now }
-    requires within { All (λ (column : List ℤ). place < length column) coords.now }
-    ensures { let x = get_or (get_or coords.now dim []) place (pos 0) in result ≡ (int_le (slice_index_or low.now dim (pos 0)) x && int_le x (slice_index_or high.now dim (pos 0))) }
-{
-    let at = coords[dim].at(place);
-    low[dim] <= at && at <= high[dim]
+    covered || is_cell_in(&opened.want.sub, coords, place)
 }

@@ -1,9 +1,7 @@
 -- The columns of a tile whose leaf lies in the domain.
-use Rattle.std.proofs.Common.{◌≡◌, ℕ, ◌≤◌, true, ◌&&◌, ℤ, int_le, List, [], ◌∷◌, length, map, refl, sym, ◌∙◌, arith}
+use Rattle.std.proofs.Common.{◌≡◌, ℕ, ◌≤◌, ℤ, List, length, map, sym, ◌∙◌, arith}
 use Rattle.std.specs.Prelude.{IsTrue}
 use Rattle.std.specs.List.{All}
-use Rattle.std.proofs.lemmas.Int.{ints}
-use Rattle.std.proofs.lemmas.Bool.{and_parts, and_from}
 use Rattle.std.proofs.lemmas.List.{length-map}
 use Rattle.std.proofs.lemmas.List.Elements.{All-weaker}
 use Rattle.ts_base.specs.declared.values.Val.{Val}
@@ -14,6 +12,7 @@ use Rattle.ts_domain.specs.Bounds.{is_between}
 use Rattle.ts_domain.specs.Dims.{IsDim, IsDomain}
 use Rattle.ts_domain.specs.Domains.{LiesInDomain}
 use Rattle.ts_domain.proofs.Between.{length-is_between}
+use Rattle.ts_gather.proofs.PartLaws.{between_on}
 use Rattle.ts_schema.specs.declared.frames.Frame.{Frame}
 use Rattle.ts_plain.specs.declared.stored.StoredCell.{StoredCell}
 use Rattle.ts_plain.specs.Insides.{IsInside}
@@ -24,29 +23,6 @@ use Rattle.ts_sparse_read.specs.Picks.{LieInLeaf}
 use Rattle.ts_sparse_read.proofs.ColumnSteps.{sides_long}
 
 -- ---- the domain
-
-le_on : (x y z : ℤ) → int_le x y ≡ true → int_le y z ≡ true → int_le x z ≡ true
-le_on x y z a b = grind (arith, ints)
-
--- what lies between corners that lie between others lies between those
-pub between_on : (lows highs ls hs xs : List ℤ) → IsTrue (is_between lows highs ls) → IsTrue (is_between lows highs hs) → IsTrue (is_between ls hs xs) → IsTrue (is_between lows highs xs)
-between_on [] [] ls hs [] a b c = refl
-between_on [] [] [] [] (x ∷ xs) a b c = absurd (cc)
-between_on [] [] [] (h ∷ hs) (x ∷ xs) a b c = absurd (cc)
-between_on [] [] (l ∷ ls) hs (x ∷ xs) a b c = absurd (cc)
-between_on [] (high ∷ highs) ls hs xs a b c = absurd (cc)
-between_on (low ∷ lows) [] ls hs xs a b c = absurd (cc)
-between_on (low ∷ lows) (high ∷ highs) [] hs xs a b c = absurd (cc)
-between_on (low ∷ lows) (high ∷ highs) (l ∷ ls) [] xs a b c = absurd (cc)
-between_on (low ∷ lows) (high ∷ highs) (l ∷ ls) (h ∷ hs) [] a b c = absurd (cc)
-between_on (low ∷ lows) (high ∷ highs) (l ∷ ls) (h ∷ hs) (x ∷ xs) a b c =
-    let p = and_parts (int_le low l && int_le l high) (is_between lows highs ls) a in
-    let q = and_parts (int_le low h && int_le h high) (is_between lows highs hs) b in
-    let r = and_parts (int_le l x && int_le x h) (is_between ls hs xs) c in
-    let p1 = and_parts (int_le low l) (int_le l high) p.0 in
-    let q1 = and_parts (int_le low h) (int_le h high) q.0 in
-    let r1 = and_parts (int_le l x) (int_le x h) r.0 in
-    and_from (int_le low x && int_le x high) (is_between lows highs xs) (and_from (int_le low x) (int_le x high) (le_on low l x p1.0 r1.0) (le_on x h high r1.1 q1.1)) (between_on lows highs ls hs xs p.1 q.1 r.1)
 
 -- cells of columns that span the sides of a leaf lie in the leaf
 pub cells_in_leaf : (leaf : SubBox) (count : ℕ) (coords : List (List ℤ)) (origins : List ℕ) (vals : List (List Val)) → AreSides count leaf.low leaf.high coords

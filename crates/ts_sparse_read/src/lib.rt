@@ -33,6 +33,7 @@ pub use laws::{
     fetches_get_the_tiles_that_meet_their_box, fetches_take_cells_in_order,
     fragments_in_tiles_are_read_again, what_is_refused_is_broken,
 };
+pub use near::is_cell_in;
 pub use opened::{
     MOST_ATTRS, Opened, Span, SpanList, UsedColumn, UsedList, WantedTile, WantedTiles,
 };

@@ -24,8 +24,8 @@ pub(crate) fn is_one_tile(frame: &Frame, leaf: &SubBox) -> bool
     tile_numbers(dims, &leaf.low) == tile_numbers(dims, &leaf.high)
 }
 
-/// Whether cells share a space tile, and the one at the second place may then stand behind the one at
-/// the first. It makes no coordinates.
+/// Whether all cells are known to share a space tile (`shared`), and the one at the second place may then
+/// stand behind the one at the first. Where it says no, it may all the same. It makes no coordinates.
 pub(crate) fn may_follow(
     frame: &Frame,
     columns: &Columns,
@@ -96,13 +96,13 @@ fn cmp_at(column: &Numbers, first: u64, second: u64) -> Ordering
     column.at_or_zero(first).cmp(&column.at_or_zero(second))
 }
 
-/// Whether the cell at a place lies in the box. It makes no coordinates.
+/// Whether the cell lies in a box whose coordinates stand at this place of columns, one for each dimension. A
+/// column that ends before has 0 there. It makes no coordinates.
 #[tactic(auto, using(crate::proofs::NearLaws::along_steps))]
-pub(crate) fn is_cell_in(sub: &SubBox, coords: &NumberLists, place: u64) -> bool
-    ensures { result ≡ is_in_box sub.now (coords_there coords.now place) }
+pub fn is_cell_in(sub: &SubBox, columns: &[Numbers], place: u64) -> bool
+    ensures { result ≡ is_in_box sub.now (coords_there columns.now place) }
 {
-    let (low, high) = (sub.low.as_slice(), sub.high.as_slice());
-    is_between(low, high, coords.as_slice(), place)
+    is_between(sub.low.as_slice(), sub.high.as_slice(), columns, place)
 }
 
 // Whether the numbers at a place of columns lie between bounds, and there are as many of all three.

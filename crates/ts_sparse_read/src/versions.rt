@@ -2,7 +2,6 @@
 ghost use Rattle.std.specs.Prelude.{◌≡◌, ◌<◌, [], ◌∷◌, ◌++◌, length, IfOk, IsTrue, OnOk};
 ghost use Rattle.std.specs.List.{All};
 ghost use Rattle.ts_base.specs.Keys.{is_within};
-ghost use Rattle.ts_domain.specs.Boxes.{is_in_box};
 ghost use Rattle.ts_plain.specs.Pieces.{origin_key};
 ghost use Rattle.ts_gather.specs.Rows.{AreRows};
 ghost use Rattle.ts_sparse_read.specs.Sifts.{spot_of, cells_in, cell_in, AreSound, is_spot_wanted, place_if, versions_at, wanted_of};
@@ -15,7 +14,7 @@ use std::alloc::Global;
 use ts_base::{Key, KeyList, OutOfMemory};
 use ts_batch::{Batch, Batches};
 use ts_domain::SubBox;
-use ts_gather::table_of;
+use ts_gather::{does_cover, table_of};
 use ts_table::Table;
 
 // What stands for the key of an origin that is not there.
@@ -42,7 +41,7 @@ pub(crate) fn wanted_places(
     Ok(places)
 }
 
-// Appends a place, if its cell is wanted, as all of the tile may be.
+// Appends a place, if its cell is wanted. `all` says that all cells of the tile are.
 fn push_wanted(
     opened: &Opened,
     columns: &Columns,
@@ -67,7 +66,8 @@ fn is_cell_wanted(opened: &Opened, columns: &Columns, place: u64) -> bool
     ensures { result ≡ is_spot_wanted opened.now.want opened.now.head (spot_of (cell_in columns.now place)) }
 {
     let origin = *columns.origins.at(place);
-    is_origin_wanted(opened, origin) && is_cell_in(&opened.want.sub, &columns.coords, place)
+    is_origin_wanted(opened, origin)
+        && is_cell_in(&opened.want.sub, columns.coords.as_slice(), place)
 }
 
 // Whether the write at a place among the origins is stamped in the interval that is wanted.
@@ -83,14 +83,7 @@ fn are_all_wanted(opened: &Opened, leaf: &SubBox, columns: &Columns) -> bool
     requires within { LieInLeaf leaf.now columns.now }
     ensures { IsTrue result → AreAllWanted opened.now columns.now }
 {
-    has_leaf(&opened.want.sub, leaf) && are_origins_wanted(opened, columns.origins.as_slice())
-}
-
-// Whether a box has both corners of a leaf, and so all of it.
-fn has_leaf(sub: &SubBox, leaf: &SubBox) -> bool
-    ensures { IsTrue result → IsTrue (is_in_box sub.now leaf.now.low) × IsTrue (is_in_box sub.now leaf.now.high) }
-{
-    sub.contains(&leaf.low) && sub.contains(&leaf.high)
+    does_cover(&opened.want.sub, leaf) && are_origins_wanted(opened, columns.origins.as_slice())
 }
 
 // Whether the writes at these places among the origins are all stamped in the interval that is wanted.
