@@ -23,4 +23,4 @@ pub use objects::column_object;
 pub use origins::{decode_origins, encode_origins};
 pub use parallel::{ColumnList, decode_all};
 pub use rows::{decode_tile, encode_tile};
-pub use tiles::{Tile, TileFault, TileList, TileView, TileViewList};
+pub use tiles::{Tile, TileFault, TileView, TileViewList};

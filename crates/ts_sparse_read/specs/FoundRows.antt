@@ -68,16 +68,16 @@ past_drop (suc k) [] past = refl
 past_drop zero (x ∷ xs) past = absurd (omega arith)
 past_drop (suc k) (x ∷ xs) past = past_drop k xs (omega arith)
 
-coords_there : (k : ℕ) (dims : List Dim) (c : StoredCell) → length c.coords ≡ k + length dims → row_by (coord_functions k dims) c ≡ drop k c.coords
-coords_there k [] c long = sym (past_drop k c.coords (omega arith))
-coords_there k (d ∷ dims) c long = ap (λ more. get_or c.coords k (pos 0) ∷ more) (coords_there (suc k) dims c (omega arith)) ∙ sym (get_drop k c.coords (pos 0) (omega arith))
+row_there : (k : ℕ) (dims : List Dim) (c : StoredCell) → length c.coords ≡ k + length dims → row_by (coord_functions k dims) c ≡ drop k c.coords
+row_there k [] c long = sym (past_drop k c.coords (omega arith))
+row_there k (d ∷ dims) c long = ap (λ more. get_or c.coords k (pos 0) ∷ more) (row_there (suc k) dims c (omega arith)) ∙ sym (get_drop k c.coords (pos 0) (omega arith))
 
 -- the cells of a tile
 pub cells_back : (dims : List Dim) (attrs : List Attr) (places : List ℕ) (tile : List StoredCell) → All (λ c. length c.coords ≡ length dims) tile
     → cells_from (map (row_by (coord_functions 0 dims)) tile) (origin_column tile) (map (row_by (value_functions places 0 attrs)) tile) ≡ map (blanked attrs places) tile
 cells_back dims attrs places [] long = refl
 cells_back dims attrs places (c ∷ tile) long =
-    let coords = coords_there 0 dims c (All-head (λ c. length c.coords ≡ length dims) c tile long ∙ omega arith) in
+    let coords = row_there 0 dims c (All-head (λ c. length c.coords ≡ length dims) c tile long ∙ omega arith) in
     let row = values_there places 0 attrs c in
     let others = cells_back dims attrs places tile (All-tail (λ c. length c.coords ≡ length dims) c tile long) in
     λ i. record { coords = coords i; origin = c.origin; row = row i } ∷ others i

@@ -1,5 +1,5 @@
 -- What the bytes of a tile say of its cells.
-use Rattle.std.specs.Prelude.{ℕ, suc, ◌-◌, ◌*◌, ℤ, pos, Bool, true, false, nat_eq, if◌then◌else◌, List, [], ◌∷◌, length, map, get_or, slice_get, replicate, Option, Some, None, Result, Ok, Err}
+use Rattle.std.specs.Prelude.{ℕ, suc, ◌*◌, ℤ, pos, Bool, true, false, nat_eq, if◌then◌else◌, List, [], ◌∷◌, length, map, get_or, replicate, Option, Some, None, Result, Ok, Err}
 use Rattle.std.specs.List.{list_any}
 use Rattle.ts_base.specs.declared.names.Part.TheVariants as part
 use Rattle.ts_base.specs.declared.values.Val.{Val}
@@ -94,10 +94,6 @@ place_fault frame consolidated ranges place before c =
     if coords_rise frame before c.coords
     then (if origin_rises frame.dense before c.coords c.origin then None else Some (origin_fault frame consolidated ranges place))
     else Some (coords_fault frame ranges place)
-
--- the cell behind which the one at a place stands: of the first, that before the tile
-abbrev pub cell_before : Option StoredCell → ℕ → List StoredCell → Option StoredCell
-cell_before before place cells = if nat_eq place 0 then before else slice_get cells (place - 1)
 
 -- the first of the cells, from this place of the tile on, that may not stand behind the one before it
 abbrev pub order_fault : Frame → Bool → List Ranged → ℕ → Option StoredCell → List StoredCell → Option Fault
